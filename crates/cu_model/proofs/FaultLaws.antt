@@ -1,0 +1,145 @@
+-- Pieces have no fault exactly where they are a profile.
+use Rattle.std.proofs.Common.{◌≡◌, ◌<◌, ◌+◌, ℕ, zero, suc, List, [], ◌∷◌, Option, Some, None, Bool, true, false, refl, ap, ◌∙◌, subst, arith, inl, inr, cond, not, ltb, length, get_or}
+use Rattle.std.specs.Prelude.{slice_get, position, Result, Ok, Err, MatchResult, OnOk}
+use Rattle.std.specs.Option.{option_or, option_map}
+use Rattle.std.specs.List.{AllAdjacentBelow, position_or_len}
+use Rattle.std.proofs.lemmas.Bool.{cases_lt, cond-true, cond-false, ltb-true, ltb-false, leb-true, lt-ltb, le-ltb, le-leb, eqb-true, eq-eqb, and_parts, and_from, not-false, not_from_true}
+use Rattle.std.proofs.lemmas.List.Sums.{fails_before_first, passes_at_first}
+use Rattle.cu_model.specs.declared.profiles.Piece.{Piece}
+use Rattle.cu_model.specs.declared.profiles.Rule.{Rule}
+use Rattle.cu_model.specs.declared.profiles.Rule.TheVariants.{Travel, Until}
+use Rattle.cu_model.specs.declared.profiles.PieceFault.{PieceFault}
+use Rattle.cu_model.specs.declared.profiles.PieceFault.TheVariants.{Limit, Start, Rising, Early, Fifo}
+use Rattle.cu_model.specs.Profiles.{day, profile_value, IsRuleInLimit, IsPieceInLimit, IsProfile}
+use Rattle.cu_model.specs.Faults.{is_rule_in_limit, is_in_limit, starts_day, first_fallen, limit_fault, start_fault, rising_fault, early_fault, fifo_fault, piece_fault}
+use Rattle.cu_model.proofs.Firsts.{least-none, least_none_from}
+
+-- two options of which neither is there
+or-none : {A : Type 0} (a b : Option A) → option_or a b ≡ None → (a ≡ None) × (b ≡ None)
+or-none None b e = (refl, e)
+or-none (Some x) b e = absurd (cc e)
+
+pub map-none : {A B : Type 0} (f : A → B) (o : Option A) → option_map f o ≡ None → o ≡ None
+map-none f None e = refl
+map-none f (Some x) e = absurd (cc e)
+
+rule_limit : (rule : Rule) → is_rule_in_limit rule ≡ true → IsRuleInLimit rule
+rule_limit (Travel seconds) e = leb-true seconds 604800 e
+rule_limit (Until arrival) e = leb-true arrival 691200 e
+
+rule_limit_from : (rule : Rule) → IsRuleInLimit rule → is_rule_in_limit rule ≡ true
+rule_limit_from (Travel seconds) h = le-leb seconds 604800 h
+rule_limit_from (Until arrival) h = le-leb arrival 691200 h
+
+pub piece_limit : (piece : Piece) → is_in_limit piece ≡ true → IsPieceInLimit piece
+piece_limit piece e =
+    let parts = and_parts (ltb piece.from day) (is_rule_in_limit piece.rule) e in
+    (ltb-true piece.from day parts.0, rule_limit piece.rule parts.1)
+
+piece_limit_from : (piece : Piece) → IsPieceInLimit piece → is_in_limit piece ≡ true
+piece_limit_from piece h =
+    and_from (ltb piece.from day) (is_rule_in_limit piece.rule) (lt-ltb piece.from day h.0) (rule_limit_from piece.rule h.1)
+
+cond-none : {A : Type 0} (b : Bool) (x : A) → cond b (Some x) None ≡ None → b ≡ false
+cond-none true x e = absurd (cc e)
+cond-none false x e = refl
+
+pub cond-some : {A : Type 0} (b : Bool) (o : Option A) (x : A) → cond b o (Some x) ≡ None → (b ≡ true) × (o ≡ None)
+cond-some true o x e = (refl, e)
+cond-some false o x e = absurd (cc e)
+
+-- where no position passes no element does, and back
+pub position-none : {A : Type 0} (test : A → Bool) (xs : List A) → position test xs ≡ None → (k : ℕ) (d : A) → k < length xs → test (get_or xs k d) ≡ false
+position-none test xs e k d h =
+    let past = ltb-false (position_or_len test xs) (length xs) (cond-none _ _ e) in
+    fails_before_first test xs k d (omega (arith, h, past))
+
+position_none_from : {A : Type 0} (test : A → Bool) (xs : List A) → ((k : ℕ) (d : A) → k < length xs → test (get_or xs k d) ≡ false) → position test xs ≡ None
+position_none_from test [] none = refl
+position_none_from test (x ∷ xs) none = elim (cases_lt (position_or_len test (x ∷ xs)) (length (x ∷ xs))) [
+  | inl inside ↦ absurd (cc (none (position_or_len test (x ∷ xs)) x inside, passes_at_first test (x ∷ xs) x inside))
+  | inr past ↦ cond-false (ltb (position_or_len test (x ∷ xs)) (length (x ∷ xs))) (Some (position_or_len test (x ∷ xs))) None (le-ltb _ _ past)
+]
+
+-- each piece is from an earlier second than the next
+abbrev pub Rise : List Piece → Type 0
+Rise pieces = AllAdjacentBelow (λ (piece next : Piece). piece.from < next.from) pieces (length pieces)
+
+rise_more : (p q : Piece) (ps : List Piece) → p.from < q.from → Rise (q ∷ ps) → Rise (p ∷ q ∷ ps)
+rise_more p q ps lt rise zero d h = lt
+rise_more p q ps lt rise (suc k) d h =
+    let same : suc (k + 1) ≡ suc k + 1 = omega arith in
+    subst (λ (j : ℕ). (get_or (q ∷ ps) k d).from < (get_or (p ∷ q ∷ ps) j d).from) same (rise k d (omega (arith, h)))
+
+rise_less : (p q : Piece) (ps : List Piece) → Rise (p ∷ q ∷ ps) → (p.from < q.from) × Rise (q ∷ ps)
+rise_less p q ps rise = (
+  rise 0 p (omega arith),
+  λ k d h.
+      let same : suc k + 1 ≡ suc (k + 1) = omega arith in
+      subst (λ (j : ℕ). (get_or (q ∷ ps) k d).from < (get_or (p ∷ q ∷ ps) j d).from) same (rise (suc k) d (omega (arith, h))),
+)
+
+-- where none has fallen each is from a later second than the one before, and back
+pub first_fallen-none : (index : ℕ) (pieces : List Piece) → first_fallen index pieces ≡ None → Rise pieces
+first_fallen-none index [] e = λ k d h. absurd (omega (arith, h))
+first_fallen-none index (p ∷ []) e = λ k d h. absurd (omega (arith, h))
+first_fallen-none index (p ∷ q ∷ ps) e =
+    let parts = cond-some (ltb p.from q.from) (first_fallen (index + 1) (q ∷ ps)) (index + 1) e in
+    rise_more p q ps (ltb-true p.from q.from parts.0) (first_fallen-none (index + 1) (q ∷ ps) parts.1)
+
+first_fallen_none_from : (index : ℕ) (pieces : List Piece) → Rise pieces → first_fallen index pieces ≡ None
+first_fallen_none_from index [] rise = refl
+first_fallen_none_from index (p ∷ []) rise = refl
+first_fallen_none_from index (p ∷ q ∷ ps) rise =
+    let parts = rise_less p q ps rise in
+    cond-true (ltb p.from q.from) _ _ (lt-ltb p.from q.from parts.0) ∙ first_fallen_none_from (index + 1) (q ∷ ps) parts.1
+
+starts-true : (pieces : List Piece) → starts_day pieces ≡ true → option_map (λ (piece : Piece). piece.from) (slice_get pieces 0) ≡ Some 0
+starts-true [] e = absurd (cc e)
+starts-true (piece ∷ pieces) e = ap Some (eqb-true piece.from 0 e)
+
+starts_from : (pieces : List Piece) → option_map (λ (piece : Piece). piece.from) (slice_get pieces 0) ≡ Some 0 → starts_day pieces ≡ true
+starts_from [] e = absurd (cc e)
+starts_from (piece ∷ pieces) e = let from : piece.from ≡ 0 = cc e in eq-eqb piece.from 0 from
+
+pub start-none : (b : Bool) → cond b None (Some Start) ≡ None → b ≡ true
+start-none true e = refl
+start-none false e = absurd (cc e)
+
+-- pieces without a fault are a profile
+pub piece_fault-none : (pieces : List Piece) → piece_fault pieces ≡ None → IsProfile pieces
+piece_fault-none pieces e =
+    let l = or-none (limit_fault pieces) _ e in
+    let s = or-none (start_fault pieces) _ l.1 in
+    let r = or-none (rising_fault pieces) _ s.1 in
+    let f = or-none (early_fault pieces) (fifo_fault pieces) r.1 in
+    record {
+      limits = λ k d h. piece_limit (get_or pieces k d) (not-false _ (position-none (λ (piece : Piece). not (is_in_limit piece)) pieces (map-none Limit _ l.0) k d h));
+      starts = starts-true pieces (start-none (starts_day pieces) s.0);
+      rises = first_fallen-none 0 pieces (map-none Rising _ r.0);
+      onward = λ second h. ltb-false (profile_value pieces second) second (least-none (λ (x : ℕ). ltb (profile_value pieces x) x) day (map-none Early _ f.0) second h);
+      fifo = λ second h. ltb-false (profile_value pieces (second + 1)) (profile_value pieces second)
+          (least-none (λ (x : ℕ). ltb (profile_value pieces (x + 1)) (profile_value pieces x)) day (map-none Fifo _ f.1) second h);
+    }
+
+-- a profile has no fault
+pub piece_fault_none_from : (pieces : List Piece) → IsProfile pieces → piece_fault pieces ≡ None
+piece_fault_none_from pieces f =
+    let l : limit_fault pieces ≡ None = ap (option_map Limit) (position_none_from (λ (piece : Piece). not (is_in_limit piece)) pieces
+    (λ k d h. not_from_true _ (piece_limit_from (get_or pieces k d) (f.limits k d h)))) in
+    let s : start_fault pieces ≡ None = rw (starts_from pieces f.starts) refl in
+    let r : rising_fault pieces ≡ None = ap (option_map Rising) (first_fallen_none_from 0 pieces f.rises) in
+    let e : early_fault pieces ≡ None = ap (option_map Early) (least_none_from (λ (x : ℕ). ltb (profile_value pieces x) x) day
+    (λ second h. le-ltb _ _ (f.onward second h))) in
+    let o : fifo_fault pieces ≡ None = ap (option_map Fifo) (least_none_from (λ (x : ℕ). ltb (profile_value pieces (x + 1)) (profile_value pieces x)) day
+    (λ second h. le-ltb _ _ (f.fifo second h))) in
+    ap (λ (x : Option PieceFault). option_or x (option_or (start_fault pieces) (option_or (rising_fault pieces) (option_or (early_fault pieces) (fifo_fault pieces))))) l
+    ∙ ap (λ (x : Option PieceFault). option_or x (option_or (rising_fault pieces) (option_or (early_fault pieces) (fifo_fault pieces)))) s
+    ∙ ap (λ (x : Option PieceFault). option_or x (option_or (early_fault pieces) (fifo_fault pieces))) r
+    ∙ ap (λ (x : Option PieceFault). option_or x (fifo_fault pieces)) e ∙ o
+
+-- where a check answers by the first fault, what it accepts is a profile
+pub profile_on_ok : {A : Type 0} (answer : Result A PieceFault) (pieces : List Piece)
+    → MatchResult answer (λ _. piece_fault pieces ≡ None) (λ fault. piece_fault pieces ≡ Some fault) → OnOk answer (IsProfile pieces)
+profile_on_ok (Ok a) pieces none = piece_fault-none pieces none
+profile_on_ok (Err fault) pieces some = tt

@@ -1,0 +1,12 @@
+pub mod ProfileLaws
+pub mod RoadLaws
+pub mod Begun
+pub mod Firsts
+pub mod FaultLaws
+pub mod Pushes
+pub mod Gaps
+pub mod Stands
+pub mod NumberWords
+pub mod LineCuts
+pub mod FourFields
+pub mod OrderLaws

@@ -1,0 +1,20 @@
+-- The network after edits: a profile's pieces replaced, or the profile of one road.
+use Rattle.std.specs.Prelude.{ℕ, List, [], ◌∷◌, Option, Some, None, slice_get, slice_set}
+use Rattle.cu_model.specs.declared.roads.RoadArc.{RoadArc}
+use Rattle.cu_model.specs.declared.roads.Edit.{Edit}
+use Rattle.cu_model.specs.declared.roads.Edit.TheVariants.{Set, Assign}
+use Rattle.cu_model.specs.Networks.{NetworkValue}
+
+-- these roads, where one of them has the profile with this number; out of range leaves all
+abbrev pub reassigned : Option RoadArc → ℕ → ℕ → List RoadArc → List RoadArc
+reassigned None a profile arcs = arcs
+reassigned (Some arc) a profile arcs = slice_set arcs a (record arc { profile = profile })
+
+abbrev pub edited : NetworkValue → Edit → NetworkValue
+edited g (Set profile pieces) = record g { profiles = slice_set g.profiles profile pieces }
+edited g (Assign a profile) = record g { arcs = reassigned (slice_get g.arcs a) a profile g.arcs }
+
+-- the network after edits, made in order
+abbrev pub edited_all : NetworkValue → List Edit → NetworkValue
+edited_all g [] = g
+edited_all g (edit ∷ edits) = edited_all (edited g edit) edits

@@ -1,0 +1,11 @@
+pub mod Numbers
+pub mod Profiles
+pub mod Faults
+pub mod Checker
+pub mod Networks
+pub mod Orders
+pub mod Roads
+pub mod Edits
+pub mod Queries
+pub mod LineFields
+pub mod Answers

@@ -1,0 +1,123 @@
+//! Query lines of a script: `q,FROM,TO,SECOND`.
+
+ghost use Rattle.std.specs.Prelude.{◌≡◌, ◌==◌, ℕ, position};
+ghost use Rattle.cu_model.specs.LineFields.{CutsField, HasFour};
+ghost use Rattle.cu_model.specs.Numbers.{as_number, value_below};
+ghost use Rattle.cu_model.specs.Queries.{checked_query, fields_of_line, query_of};
+
+use crate::numbers::{Number, parse_number};
+use thiserror::Error;
+
+/// A query: from one node to another, leaving at a second of the day, 0 to 86,399.
+#[derive(Clone, Copy, Debug, PartialEq, Eq)]
+pub struct Query {
+    pub from: u32,
+    pub to: u32,
+    pub second: u32,
+}
+
+/// The first check that a query line fails, in this order.
+#[derive(Clone, Copy, Debug, PartialEq, Eq, Error)]
+pub enum QueryRefusal {
+    /// The first word isn't `q`, there aren't four fields, or one of the three others is no number word.
+    #[error("line")]
+    Line,
+    /// A node isn't below the number of nodes.
+    #[error("node")]
+    Node,
+    /// The second is no second of the day.
+    #[error("second")]
+    Second,
+}
+
+// The fields of a line that has four.
+#[derive(Clone, Copy)]
+struct Fields<'a> {
+    word: &'a [u8],
+    from: &'a [u8],
+    to: &'a [u8],
+    second: &'a [u8],
+}
+
+/// Checks a line of a script, its line end cut off, against a network with so many nodes. Takes no memory.
+pub fn check_query(line: &[u8], nodes: u32) -> Result<Query, QueryRefusal>
+    ensures { result ≡ query_of nodes line.now }
+{
+    let Some(fields) = four_fields(line) else {
+        return Err(QueryRefusal::Line);
+    };
+    if fields.word != b"q".as_slice() {
+        return Err(QueryRefusal::Line);
+    }
+    let Some(from) = parse_number(fields.from) else {
+        return Err(QueryRefusal::Line);
+    };
+    let Some(to) = parse_number(fields.to) else {
+        return Err(QueryRefusal::Line);
+    };
+    let Some(second) = parse_number(fields.second) else {
+        return Err(QueryRefusal::Line);
+    };
+    check_ranges(nodes, from, to, second)
+}
+
+// The query of these numbers, or the first of its nodes and second that is out of range.
+fn check_ranges(nodes: u32, from: Number, to: Number, second: Number) -> Result<Query, QueryRefusal>
+    ensures { (f t s : ℕ) → from ≡ as_number f → to ≡ as_number t → second ≡ as_number s → result ≡ checked_query nodes f t s }
+{
+    let Some(from) = value_under(from, nodes) else {
+        return Err(QueryRefusal::Node);
+    };
+    let Some(to) = value_under(to, nodes) else {
+        return Err(QueryRefusal::Node);
+    };
+    let Some(second) = value_under(second, 86400) else {
+        return Err(QueryRefusal::Second);
+    };
+    Ok(Query { from, to, second })
+}
+
+// A number's value, where it is under a limit.
+fn value_under(number: Number, limit: u32) -> Option<u32>
+    ensures { (value : ℕ) → number ≡ as_number value → result ≡ value_below value limit }
+{
+    match number {
+        Number::Value(value) if value < u64::from(limit) => Some(value as u32),
+        _ => None,
+    }
+}
+
+// A line's four fields; none where it has fewer or more.
+fn four_fields(line: &[u8]) -> Option<Fields<'_>>
+    ensures { HasFour (fields_of_line line.now) result }
+{
+    let (word, rest) = cut_field(line);
+    let (from, rest) = cut_field(rest?);
+    let (to, rest) = cut_field(rest?);
+    let (second, rest) = cut_field(rest?);
+    match rest {
+        Some(_) => None,
+        None => Some(Fields {
+            word,
+            from,
+            to,
+            second,
+        }),
+    }
+}
+
+// A line's first field, and what stands behind its comma.
+fn cut_field(line: &[u8]) -> (&[u8], Option<&[u8]>)
+    ensures { CutsField line.now result.0.now result.1 }
+{
+    match comma(line) {
+        Some(end) => (&line[..end], Some(&line[end + 1..])),
+        None => (line, None),
+    }
+}
+
+fn comma(line: &[u8]) -> Option<usize>
+    ensures { result ≡ position (λ byte. byte == 44) line.now }
+{
+    line.iter().position(|byte| *byte == b',')
+}
