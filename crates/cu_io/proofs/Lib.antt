@@ -1,0 +1,3 @@
+pub mod Appending
+mod Moving
+mod Noting

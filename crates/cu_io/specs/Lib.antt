@@ -1,0 +1,5 @@
+pub mod Memory
+pub mod Counts
+pub mod Transfers
+pub mod Holdings
+pub mod Shelves
