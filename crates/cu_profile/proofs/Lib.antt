@@ -1,0 +1,5 @@
+pub mod FaultRows
+pub mod RowFacts
+pub mod TextFacts
+pub mod WritingFacts
+pub mod AgainFacts

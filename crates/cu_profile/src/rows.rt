@@ -1,0 +1,102 @@
+//! The checks of one row.
+
+ghost use Rattle.std.specs.Prelude.{◌≡◌, ◌<◌, ◌-◌, ◌^◌, Some, None, IfSome, OnOk, length, if◌then◌else◌};
+ghost use Rattle.csv.specs.Records.{fields_of};
+ghost use Rattle.cu_model.specs.Numbers.{is_number_word};
+ghost use Rattle.cu_profile.specs.ProfileTexts.{may_follow, piece_number, piece_of_fields};
+ghost use Rattle.cu_profile.specs.Reading.{RowChecked, numbers_of};
+
+use crate::refusals::ProfileRefusal;
+use csv::ByteRecord;
+use cu_model::{Number, Piece, Rule, parse_number};
+use cu_tables::field;
+
+/// A row that passed its checks: its profile, and its piece, none where the kind is neither `travel` nor `until`.
+#[derive(Clone, Copy)]
+pub(crate) struct PieceRow {
+    pub profile: u32,
+    pub piece: Option<Piece>,
+}
+
+/// The number fields of a row. A number too wide is 4,294,967,295, which is past each limit.
+#[derive(Clone, Copy)]
+pub(crate) struct RowNumbers {
+    profile: u32,
+    from: u32,
+    value: u32,
+}
+
+/// Checks the row with this number, behind a row of the last profile.
+pub(crate) fn check_row(
+    row: &ByteRecord,
+    number: u32,
+    last: Option<u32>,
+) -> Result<PieceRow, ProfileRefusal>
+    ensures checked { IfSome last (λ profile. profile < 1048576) → RowChecked number last (fields_of row.now) result }
+    ensures number { OnOk result (number < 2 ^ 32 - 1) }
+{
+    if number == u32::MAX {
+        return Err(ProfileRefusal::TooMany { row: number });
+    }
+    if row.len() != 4 {
+        return Err(ProfileRefusal::Fields { row: number });
+    }
+    let Some(numbers) = row_numbers(row) else {
+        return Err(ProfileRefusal::Number { row: number });
+    };
+    if !may_follow(last, numbers.profile) {
+        return Err(ProfileRefusal::Sequence { row: number });
+    }
+    if numbers.profile == 1_048_576 {
+        return Err(ProfileRefusal::TooMany { row: number });
+    }
+    Ok(PieceRow {
+        profile: numbers.profile,
+        piece: piece_of(field(row, 2), numbers.from, numbers.value),
+    })
+}
+
+fn row_numbers(row: &ByteRecord) -> Option<RowNumbers>
+    requires { length (fields_of row.now) ≡ 4 }
+    ensures { result ≡ numbers_of (fields_of row.now) }
+{
+    let profile = piece_number(field(row, 0))?;
+    let from = piece_number(field(row, 1))?;
+    let value = piece_number(field(row, 3))?;
+    Some(RowNumbers {
+        profile,
+        from,
+        value,
+    })
+}
+
+fn piece_number(word: &[u8]) -> Option<u32>
+    ensures { result ≡ (if is_number_word word.now then Some (piece_number word.now) else None) }
+{
+    match parse_number(word)? {
+        Number::Value(value) => Some(value.min(u64::from(u32::MAX)) as u32),
+        Number::Huge => Some(u32::MAX),
+    }
+}
+
+fn may_follow(last: Option<u32>, profile: u32) -> bool
+    ensures { result ≡ may_follow last profile }
+{
+    match last {
+        None => profile == 0,
+        Some(last) => profile == last || u64::from(profile) == u64::from(last) + 1,
+    }
+}
+
+fn piece_of(kind: &[u8], from: u32, value: u32) -> Option<Piece>
+    ensures { result ≡ piece_of_fields kind.now from value }
+{
+    let rule = if kind == b"travel".as_slice() {
+        Rule::Travel(value)
+    } else if kind == b"until".as_slice() {
+        Rule::Until(value)
+    } else {
+        return None;
+    };
+    Some(Piece { from, rule })
+}
