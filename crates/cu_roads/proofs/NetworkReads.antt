@@ -1,0 +1,34 @@
+-- What three texts give, as far as they were read.
+use Rattle.std.proofs.Common.{◌≡◌, ◌∙◌, ℕ, List, length, ap}
+use Rattle.std.specs.Prelude.{Result, Ok, Err}
+use Rattle.cu_model.specs.declared.profiles.Piece.{Piece}
+use Rattle.cu_model.specs.declared.roads.RoadArc.{RoadArc}
+use Rattle.cu_profile.specs.declared.refusals.ProfileRefusal.{ProfileRefusal}
+use Rattle.cu_profile.specs.ProfileTexts.{profiles_of_text}
+use Rattle.cu_roads.specs.declared.networks.Place.{Place}
+use Rattle.cu_roads.specs.declared.networks.RoadRefusal.{RoadRefusal}
+use Rattle.cu_roads.specs.declared.networks.RoadRefusal.TheVariants.{Profiles}
+use Rattle.cu_roads.specs.NetworkTexts.{arcs_of_text, joined, network_of, places_of_text, with_places, with_profiles}
+
+-- places that are refused
+pub nodes-refused : (nodes roads profiles : List ℕ) (why : RoadRefusal) → places_of_text nodes ≡ Err why → network_of nodes roads profiles ≡ Err why
+unfolding network_of
+nodes-refused nodes roads profiles why e = ap (λ (given : Result (List Place) RoadRefusal). with_places given roads profiles) e
+
+-- profiles that are refused, behind the places
+pub profiles-refused : (nodes roads profiles : List ℕ) (places : List Place) (why : ProfileRefusal)
+    → places_of_text nodes ≡ Ok places → profiles_of_text profiles ≡ Err why → network_of nodes roads profiles ≡ Err (Profiles why)
+unfolding network_of
+profiles-refused nodes roads profiles places why e f =
+    ap (λ (given : Result (List Place) RoadRefusal). with_places given roads profiles) e
+    ∙ ap (λ (given : Result (List (List Piece)) ProfileRefusal). with_profiles places roads given) f
+
+-- roads, refused or not, behind the places and the profiles
+pub arcs-joined : (nodes roads profiles : List ℕ) (places : List Place) (pieces : List (List Piece)) (node_count profile_count : ℕ) (arcs : Result (List RoadArc) RoadRefusal)
+    → places_of_text nodes ≡ Ok places → profiles_of_text profiles ≡ Ok pieces → node_count ≡ length places → profile_count ≡ length pieces
+    → arcs_of_text node_count profile_count roads ≡ arcs → network_of nodes roads profiles ≡ joined places pieces arcs
+unfolding network_of
+arcs-joined nodes roads profiles places pieces node_count profile_count arcs e f n m g =
+    ap (λ (given : Result (List Place) RoadRefusal). with_places given roads profiles) e
+    ∙ ap (λ (given : Result (List (List Piece)) ProfileRefusal). with_profiles places roads given) f
+    ∙ ap (λ (given : Result (List RoadArc) RoadRefusal). joined places pieces given) ((rw (n, m) at g))

@@ -1,0 +1,47 @@
+use Rattle.std.proofs.Common.{rules, ◌≡◌, ◌∙◌, length, ap}
+use Rattle.std.specs.Prelude.{Ok, Err}
+use Rattle.std.proofs.lemmas.Result.{err_from_is_err_and}
+use Rattle.cu_profile.specs.declared.refusals.ProfileRefusal.TheVariants as profile
+use Rattle.cu_roads.proofs.NetworkReads.{arcs-joined, nodes-refused, profiles-refused}
+use Rattle.cu_roads.proofs.Refusals.{gives_refused, gives_refused_profiles, of_table}
+use Rattle.cu_roads.proofs.networks.read_network.Goals as goal
+
+pub returns-in_err-places-clause-network : goal.returns-in_err-places-clause-network
+returns-in_err-places-clause-network c =
+    let p = err_from_is_err_and c.from_residual.result c.from_residual.ensures.1 in
+    let why = c.in_err-places.field-0.0 in
+    rw (p.1, p.2) (gives_refused why _ _ (nodes-refused c.args.nodes.now c.args.roads.now c.args.profiles.now why) c.in_err-places.ensures.refused)
+
+pub returns-in_err-places-clause-memory : goal.returns-in_err-places-clause-memory
+returns-in_err-places-clause-memory c =
+    let p = err_from_is_err_and c.from_residual.result c.from_residual.ensures.1 in
+    of_table c.in_err-places.field-0.0 c.from_residual.result profile.NoMemory c.in_err-places.ensures.table (p.1 ∙ ap Err p.2)
+
+pub returns-in_err-profiles-clause-network : goal.returns-in_err-profiles-clause-network
+returns-in_err-profiles-clause-network c =
+    let p = err_from_is_err_and c.from_residual-in_err-profiles.result c.from_residual-in_err-profiles.ensures.1 in
+    let why = c.in_err-profiles.field-0.0 in
+    rw (p.1, p.2) (gives_refused_profiles why _ _
+    (λ inner e. profiles-refused c.args.nodes.now c.args.roads.now c.args.profiles.now c.in_ok-places.places.items inner c.in_ok-places.ensures.places e)
+    c.in_err-profiles.ensures.refused)
+
+pub returns-in_err-arcs-clause-network : goal.returns-in_err-arcs-clause-network
+returns-in_err-arcs-clause-network c =
+    let p = err_from_is_err_and c.from_residual-in_err-arcs.result c.from_residual-in_err-arcs.ensures.1 in
+    let why = c.in_err-arcs.field-0.0 in
+    rw (p.1, p.2) (gives_refused why _ _
+    (λ e. arcs-joined c.args.nodes.now c.args.roads.now c.args.profiles.now c.in_ok-places.places.items c.in_ok-profiles.profiles.items
+    c.len-node_count.result c.len.result (Err why) c.in_ok-places.ensures.places c.in_ok-profiles.ensures.profiles (search rules) (search rules) e)
+    c.in_err-arcs.ensures.refused)
+
+pub returns-in_err-arcs-clause-memory : goal.returns-in_err-arcs-clause-memory
+returns-in_err-arcs-clause-memory c =
+    let p = err_from_is_err_and c.from_residual-in_err-arcs.result c.from_residual-in_err-arcs.ensures.1 in
+    of_table c.in_err-arcs.field-0.0 c.from_residual-in_err-arcs.result profile.NoMemory c.in_err-arcs.ensures.table (p.1 ∙ ap Err p.2)
+
+pub returns-clause-network : goal.returns-clause-network
+returns-clause-network c =
+    let k = arcs-joined c.args.nodes.now c.args.roads.now c.args.profiles.now c.in_ok-places.places.items c.in_ok-profiles.profiles.items
+    c.len-node_count.result c.len.result (Ok c.in_ok-arcs.arcs.items) c.in_ok-places.ensures.places c.in_ok-profiles.ensures.profiles (search rules) (search rules) c.in_ok-arcs.ensures.arcs in
+    let count : c.len-node_count.result ≡ length c.in_ok-places.places.items = search rules in
+    rw (c.of.ensures, count) k

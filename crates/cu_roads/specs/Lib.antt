@@ -1,0 +1,2 @@
+pub mod NetworkTexts
+pub mod Reading
