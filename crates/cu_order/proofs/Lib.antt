@@ -1,0 +1,4 @@
+pub mod ListedNodes
+pub mod RowWalks
+pub mod RefusedTexts
+pub mod WrittenOrders
