@@ -1,0 +1,8 @@
+pub mod Begun
+pub mod RunLaws
+pub mod Tiling
+pub mod StretchLaws
+pub mod Built
+pub mod ComposeLaws
+pub mod MinimumLaws
+pub mod PieceLaws

@@ -1,0 +1,9 @@
+use Rattle.std.proofs.Common.{◌-◌}
+use Rattle.cu_arrival.proofs.MinimumLaws.{IsMerging}
+use Rattle.cu_arrival.proofs.minimum.lesser.Given as goal
+
+abbrev pub invariant-day : goal.invariant-day
+invariant-day l = IsMerging l.first_runs l.second_runs l.runs.items l.choices.items l.first_stretch l.second_stretch l.at
+
+abbrev pub decreases-day : goal.decreases-day
+decreases-day l = 86400 - l.at

@@ -1,0 +1,15 @@
+-- A profile's pieces as runs.
+use Rattle.cu_model.specs.declared.profiles.Piece.{Piece}
+use Rattle.cu_model.specs.declared.profiles.Rule.{Rule}
+use Rattle.cu_model.specs.declared.profiles.Rule.TheVariants.{Travel, Until}
+use Rattle.cu_arrival.specs.declared.runs.Run.{Run}
+use Rattle.cu_arrival.specs.declared.runs.RunRule.{RunRule}
+use Rattle.cu_arrival.specs.declared.runs.RunRule.TheVariants.{Shift, Fixed}
+
+abbrev pub run_rule : Rule → RunRule
+run_rule (Travel seconds) = Shift seconds
+run_rule (Until arrival) = Fixed arrival
+
+-- the run that says what a piece says
+abbrev pub run_of : Piece → Run
+run_of piece = record { from = piece.from; rule = run_rule piece.rule }
