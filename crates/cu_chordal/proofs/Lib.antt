@@ -1,0 +1,12 @@
+pub mod Grouping
+pub mod Members
+pub mod Tables
+pub mod Joined
+pub mod Layouts
+pub mod Gathering
+pub mod Steps
+pub mod Handing
+pub mod Closed
+pub mod Linked
+pub mod Adding
+pub mod Crowded

@@ -1,0 +1,136 @@
+//! Parents and ancestors of ranks (Liu: "The role of elimination trees in sparse factorization", 1990).
+
+ghost use Rattle.std.specs.Prelude.{◌≡◌, ◌≤◌, ◌<◌, ℕ, Some, IsTrue, ◌↔◌, IfOk, length, slice_get};
+ghost use Rattle.std.specs.List.{Contains};
+ghost use Rattle.std.specs.List.Sorted.{IsStrictlyIncreasing};
+ghost use Rattle.cu_elimtree.specs.Ancestors.{ancestors_left};
+ghost use Rattle.cu_elimtree.specs.Trees.{HoldsHigherNeighbours, IsTree, IsTreeOf, ancestors_of};
+
+use cu_chordal::Chordal;
+use cu_model::NoMemory;
+use std::alloc::Global;
+use std::marker::Model;
+
+/// The elimination tree of a chordal graph; a graph that isn't connected has several roots. Contracts see the parent of
+/// each rank.
+#[derive(Debug, Drop)]
+pub struct Tree {
+    parents: Vec<Option<u32>>,
+}
+
+impl Model for Tree {
+    ghost use Rattle.std.specs.Prelude.{ℕ, List, Option};
+    ghost use Rattle.cu_elimtree.specs.Trees.{IsTree};
+
+    ghost Value = { List (Option ℕ) };
+
+    ghost view = { λ tree. tree.parents.items };
+
+    ghost invariant = { λ tree. IsTree tree.parents.items };
+}
+
+impl Tree {
+    /// The elimination tree of a chordal graph. All higher neighbours of a rank are among its ancestors.
+    pub fn of(alloc: Global, graph: &Chordal) -> Result<Tree, NoMemory>
+        ensures parents { IfOk result (λ tree. IsTreeOf graph.now tree) }
+        ensures holds { IfOk result (λ tree. HoldsHigherNeighbours graph.now tree) }
+    {
+        let parents = parents_of(alloc, graph)?;
+        Ok(Tree { parents })
+    }
+
+    /// How many ranks there are, at most 262,144.
+    pub fn ranks(&self) -> u32
+        ensures count { result ≡ length self.now }
+        ensures sound { IsTree self.now }
+    {
+        self.parents.len() as u32
+    }
+
+    /// The lowest higher neighbour of a rank, which is below the number of ranks. None exactly where it has none.
+    pub fn parent(&self, rank: u32) -> Option<u32>
+        requires { rank < length self.now }
+        ensures { slice_get self.now rank ≡ Some result }
+    {
+        self.parents[rank as usize]
+    }
+
+    /// The rank itself, its parent, the parent's parent and so on: they rise. The rank is below the number of ranks.
+    pub fn ancestors(&self, rank: u32) -> Ancestors<'_>
+        requires { rank < length self.now }
+        ensures left { ancestors_left result ≡ ancestors_of self.now rank }
+        ensures rising { IsStrictlyIncreasing (ancestors_of self.now rank) }
+    {
+        Ancestors {
+            parents: &self.parents,
+            fuel: self.parents.len(),
+            next: Some(rank),
+        }
+    }
+
+    /// Whether one rank is an ancestor of another. Each is its own. Both are below the number of ranks.
+    pub fn is_ancestor(&self, upper: u32, lower: u32) -> bool
+        requires { (upper < length self.now) × (lower < length self.now) }
+        ensures { IsTrue result ↔ Contains (ancestors_of self.now lower) upper }
+    {
+        has(self.ancestors(lower), upper)
+    }
+}
+
+/// The ancestors of a rank, from itself upwards.
+#[derive(Debug, Drop)]
+pub struct Ancestors<'a> {
+    parents: &'a [Option<u32>],
+    fuel: usize,
+    next: Option<u32>,
+}
+
+impl Iterator for Ancestors<'_> {
+    type Item = u32;
+
+    ghost use Rattle.std.specs.Iterator.{YieldsFirst, item_count};
+    ghost use Rattle.cu_elimtree.specs.Ancestors.{ancestors_left};
+
+    ghost next_gives = { YieldsFirst ancestors_left };
+
+    ghost remaining = { item_count ancestors_left };
+
+    fn next(&mut self) -> Option<u32> {
+        if self.fuel == 0 {
+            return None;
+        }
+        let rank = self.next?;
+        self.fuel -= 1;
+        self.next = match self.parents.get(rank as usize) {
+            Some(parent) => *parent,
+            None => None,
+        };
+        Some(rank)
+    }
+}
+
+// The parent of each rank of a graph.
+fn parents_of(alloc: Global, graph: &Chordal) -> Result<Vec<Option<u32>>, NoMemory>
+    ensures parents { IfOk result (λ parents. IsTreeOf graph.now parents.items) }
+    ensures sound { IfOk result (λ parents. IsTree parents.items) }
+    ensures holds { IfOk result (λ parents. HoldsHigherNeighbours graph.now parents.items) }
+{
+    let ranks = graph.ranks();
+    let mut parents = Vec::with_capacity(alloc, ranks as usize)?;
+    for rank in 0..ranks {
+        parents.push(graph.up(rank).first().copied())?;
+    }
+    Ok(parents)
+}
+
+// Whether a rank is among these.
+fn has(ancestors: Ancestors<'_>, rank: u32) -> bool
+    ensures { IsTrue result ↔ Contains (ancestors_left ancestors.entry) rank }
+{
+    for ancestor in ancestors {
+        if ancestor == rank {
+            return true;
+        }
+    }
+    false
+}
