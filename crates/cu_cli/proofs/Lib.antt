@@ -1,0 +1,9 @@
+mod Texts
+mod LineLaws
+mod TakingLaws
+mod Outputs
+mod RunLaws
+mod Completeness
+mod RoundsSearch
+mod RoundsLeast
+mod RoundsTrace

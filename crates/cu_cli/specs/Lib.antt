@@ -1,0 +1,11 @@
+pub mod Statuses
+pub mod Words
+pub mod Asks
+pub mod Lines
+pub mod Replies
+pub mod Taking
+pub mod Faults
+pub mod Roles
+pub mod Runs
+pub mod RoundsValue
+pub mod RoundsLabels
