@@ -1,17 +1,17 @@
 -- Pieces have no fault exactly where they are a profile.
-use Rattle.std.proofs.Common.{◌≡◌, ◌<◌, ◌+◌, ℕ, zero, suc, List, [], ◌∷◌, Option, Some, None, Bool, true, false, refl, ap, ◌∙◌, subst, arith, inl, inr, cond, not, ltb, length, get_or}
+use Rattle.std.proofs.Common.{◌≡◌, ◌<◌, ◌+◌, ℕ, zero, suc, List, [], ◌∷◌, Option, Some, None, Bool, true, false, refl, sym, ap, ◌∙◌, subst, arith, inl, inr, cond, not, ltb, length, get_or, All}
 use Rattle.std.specs.Prelude.{slice_get, position, Result, Ok, Err, MatchResult, OnOk}
 use Rattle.std.specs.Option.{option_or, option_map}
-use Rattle.std.specs.List.{AllAdjacentBelow, position_or_len}
+use Rattle.std.specs.List.{position_or_len}
 use Rattle.std.proofs.lemmas.Bool.{cases_lt, cond-true, cond-false, ltb-true, ltb-false, leb-true, lt-ltb, le-ltb, le-leb, eqb-true, eq-eqb, and_parts, and_from, not-false, not_from_true}
 use Rattle.std.proofs.lemmas.List.Sums.{fails_before_first, passes_at_first}
 use Rattle.cu_model.specs.declared.profiles.Piece.{Piece}
-use Rattle.cu_model.specs.declared.profiles.Rule.{Rule}
-use Rattle.cu_model.specs.declared.profiles.Rule.TheVariants.{Travel, Until}
 use Rattle.cu_model.specs.declared.profiles.PieceFault.{PieceFault}
-use Rattle.cu_model.specs.declared.profiles.PieceFault.TheVariants.{Limit, Start, Rising, Early, Fifo}
-use Rattle.cu_model.specs.Profiles.{day, profile_value, IsRuleInLimit, IsPieceInLimit, IsProfile}
-use Rattle.cu_model.specs.Faults.{is_rule_in_limit, is_in_limit, starts_day, first_fallen, limit_fault, start_fault, rising_fault, early_fault, fifo_fault, piece_fault}
+use Rattle.cu_model.specs.declared.profiles.PieceFault.TheVariants.{Limit, Start, Rising, Closed, Early, Fifo}
+use Rattle.cu_model.specs.Begun.{Rises}
+use Rattle.cu_model.specs.Days.{day}
+use Rattle.cu_model.specs.Profiles.{profile_value, is_closed_piece, is_in_limit, is_rule_in_limit, IsProfile}
+use Rattle.cu_model.specs.Faults.{starts_day, first_fallen, limit_fault, start_fault, rising_fault, closed_fault, early_fault, fifo_fault, piece_fault}
 use Rattle.cu_model.proofs.Firsts.{least-none, least_none_from}
 
 -- two options of which neither is there
@@ -23,22 +23,8 @@ pub map-none : {A B : Type 0} (f : A → B) (o : Option A) → option_map f o �
 map-none f None e = refl
 map-none f (Some x) e = absurd (cc e)
 
-rule_limit : (rule : Rule) → is_rule_in_limit rule ≡ true → IsRuleInLimit rule
-rule_limit (Travel seconds) e = leb-true seconds 604800 e
-rule_limit (Until arrival) e = leb-true arrival 691200 e
-
-rule_limit_from : (rule : Rule) → IsRuleInLimit rule → is_rule_in_limit rule ≡ true
-rule_limit_from (Travel seconds) h = le-leb seconds 604800 h
-rule_limit_from (Until arrival) h = le-leb arrival 691200 h
-
-pub piece_limit : (piece : Piece) → is_in_limit piece ≡ true → IsPieceInLimit piece
-piece_limit piece e =
-    let parts = and_parts (ltb piece.from day) (is_rule_in_limit piece.rule) e in
-    (ltb-true piece.from day parts.0, rule_limit piece.rule parts.1)
-
-piece_limit_from : (piece : Piece) → IsPieceInLimit piece → is_in_limit piece ≡ true
-piece_limit_from piece h =
-    and_from (ltb piece.from day) (is_rule_in_limit piece.rule) (lt-ltb piece.from day h.0) (rule_limit_from piece.rule h.1)
+pub piece_begins : (piece : Piece) → is_in_limit piece ≡ true → piece.from < day
+piece_begins piece e = ltb-true piece.from day (and_parts (ltb piece.from day) (is_rule_in_limit piece.rule) e).0
 
 cond-none : {A : Type 0} (b : Bool) (x : A) → cond b (Some x) None ≡ None → b ≡ false
 cond-none true x e = absurd (cc e)
@@ -63,7 +49,7 @@ position_none_from test (x ∷ xs) none = elim (cases_lt (position_or_len test (
 
 -- each piece is from an earlier second than the next
 abbrev pub Rise : List Piece → Type 0
-Rise pieces = AllAdjacentBelow (λ (piece next : Piece). piece.from < next.from) pieces (length pieces)
+Rise pieces = Rises (λ (piece : Piece). piece.from) pieces
 
 rise_more : (p q : Piece) (ps : List Piece) → p.from < q.from → Rise (q ∷ ps) → Rise (p ∷ q ∷ ps)
 rise_more p q ps lt rise zero d h = lt
@@ -106,37 +92,55 @@ pub start-none : (b : Bool) → cond b None (Some Start) ≡ None → b ≡ true
 start-none true e = refl
 start-none false e = absurd (cc e)
 
+-- a closed piece beside others is a fault, and back
+closed-none : (pieces : List Piece) → closed_fault pieces ≡ None → 1 < length pieces → All (λ (piece : Piece). is_closed_piece piece ≡ false) pieces
+closed-none pieces e more =
+    let none = map-none Closed (position is_closed_piece pieces) (sym (cond-true (ltb 1 (length pieces)) _ _ (lt-ltb 1 (length pieces) more)) ∙ e) in
+    λ k d h. position-none is_closed_piece pieces none k d h
+
+closed_none_from : (pieces : List Piece) → (1 < length pieces → All (λ (piece : Piece). is_closed_piece piece ≡ false) pieces) → closed_fault pieces ≡ None
+closed_none_from pieces alone = elim (cases_lt 1 (length pieces)) [
+  | inl more ↦
+      cond-true (ltb 1 (length pieces)) _ _ (lt-ltb 1 (length pieces) more)
+      ∙ ap (option_map Closed) (position_none_from is_closed_piece pieces (λ k d h. alone more k d h))
+  | inr few ↦ cond-false (ltb 1 (length pieces)) _ _ (le-ltb 1 (length pieces) few)
+]
+
 -- pieces without a fault are a profile
 pub piece_fault-none : (pieces : List Piece) → piece_fault pieces ≡ None → IsProfile pieces
 piece_fault-none pieces e =
     let l = or-none (limit_fault pieces) _ e in
     let s = or-none (start_fault pieces) _ l.1 in
     let r = or-none (rising_fault pieces) _ s.1 in
-    let f = or-none (early_fault pieces) (fifo_fault pieces) r.1 in
+    let c = or-none (closed_fault pieces) _ r.1 in
+    let f = or-none (early_fault pieces) (fifo_fault pieces) c.1 in
     record {
-      limits = λ k d h. piece_limit (get_or pieces k d) (not-false _ (position-none (λ (piece : Piece). not (is_in_limit piece)) pieces (map-none Limit _ l.0) k d h));
+      limits = λ k d h. not-false _ (position-none (λ (piece : Piece). not (is_in_limit piece)) pieces (map-none Limit _ l.0) k d h);
       starts = starts-true pieces (start-none (starts_day pieces) s.0);
       rises = first_fallen-none 0 pieces (map-none Rising _ r.0);
+      alone = closed-none pieces c.0;
       onward = λ second h. ltb-false (profile_value pieces second) second (least-none (λ (x : ℕ). ltb (profile_value pieces x) x) day (map-none Early _ f.0) second h);
       fifo = λ second h. ltb-false (profile_value pieces (second + 1)) (profile_value pieces second)
           (least-none (λ (x : ℕ). ltb (profile_value pieces (x + 1)) (profile_value pieces x)) day (map-none Fifo _ f.1) second h);
     }
 
+-- an option that isn't there leaves the next
+pass : {A : Type 0} (a b : Option A) → a ≡ None → b ≡ None → option_or a b ≡ None
+pass None b e f = f
+pass (Some x) b e f = absurd (cc e)
+
 -- a profile has no fault
 pub piece_fault_none_from : (pieces : List Piece) → IsProfile pieces → piece_fault pieces ≡ None
 piece_fault_none_from pieces f =
     let l : limit_fault pieces ≡ None = ap (option_map Limit) (position_none_from (λ (piece : Piece). not (is_in_limit piece)) pieces
-    (λ k d h. not_from_true _ (piece_limit_from (get_or pieces k d) (f.limits k d h)))) in
+    (λ k d h. not_from_true _ (f.limits k d h))) in
     let s : start_fault pieces ≡ None = rw (starts_from pieces f.starts) refl in
     let r : rising_fault pieces ≡ None = ap (option_map Rising) (first_fallen_none_from 0 pieces f.rises) in
     let e : early_fault pieces ≡ None = ap (option_map Early) (least_none_from (λ (x : ℕ). ltb (profile_value pieces x) x) day
     (λ second h. le-ltb _ _ (f.onward second h))) in
     let o : fifo_fault pieces ≡ None = ap (option_map Fifo) (least_none_from (λ (x : ℕ). ltb (profile_value pieces (x + 1)) (profile_value pieces x)) day
     (λ second h. le-ltb _ _ (f.fifo second h))) in
-    ap (λ (x : Option PieceFault). option_or x (option_or (start_fault pieces) (option_or (rising_fault pieces) (option_or (early_fault pieces) (fifo_fault pieces))))) l
-    ∙ ap (λ (x : Option PieceFault). option_or x (option_or (rising_fault pieces) (option_or (early_fault pieces) (fifo_fault pieces)))) s
-    ∙ ap (λ (x : Option PieceFault). option_or x (option_or (early_fault pieces) (fifo_fault pieces))) r
-    ∙ ap (λ (x : Option PieceFault). option_or x (fifo_fault pieces)) e ∙ o
+    pass _ _ l (pass _ _ s (pass _ _ r (pass _ _ (closed_none_from pieces f.alone) (pass _ _ e o))))
 
 -- where a check answers by the first fault, what it accepts is a profile
 pub profile_on_ok : {A : Type 0} (answer : Result A PieceFault) (pieces : List Piece)

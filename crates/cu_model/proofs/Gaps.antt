@@ -4,32 +4,34 @@ use Rattle.std.specs.Option.{option_or}
 use Rattle.std.proofs.lemmas.Bool.{cases_lt, lt-ltb, le-ltb, le-leb, lt-leb, cond-true, cond-false}
 use Rattle.cu_model.specs.declared.profiles.Piece.{Piece}
 use Rattle.cu_model.specs.declared.profiles.Rule.{Rule}
-use Rattle.cu_model.specs.declared.profiles.Rule.TheVariants.{Travel, Until}
-use Rattle.cu_model.specs.Profiles.{day, piece_at, piece_value, rule_value, profile_value}
+use Rattle.cu_model.specs.declared.profiles.Rule.TheVariants.{Travel, Until, Closed}
+use Rattle.cu_model.specs.Days.{day}
+use Rattle.cu_model.specs.Profiles.{piece_at, piece_value, rule_value, profile_value}
 use Rattle.cu_model.specs.Checker.{last_from, first_between, early_of, early_until, overtaken, overtaken_by, overtaken_at_midnight}
-use Rattle.cu_model.proofs.ProfileLaws.{later_some, rule_shift, value_at, value_in_day}
+use Rattle.cu_model.proofs.Begun.{later_some}
+use Rattle.cu_model.proofs.ProfileLaws.{rule_shift, value_at, value_in_day}
 use Rattle.cu_model.proofs.Firsts.{IsFirst, first_joined, first_one}
 use Rattle.cu_model.proofs.Pushes.{option_or-assoc}
 
 -- each piece is from an earlier second than the next
-abbrev pub Rises : Piece → List Piece → Type 0
-Rises p [] = Unit {0}
-Rises p (q ∷ ps) = (p.from < q.from) × Rises q ps
+abbrev pub Follow : Piece → List Piece → Type 0
+Follow p [] = Unit {0}
+Follow p (q ∷ ps) = (p.from < q.from) × Follow q ps
 
 -- before its first second a rising list has no piece
-none_before : (p : Piece) (ps : List Piece) (s : ℕ) → Rises p ps → s < p.from → piece_at (p ∷ ps) s ≡ None
+none_before : (p : Piece) (ps : List Piece) (s : ℕ) → Follow p ps → s < p.from → piece_at (p ∷ ps) s ≡ None
 none_before p [] s rises h = let late : leb p.from s ≡ false = lt-leb p.from s h in rw late refl
 none_before p (q ∷ ps) s rises h =
     let late : leb p.from s ≡ false = lt-leb p.from s h in
     let rest : piece_at (q ∷ ps) s ≡ None = none_before q ps s rises.1 (omega (arith, rises.0)) in
     rw (late, rest) refl
 
-first_of_last : (p : Piece) (ps : List Piece) → Rises p ps → p.from ≤ (last_from p ps).from
+first_of_last : (p : Piece) (ps : List Piece) → Follow p ps → p.from ≤ (last_from p ps).from
 first_of_last p [] rises = omega arith
 first_of_last p (q ∷ ps) rises = omega (arith, rises.0, first_of_last q ps rises.1)
 
 -- until the second piece begins the first holds
-first_holds : (p q : Piece) (ps : List Piece) (s : ℕ) → Rises p (q ∷ ps) → p.from ≤ s → s < q.from → piece_at (p ∷ q ∷ ps) s ≡ Some p
+first_holds : (p q : Piece) (ps : List Piece) (s : ℕ) → Follow p (q ∷ ps) → p.from ≤ s → s < q.from → piece_at (p ∷ q ∷ ps) s ≡ Some p
 first_holds p q ps s rises h k =
     let begun : leb p.from s ≡ true = le-leb p.from s h in
     let rest : piece_at (q ∷ ps) s ≡ None = none_before q ps s rises.1 k in
@@ -38,7 +40,7 @@ first_holds p q ps s rises h k =
 alone_holds : (p : Piece) (s : ℕ) → p.from ≤ s → piece_at (p ∷ []) s ≡ Some p
 alone_holds p s h = let begun : leb p.from s ≡ true = le-leb p.from s h in rw begun refl
 
-pub begins : (p : Piece) (ps : List Piece) → Rises p ps → piece_at (p ∷ ps) p.from ≡ Some p
+pub begins : (p : Piece) (ps : List Piece) → Follow p ps → piece_at (p ∷ ps) p.from ≡ Some p
 begins p [] rises = alone_holds p p.from (omega arith)
 begins p (q ∷ ps) rises = first_holds p q ps p.from rises (omega arith) rises.0
 
@@ -65,6 +67,7 @@ is_overtaken all second = ltb (profile_value all (second + 1)) (profile_value al
 -- the first early second of a rule
 early_first : (test : ℕ → Bool) (rule : Rule) (from end : ℕ) → ((s : ℕ) → from ≤ s → s < end → test s ≡ ltb (rule_value rule 0 s) s) → IsFirst test from end (early_of rule from end)
 early_first test (Travel seconds) from end is = λ s a b. is s a b ∙ le-ltb (rule_value (Travel seconds) 0 s) s (omega arith)
+early_first test (Closed value) from end is = λ s a b. is s a b ∙ le-ltb (rule_value (Closed value) 0 s) s (omega arith)
 early_first test (Until arrival) from end is =
     let second = max from (arrival + 1) in
     elim (cases_lt second end) [
@@ -88,6 +91,7 @@ early_in all x end h holds = early_first (is_early all) x.rule x.from end (λ s 
 steady : (rule : Rule) (s : ℕ) → rule_value rule 0 s ≤ rule_value rule 0 (s + 1)
 steady (Travel seconds) s = omega arith
 steady (Until arrival) s = omega arith
+steady (Closed value) s = omega arith
 
 -- the first overtaken second of a piece: none but the last, against the value at the next second
 overtaken_first : (all : List Piece) (x : Piece) (last next : ℕ) → x.from ≤ last → last < day → ((s : ℕ) → x.from ≤ s → s < last + 1 → piece_at all s ≡ Some x)
@@ -119,7 +123,7 @@ overtaken_last all x first inside holds start =
     overtaken_first all x (day - 1) (day + rule_value first.rule 0 0) (omega (arith, inside)) (omega arith) holds v
 
 -- the first early second of a whole list, whose pieces from this one on hold from its first second on
-pub early_gaps : (all : List Piece) (p : Piece) (ps : List Piece) → Rises p ps → (last_from p ps).from < day
+pub early_gaps : (all : List Piece) (p : Piece) (ps : List Piece) → Follow p ps → (last_from p ps).from < day
     → ((s : ℕ) → p.from ≤ s → piece_at all s ≡ piece_at (p ∷ ps) s)
     → IsFirst (is_early all) p.from day (option_or (first_between (λ x y. early_until x y.from) (p ∷ ps)) (early_until (last_from p ps) day))
 early_gaps all p [] rises inside same = early_in all p day (omega arith) (λ s a b. same s a ∙ alone_holds p s a)
@@ -131,7 +135,7 @@ early_gaps all p (q ∷ ps) rises inside same =
     (early_in all p q.from (omega (arith, inside, before)) (λ s a b. same s a ∙ first_holds p q ps s rises a b))
     (early_gaps all q ps rises.1 inside (λ s a. same s (omega (arith, a, rises.0)) ∙ rest_holds p q ps s a)))
 
-pub fifo_gaps : (all : List Piece) (first p : Piece) (ps : List Piece) → Rises p ps → (last_from p ps).from < day
+pub fifo_gaps : (all : List Piece) (first p : Piece) (ps : List Piece) → Follow p ps → (last_from p ps).from < day
     → ((s : ℕ) → p.from ≤ s → piece_at all s ≡ piece_at (p ∷ ps) s) → piece_at all 0 ≡ Some first
     → IsFirst (is_overtaken all) p.from day (option_or (first_between overtaken_by (p ∷ ps)) (overtaken_at_midnight (last_from p ps) first))
 fifo_gaps all first p [] rises inside same start = overtaken_last all p first inside (λ s a b. same s a ∙ alone_holds p s a) start

@@ -1,3 +1,4 @@
+pub mod DayLaws
 pub mod ProfileLaws
 pub mod RoadLaws
 pub mod Begun

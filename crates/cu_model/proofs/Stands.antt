@@ -4,17 +4,19 @@ use Rattle.std.specs.Option.{option_or, option_map}
 use Rattle.std.specs.List.{position}
 use Rattle.std.proofs.lemmas.Bool.{eqb-true, ltb-true, not-false}
 use Rattle.cu_model.specs.declared.profiles.Piece.{Piece}
-use Rattle.cu_model.specs.declared.profiles.PieceFault.TheVariants.{Limit, Rising, Early, Fifo}
+use Rattle.cu_model.specs.declared.profiles.PieceFault.{PieceFault}
+use Rattle.cu_model.specs.declared.profiles.PieceFault.TheVariants.{Limit, Rising, Closed, Early, Fifo}
 use Rattle.cu_model.specs.declared.checker.PieceChecker.{PieceChecker}
-use Rattle.cu_model.specs.Profiles.{day, piece_at}
-use Rattle.cu_model.specs.Faults.{least, is_in_limit, first_fallen, limit_fault, start_fault, rising_fault, early_fault, piece_fault}
-use Rattle.cu_model.specs.Checker.{last_from, ends_of, first_between, early_until, overtaken_by, overtaken_at_midnight, ends_fault, kept_fault, Checks}
+use Rattle.cu_model.specs.Days.{day}
+use Rattle.cu_model.specs.Profiles.{piece_at, is_closed_piece, is_in_limit}
+use Rattle.cu_model.specs.Faults.{least, first_fallen, limit_fault, start_fault, rising_fault, closed_fault, early_fault, piece_fault}
+use Rattle.cu_model.specs.Checker.{last_from, ends_of, first_between, early_until, overtaken_by, overtaken_at_midnight, kept_fault, Checks}
 use Rattle.cu_model.proofs.Firsts.{IsFirst, least_is}
-use Rattle.cu_model.proofs.FaultLaws.{map-none, start-none, cond-some, position-none, piece_limit}
-use Rattle.cu_model.proofs.Gaps.{Rises, is_early, is_overtaken, begins, early_gaps, fifo_gaps}
+use Rattle.cu_model.proofs.FaultLaws.{map-none, start-none, cond-some, position-none, piece_begins}
+use Rattle.cu_model.proofs.Gaps.{Follow, is_early, is_overtaken, begins, early_gaps, fifo_gaps}
 
 -- where none has fallen the pieces rise
-rises : (index : ℕ) (p : Piece) (ps : List Piece) → first_fallen index (p ∷ ps) ≡ None → Rises p ps
+rises : (index : ℕ) (p : Piece) (ps : List Piece) → first_fallen index (p ∷ ps) ≡ None → Follow p ps
 rises index p [] e = tt
 rises index p (q ∷ ps) e =
     let parts = cond-some (ltb p.from q.from) (first_fallen (index + 1) (q ∷ ps)) (index + 1) e in
@@ -35,7 +37,7 @@ seconds : (p : Piece) (ps : List Piece) → position (λ piece. not (is_in_limit
     × (least (is_overtaken (p ∷ ps)) day ≡ option_or (first_between overtaken_by (p ∷ ps)) (overtaken_at_midnight (last_from p ps) p))
 seconds p ps limit start fallen =
     let rise = rises 0 p ps fallen in
-    let inside = last_within p ps (λ k d h. (piece_limit (get_or (p ∷ ps) k d) (not-false _ (position-none (λ (piece : Piece). not (is_in_limit piece)) (p ∷ ps) limit k d h))).0) in
+    let inside = last_within p ps (λ k d h. piece_begins (get_or (p ∷ ps) k d) (not-false _ (position-none (λ (piece : Piece). not (is_in_limit piece)) (p ∷ ps) limit k d h))) in
     let early_all = option_or (first_between (λ x y. early_until x y.from) (p ∷ ps)) (early_until (last_from p ps) day) in
     let fifo_all = option_or (first_between overtaken_by (p ∷ ps)) (overtaken_at_midnight (last_from p ps) p) in
     let early = early_gaps (p ∷ ps) p ps rise inside (λ s h. refl) in
@@ -46,17 +48,19 @@ seconds p ps limit start fallen =
 
 -- the faults in their order, the seconds' by what the gaps say
 list_fault : (p : Piece) (ps : List Piece)
-    → option_or (option_map Limit (position (λ piece. not (is_in_limit piece)) (p ∷ ps)))
-    (ends_fault (ends_of (p ∷ ps)) (first_fallen 0 (p ∷ ps)) (first_between (λ x y. early_until x y.from) (p ∷ ps)) (first_between overtaken_by (p ∷ ps)))
+    → option_or (limit_fault (p ∷ ps)) (option_or (start_fault (p ∷ ps)) (option_or (rising_fault (p ∷ ps)) (option_or (closed_fault (p ∷ ps))
+    (option_or (option_map Early (option_or (first_between (λ x y. early_until x y.from) (p ∷ ps)) (early_until (last_from p ps) day)))
+    (option_map Fifo (option_or (first_between overtaken_by (p ∷ ps)) (overtaken_at_midnight (last_from p ps) p)))))))
     ≡ piece_fault (p ∷ ps)
 list_fault p ps =
-    let early = option_or (first_between (λ x y. early_until x y.from) (p ∷ ps)) (early_until (last_from p ps) day) in
     let fifo = option_or (first_between overtaken_by (p ∷ ps)) (overtaken_at_midnight (last_from p ps) p) in
     same_unless (limit_fault (p ∷ ps)) _ _ (λ limit. same_unless (start_fault (p ∷ ps)) _ _ (λ start. same_unless (rising_fault (p ∷ ps)) _ _ (λ rising.
+    same_unless (closed_fault (p ∷ ps)) _ _ (λ closed.
     let found = seconds p ps (map-none Limit _ limit) (eqb-true p.from 0 (start-none (eqb p.from 0) start)) (map-none Rising _ rising) in
     ap (λ (o : Option ℕ). option_or (option_map Early o) (option_map Fifo fifo)) (sym found.0)
-    ∙ ap (λ (o : Option ℕ). option_or (early_fault (p ∷ ps)) (option_map Fifo o)) (sym found.1))))
+    ∙ ap (λ (o : Option ℕ). option_or (early_fault (p ∷ ps)) (option_map Fifo o)) (sym found.1)))))
 
 pub checks_fault : (checker : PieceChecker) (pieces : List Piece) → Checks checker pieces → kept_fault checker ≡ piece_fault pieces
 checks_fault checker [] checks = rw (checks.limit, checks.ends) refl
-checks_fault checker (p ∷ ps) checks = rw (checks.limit, checks.ends, checks.rising, checks.early, checks.fifo) (list_fault p ps)
+checks_fault checker (p ∷ ps) checks =
+    rw (checks.limit, checks.ends, checks.rising, checks.closed, checks.count, checks.early, checks.fifo) (list_fault p ps)

@@ -3,13 +3,14 @@ use Rattle.std.specs.Prelude.{ℕ, List, [], ◌∷◌, Option, Some, None, ◌�
 use Rattle.std.specs.Option.{option_or, option_map}
 use Rattle.cu_model.specs.declared.profiles.Piece.{Piece}
 use Rattle.cu_model.specs.declared.profiles.Rule.{Rule}
-use Rattle.cu_model.specs.declared.profiles.Rule.TheVariants.{Travel, Until}
+use Rattle.cu_model.specs.declared.profiles.Rule.TheVariants.{Travel, Until, Closed}
 use Rattle.cu_model.specs.declared.profiles.PieceFault.{PieceFault}
-use Rattle.cu_model.specs.declared.profiles.PieceFault.TheVariants.{Limit, Start, Rising, Early, Fifo}
+use Rattle.cu_model.specs.declared.profiles.PieceFault.TheVariants as fault
 use Rattle.cu_model.specs.declared.checker.Ends.{Ends}
 use Rattle.cu_model.specs.declared.checker.PieceChecker.{PieceChecker}
-use Rattle.cu_model.specs.Profiles.{day, rule_value}
-use Rattle.cu_model.specs.Faults.{is_in_limit, first_fallen}
+use Rattle.cu_model.specs.Days.{day}
+use Rattle.cu_model.specs.Profiles.{is_closed_piece, is_in_limit, rule_value}
+use Rattle.cu_model.specs.Faults.{first_fallen}
 
 -- the last of a piece and those after it
 abbrev pub last_from : Piece → List Piece → Piece
@@ -24,6 +25,7 @@ ends_of (piece ∷ pieces) = Some (record { first = piece; last = last_from piec
 -- the least second from `from` on and below `end` at which a rule arrives before it leaves
 abbrev pub early_of : Rule → ℕ → ℕ → Option ℕ
 early_of (Travel seconds) from end = None
+early_of (Closed value) from end = None
 early_of (Until arrival) from end = if nat_lt (max from (arrival + 1)) end then Some (max from (arrival + 1)) else None
 
 -- the same of a piece until the next begins
@@ -67,16 +69,27 @@ pub record Checks (checker : PieceChecker) (pieces : List Piece) : Type 0 where
   pub ends : checker.ends ≡ ends_of pieces
   pub limit : checker.limit ≡ position (λ piece. not (is_in_limit piece)) pieces
   pub rising : checker.rising ≡ first_fallen 0 pieces
+  pub closed : checker.closed ≡ position is_closed_piece pieces
   pub early : checker.early ≡ first_between (λ piece next. early_until piece next.from) pieces
   pub fifo : checker.fifo ≡ first_between overtaken_by pieces
 
+-- the first closed piece is a fault where there is more than one piece
+abbrev pub kept_closed : PieceChecker → Option PieceFault
+kept_closed checker = if nat_lt 1 checker.count then option_map fault.Closed checker.closed else None
+
+-- the fault of the seconds, where the pieces rise from second 0
+abbrev pub kept_seconds : PieceChecker → Ends → Option PieceFault
+kept_seconds checker ends =
+    option_or (option_map fault.Early (option_or checker.early (early_until ends.last day)))
+    (option_map fault.Fifo (option_or checker.fifo (overtaken_at_midnight ends.last ends.first)))
+
 -- the fault that follows from what a checker keeps, where no piece is past a limit
-abbrev pub ends_fault : Option Ends → Option ℕ → Option ℕ → Option ℕ → Option PieceFault
-ends_fault None rising early fifo = Some Start
-ends_fault (Some ends) rising early fifo =
-    option_or (if ends.first.from == 0 then None else Some Start) (option_or (option_map Rising rising)
-    (option_or (option_map Early (option_or early (early_until ends.last day))) (option_map Fifo (option_or fifo (overtaken_at_midnight ends.last ends.first)))))
+abbrev pub ends_fault : PieceChecker → Option Ends → Option PieceFault
+ends_fault checker None = Some fault.Start
+ends_fault checker (Some ends) =
+    option_or (if ends.first.from == 0 then None else Some fault.Start) (option_or (option_map fault.Rising checker.rising)
+    (option_or (kept_closed checker) (kept_seconds checker ends)))
 
 -- the fault that follows from what a checker keeps
 abbrev pub kept_fault : PieceChecker → Option PieceFault
-kept_fault checker = option_or (option_map Limit checker.limit) (ends_fault checker.ends checker.rising checker.early checker.fifo)
+kept_fault checker = option_or (option_map fault.Limit checker.limit) (ends_fault checker checker.ends)

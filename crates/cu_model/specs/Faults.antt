@@ -1,24 +1,17 @@
--- The first fault of a list of pieces, in the order: a limit, the start, a piece that doesn't rise, an early arrival, an overtaking.
-use Rattle.std.specs.Prelude.{ℕ, zero, suc, List, [], ◌∷◌, Bool, false, not, Option, Some, None, ◌+◌, ◌&&◌, ◌==◌, nat_lt, nat_le, position, if◌then◌else◌}
+-- The first fault of a list of pieces, in the order: a limit, the start, a piece that doesn't rise, a closed piece beside others, an early
+-- arrival, an overtaking.
+use Rattle.std.specs.Prelude.{ℕ, zero, suc, List, [], ◌∷◌, Bool, false, not, Option, Some, None, ◌+◌, ◌==◌, nat_lt, length, position, if◌then◌else◌}
 use Rattle.std.specs.Option.{option_map, option_or}
 use Rattle.cu_model.specs.declared.profiles.Piece.{Piece}
-use Rattle.cu_model.specs.declared.profiles.Rule.{Rule}
-use Rattle.cu_model.specs.declared.profiles.Rule.TheVariants.{Travel, Until}
 use Rattle.cu_model.specs.declared.profiles.PieceFault.{PieceFault}
-use Rattle.cu_model.specs.declared.profiles.PieceFault.TheVariants.{Limit, Start, Rising, Early, Fifo}
-use Rattle.cu_model.specs.Profiles.{day, profile_value}
+use Rattle.cu_model.specs.declared.profiles.PieceFault.TheVariants.{Limit, Start, Rising, Closed, Early, Fifo}
+use Rattle.cu_model.specs.Days.{day}
+use Rattle.cu_model.specs.Profiles.{is_closed_piece, is_in_limit, profile_value}
 
 -- the least number below n that passes a test
 unfoldable pub least : (ℕ → Bool) → ℕ → Option ℕ
 least test zero = None
 least test (suc n) = option_or (least test n) (if test n then Some n else None)
-
-abbrev pub is_rule_in_limit : Rule → Bool
-is_rule_in_limit (Travel seconds) = nat_le seconds 604800
-is_rule_in_limit (Until arrival) = nat_le arrival 691200
-
-abbrev pub is_in_limit : Piece → Bool
-is_in_limit piece = nat_lt piece.from day && is_rule_in_limit piece.rule
 
 -- whether the first piece is from second 0
 abbrev pub starts_day : List Piece → Bool
@@ -40,6 +33,10 @@ start_fault pieces = if starts_day pieces then None else Some Start
 abbrev pub rising_fault : List Piece → Option PieceFault
 rising_fault pieces = option_map Rising (first_fallen 0 pieces)
 
+-- the first closed piece, where there is more than one piece
+abbrev pub closed_fault : List Piece → Option PieceFault
+closed_fault pieces = if nat_lt 1 (length pieces) then option_map Closed (position is_closed_piece pieces) else None
+
 -- the least second of the day with an arrival before the departure
 abbrev pub early_fault : List Piece → Option PieceFault
 early_fault pieces = option_map Early (least (λ second. nat_lt (profile_value pieces second) second) day)
@@ -50,4 +47,6 @@ fifo_fault pieces = option_map Fifo (least (λ second. nat_lt (profile_value pie
 
 -- the first fault of these pieces, none exactly where they are a profile
 abbrev pub piece_fault : List Piece → Option PieceFault
-piece_fault pieces = option_or (limit_fault pieces) (option_or (start_fault pieces) (option_or (rising_fault pieces) (option_or (early_fault pieces) (fifo_fault pieces))))
+piece_fault pieces =
+    option_or (limit_fault pieces) (option_or (start_fault pieces) (option_or (rising_fault pieces)
+    (option_or (closed_fault pieces) (option_or (early_fault pieces) (fifo_fault pieces)))))

@@ -1,4 +1,6 @@
 pub mod Numbers
+pub mod Begun
+pub mod Days
 pub mod Profiles
 pub mod Faults
 pub mod Checker
@@ -7,5 +9,5 @@ pub mod Orders
 pub mod Roads
 pub mod Edits
 pub mod Queries
-pub mod LineFields
+pub mod Steps
 pub mod Answers

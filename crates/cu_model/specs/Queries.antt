@@ -5,7 +5,7 @@ use Rattle.cu_model.specs.declared.queries.Query.{Query}
 use Rattle.cu_model.specs.declared.queries.QueryRefusal.{QueryRefusal}
 use Rattle.cu_model.specs.declared.queries.QueryRefusal.TheVariants.{Line, Node, Second}
 use Rattle.cu_model.specs.Numbers.{is_number_word, number_value}
-use Rattle.cu_model.specs.Profiles.{day}
+use Rattle.cu_model.specs.Days.{day}
 
 -- a line's fields: its bytes cut at each comma
 abbrev pub fields_of_line : List ℕ → List (List ℕ)

@@ -1,19 +1,36 @@
 -- Walks, drives and least arrivals.
-use Rattle.std.specs.Prelude.{ℕ, List, [], ◌∷◌, Option, Some, None, ◌≡◌, ◌≤◌, slice_get}
+use Rattle.std.specs.Prelude.{ℕ, List, [], ◌∷◌, Bool, false, Option, Some, None, ◌≡◌, ◌≤◌, slice_get}
 use Rattle.cu_model.specs.declared.profiles.Piece.{Piece}
 use Rattle.cu_model.specs.declared.roads.RoadArc.{RoadArc}
-use Rattle.cu_model.specs.Profiles.{profile_value}
+use Rattle.cu_model.specs.Profiles.{is_closed, profile_value}
 use Rattle.cu_model.specs.Networks.{NetworkValue}
 
 -- the road with this number has these ends
 abbrev pub Links : NetworkValue → ℕ → ℕ → ℕ → Type 0
 Links g a u v = (arc : RoadArc) × (slice_get g.arcs a ≡ Some arc) × (arc.tail ≡ u) × (arc.head ≡ v)
 
--- the road with this number may be driven from u to v
-abbrev pub Leads : NetworkValue → ℕ → ℕ → ℕ → Type 0
-Leads g a u v = Links g a u v
+abbrev pub pieces_or_none : Option (List Piece) → List Piece
+pieces_or_none None = []
+pieces_or_none (Some pieces) = pieces
 
--- a walk from u to v: roads, each from where the one before led to
+-- the pieces of the profile with this number; none where there is no such profile
+abbrev pub pieces_of : NetworkValue → ℕ → List Piece
+pieces_of g profile = pieces_or_none (slice_get g.profiles profile)
+
+-- whether a road is there and its profile is closed
+abbrev pub is_closed_by : NetworkValue → Option RoadArc → Bool
+is_closed_by g None = false
+is_closed_by g (Some arc) = is_closed (pieces_of g arc.profile)
+
+-- whether the road with this number has a closed profile
+abbrev pub is_closed_arc : NetworkValue → ℕ → Bool
+is_closed_arc g a = is_closed_by g (slice_get g.arcs a)
+
+-- the road with this number may be driven from u to v: it has these ends, and isn't closed
+abbrev pub Leads : NetworkValue → ℕ → ℕ → ℕ → Type 0
+Leads g a u v = Links g a u v × (is_closed_arc g a ≡ false)
+
+-- a walk from u to v: roads that may be driven, each from where the one before led to
 abbrev pub IsWalk : NetworkValue → ℕ → List ℕ → ℕ → Type 0
 IsWalk g u [] v = u ≡ v
 IsWalk g u (a ∷ walk) v = (x : ℕ) × Leads g a u x × IsWalk g x walk v
@@ -32,7 +49,7 @@ value_by g (Some arc) t = value_of (slice_get g.profiles arc.profile) t
 abbrev pub arc_value : NetworkValue → ℕ → ℕ → ℕ
 arc_value g a t = value_by g (slice_get g.arcs a) t
 
--- when a walk arrives, driven from an absolute second road by road
+-- when a walk arrives, driven from an absolute second road by road; no road of it is closed
 abbrev pub drive : NetworkValue → List ℕ → ℕ → ℕ
 drive g [] t = t
 drive g (a ∷ walk) t = drive g walk (arc_value g a t)
@@ -44,11 +61,3 @@ pub record IsLeastArrival (g : NetworkValue) (u v t arrival : ℕ) : Type 0 wher
 
 abbrev pub HasNoWalk : NetworkValue → ℕ → ℕ → Type 0
 HasNoWalk g u v = (walk : List ℕ) → IsWalk g u walk v → ⊥
-
-abbrev pub pieces_or_none : Option (List Piece) → List Piece
-pieces_or_none None = []
-pieces_or_none (Some pieces) = pieces
-
--- the pieces of the profile with this number; none where there is no such profile
-abbrev pub pieces_of : NetworkValue → ℕ → List Piece
-pieces_of g profile = pieces_or_none (slice_get g.profiles profile)

@@ -2,10 +2,11 @@
 
 ghost use Rattle.std.specs.Prelude.{◌≡◌, ◌<◌, ◌+◌, ◌-◌, ◌^◌, ◌++◌, ◌∷◌, [], List, MatchResult, OnOk, length, nat_lt, if◌then◌else◌};
 ghost use Rattle.cu_model.specs.declared.profiles.Piece.{Piece};
-ghost use Rattle.cu_model.specs.Checker.{Checks, pushed, behind, kept_fault, early_until, overtaken, overtaken_by, overtaken_at_midnight};
-ghost use Rattle.cu_model.specs.Faults.{is_in_limit, piece_fault};
-ghost use Rattle.cu_model.specs.Profiles.{IsProfile, rule_value};
+ghost use Rattle.cu_model.specs.Checker.{Checks, pushed, behind, kept_closed, kept_fault, kept_seconds, early_until, overtaken, overtaken_by, overtaken_at_midnight};
+ghost use Rattle.cu_model.specs.Faults.{piece_fault};
+ghost use Rattle.cu_model.specs.Profiles.{IsProfile, is_closed_piece, is_in_limit, rule_value};
 
+use crate::limits::{DAY, MAX_TRAVEL, MAX_UNTIL};
 use crate::profiles::{Piece, PieceFault, Rule};
 
 #[cfg(test)]
@@ -21,6 +22,8 @@ pub struct PieceChecker {
     // The first piece past a limit, and the first that isn't from a later second than the one before.
     limit: Option<u32>,
     rising: Option<u32>,
+    // The first closed piece.
+    closed: Option<u32>,
     // The least early second and the least overtaken one of those before the last piece begins.
     early: Option<u32>,
     fifo: Option<u32>,
@@ -44,6 +47,7 @@ impl PieceChecker {
             ends: None,
             limit: None,
             rising: None,
+            closed: None,
             early: None,
             fifo: None,
         }
@@ -52,10 +56,12 @@ impl PieceChecker {
     /// Takes the next piece, whatever it is; fewer than 2^32 - 1 came before.
     pub fn push(&mut self, piece: Piece)
         requires { pushed self.old < 2 ^ 32 - 1 }
-        ensures pieces { (pieces : List Piece) → Checks self.old pieces → Checks self.new (pieces ++ piece ∷ []) }
+        ensures pieces { (pieces : List Piece) → Checks self.old pieces
+            → Checks self.new (pieces ++ piece ∷ []) }
         ensures count { pushed self.new ≡ pushed self.old + 1 }
     {
         self.limit = self.limit.or(past_limit(piece, self.count));
+        self.closed = self.closed.or(closed_at(piece, self.count));
         match self.ends {
             None => self.ends = Some(Ends {
                 first: piece,
@@ -79,7 +85,9 @@ impl PieceChecker {
 
     /// Whether the pieces so far make a profile, and if not why: the first fault in the order of `PieceFault`.
     pub fn finish(&self) -> Result<(), PieceFault>
-        ensures { (pieces : List Piece) → Checks self.now pieces → (MatchResult result (λ _. piece_fault pieces ≡ None) (λ fault. piece_fault pieces ≡ Some fault)) }
+        ensures { (pieces : List Piece) → Checks self.now pieces → (MatchResult result
+            (λ _. piece_fault pieces ≡ None)
+            (λ fault. piece_fault pieces ≡ Some fault)) }
     {
         match self.fault() {
             None => Ok(()),
@@ -93,16 +101,34 @@ impl PieceChecker {
         if let Some(piece) = self.limit {
             return Some(PieceFault::Limit { piece });
         }
-        let Some(Ends { first, last }) = self.ends else {
+        let Some(ends) = self.ends else {
             return Some(PieceFault::Start);
         };
-        if first.from != 0 {
+        if ends.first.from != 0 {
             return Some(PieceFault::Start);
         }
         if let Some(piece) = self.rising {
             return Some(PieceFault::Rising { piece });
         }
-        if let Some(second) = self.early.or(early_until(last, 86_400)) {
+        self.closed_fault().or(self.second_fault(ends))
+    }
+
+    // A closed piece that isn't alone.
+    fn closed_fault(&self) -> Option<PieceFault>
+        ensures { result ≡ kept_closed self.now }
+    {
+        match self.closed {
+            Some(piece) if self.count > 1 => Some(PieceFault::Closed { piece }),
+            _ => None,
+        }
+    }
+
+    // The first early second, or else the first overtaken one.
+    fn second_fault(&self, ends: Ends) -> Option<PieceFault>
+        ensures { result ≡ kept_seconds self.now ends }
+    {
+        let Ends { first, last } = ends;
+        if let Some(second) = self.early.or(early_until(last, DAY)) {
             return Some(PieceFault::Early { second });
         }
         if let Some(second) = self.fifo.or(overtaken_at_midnight(last, first)) {
@@ -116,7 +142,9 @@ impl PieceChecker {
 /// Takes no memory.
 pub fn check_pieces(pieces: &[Piece]) -> Result<(), PieceFault>
     requires { length pieces.now < 2 ^ 32 }
-    ensures fault { MatchResult result (λ _. piece_fault pieces.now ≡ None) (λ fault. piece_fault pieces.now ≡ Some fault) }
+    ensures fault { MatchResult result
+        (λ _. piece_fault pieces.now ≡ None)
+        (λ fault. piece_fault pieces.now ≡ Some fault) }
     ensures valid { OnOk result (IsProfile pieces.now) }
 {
     let mut checker = PieceChecker::new();
@@ -131,13 +159,25 @@ fn past_limit(piece: Piece, number: u32) -> Option<u32>
     ensures { result ≡ (if is_in_limit piece then None else Some number) }
 {
     let in_limit = match piece.rule {
-        Rule::Travel(seconds) => seconds <= 604_800,
-        Rule::Until(arrival) => arrival <= 691_200,
+        Rule::Travel(seconds) => seconds <= MAX_TRAVEL,
+        Rule::Until(arrival) => arrival <= MAX_UNTIL,
+        Rule::Closed(value) => value == 0,
     };
-    if piece.from < 86_400 && in_limit {
+    if piece.from < DAY && in_limit {
         None
     } else {
         Some(number)
+    }
+}
+
+// This piece's number, where the piece is closed.
+fn closed_at(piece: Piece, number: u32) -> Option<u32>
+    ensures { result ≡ (if is_closed_piece piece then Some number else None) }
+{
+    if piece.rule.is_closed() {
+        Some(number)
+    } else {
+        None
     }
 }
 
@@ -182,7 +222,11 @@ fn overtaken_by(piece: Piece, next: Piece) -> Option<u32>
 fn overtaken_at_midnight(last: Piece, first: Piece) -> Option<u32>
     ensures { result ≡ overtaken_at_midnight last first }
 {
-    overtaken(last.rule, 86_399, 86_400 + arrival_of(first.rule, 0))
+    overtaken(
+        last.rule,
+        DAY - 1,
+        u64::from(DAY) + arrival_of(first.rule, 0),
+    )
 }
 
 // This second, where leaving then is overtaken by whoever arrives at `next`.
@@ -196,7 +240,7 @@ fn overtaken(rule: Rule, second: u32, next: u64) -> Option<u32>
     }
 }
 
-// When a rule arrives, leaving at a second of the first day.
+// When a rule arrives, leaving at a second of the first day. A closed one hinders nobody here: it is another fault where it isn't alone.
 fn arrival_of(rule: Rule, second: u32) -> u64
     ensures value { result ≡ rule_value rule 0 second }
     ensures bound { result < 2 ^ 33 }
@@ -204,5 +248,6 @@ fn arrival_of(rule: Rule, second: u32) -> u64
     match rule {
         Rule::Travel(seconds) => u64::from(second) + u64::from(seconds),
         Rule::Until(arrival) => u64::from(arrival),
+        Rule::Closed(_) => u64::from(second),
     }
 }

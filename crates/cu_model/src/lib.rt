@@ -1,7 +1,12 @@
-//! Road networks whose travel times depend on the hour: profiles, roads, walks and queries, and what each of them means.
+//! Road networks whose travel times depend on the hour: profiles, roads, walks, orders and queries, and what each of them means.
+//!
+//! Its promise to the crates above: the arrival of a road that isn't closed is its profile value at every second, is never
+//! before the departure, and leaving later never arrives earlier. It stands on no other crate of the product. What only its
+//! own functions cite is in `specs/Steps`.
 #![tactic(auto)]
 
 mod checker;
+mod limits;
 mod memory;
 mod numbers;
 mod orders;
@@ -10,6 +15,7 @@ mod queries;
 mod roads;
 
 pub use checker::{PieceChecker, check_pieces};
+pub use limits::{DAY, MAX_ARCS, MAX_NODES, MAX_PROFILES, MAX_TRAVEL, MAX_UNTIL};
 pub use memory::NoMemory;
 pub use numbers::{Number, parse_number};
 pub use orders::Order;

@@ -5,6 +5,7 @@ ghost use Rattle.std.specs.List.{range_with_len};
 ghost use Rattle.cu_model.specs.Orders.{IsOrder, ListsEachNodeOnce};
 
 use crate::NoMemory;
+use crate::limits::MAX_NODES;
 use std::alloc::Global;
 use std::marker::Model;
 
@@ -31,7 +32,8 @@ impl Order {
     /// at most 262,144 of them.
     pub fn of(alloc: Global, node_at: Vec<u32>) -> Result<Order, NoMemory>
         requires { ListsEachNodeOnce node_at.items }
-        ensures { IfOk result (λ order. order.node_at ≡ node_at.items) }
+        ensures given { IfOk result (λ order. order.node_at ≡ node_at.items) }
+        ensures sound { IfOk result (λ order. IsOrder order) }
     {
         let rank_of = places(alloc, &node_at)?;
         Ok(Order { node_at, rank_of })
@@ -39,9 +41,11 @@ impl Order {
 
     /// The order of so many nodes, at most 262,144, in which each node is its own rank.
     pub fn identity(alloc: Global, nodes: u32) -> Result<Order, NoMemory>
-        requires { nodes ≤ 262144 }
+        requires { nodes ≤ MAX_NODES }
         ensures count { IfOk result (λ order. length order.node_at ≡ nodes) }
-        ensures same { IfOk result (λ order. (rank : ℕ) → rank < nodes → slice_get order.node_at rank ≡ Some rank) }
+        ensures same { IfOk result
+            (λ order. (rank : ℕ) → rank < nodes → slice_get order.node_at rank ≡ Some rank) }
+        ensures sound { IfOk result (λ order. IsOrder order) }
     {
         let node_at = counted(alloc, nodes)?;
         Order::of(alloc, node_at)
@@ -60,6 +64,7 @@ impl Order {
         requires { node < length self.now.rank_of }
         ensures there { slice_get self.now.rank_of node ≡ Some result }
         ensures range { result < length self.now.node_at }
+        ensures sound { IsOrder self.now }
     {
         self.rank_of[node as usize]
     }
@@ -69,6 +74,7 @@ impl Order {
         requires { rank < length self.now.node_at }
         ensures there { slice_get self.now.node_at rank ≡ Some result }
         ensures range { result < length self.now.rank_of }
+        ensures sound { IsOrder self.now }
     {
         self.node_at[rank as usize]
     }

@@ -4,9 +4,10 @@ ghost use Rattle.std.specs.Prelude.{◌≡◌, ◌≤◌, ◌<◌, ◌^◌, ◌/
 ghost use Rattle.cu_model.specs.declared.profiles.Piece.{Piece};
 ghost use Rattle.std.specs.List.Sorted.{IsNonDecreasingBy, IsPartitionPoint};
 ghost use Rattle.cu_model.specs.Faults.{piece_fault};
-ghost use Rattle.cu_model.specs.Profiles.{IsProfile, IsRuleInLimit, piece_at, profile_value, rule_value};
+ghost use Rattle.cu_model.specs.Profiles.{IsProfile, is_closed, is_closed_rule, is_rule_in_limit, piece_at, profile_value, rule_value};
 
 use crate::checker::check_pieces;
+use crate::limits::DAY;
 use std::marker::Model;
 use thiserror::Error;
 
@@ -17,6 +18,16 @@ pub enum Rule {
     Travel(u32),
     /// Arrives at this second of the departure's day, 0 to 691,200, whenever it leaves: whoever is early waits.
     Until(u32),
+    /// Lets nobody through, all day: the only piece of its profile. The value is 0.
+    Closed(u32),
+}
+
+impl Rule {
+    pub(crate) fn is_closed(self) -> bool
+        ensures { result ≡ is_closed_rule self }
+    {
+        matches!(self, Rule::Closed(_))
+    }
 }
 
 /// A rule, and the second of the day, 0 to 86,399, from which it holds.
@@ -38,6 +49,9 @@ pub enum PieceFault {
     /// The first piece that isn't from a later second than the one before.
     #[error("piece {piece} isn't later than the one before")]
     Rising { piece: u32 },
+    /// The first closed piece, where there is more than one piece.
+    #[error("piece {piece} is closed and not alone")]
+    Closed { piece: u32 },
     /// The least second of the day at which an arrival would be before its departure.
     #[error("an arrival before its departure at second {second}")]
     Early { second: u32 },
@@ -49,7 +63,7 @@ pub enum PieceFault {
 /// Why the pieces of a text or a script line are no profile.
 #[derive(Clone, Copy, Debug, PartialEq, Eq, Error)]
 pub enum PieceRefusal {
-    #[error("a kind is neither travel nor until")]
+    #[error("a kind is none of travel, until and closed")]
     Kind,
     #[error("{0}")]
     Fault(PieceFault),
@@ -74,15 +88,19 @@ impl Model for Profile {
 }
 
 impl Profile {
-    /// The profile of these pieces, fewer than 2^32, or the first fault that they have, in this order: `Limit`, the first piece
-    /// past a limit; `Start`, where there is no piece or the first isn't from second 0; `Rising`, the first piece that isn't
-    /// from a later second than the one before; `Early`, the least second of the day with an arrival before its departure;
-    /// `Fifo`, the least second of the day, up to 86,399, after which leaving one second later arrives earlier. The pieces are
-    /// dropped where they are refused. Takes no memory.
+    /// The profile of these pieces, fewer than 2^32, or the first fault that they have, in this order: `Limit`, the first
+    /// piece past a limit; `Start`, where there is no piece or the first isn't from second 0; `Rising`, the first piece that
+    /// isn't from a later second than the one before; `Closed`, the first closed piece, where there is more than one piece;
+    /// `Early`, the least second of the day with an arrival before its departure; `Fifo`, the least second of the day, up to
+    /// 86,399, after which leaving one second later arrives earlier. The pieces are dropped where they are refused. Takes no
+    /// memory.
     pub fn of(pieces: Vec<Piece>) -> Result<Profile, PieceFault>
         requires { length pieces.items < 2 ^ 32 }
         ensures ok { IfOk result (λ profile. profile ≡ pieces.items) }
-        ensures variant { MatchResult result (λ _. piece_fault pieces.items ≡ None) (λ fault. piece_fault pieces.items ≡ Some fault) }
+        ensures valid { IfOk result (λ profile. IsProfile profile) }
+        ensures variant { MatchResult result
+            (λ _. piece_fault pieces.items ≡ None)
+            (λ fault. piece_fault pieces.items ≡ Some fault) }
     {
         check_pieces(&pieces)?;
         Ok(Profile { pieces })
@@ -92,33 +110,45 @@ impl Profile {
     pub fn pieces(&self) -> &[Piece]
         ensures all { result.now ≡ self.now }
         ensures valid { IsProfile self.now }
-        ensures few { length result.now ≤ 86400 }
+        ensures few { length result.now ≤ DAY }
     {
         &self.pieces
     }
 
-    /// When it arrives, leaving at an absolute second of at most 2^62. It never arrives before it leaves, and leaving
-    /// later never arrives earlier, over midnight and on later days as well.
+    /// Whether it is closed: its only piece lets nobody through, and it has no arrivals.
+    pub fn is_closed(&self) -> bool
+        ensures { result ≡ is_closed self.now }
+    {
+        match self.pieces.as_slice() {
+            [piece] => piece.rule.is_closed(),
+            _ => false,
+        }
+    }
+
+    /// When it arrives, leaving at an absolute second of at most 2^62; it isn't closed. It never arrives before it leaves,
+    /// and leaving later never arrives earlier, over midnight and on later days as well.
     pub fn arrive(&self, second: u64) -> u64
-        requires { second ≤ 2 ^ 62 }
+        requires time { second ≤ 2 ^ 62 }
+        requires open { is_closed self.now ≡ false }
         ensures value { result ≡ profile_value self.now second }
         ensures onward { second ≤ result }
         ensures fifo { (later : ℕ) → second ≤ later → result ≤ profile_value self.now later }
     {
-        let piece = piece_begun(&self.pieces, (second % 86400) as u32);
+        let piece = piece_begun(&self.pieces, (second % u64::from(DAY)) as u32);
         arrival(piece.rule, second)
     }
 }
 
-// When a rule arrives, leaving at an absolute second.
+// When a rule arrives, leaving at an absolute second. A closed one is asked by nobody.
 fn arrival(rule: Rule, second: u64) -> u64
-    requires in_limit { IsRuleInLimit rule }
+    requires in_limit { is_rule_in_limit rule ≡ true }
     requires time { second ≤ 2 ^ 62 }
-    ensures { result ≡ rule_value rule (second / 86400) (second % 86400) }
+    ensures { result ≡ rule_value rule (second / DAY) (second % DAY) }
 {
     match rule {
         Rule::Travel(seconds) => second + u64::from(seconds),
-        Rule::Until(arrival) => second - second % 86400 + u64::from(arrival),
+        Rule::Until(arrival) => second - second % u64::from(DAY) + u64::from(arrival),
+        Rule::Closed(_) => second,
     }
 }
 
@@ -126,7 +156,7 @@ fn arrival(rule: Rule, second: u64) -> u64
 fn piece_begun(pieces: &[Piece], time: u32) -> Piece
     requires { IsProfile pieces.now }
     ensures piece { piece_at pieces.now time ≡ Some result }
-    ensures in_limit { IsRuleInLimit result.rule }
+    ensures in_limit { is_rule_in_limit result.rule ≡ true }
 {
     pieces[begun(pieces, time) - 1]
 }
@@ -135,7 +165,10 @@ fn piece_begun(pieces: &[Piece], time: u32) -> Piece
 fn begun(pieces: &[Piece], time: u32) -> usize
     requires { IsNonDecreasingBy (λ (p : Piece). p.from) pieces.now }
     ensures bound { result ≤ length pieces.now }
-    ensures point { IsPartitionPoint (λ (p : Piece). nat_le p.from time ≡ true) (λ (p : Piece). nat_le p.from time ≡ false) pieces.now result }
+    ensures point { IsPartitionPoint
+        (λ (p : Piece). nat_le p.from time ≡ true)
+        (λ (p : Piece). nat_le p.from time ≡ false)
+        pieces.now result }
 {
     pieces.partition_point(|piece| piece.from <= time)
 }

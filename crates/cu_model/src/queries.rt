@@ -1,10 +1,11 @@
 //! Query lines of a script: `q,FROM,TO,SECOND`.
 
 ghost use Rattle.std.specs.Prelude.{◌≡◌, ◌==◌, ℕ, position};
-ghost use Rattle.cu_model.specs.LineFields.{CutsField, HasFour};
+ghost use Rattle.cu_model.specs.Steps.LineFields.{CutsField, HasFour};
 ghost use Rattle.cu_model.specs.Numbers.{as_number, value_below};
 ghost use Rattle.cu_model.specs.Queries.{checked_query, fields_of_line, query_of};
 
+use crate::limits::DAY;
 use crate::numbers::{Number, parse_number};
 use thiserror::Error;
 
@@ -63,7 +64,8 @@ pub fn check_query(line: &[u8], nodes: u32) -> Result<Query, QueryRefusal>
 
 // The query of these numbers, or the first of its nodes and second that is out of range.
 fn check_ranges(nodes: u32, from: Number, to: Number, second: Number) -> Result<Query, QueryRefusal>
-    ensures { (f t s : ℕ) → from ≡ as_number f → to ≡ as_number t → second ≡ as_number s → result ≡ checked_query nodes f t s }
+    ensures { (f t s : ℕ) → from ≡ as_number f → to ≡ as_number t → second ≡ as_number s
+        → result ≡ checked_query nodes f t s }
 {
     let Some(from) = value_under(from, nodes) else {
         return Err(QueryRefusal::Node);
@@ -71,7 +73,7 @@ fn check_ranges(nodes: u32, from: Number, to: Number, second: Number) -> Result<
     let Some(to) = value_under(to, nodes) else {
         return Err(QueryRefusal::Node);
     };
-    let Some(second) = value_under(second, 86400) else {
+    let Some(second) = value_under(second, DAY) else {
         return Err(QueryRefusal::Second);
     };
     Ok(Query { from, to, second })

@@ -1,11 +1,16 @@
 //! Road networks: nodes by number, roads between them, and the profile of each road.
 
-ghost use Rattle.std.specs.Prelude.{◌≡◌, ◌≤◌, ◌<◌, ◌^◌, ℕ, Some, length, slice_get};
+ghost use Rattle.std.specs.Prelude.{◌≡◌, ◌≤◌, ◌<◌, ◌^◌, ℕ, Some, false, length, slice_get, slice_set};
+ghost use Rattle.cu_model.specs.declared.roads.Edit.TheVariants.{Assign};
+ghost use Rattle.cu_model.specs.Edits.{IsEditInRange, edited};
 ghost use Rattle.cu_model.specs.Networks.{NetworkValue, IsNetwork};
-ghost use Rattle.cu_model.specs.Roads.{arc_value, pieces_of};
+ghost use Rattle.cu_model.specs.Roads.{arc_value, is_closed_arc, pieces_of};
 
 use crate::profiles::{Piece, Profile};
 use std::marker::Model;
+
+#[cfg(test)]
+mod tests;
 
 /// A road from one node to another, and the number of its profile.
 #[derive(Clone, Copy, Debug, PartialEq, Eq)]
@@ -35,35 +40,49 @@ pub trait Roads {
 
     /// How many roads there are, at most 1,048,576.
     fn arcs(&self) -> u32
-        ensures { result ≡ length (network self.now).arcs };
+        ensures count { result ≡ length (network self.now).arcs }
+        ensures sound { IsNetwork (network self.now) };
 
     /// How many profiles there are, at most 1,048,576.
     fn profiles(&self) -> u32
-        ensures { result ≡ length (network self.now).profiles };
+        ensures count { result ≡ length (network self.now).profiles }
+        ensures sound { IsNetwork (network self.now) };
 
-    /// The road with this number, below the number of roads.
+    /// The road with this number, below the number of roads. Its ends are below the number of nodes, and its profile is
+    /// below the number of profiles.
     fn arc(&self, arc: u32) -> RoadArc
         requires { arc < length (network self.now).arcs }
-        ensures { slice_get (network self.now).arcs arc ≡ Some result };
+        ensures there { slice_get (network self.now).arcs arc ≡ Some result }
+        ensures sound { IsNetwork (network self.now) };
 
-    /// When the road with this number, below the number of roads, arrives, leaving at an absolute second of at most
-    /// 2^62. It never arrives before it leaves, and leaving later never arrives earlier.
+    /// Whether the road with this number, below the number of roads, has a closed profile. Nobody drives it.
+    fn closed(&self, arc: u32) -> bool
+        requires { arc < length (network self.now).arcs }
+        ensures closed { result ≡ is_closed_arc (network self.now) arc }
+        ensures sound { IsNetwork (network self.now) };
+
+    /// When the road with this number, below the number of roads, arrives, leaving at an absolute second of at most 2^62; it
+    /// isn't closed. It never arrives before it leaves, and leaving later never arrives earlier.
     fn drive(&self, arc: u32, second: u64) -> u64
         requires road { arc < length (network self.now).arcs }
         requires time { second ≤ 2 ^ 62 }
+        requires open { is_closed_arc (network self.now) arc ≡ false }
         ensures value { result ≡ arc_value (network self.now) arc second }
         ensures onward { second ≤ result }
-        ensures fifo { (later : ℕ) → second ≤ later → result ≤ arc_value (network self.now) arc later };
+        ensures fifo { (later : ℕ) → second ≤ later → result ≤ arc_value (network self.now) arc later }
+        ensures sound { IsNetwork (network self.now) };
 
     /// How many pieces the profile with this number has, 1 to 86,400.
     fn pieces(&self, profile: u32) -> u32
         requires { profile < length (network self.now).profiles }
-        ensures { result ≡ length (pieces_of (network self.now) profile) };
+        ensures count { result ≡ length (pieces_of (network self.now) profile) }
+        ensures sound { IsNetwork (network self.now) };
 
     /// The piece with this index of the profile with this number.
     fn piece(&self, profile: u32, index: u32) -> Piece
         requires { index < length (pieces_of (network self.now) profile) }
-        ensures { slice_get (pieces_of (network self.now) profile) index ≡ Some result };
+        ensures there { slice_get (pieces_of (network self.now) profile) index ≡ Some result }
+        ensures sound { IsNetwork (network self.now) };
 }
 
 /// A road network in memory. Contracts see its number of nodes, its roads and its profiles.
@@ -88,14 +107,48 @@ impl Network {
     /// The network of so many nodes, at most 262,144, with these roads and profiles, at most 1,048,576 each. The ends of a
     /// road are below the number of nodes, its profile below the number of profiles. Takes no memory.
     pub fn of(nodes: u32, arcs: Vec<RoadArc>, profiles: Vec<Profile>) -> Network
-        requires { IsNetwork (record { nodes = nodes; arcs = arcs.items; profiles = profiles.items }) }
-        ensures { result ≡ record { nodes = nodes; arcs = arcs.items; profiles = profiles.items } }
+        requires { IsNetwork
+            (record { nodes = nodes; arcs = arcs.items; profiles = profiles.items }) }
+        ensures { result ≡ record {
+          nodes = nodes;
+          arcs = arcs.items;
+          profiles = profiles.items;
+        } }
     {
         Network {
             nodes,
             arcs,
             profiles,
         }
+    }
+
+    /// Makes one change. The profile that it sets is below the number of profiles; so are the road and the profile that it
+    /// assigns, below theirs. Takes no memory.
+    pub fn apply(&mut self, edit: Edit)
+        requires { IsEditInRange self.old edit }
+        ensures { self.new ≡ edited self.old edit }
+    {
+        match edit {
+            Edit::Set { profile, pieces } => self.set(profile, pieces),
+            Edit::Assign { arc, profile } => self.assign(arc, profile),
+        }
+    }
+
+    fn set(&mut self, profile: u32, pieces: Profile)
+        requires { profile < length self.old.profiles }
+        ensures { self.new
+            ≡ record self.old { profiles = slice_set self.old.profiles profile pieces } }
+    {
+        let _pieces = pieces.pieces();
+        self.profiles[profile as usize] = pieces;
+    }
+
+    fn assign(&mut self, arc: u32, profile: u32)
+        requires arc { arc < length self.old.arcs }
+        requires profile { profile < length self.old.profiles }
+        ensures { self.new ≡ edited self.old (Assign arc profile) }
+    {
+        self.arcs[arc as usize].profile = profile;
     }
 }
 
@@ -116,6 +169,11 @@ impl Roads for Network {
 
     fn arc(&self, arc: u32) -> RoadArc {
         self.arcs[arc as usize]
+    }
+
+    fn closed(&self, arc: u32) -> bool {
+        let profile = self.arcs[arc as usize].profile;
+        self.profiles[profile as usize].is_closed()
     }
 
     fn drive(&self, arc: u32, second: u64) -> u64 {

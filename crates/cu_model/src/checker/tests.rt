@@ -16,9 +16,31 @@ fn until(from: u32, arrival: u32) -> Piece {
     }
 }
 
+fn closed(from: u32, value: u32) -> Piece {
+    Piece {
+        from,
+        rule: Rule::Closed(value),
+    }
+}
+
 #[test]
 fn names_the_first_fault(rt: HostRuntime) {
-    let table: [(&[Piece], Result<(), PieceFault>); 14] = [
+    let table: [(&[Piece], Result<(), PieceFault>); 20] = [
+        (&[closed(0, 0)], Ok(())),
+        (&[closed(0, 1)], Err(PieceFault::Limit { piece: 0 })),
+        (&[closed(5, 0)], Err(PieceFault::Start)),
+        (
+            &[closed(0, 0), travel(0, 1)],
+            Err(PieceFault::Rising { piece: 1 }),
+        ),
+        (
+            &[closed(0, 0), travel(5, 1)],
+            Err(PieceFault::Closed { piece: 0 }),
+        ),
+        (
+            &[until(0, 100), closed(50, 0), closed(60, 0)],
+            Err(PieceFault::Closed { piece: 1 }),
+        ),
         (&[until(0, 86_400)], Ok(())),
         (
             &[
@@ -80,6 +102,7 @@ fn makes_a_profile(rt: HostRuntime) -> Result<(), Fail> {
     assert!(rt; pieces.len() == 2);
     let profile = Profile::of(pieces).ok().ok_or("these are a profile")?;
     assert_eq!(rt; profile.pieces().len(), 2);
+    assert!(rt; !profile.is_closed());
     assert_eq!(rt; profile.arrive(43_199), 43_259);
     assert_eq!(rt; profile.arrive(86_400 + 43_200), 172_800);
     Ok(())

@@ -1,8 +1,9 @@
 use Rattle.std.proofs.Common.{◌≡◌, Option, Some, None, ℕ, ap, ◌∙◌, cond}
 use Rattle.std.specs.Option.{option_or}
-use Rattle.cu_model.specs.Faults.{is_in_limit}
+use Rattle.cu_model.specs.declared.checker.PieceChecker.{PieceChecker}
+use Rattle.cu_model.specs.Profiles.{is_closed_piece, is_in_limit}
 use Rattle.cu_model.specs.Checker.{behind}
-use Rattle.cu_model.proofs.Pushes.{checks_alone, checks_behind}
+use Rattle.cu_model.proofs.Pushes.{checks_alone, checks_behind, taken}
 use Rattle.cu_model.proofs.checker.PieceChecker.push.Goals as goal
 use Rattle.cu_model.proofs.checker.PieceChecker.push.Goals.{in-Some, in-None}
 
@@ -10,10 +11,10 @@ pub returns-clause-pieces : goal.returns-clause-pieces
 returns-clause-pieces c pieces checks =
     let a = c.args.self.now in
     let x = c.args.piece in
-    let limit : c.or-self.result ≡ option_or a.limit (cond (is_in_limit x) None (Some a.count)) = cc in
+    let noted : record a { limit = c.or-self.result; closed = c.or-self-2.result } ≡ taken a x = cc in
     elim c.match-self.branch [
       | in-Some w ↦ checks_behind a c.match-self.self w.in-Some.ends pieces x checks w.in-Some.is
-          (w.self-is ∙ w.push_behind.ensures ∙ ap (λ (o : Option ℕ). behind (record a { limit = o }) w.in-Some.ends x) limit)
+          (w.self-is ∙ w.push_behind.ensures ∙ ap (λ (s : PieceChecker). behind s w.in-Some.ends x) noted)
       | in-None w ↦ checks_alone a c.match-self.self pieces x checks w.in-None.is
-          (w.self-is ∙ ap (λ (o : Option ℕ). record a { limit = o; ends = Some (record { first = x; last = x }) }) limit)
+          (w.self-is ∙ ap (λ (s : PieceChecker). record s { ends = Some (record { first = x; last = x }) }) noted)
     ]
