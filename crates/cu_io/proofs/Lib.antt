@@ -1,3 +1,8 @@
 pub mod Appending
+pub mod Cutting
+pub mod LineLaws
+mod Known
 mod Moving
 mod Noting
+mod Reading
+pub mod Taking

@@ -5,10 +5,10 @@ use Rattle.std.specs.Prelude.{Some}
 use Rattle.cu_io.specs.Transfers.{Moves}
 
 -- as many bytes as are left and fit stand at the front of the buffer
-pub moves_front : (bytes buffer left : List ℕ) (taken n : ℕ) → left ≡ drop taken bytes → 0 < length buffer →
-    n ≡ min (length (drop taken bytes)) (length buffer) → take n buffer ≡ take n (drop taken bytes) →
+pub moves_front : (bytes buffer left : List ℕ) (taken n most : ℕ) → left ≡ drop taken bytes → 0 < most →
+    n ≡ min (length (drop taken bytes)) most → take n buffer ≡ take n (drop taken bytes) →
     Moves (Some left) (Some (drop (taken + n) bytes)) buffer n
-moves_front bytes buffer left taken n is room count front =
+moves_front bytes buffer left taken n most is room count front =
     let parts : drop taken bytes ≡ take n buffer ++ drop (taken + n) bytes =
     sym (take-append-drop n (drop taken bytes)) ∙ ap (λ (t : List ℕ). t ++ drop n (drop taken bytes)) (sym front)
     ∙ ap (λ (t : List ℕ). take n buffer ++ t) (drop-drop n taken bytes) in

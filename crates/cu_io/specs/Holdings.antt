@@ -38,3 +38,13 @@ OnTooLong _ P = Unit {0}
 abbrev pub OnStoreFault : {T : Type 0} → Result T StoreFailed → Type 0 → Type 0
 OnStoreFault (Err store.Fault) P = P
 OnStoreFault _ P = Unit {0}
+
+-- P, unless the load met a fault
+abbrev pub UnlessLoadFault : {T : Type 0} → Result T LoadFailed → Type 0 → Type 0
+UnlessLoadFault (Err load.Fault) P = Unit {0}
+UnlessLoadFault _ P = P
+
+-- P, unless the store met a fault
+abbrev pub UnlessStoreFault : {T : Type 0} → Result T StoreFailed → Type 0 → Type 0
+UnlessStoreFault (Err store.Fault) P = Unit {0}
+UnlessStoreFault _ P = P

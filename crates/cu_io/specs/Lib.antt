@@ -1,5 +1,12 @@
-pub mod Memory
 pub mod Counts
 pub mod Transfers
-pub mod Holdings
+pub mod Sinks
+pub mod Sources
 pub mod Shelves
+pub mod Holdings
+pub mod Adapters
+pub mod Lines
+pub mod LineReading
+pub mod Memory
+pub mod MemoryShelves
+pub mod steps

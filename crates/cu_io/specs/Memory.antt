@@ -19,14 +19,15 @@ is_failing calls = list_any (λ number. number == calls.next) calls.fails
 abbrev pub after_call : CallList → CallList
 after_call calls = record calls { next = one_more calls.next }
 
--- a source in memory: the bytes left, the faults met, and its calls
-pub record SourceState : Type 0 where
+-- a source in memory: the bytes left, the most bytes that a read gives, the faults met, and its calls
+pub record MemorySourceState : Type 0 where
   pub left : List ℕ
+  pub most : ℕ
   pub faults : ℕ
   pub calls : CallList
 
 -- a sink in memory: the bytes written, how many of them were flushed, for how many there is room, the faults met, and its calls
-pub record SinkState : Type 0 where
+pub record MemorySinkState : Type 0 where
   pub written : List ℕ
   pub flushed : ℕ
   pub room : ℕ
@@ -34,9 +35,9 @@ pub record SinkState : Type 0 where
   pub calls : CallList
 
 -- how many more bytes the sink can take
-abbrev pub space : SinkState → ℕ
+abbrev pub space : MemorySinkState → ℕ
 space sink = sink.room - length sink.written
 
 -- a write of this many bytes fails: the call is named, or no space is left for any of them
-abbrev pub is_refusing : SinkState → ℕ → Bool
+abbrev pub is_refusing : MemorySinkState → ℕ → Bool
 is_refusing sink count = is_failing sink.calls || (nat_lt 0 count && (space sink == 0))

@@ -15,3 +15,8 @@ Appends (Some before) now bytes = now ≡ Some (before ++ bytes)
 -- the bytes written grew by some first bytes of these
 abbrev pub AppendsSome : Option (List ℕ) → Option (List ℕ) → List ℕ → Type 0
 AppendsSome before now bytes = (n : ℕ) × (n ≤ length bytes) × Appends before now (take n bytes)
+
+-- these bytes were the first of those left, and are left no more
+abbrev pub Takes : Option (List ℕ) → Option (List ℕ) → List ℕ → Type 0
+Takes None now taken = Unit {0}
+Takes (Some before) now taken = (rest : List ℕ) × (now ≡ Some rest) × (before ≡ taken ++ rest)

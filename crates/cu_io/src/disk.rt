@@ -1,5 +1,7 @@
 //! A shelf of the files of a file system.
-ghost use Rattle.std.specs.Prelude.{◌≡◌, ℕ, ◌^◌, ◌≤◌, List, length, None, OnOk};
+ghost use Rattle.std.specs.Prelude.{◌≡◌, ℕ, ◌+◌, ◌^◌, ◌<◌, ◌≤◌, List, ◌++◌, length, None, IfSome, OnOk};
+ghost use Rattle.std.specs.Io.KnownBytes.{Appends};
+ghost use Rattle.cu_io.specs.Holdings.{OnTooLong};
 
 use crate::shelf::{LoadFailed, Shelf, StoreFailed};
 use crate::standard::read_some;
@@ -14,9 +16,6 @@ const LIMIT: u64 = 4_294_967_296;
 // How many bytes a read asks for.
 const PART: usize = 65_536;
 
-// How many names beside a file are tried for what replaces it.
-const NAMES: u32 = 16;
-
 /// A shelf of the files that `R` opens, under their paths, of which those with more than 2^32 bytes can't be loaded. It
 /// tells no bytes. Each fault of a load is in the one count of loads that all names share, and each fault of a store in
 /// that of stores.
@@ -30,8 +29,10 @@ pub struct DiskShelf<R: Files + Drop> {
 impl<R: Files + Drop> DiskShelf<R> {
     /// A shelf of these files, which has met no fault.
     pub fn new(files: R) -> DiskShelf<R>
-        ensures loads { (name : List ℕ) → ⟦<DiskShelf<R> as Shelf>⟧.load_faults result name ≡ 0 }
-        ensures stores { (name : List ℕ) → ⟦<DiskShelf<R> as Shelf>⟧.store_faults result name ≡ 0 }
+        ensures loads { (name : List ℕ) → (⟦<DiskShelf<R> as Shelf>⟧.state result).load_faults name
+            ≡ 0 }
+        ensures stores { (name : List ℕ) →
+            (⟦<DiskShelf<R> as Shelf>⟧.state result).store_faults name ≡ 0 }
     {
         DiskShelf {
             files,
@@ -42,13 +43,7 @@ impl<R: Files + Drop> DiskShelf<R> {
 }
 
 impl<R: Files + Drop> Shelf for DiskShelf<R> {
-    ghost held = { λ s. None };
-
-    ghost most = { λ s. 2 ^ 32 };
-
-    ghost load_faults = { λ s name. s.load_faults };
-
-    ghost store_faults = { λ s name. s.store_faults };
+    ghost state = { λ s. record { held = None; most = 2 ^ 32; load_faults = λ name. s.load_faults; store_faults = λ name. s.store_faults } };
 
     fn limit(&self) -> u64 {
         LIMIT
@@ -65,9 +60,14 @@ impl<R: Files + Drop> Shelf for DiskShelf<R> {
         loaded
     }
 
-    /// Where the name is a regular file or nothing is there, the bytes are written to a new file beside it, which then
-    /// takes its name: a crash leaves the old file whole or the new one. Anything else, as a device, a pipe or a link,
-    /// is written in place.
+    /// Where the name is a regular file, a link to one, or nothing is there, the bytes are written to a new file in the
+    /// same folder, which then takes the place of the old one and its mode: a crash leaves the old file whole or the
+    /// new one, and maybe a file `.stored-N` beside it, which no store reads or minds. The folder is told to keep the
+    /// new name before the call answers. The new file belongs to who runs the program; other hard links to the old
+    /// file keep the old bytes; and an old file that may not be written is replaced too, where its folder may be
+    /// written. A link stays as it is.
+    ///
+    /// Anything else, as a device, a pipe or a link to nothing, is written in place.
     fn store(&mut self, alloc: Global, name: &str, bytes: &[u8]) -> Result<(), StoreFailed> {
         let stored = store_file(alloc, &self.files, name, bytes);
         if stored == Err(StoreFailed::Fault) {
@@ -91,7 +91,11 @@ fn load_file<R: Files>(files: &R, name: &str, into: &mut Vec<u8>) -> Result<(), 
 // Adds what the reader gives up to its end.
 fn read_whole<R: Read>(reader: &mut R, into: &mut Vec<u8>) -> Result<(), LoadFailed>
     requires { length into.old.items ≤ 2 ^ 32 }
-    ensures { OnOk result (length into.new.items ≤ 2 ^ 32) }
+    ensures short { OnOk result (length into.new.items ≤ 2 ^ 32) }
+    ensures whole { OnOk result (IfSome (R.remaining reader.old)
+        (λ bytes. into.new.items ≡ into.old.items ++ bytes)) }
+    ensures long { OnTooLong result (IfSome (R.remaining reader.old)
+        (λ bytes. 2 ^ 32 < length into.old.items + length bytes)) }
 {
     let mut part = [0; PART];
     for _ in 0..u64::MAX {
@@ -109,16 +113,50 @@ fn read_whole<R: Read>(reader: &mut R, into: &mut Vec<u8>) -> Result<(), LoadFai
     Err(LoadFailed::Fault)
 }
 
+// What a file system answers, as a store answers it.
+fn stored<T: Drop>(answer: io::Result<T>) -> Result<T, StoreFailed> {
+    match answer {
+        Ok(value) => Ok(value),
+        Err(error) if error.kind() == ErrorKind::OutOfMemory => Err(StoreFailed::NoMemory),
+        Err(_) => Err(StoreFailed::Fault),
+    }
+}
+
+// Sets the bytes of what stands under a name; a link is followed.
+fn store_file<R: Files>(
+    alloc: Global,
+    files: &R,
+    name: &str,
+    bytes: &[u8],
+) -> Result<(), StoreFailed> {
+    if !is_link(files, name) {
+        return store_at(alloc, files, name, bytes);
+    }
+    match files.canonicalize(alloc, name) {
+        Ok(path) => store_at(alloc, files, path.as_str(), bytes),
+        Err(error) if error.kind() == ErrorKind::NotFound => stored(fs::write(files, name, bytes)),
+        Err(error) => stored(Err(error)),
+    }
+}
+
+fn is_link<R: Files>(files: &R, name: &str) -> bool {
+    match fs::symlink_metadata(files, name) {
+        Ok(metadata) => metadata.is_symlink(),
+        Err(_) => false,
+    }
+}
+
 // What stands under a name, as far as a store minds.
+#[derive(Drop)]
 enum Place {
     Nothing,
     File(Permissions),
-    // A folder, a link, a device or a pipe.
+    // A folder, a device or a pipe.
     Other,
 }
 
 fn place_of<R: Files>(files: &R, name: &str) -> io::Result<Place> {
-    match fs::symlink_metadata(files, name) {
+    match fs::metadata(files, name) {
         Ok(metadata) if metadata.is_file() => Ok(Place::File(metadata.permissions())),
         Ok(_) => Ok(Place::Other),
         Err(error) if error.kind() == ErrorKind::NotFound => Ok(Place::Nothing),
@@ -126,54 +164,69 @@ fn place_of<R: Files>(files: &R, name: &str) -> io::Result<Place> {
     }
 }
 
-fn store_file<R: Files>(
+// Sets the bytes under a name that is no link.
+fn store_at<R: Files>(
     alloc: Global,
     files: &R,
     name: &str,
     bytes: &[u8],
 ) -> Result<(), StoreFailed> {
-    match place_of(files, name) {
-        Ok(Place::Nothing) => store_beside(alloc, files, name, None, bytes),
-        Ok(Place::File(permissions)) => store_beside(alloc, files, name, Some(permissions), bytes),
-        Ok(Place::Other) => store_in_place(files, name, bytes),
-        Err(_) => Err(StoreFailed::Fault),
+    match stored(place_of(files, name))? {
+        Place::Nothing => replace(alloc, files, name, None, bytes),
+        Place::File(permissions) => replace(alloc, files, name, Some(permissions), bytes),
+        Place::Other => stored(fs::write(files, name, bytes)),
     }
 }
 
-fn store_in_place<R: Files>(files: &R, name: &str, bytes: &[u8]) -> Result<(), StoreFailed> {
-    match fs::write(files, name, bytes) {
-        Ok(()) => Ok(()),
-        Err(_) => Err(StoreFailed::Fault),
-    }
-}
-
-// Writes a new file under the first free one of a few names beside `name`, and lets it take that name.
-fn store_beside<R: Files>(
+// Writes a new file beside `name`, and lets it take that name.
+fn replace<R: Files>(
     alloc: Global,
     files: &R,
     name: &str,
     permissions: Option<Permissions>,
     bytes: &[u8],
 ) -> Result<(), StoreFailed> {
-    for number in 0..NAMES {
-        let beside = format!(in alloc; "{name}.new{number}")?;
-        match create_new(files, beside.as_str()) {
-            Ok(file) => return fill_and_rename(
-                files,
-                file,
-                beside.as_str(),
-                name,
-                permissions,
-                bytes,
-            ),
+    let folder = folder_of(name);
+    let (mut file, beside) = new_file(alloc, files, folder)?;
+    let filled = fill(&mut file, permissions, bytes);
+    let renamed = match filled {
+        Ok(()) => fs::rename(files, beside.as_str(), name),
+        Err(error) => Err(error),
+    };
+    if renamed.is_err() {
+        let _ = fs::remove_file(files, beside.as_str());
+        return stored(renamed);
+    }
+    stored(sync_folder(files, folder))
+}
+
+// The text of the folder that a name stands in, up to its last slash; empty where it has none.
+fn folder_of(name: &str) -> &str {
+    match name.rfind('/') {
+        Some(at) => &name[..at + 1],
+        None => "",
+    }
+}
+
+// Makes a file under a name that is free in the folder, so that none is lost, and answers its path too. Its name is
+// short, so that it is no longer than may be where the name that it will take isn't.
+fn new_file<R: Files>(
+    alloc: Global,
+    files: &R,
+    folder: &str,
+) -> Result<(R::File, String), StoreFailed> {
+    for number in 0..u32::MAX {
+        let path = format!(in alloc; "{folder}.stored-{number}")?;
+        match create_new(files, path.as_str()) {
+            Ok(file) => return Ok((file, path)),
             Err(error) if error.kind() == ErrorKind::AlreadyExists => {}
-            Err(_) => return Err(StoreFailed::Fault),
+            Err(error) => return stored(Err(error)),
         }
     }
     Err(StoreFailed::Fault)
 }
 
-// Makes a file where there is none, so that none is lost.
+// Makes a file where there is none.
 fn create_new<R: Files>(files: &R, name: &str) -> io::Result<R::File> {
     OpenOptions::new()
         .write(true)
@@ -181,35 +234,27 @@ fn create_new<R: Files>(files: &R, name: &str) -> io::Result<R::File> {
         .open(files, name)
 }
 
-// Gives the new file its bytes, and the name of the old one. After a fault it is taken away again.
-fn fill_and_rename<R: Files>(
-    files: &R,
-    file: R::File,
-    beside: &str,
-    name: &str,
-    permissions: Option<Permissions>,
-    bytes: &[u8],
-) -> Result<(), StoreFailed> {
-    let stored = match fill(file, permissions, bytes) {
-        Ok(()) => fs::rename(files, beside, name),
-        Err(error) => Err(error),
-    };
-    if stored.is_ok() {
-        return Ok(());
-    }
-    let _ = fs::remove_file(files, beside);
-    Err(StoreFailed::Fault)
-}
-
 // Gives a new file its permissions and bytes, and waits until they are on the disk.
-fn fill<F: Write + OpenFile + Drop>(
-    mut file: F,
+fn fill<F: Write + OpenFile>(
+    file: &mut F,
     permissions: Option<Permissions>,
     bytes: &[u8],
-) -> io::Result<()> {
+) -> io::Result<()>
+    ensures { OnOk result (Appends (F.contents file.old) (F.contents file.new) bytes.now) }
+{
     if let Some(permissions) = permissions {
         file.set_permissions(permissions)?;
     }
     file.write_all(bytes)?;
     file.sync_all()
+}
+
+// Waits until the names in a folder are on the disk, where its file system can do so.
+fn sync_folder<R: Files>(files: &R, folder: &str) -> io::Result<()> {
+    let folder = if folder.is_empty() { "." } else { folder };
+    let opened = fs::open(files, folder)?;
+    match opened.sync_all() {
+        Err(error) if error.kind() == ErrorKind::InvalidInput => Ok(()),
+        answer => answer,
+    }
 }

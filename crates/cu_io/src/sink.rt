@@ -1,7 +1,8 @@
 //! Sinks of bytes.
-ghost use Rattle.std.specs.Prelude.{◌≡◌, ℕ, ◌<◌, ◌≤◌, List, length, take, Option, is_some, IfSome, IfOk, OnOk, OnErr};
+ghost use Rattle.std.specs.Prelude.{◌≡◌, ◌<◌, ◌≤◌, length, take, is_some, IfSome, IfOk, OnOk, OnErr};
 ghost use Rattle.cu_io.specs.Counts.{Rose};
-ghost use Rattle.cu_io.specs.Transfers.{Appends, AppendsSome};
+ghost use Rattle.cu_io.specs.Sinks.{SinkState, IsFlushed, Wrote};
+ghost use Rattle.cu_io.specs.Transfers.{Appends};
 
 use thiserror::Error;
 
@@ -12,14 +13,9 @@ pub struct SinkFailed;
 
 /// Where bytes go.
 pub trait Sink {
-    /// The bytes written, where the sink tells them.
-    ghost written: { Self → Option (List ℕ) };
-
-    /// How many of the bytes written were flushed.
-    ghost flushed: { Self → ℕ };
-
-    /// How many faults the sink has met. The count stops at 2^64 - 1.
-    ghost faults: { Self → ℕ };
+    /// The bytes written, where the sink tells them, how many of them were flushed, and how many faults it has met. That
+    /// count stops at 2^64 - 1.
+    ghost state: { Self → SinkState };
 
     /// Appends the first bytes of `piece` and answers how many: from 1 to its length, and 0 for an empty piece.
     ///
@@ -28,36 +24,34 @@ pub trait Sink {
     fn write(&mut self, piece: &[u8]) -> Result<usize, SinkFailed>
         ensures some { IfOk result (λ n. 0 < length piece.now → 0 < n) }
         ensures within { IfOk result (λ n. n ≤ length piece.now) }
-        ensures appends { IfOk result (λ n. Appends (written self.old) (written self.new) (take n piece.now)) }
-        ensures err { OnErr result (written self.new ≡ written self.old) }
-        ensures tells { is_some (written self.new) ≡ is_some (written self.old) }
-        ensures rises { flushed self.old ≤ flushed self.new }
-        ensures bounded { IfSome (written self.new) (λ bytes. flushed self.new ≤ length bytes) }
-        ensures later { faults self.old ≤ faults self.new }
-        ensures cause { OnErr result (Rose (faults self.old) (faults self.new)) };
+        ensures appends { IfOk result (λ n. Appends (state self.old).written
+            (state self.new).written (take n piece.now)) }
+        ensures err { OnErr result ((state self.new).written ≡ (state self.old).written) }
+        ensures tells { is_some (state self.new).written ≡ is_some (state self.old).written }
+        ensures rises { (state self.old).flushed ≤ (state self.new).flushed }
+        ensures bounded { IfSome (state self.new).written
+            (λ bytes. (state self.new).flushed ≤ length bytes) }
+        ensures later { (state self.old).faults ≤ (state self.new).faults }
+        ensures cause { OnErr result (Rose (state self.old).faults (state self.new).faults) };
 
     /// Makes sure that all bytes written have left, and leaves the bytes written as they are.
     ///
     /// Refused only for a fault, which the count shows.
     fn flush(&mut self) -> Result<(), SinkFailed>
-        ensures all { OnOk result (IfSome (written self.new) (λ bytes. length bytes ≤ flushed self.new)) }
-        ensures same { written self.new ≡ written self.old }
-        ensures rises { flushed self.old ≤ flushed self.new }
-        ensures bounded { IfSome (written self.new) (λ bytes. flushed self.new ≤ length bytes) }
-        ensures later { faults self.old ≤ faults self.new }
-        ensures cause { OnErr result (Rose (faults self.old) (faults self.new)) };
+        ensures all { OnOk result (IsFlushed (state self.new)) }
+        ensures same { (state self.new).written ≡ (state self.old).written }
+        ensures rises { (state self.old).flushed ≤ (state self.new).flushed }
+        ensures bounded { IfSome (state self.new).written
+            (λ bytes. (state self.new).flushed ≤ length bytes) }
+        ensures later { (state self.old).faults ≤ (state self.new).faults }
+        ensures cause { OnErr result (Rose (state self.old).faults (state self.new).faults) };
 }
 
 /// Writes a whole piece, in as many writes as it takes. Takes no memory.
 ///
 /// Refused only where a write is: the count of faults rose, and some first bytes of the piece were appended.
 pub fn put_all<K: Sink>(sink: &mut K, piece: &[u8]) -> Result<(), SinkFailed>
-    ensures ok { OnOk result (Appends (K.written sink.old) (K.written sink.new) piece.now) }
-    ensures err { OnErr result (AppendsSome (K.written sink.old) (K.written sink.new) piece.now) }
-    ensures tells { is_some (K.written sink.new) ≡ is_some (K.written sink.old) }
-    ensures flushed { K.flushed sink.old ≤ K.flushed sink.new }
-    ensures later { K.faults sink.old ≤ K.faults sink.new }
-    ensures cause { OnErr result (Rose (K.faults sink.old) (K.faults sink.new)) }
+    ensures wrote { Wrote (K.state sink.old) (K.state sink.new) result piece.now }
 {
     let mut put = 0;
     while put < piece.len() {

@@ -1,6 +1,7 @@
 //! Sources of bytes.
-ghost use Rattle.std.specs.Prelude.{◌≡◌, ℕ, ◌<◌, ◌≤◌, List, length, Option, is_some, IfOk, OnErr};
+ghost use Rattle.std.specs.Prelude.{◌≡◌, ◌<◌, ◌≤◌, length, is_some, IfOk, OnErr};
 ghost use Rattle.cu_io.specs.Counts.{Rose};
+ghost use Rattle.cu_io.specs.Sources.{SourceState};
 ghost use Rattle.cu_io.specs.Transfers.{Moves};
 
 use thiserror::Error;
@@ -12,11 +13,8 @@ pub struct SourceFailed;
 
 /// Where bytes come from.
 pub trait Source {
-    /// The bytes left, where the source tells them.
-    ghost left: { Self → Option (List ℕ) };
-
-    /// How many faults the source has met. The count stops at 2^64 - 1.
-    ghost faults: { Self → ℕ };
+    /// The bytes left, where the source tells them, and how many faults it has met. That count stops at 2^64 - 1.
+    ghost state: { Self → SourceState };
 
     /// Moves the next bytes to the front of `into`, which isn't empty, and answers how many: at most its length, and 0
     /// at the end of input. The rest of `into` may hold anything afterwards.
@@ -25,9 +23,9 @@ pub trait Source {
     fn read(&mut self, into: &mut [u8]) -> Result<usize, SourceFailed>
         requires { 0 < length into.old }
         ensures within { IfOk result (λ n. n ≤ length into.new) }
-        ensures moves { IfOk result (Moves (left self.old) (left self.new) into.new) }
-        ensures err { OnErr result (left self.new ≡ left self.old) }
-        ensures tells { is_some (left self.new) ≡ is_some (left self.old) }
-        ensures later { faults self.old ≤ faults self.new }
-        ensures cause { OnErr result (Rose (faults self.old) (faults self.new)) };
+        ensures moves { IfOk result (Moves (state self.old).left (state self.new).left into.new) }
+        ensures err { OnErr result ((state self.new).left ≡ (state self.old).left) }
+        ensures tells { is_some (state self.new).left ≡ is_some (state self.old).left }
+        ensures later { (state self.old).faults ≤ (state self.new).faults }
+        ensures cause { OnErr result (Rose (state self.old).faults (state self.new).faults) };
 }

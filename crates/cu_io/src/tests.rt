@@ -1,4 +1,8 @@
 //! What no clause says: that calls succeed, and what files, readers and writers get and give.
+mod devices;
+mod lines;
+mod watched;
+
 use super::*;
 use std::fs;
 use std::test::Fail;
@@ -61,30 +65,15 @@ fn shelf_holds_files_and_fails_where_told(rt: HostRuntime) -> Result<(), Fail> {
 }
 
 #[test]
-fn disk_keeps_whole_files(rt: HostRuntime) -> Result<(), Fail> {
+fn numbers_and_lines_are_written(rt: HostRuntime) -> Result<(), Fail> {
     let alloc = rt.alloc();
-    let mut shelf = DiskShelf::new(&rt);
-    let mut bytes = Vec::new(alloc);
-    // A file that stands under the first name tried beside the shelf's own is not lost.
-    fs::write(&rt, "disk.new0", "other")?;
-    for text in [b"longer text".as_slice(), b"text".as_slice()] {
-        assert_eq!(rt; shelf.store(alloc, "disk", text), Ok(()));
-        assert_eq!(rt; shelf.load(alloc, "disk", &mut bytes), Ok(()));
-        assert_eq!(rt; bytes.as_slice(), text);
-    }
-    assert_eq!(rt; shelf.load(alloc, "disk.new0", &mut bytes), Ok(()));
-    assert_eq!(rt; bytes.as_slice(), b"other".as_slice());
-    assert_eq!(rt;
-        shelf.load(alloc, "disk.new1", &mut bytes),
-        Err(LoadFailed::Fault)
-    );
-    assert_eq!(rt; bytes.len(), 0);
-    assert_eq!(rt;
-        shelf.store(alloc, "absent/disk", b"text"),
-        Err(StoreFailed::Fault)
-    );
-    fs::remove_file(&rt, "disk.new0")?;
-    fs::remove_file(&rt, "disk")?;
+    let mut sink = MemorySink::new(alloc, 40, Vec::new(alloc))?;
+    assert_eq!(rt; put_number(&mut sink, 0), Ok(()));
+    assert_eq!(rt; end_line(&mut sink), Ok(()));
+    assert_eq!(rt; put_numbers(&mut sink, &[]), Ok(()));
+    assert_eq!(rt; put_numbers(&mut sink, &[7, 10, u32::MAX]), Ok(()));
+    assert_eq!(rt; put_line(&mut sink, b" done"), Ok(()));
+    assert_eq!(rt; sink.bytes(), b"0\n7 10 4294967295 done\n".as_slice());
     Ok(())
 }
 

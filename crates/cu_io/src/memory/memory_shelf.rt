@@ -1,9 +1,9 @@
 //! A shelf in memory.
-ghost use Rattle.std.specs.Prelude.{◌≡◌, ℕ, ◌+◌, ◌≤◌, List, [], length, None, Some, true, false, ◌||◌, is_none, is_some, OnOk, OnErr};
+ghost use Rattle.std.specs.Prelude.{◌≡◌, ◌≢◌, ℕ, ◌+◌, ◌≤◌, List, [], length, None, Some, true, false, ◌||◌, is_none, is_some, OnOk, OnErr};
 ghost use Rattle.cu_io.specs.Counts.{Rose};
-ghost use Rattle.cu_io.specs.Holdings.{Holds, HoldsMore, KeepsOthers, OnLoadFault, OnTooLong, OnStoreFault};
+ghost use Rattle.cu_io.specs.Holdings.{Holds, HoldsMore, KeepsOthers, OnLoadFault, OnTooLong, OnStoreFault, UnlessLoadFault, UnlessStoreFault};
 ghost use Rattle.cu_io.specs.Memory.{is_failing, after_call};
-ghost use Rattle.cu_io.specs.Shelves.{file_under, times_named, shelf_limit, failed_loads_of, failed_stores_of, shelf_calls};
+ghost use Rattle.cu_io.specs.MemoryShelves.{file_under, times_named, shelf_limit, failed_loads_of, failed_stores_of, shelf_calls};
 
 use super::calls::Calls;
 use crate::shelf::{LoadFailed, Shelf, StoreFailed};
@@ -44,8 +44,12 @@ impl MemoryShelf {
 
 // Adds a name to a list.
 fn note(alloc: Global, names: &mut Vec<String>, name: &str) -> Result<(), AllocError>
-    ensures others { (other : List ℕ) → times_named names.old.items other ≤ times_named names.new.items other }
-    ensures added { OnOk result (times_named names.new.items name.now ≡ times_named names.old.items name.now + 1) }
+    ensures later { (other : List ℕ) → times_named names.old.items other
+        ≤ times_named names.new.items other }
+    ensures others { (other : List ℕ) → other ≢ name.now → times_named names.new.items other
+        ≡ times_named names.old.items other }
+    ensures added { OnOk result (times_named names.new.items name.now
+        ≡ times_named names.old.items name.now + 1) }
     ensures same { OnErr result (names.new.items ≡ names.old.items) }
 {
     let name = String::from_str(alloc, name)?;
@@ -54,13 +58,7 @@ fn note(alloc: Global, names: &mut Vec<String>, name: &str) -> Result<(), AllocE
 }
 
 impl Shelf for MemoryShelf {
-    ghost held = { λ s. Some (file_under s) };
-
-    ghost most = { shelf_limit };
-
-    ghost load_faults = { failed_loads_of };
-
-    ghost store_faults = { failed_stores_of };
+    ghost state = { λ s. record { held = Some (file_under s); most = shelf_limit s; load_faults = failed_loads_of s; store_faults = failed_stores_of s } };
 
     fn limit(&self) -> u64
         ensures { result ≡ shelf_limit self.now }
@@ -74,14 +72,23 @@ impl Shelf for MemoryShelf {
         ensures stores { failed_stores_of self.new ≡ failed_stores_of self.old }
         ensures ok { OnOk result (Holds (Some (file_under self.old)) name.now into.new.items) }
         ensures short { OnOk result (length into.new.items ≤ shelf_limit self.old) }
-        ensures long { OnTooLong result (HoldsMore (Some (file_under self.old)) name.now (shelf_limit self.old)) }
+        ensures long { OnTooLong result (HoldsMore (Some (file_under self.old)) name.now
+            (shelf_limit self.old)) }
         ensures empty { OnErr result (into.new.items ≡ []) }
-        ensures later { (other : List ℕ) → failed_loads_of self.old other ≤ failed_loads_of self.new other }
-        ensures cause { OnLoadFault result (Rose (failed_loads_of self.old name.now) (failed_loads_of self.new name.now)) }
-        ensures due { OnLoadFault result ((is_failing (shelf_calls self.old) || is_none (file_under self.old name.now)) ≡ true) }
+        ensures later { (other : List ℕ) → failed_loads_of self.old other
+            ≤ failed_loads_of self.new other }
+        ensures counts { UnlessLoadFault result
+            (failed_loads_of self.new ≡ failed_loads_of self.old) }
+        ensures cause { OnLoadFault result
+            (Rose (failed_loads_of self.old name.now) (failed_loads_of self.new name.now)) }
+        ensures once { OnLoadFault result
+            (failed_loads_of self.new name.now ≡ failed_loads_of self.old name.now + 1) }
+        ensures others { (other : List ℕ) → other ≢ name.now → failed_loads_of self.new other
+            ≡ failed_loads_of self.old other }
+        ensures due { OnLoadFault result ((is_failing (shelf_calls self.old) || is_none
+            (file_under self.old name.now)) ≡ true) }
         ensures named { OnOk result (is_failing (shelf_calls self.old) ≡ false) }
         ensures named_long { OnTooLong result (is_failing (shelf_calls self.old) ≡ false) }
-        ensures same { OnOk result (failed_loads_of self.new ≡ failed_loads_of self.old) }
         ensures calls { shelf_calls self.new ≡ after_call (shelf_calls self.old) }
     {
         into.clear();
@@ -104,14 +111,23 @@ impl Shelf for MemoryShelf {
     fn store(&mut self, alloc: Global, name: &str, bytes: &[u8]) -> Result<(), StoreFailed>
         ensures limit { shelf_limit self.new ≡ shelf_limit self.old }
         ensures loads { failed_loads_of self.new ≡ failed_loads_of self.old }
-        ensures tells { is_some (Some (file_under self.new)) ≡ is_some (Some (file_under self.old)) }
+        ensures tells { is_some (Some (file_under self.new))
+            ≡ is_some (Some (file_under self.old)) }
         ensures ok { OnOk result (Holds (Some (file_under self.new)) name.now bytes.now) }
-        ensures others { KeepsOthers (Some (file_under self.old)) (Some (file_under self.new)) name.now }
-        ensures later { (other : List ℕ) → failed_stores_of self.old other ≤ failed_stores_of self.new other }
-        ensures cause { OnStoreFault result (Rose (failed_stores_of self.old name.now) (failed_stores_of self.new name.now)) }
+        ensures others { KeepsOthers (Some (file_under self.old))
+            (Some (file_under self.new)) name.now }
+        ensures later { (other : List ℕ) → failed_stores_of self.old other
+            ≤ failed_stores_of self.new other }
+        ensures counts { UnlessStoreFault result
+            (failed_stores_of self.new ≡ failed_stores_of self.old) }
+        ensures cause { OnStoreFault result
+            (Rose (failed_stores_of self.old name.now) (failed_stores_of self.new name.now)) }
+        ensures once { OnStoreFault result
+            (failed_stores_of self.new name.now ≡ failed_stores_of self.old name.now + 1) }
+        ensures kept { (other : List ℕ) → other ≢ name.now → failed_stores_of self.new other
+            ≡ failed_stores_of self.old other }
         ensures due { OnStoreFault result (is_failing (shelf_calls self.old) ≡ true) }
         ensures named { OnOk result (is_failing (shelf_calls self.old) ≡ false) }
-        ensures same { OnOk result (failed_stores_of self.new ≡ failed_stores_of self.old) }
         ensures calls { shelf_calls self.new ≡ after_call (shelf_calls self.old) }
     {
         if self.calls.take() {

@@ -23,9 +23,9 @@ pub struct MemorySink {
 
 impl Model for MemorySink {
     ghost use Rattle.std.specs.Prelude.{◌≤◌, vec_len, vec_capacity};
-    ghost use Rattle.cu_io.specs.Memory.{SinkState};
+    ghost use Rattle.cu_io.specs.Memory.{MemorySinkState};
 
-    ghost Value = { SinkState };
+    ghost Value = { MemorySinkState };
 
     ghost view = { λ s. record { written = s.bytes.items; flushed = s.flushed; room = s.room; faults = s.faults; calls = s.calls } };
 
@@ -61,25 +61,24 @@ impl MemorySink {
 }
 
 impl Sink for MemorySink {
-    ghost written = { λ s. Some s.written };
-
-    ghost flushed = { λ s. s.flushed };
-
-    ghost faults = { λ s. s.faults };
+    ghost state = { λ s. record { written = Some s.written; flushed = s.flushed; faults = s.faults } };
 
     fn write(&mut self, piece: &[u8]) -> Result<usize, SinkFailed>
         ensures some { IfOk result (λ n. 0 < length piece.now → 0 < n) }
         ensures within { IfOk result (λ n. n ≤ length piece.now) }
-        ensures appends { IfOk result (λ n. Appends (Some self.old.written) (Some self.new.written) (take n piece.now)) }
+        ensures appends { IfOk result (λ n. Appends (Some self.old.written) (Some self.new.written)
+            (take n piece.now)) }
         ensures err { OnErr result (Some self.new.written ≡ Some self.old.written) }
         ensures tells { is_some (Some self.new.written) ≡ is_some (Some self.old.written) }
         ensures rises { self.old.flushed ≤ self.new.flushed }
-        ensures bounded { IfSome (Some self.new.written) (λ bytes. self.new.flushed ≤ length bytes) }
+        ensures bounded { IfSome (Some self.new.written)
+            (λ bytes. self.new.flushed ≤ length bytes) }
         ensures later { self.old.faults ≤ self.new.faults }
         ensures cause { OnErr result (Rose self.old.faults self.new.faults) }
         ensures fails { is_err result ≡ is_refusing self.old (length piece.now) }
         ensures most { IfOk result (λ n. n ≡ min (length piece.now) (space self.old)) }
-        ensures faults { self.new.faults ≡ (if is_err result then one_more self.old.faults else self.old.faults) }
+        ensures faults { self.new.faults ≡
+            (if is_err result then one_more self.old.faults else self.old.faults) }
         ensures same { self.new.flushed ≡ self.old.flushed }
         ensures room { self.new.room ≡ self.old.room }
         ensures calls { self.new.calls ≡ after_call self.old.calls }
@@ -97,14 +96,18 @@ impl Sink for MemorySink {
     }
 
     fn flush(&mut self) -> Result<(), SinkFailed>
-        ensures all { OnOk result (IfSome (Some self.new.written) (λ bytes. length bytes ≤ self.new.flushed)) }
+        ensures all { OnOk result (IfSome (Some self.new.written)
+            (λ bytes. length bytes ≤ self.new.flushed)) }
         ensures same { Some self.new.written ≡ Some self.old.written }
         ensures rises { self.old.flushed ≤ self.new.flushed }
-        ensures bounded { IfSome (Some self.new.written) (λ bytes. self.new.flushed ≤ length bytes) }
+        ensures bounded { IfSome (Some self.new.written)
+            (λ bytes. self.new.flushed ≤ length bytes) }
         ensures later { self.old.faults ≤ self.new.faults }
         ensures cause { OnErr result (Rose self.old.faults self.new.faults) }
+        ensures failed { OnErr result (self.new.flushed ≡ self.old.flushed) }
         ensures fails { is_err result ≡ is_failing self.old.calls }
-        ensures faults { self.new.faults ≡ (if is_err result then one_more self.old.faults else self.old.faults) }
+        ensures faults { self.new.faults ≡
+            (if is_err result then one_more self.old.faults else self.old.faults) }
         ensures room { self.new.room ≡ self.old.room }
         ensures calls { self.new.calls ≡ after_call self.old.calls }
     {

@@ -1,5 +1,5 @@
 //! A source in memory.
-ghost use Rattle.std.specs.Prelude.{◌≡◌, ◌<◌, ◌≤◌, min, length, take, Some, is_some, is_err, IfOk, OnErr, if◌then◌else◌};
+ghost use Rattle.std.specs.Prelude.{◌≡◌, ◌-◌, ◌^◌, ◌<◌, ◌≤◌, min, length, take, Some, is_some, is_err, IfOk, OnErr, if◌then◌else◌};
 ghost use Rattle.cu_io.specs.Counts.{Rose};
 ghost use Rattle.cu_io.specs.Memory.{is_failing, after_call, one_more};
 ghost use Rattle.cu_io.specs.Transfers.{Moves};
@@ -13,41 +13,50 @@ use std::marker::Model;
 pub struct MemorySource {
     bytes: Vec<u8>,
     taken: usize,
+    most: usize,
     faults: u64,
     calls: Calls,
 }
 
 impl Model for MemorySource {
-    ghost use Rattle.std.specs.Prelude.{◌≤◌, length, drop};
-    ghost use Rattle.cu_io.specs.Memory.{SourceState};
+    ghost use Rattle.std.specs.Prelude.{◌<◌, ◌≤◌, length, drop};
+    ghost use Rattle.cu_io.specs.Memory.{MemorySourceState};
 
-    ghost Value = { SourceState };
+    ghost Value = { MemorySourceState };
 
-    ghost view = { λ s. record { left = drop s.taken s.bytes.items; faults = s.faults; calls = s.calls } };
+    ghost view = { λ s. record { left = drop s.taken s.bytes.items; most = s.most; faults = s.faults; calls = s.calls } };
 
-    ghost invariant = { λ s. s.taken ≤ length s.bytes.items };
+    ghost invariant = { λ s. (s.taken ≤ length s.bytes.items) × (0 < s.most) };
 }
 
 impl MemorySource {
     /// A source of these bytes. Its reads are numbered from 0, and those named in `fails` fail. Takes no memory.
     pub fn of(bytes: Vec<u8>, fails: Vec<u64>) -> MemorySource
         ensures left { result.left ≡ bytes.items }
+        ensures most { result.most ≡ 2 ^ 64 - 1 }
         ensures faults { result.faults ≡ 0 }
         ensures calls { result.calls ≡ record { fails = fails.items; next = 0 } }
     {
         MemorySource {
             bytes,
             taken: 0,
+            most: usize::MAX,
             faults: 0,
             calls: Calls::of(fails),
         }
     }
+
+    /// The same source, of which each read gives at most this many bytes. Takes no memory.
+    pub fn cut(self, most: usize) -> MemorySource
+        requires { 0 < most }
+        ensures { result ≡ record self { most = most } }
+    {
+        MemorySource { most, ..self }
+    }
 }
 
 impl Source for MemorySource {
-    ghost left = { λ s. Some s.left };
-
-    ghost faults = { λ s. s.faults };
+    ghost state = { λ s. record { left = Some s.left; faults = s.faults } };
 
     fn read(&mut self, into: &mut [u8]) -> Result<usize, SourceFailed>
         requires { 0 < length into.old }
@@ -58,26 +67,32 @@ impl Source for MemorySource {
         ensures later { self.old.faults ≤ self.new.faults }
         ensures cause { OnErr result (Rose self.old.faults self.new.faults) }
         ensures fails { is_err result ≡ is_failing self.old.calls }
-        ensures most { IfOk result (λ n. n ≡ min (length self.old.left) (length into.new)) }
-        ensures faults { self.new.faults ≡ (if is_failing self.old.calls then one_more self.old.faults else self.old.faults) }
+        ensures most { IfOk result (λ n. n
+            ≡ min (length self.old.left) (min (length into.new) self.old.most)) }
+        ensures faults { self.new.faults ≡
+            (if is_failing self.old.calls then one_more self.old.faults else self.old.faults) }
+        ensures cut { self.new.most ≡ self.old.most }
         ensures calls { self.new.calls ≡ after_call self.old.calls }
     {
         if self.calls.take() {
             self.faults = self.faults.saturating_add(1);
             return Err(SourceFailed);
         }
-        let count = copy_front(&self.bytes[self.taken..], into);
+        let room = into.len().min(self.most);
+        let count = copy_front(&self.bytes[self.taken..], into, room);
         self.taken += count;
         Ok(count)
     }
 }
 
-// Copies as many bytes as there are and fit, and answers how many.
-fn copy_front(from: &[u8], into: &mut [u8]) -> usize
-    ensures count { result ≡ min (length from.now) (length into.new) }
+// Copies as many bytes as there are, up to `most`, and answers how many.
+fn copy_front(from: &[u8], into: &mut [u8], most: usize) -> usize
+    requires { most ≤ length into.old }
+    ensures count { result ≡ min (length from.now) most }
     ensures front { take result into.new ≡ take result from.now }
+    ensures same { length into.new ≡ length into.old }
 {
-    let count = from.len().min(into.len());
+    let count = from.len().min(most);
     into[..count].copy_from_slice(&from[..count]);
     count
 }

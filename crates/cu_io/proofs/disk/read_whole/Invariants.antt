@@ -1,6 +1,9 @@
--- What was read so far is within the limit.
-use Rattle.std.proofs.Common.{◌^◌, ◌≤◌, length}
+-- What was read so far is within the limit, and the reader gave it.
+use Rattle.std.proofs.Common.{◌≡◌, ◌++◌, ◌^◌, ◌≤◌, ℕ, List, length}
+use Rattle.std.specs.Io.KnownBytes.{Consumes}
 use Rattle.cu_io.proofs.disk.read_whole.Given as goal
 
 abbrev pub invariant-loop : goal.invariant-loop
-invariant-loop g l = length l.into.items ≤ 2 ^ 32
+invariant-loop g l =
+    (length l.into.items ≤ 2 ^ 32) × (read : List ℕ) × (l.into.items ≡ l.fn.into.items ++ read)
+    × Consumes (g.R.Read.remaining l.fn.reader) (g.R.Read.remaining l.reader) read

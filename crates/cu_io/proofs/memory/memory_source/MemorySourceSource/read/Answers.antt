@@ -1,7 +1,7 @@
 -- The bytes copied stood at the front of those left, and the others are left.
-use Rattle.std.proofs.Common.{ℕ, ◌≡◌, ◌-◌, ◌<◌, arith, List, length, take, drop, min, ◌∙◌, sym, ap}
+use Rattle.std.proofs.Common.{ℕ, ◌≡◌, ◌-◌, arith, List, length, take, drop, min, ◌∙◌, sym, ap}
 use Rattle.std.proofs.lemmas.List.{take_rest}
-use Rattle.cu_io.specs.Memory.{SourceState}
+use Rattle.cu_io.specs.Memory.{MemorySourceState}
 use Rattle.cu_io.proofs.Moving.{moves_front}
 use Rattle.cu_io.proofs.memory.memory_source.MemorySourceSource.read.Goals as goal
 
@@ -13,7 +13,6 @@ returns-clause-moves c =
     let buffer = c.copy_front-count.new.into in
     let rest : take (length c.deref.result.now - taken) (drop taken c.deref.result.now) ≡ drop taken bytes =
     take_rest c.deref.result.now taken ∙ ap (λ (t : List ℕ). drop taken t) c.deref.ensures.value in
-    let room : 0 < length buffer = omega arith in
-    moves_front bytes buffer c.args.self.now.left taken n (ap (λ (s : SourceState). s.left) (sym c.self.view_is)) room
-    (c.copy_front-count.ensures.count ∙ ap (λ (t : List ℕ). min (length t) (length buffer)) rest)
+    moves_front bytes buffer c.args.self.now.left taken n c.min-room.result (ap (λ (s : MemorySourceState). s.left) (sym c.self.view_is)) (omega arith)
+    (c.copy_front-count.ensures.count ∙ ap (λ (t : List ℕ). min (length t) c.min-room.result) rest)
     (c.copy_front-count.ensures.front ∙ ap (λ (t : List ℕ). take n t) rest)
