@@ -1,6 +1,6 @@
 -- The fields of a row by their places.
 use Rattle.std.proofs.Common.{Bor, ◌≡◌, ◌≢◌, ◌∙◌, ◌<◌, ◌+◌, ℕ, zero, suc, List, [], ◌∷◌, length, drop, get_or, map, Bool, true, false, Option, Some, None, refl, ap, arith, rules}
-use Rattle.std.specs.Prelude.{◌&&◌, not, bytes_eq, option_map, IsSome}
+use Rattle.std.specs.Prelude.{◌&&◌, bytes_eq, option_map, IsSome}
 use Rattle.std.specs.Cmp.Lexicographic.{pointwise}
 use Rattle.csv.specs.Records.{field_at}
 
@@ -42,11 +42,3 @@ some_image f (Some x) y e = search rules
 
 pub some_is : {A B : Type 0} (f : A → B) (o : Option A) (x : A) (y : B) → option_map f o ≡ Some y → o ≡ Some x → f x ≡ y
 some_is f o x y e h = let k = rw h at e in cc k
-
-pub not_true : (b : Bool) → not b ≡ true → b ≡ false
-not_true true e = cc e
-not_true false e = refl
-
-pub not_false : (b : Bool) → not b ≡ false → b ≡ true
-not_false true e = refl
-not_false false e = cc e

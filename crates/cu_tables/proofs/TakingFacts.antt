@@ -1,7 +1,9 @@
--- What a walk through the rows of a table says of a recursion over them.
-use Rattle.std.proofs.Common.{◌≡◌, ◌∙◌, ℕ, List, [], ◌∷◌, ◌++◌, refl, sym, ap, subst, append_assoc}
+-- What a walk through the rows of a table says of what its rows give.
+use Rattle.std.proofs.Common.{◌≡◌, ◌∙◌, ℕ, List, [], ◌∷◌, ◌++◌, Option, Some, None, refl, sym, ap, subst}
+use Rattle.std.specs.Prelude.{Result, Ok, Err}
 use Rattle.std.proofs.lemmas.List.{append-nil}
-use Rattle.cu_tables.specs.Taking.{StopsIn, TakesAll}
+use Rattle.cu_tables.specs.Checks.{below}
+use Rattle.cu_tables.specs.Taking.{Ends, EndsBelow, TakesAll}
 
 -- one more row
 pub takes_more : {T : Type 0} (takes : T → List (List ℕ) → T → Type 0) (s m t : T) (rows : List (List (List ℕ))) (row : List (List ℕ))
@@ -9,44 +11,48 @@ pub takes_more : {T : Type 0} (takes : T → List (List ℕ) → T → Type 0) (
 takes_more takes s m t [] row h k = (t, subst (λ x. takes x row t) h k, refl)
 takes_more takes s m t (r ∷ rs) row h k = (h.0, h.1, takes_more takes h.0 m t rs row h.2 k)
 
--- rows that are taken leave the rest of a recursion to the rows behind them
-pub front_taken : {T A : Type 0} (takes : T → List (List ℕ) → T → Type 0) (check : T → List (List (List ℕ)) → A)
-    → ((s : T) (row : List (List ℕ)) (m : T) (rest : List (List (List ℕ))) → takes s row m → check s (row ∷ rest) ≡ check m rest)
-    → (s t : T) (rows rest : List (List (List ℕ))) → TakesAll takes s rows t → check s (rows ++ rest) ≡ check t rest
-front_taken takes check step s t [] rest h = ap (λ x. check x rest) (sym h)
-front_taken takes check step s t (row ∷ rows) rest h =
-    step s row h.0 (rows ++ rest) h.1 ∙ front_taken takes check step h.0 t rows rest h.2
+-- Of a taker of which this holds, what the rows from one on give is what is given, once that one is taken, for those behind it, or its
+-- refusal; and it still holds then.
+pub record Follows {T A R : Type 0} (takes : T → List (List ℕ) → T → Type 0) (refuses : T → List (List ℕ) → R → Type 0)
+    (Holds : T → Type 0) (given : T → List (List (List ℕ)) → Result A R) : Type 0 where
+  pub kept : (s : T) (row : List (List ℕ)) (t : T) → takes s row t → Holds s → Holds t
+  pub taken : (s : T) (row : List (List ℕ)) (t : T) (rest : List (List (List ℕ))) → takes s row t → Holds s → given s (row ∷ rest) ≡ given t rest
+  pub refused : (s : T) (row : List (List ℕ)) (why : R) (rest : List (List (List ℕ))) → refuses s row why → Holds s → given s (row ∷ rest) ≡ Err why
 
--- where all rows are taken, the recursion ends with what the taker has become
-pub all_taken : {T A : Type 0} (takes : T → List (List ℕ) → T → Type 0) (check : T → List (List (List ℕ)) → A)
-    → ((s : T) (row : List (List ℕ)) (m : T) (rest : List (List (List ℕ))) → takes s row m → check s (row ∷ rest) ≡ check m rest)
-    → (s t : T) (rows : List (List (List ℕ))) → TakesAll takes s rows t → check s rows ≡ check t []
-all_taken takes check step s t [] h = ap (λ x. check x []) (sym h)
-all_taken takes check step s t (row ∷ rows) h = step s row h.0 rows h.1 ∙ all_taken takes check step h.0 t rows h.2
+-- what rows give whose walk ended so: what is left once all are taken, or the refusal
+abbrev pub Leads : {T A R U : Type 0} → Result A R → (T → Type 0) → (T → List (List (List ℕ)) → Result A R) → T → Result U R → Type 0
+Leads all Holds given t (Ok done) = (all ≡ given t []) × Holds t
+Leads all Holds given t (Err why) = all ≡ Err why
 
--- where a row stops the taker, the recursion ends with that row's answer
-pub stopped_at : {T A : Type 0} (takes stops : T → List (List ℕ) → T → Type 0) (check : T → List (List (List ℕ)) → A) (answer : T → A)
-    → ((s : T) (row : List (List ℕ)) (m : T) (rest : List (List (List ℕ))) → takes s row m → check s (row ∷ rest) ≡ check m rest)
-    → ((s : T) (row : List (List ℕ)) (t : T) (rest : List (List (List ℕ))) → stops s row t → check s (row ∷ rest) ≡ answer t)
-    → (s t : T) (rows : List (List (List ℕ))) → StopsIn takes stops s rows t → check s rows ≡ answer t
-stopped_at takes stops check answer step stop s t rows h =
-    let (front, row, rest, m, e, taken, stopped) = h in
-    ap (check s) e ∙ front_taken takes check step s m front (row ∷ rest) taken ∙ stop m row t rest stopped
+front_taken : {T A R : Type 0} {takes : T → List (List ℕ) → T → Type 0} {refuses : T → List (List ℕ) → R → Type 0} {Holds : T → Type 0}
+    {given : T → List (List (List ℕ)) → Result A R} (f : Follows takes refuses Holds given)
+    → (s t : T) (rows rest : List (List (List ℕ))) → TakesAll takes s rows t → Holds s → (given s (rows ++ rest) ≡ given t rest) × Holds t
+front_taken {Holds = Holds} {given = given} f s t [] rest h k = (ap (λ x. given x rest) (sym h), subst Holds (sym h) k)
+front_taken f s t (row ∷ rows) rest h k =
+    let more = front_taken f h.0 t rows rest h.2 (f.kept s row h.0 h.1 k) in
+    (f.taken s row h.0 (rows ++ rest) h.1 k ∙ more.0, more.1)
 
--- what each row that is taken adds to the rows taken before holds of all rows in the end
-pub rows_held : {T : Type 0} (takes : T → List (List ℕ) → T → Type 0) (Holds : T → List (List (List ℕ)) → Type 0)
-    → ((s : T) (row : List (List ℕ)) (t : T) (done : List (List (List ℕ))) → takes s row t → Holds s done → Holds t (done ++ (row ∷ [])))
-    → (s t : T) (done rows : List (List (List ℕ))) → TakesAll takes s rows t → Holds s done → Holds t (done ++ rows)
-rows_held takes Holds step s t done [] h k = subst (λ x. Holds x (done ++ [])) (sym h) (subst (Holds s) (sym (append-nil done)) k)
-rows_held takes Holds step s t done (row ∷ rows) h k =
-    let more = rows_held takes Holds step h.0 t (done ++ (row ∷ [])) rows h.2 (step s row h.0 done h.1 k) in
-    subst (Holds t) (append_assoc done (row ∷ []) rows) more
+pub walked : {T A R U : Type 0} {takes : T → List (List ℕ) → T → Type 0} {refuses : T → List (List ℕ) → R → Type 0} {Holds : T → Type 0}
+    {given : T → List (List (List ℕ)) → Result A R} (f : Follows takes refuses Holds given)
+    → (s t : T) (rows : List (List (List ℕ))) (answer : Result U R) → Holds s → Ends takes refuses s rows t answer → Leads (given s rows) Holds given t answer
+walked f s t rows (Ok done) k h = rw (append-nil rows) at (front_taken f s t rows [] h k)
+walked {given = given} f s t rows (Err why) k (front, row, rest, m, e, taken, refused) =
+    let before = front_taken f s m front (row ∷ rest) taken k in
+    ap (given s) e ∙ before.0 ∙ f.refused m row why rest refused before.1
 
--- and where a row stops the taker, of the rows before that one
-pub held_at_stop : {T : Type 0} (takes stops : T → List (List ℕ) → T → Type 0) (Holds : T → List (List (List ℕ)) → Type 0)
-    → ((s : T) (row : List (List ℕ)) (t : T) (done : List (List (List ℕ))) → takes s row t → Holds s done → Holds t (done ++ (row ∷ [])))
-    → (s t : T) (rows : List (List (List ℕ))) → StopsIn takes stops s rows t → Holds s []
-    → (front : List (List (List ℕ))) × (row : List (List ℕ)) × (rest : List (List (List ℕ))) × (m : T) × (rows ≡ front ++ (row ∷ rest)) × Holds m front × stops m row t
-held_at_stop takes stops Holds step s t rows h k =
-    let (front, row, rest, m, e, taken, stopped) = h in
-    (front, row, rest, m, e, rows_held takes Holds step s m [] front taken k, stopped)
+-- the same of the rows below a header
+pub walked_below : {T A R U : Type 0} {takes : T → List (List ℕ) → T → Type 0} {refuses : T → List (List ℕ) → R → Type 0} {Holds : T → Type 0}
+    {given : T → List (List (List ℕ)) → Result A R} (f : Follows takes refuses Holds given)
+    → (s t : T) (rows : Option (List (List (List ℕ)))) (no_header : R) (answer : Result U R) → Holds s → EndsBelow takes refuses no_header s rows t answer
+    → Leads (below no_header (given s) rows) Holds given t answer
+walked_below f s t None no_header answer k h = rw h.0 refl
+walked_below f s t (Some rows) no_header answer k h = walked f s t rows answer k h
+
+-- what holds of the refusal of a table without the header, and of each row's refusal, holds of every refusal
+pub refusal_is : {T R U : Type 0} (takes : T → List (List ℕ) → T → Type 0) (refuses : T → List (List ℕ) → R → Type 0) (Is : R → Type 0)
+    → ((s : T) (row : List (List ℕ)) (why : R) → refuses s row why → Is why) → (no_header : R) → Is no_header
+    → (s t : T) (rows : Option (List (List (List ℕ)))) (answer : Result U R) (why : R) → answer ≡ Err why → EndsBelow takes refuses no_header s rows t answer → Is why
+refusal_is takes refuses Is each no_header header s t None answer why e h = let same : why ≡ no_header = cc (e, h.0) in rw same header
+refusal_is takes refuses Is each no_header header s t (Some rows) answer why e h =
+    let (front, row, rest, m, all, taken, refused) = rw e at h in
+    each m row why refused

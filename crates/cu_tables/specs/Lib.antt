@@ -1,4 +1,5 @@
 pub mod Tables
+pub mod Checks
 pub mod Taking
-pub mod Reads
-pub mod Written
+pub mod WrittenTexts
+pub mod Steps

@@ -7,6 +7,6 @@ ghost use Rattle.cu_tables.specs.Tables.{table};
 /// and so with no byte-order mark. A row of no fields is read back as one empty field.
 pub fn reads_back()
     ensures none { table (rows_text []) ≡ [] }
-    ensures some { (rows : List (List (List ℕ))) → (first : ℕ) → (rest : List ℕ) → rows_text rows ≡ first ∷ rest → first < 128
-        → table (rows_text rows) ≡ map read_back rows }
+    ensures some { (rows : List (List (List ℕ))) → (first : ℕ) → (rest : List ℕ)
+        → rows_text rows ≡ first ∷ rest → first < 128 → table (rows_text rows) ≡ map read_back rows }
 {}

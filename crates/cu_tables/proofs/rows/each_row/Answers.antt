@@ -1,13 +1,9 @@
-use Rattle.cu_tables.specs.Taking.{TakesAll, StopsIn}
-use Rattle.cu_tables.proofs.ReadFacts.{if_ok_weaker, whole_table}
+use Rattle.std.proofs.lemmas.Result.{IfOk-weaker}
+use Rattle.cu_tables.specs.Taking.{Ends}
+use Rattle.cu_tables.proofs.ReadFacts.{whole_table}
 use Rattle.cu_tables.proofs.rows.each_row.Goals as goal
 
-pub returns-clause-all : goal.returns-clause-all
-returns-clause-all g c = if_ok_weaker _ _ c.take_rows.result
-    (λ all h e. whole_table (λ rows. TakesAll g.T.TakesRows.takes c.args.taker.now rows c.take_rows.new.taker) _ c.args.text.now c.rows_of.ensures (h e))
-    c.take_rows.ensures.all
-
-pub returns-clause-front : goal.returns-clause-front
-returns-clause-front g c = if_ok_weaker _ _ c.take_rows.result
-    (λ all h e. whole_table (λ rows. StopsIn g.T.TakesRows.takes g.T.TakesRows.stops c.args.taker.now rows c.take_rows.new.taker) _ c.args.text.now c.rows_of.ensures (h e))
-    c.take_rows.ensures.front
+pub returns : goal.returns
+returns g c = IfOk-weaker c.take_rows.result _ _
+    (λ answer h. whole_table (λ rows. Ends g.T.TakesRows.takes g.T.TakesRows.refuses c.args.taker.now rows c.take_rows.new.taker answer) _ c.args.text.now c.rows_of-rows.ensures h)
+    c.take_rows.ensures

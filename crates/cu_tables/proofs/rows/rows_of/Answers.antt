@@ -8,13 +8,12 @@ returns c =
     let fr = c.from_reader.ensures in
     let e = c.has_headers.ensures in
     let f = c.flexible.ensures in
-    let rdr = c.into_byte_records.ensures.rdr in
     record {
-      trim = rw rdr (rw (f, e) at fr.trim ∙ c.new.ensures.trim);
-      ready = rw rdr (inr (inr (rw (f, e) at fr.has_headers, fr.headers)));
-      left = c.into_byte_records.ensures.left;
-      config = rw rdr (rw (f, e) at fr.config ∙ c.new.ensures.config);
+      trim = rw (f, e) at fr.trim ∙ c.new.ensures.trim;
+      ready = inr (inr (rw (f, e) at fr.has_headers, fr.headers));
+      config = rw (f, e) at fr.config ∙ c.new.ensures.config;
+      flexible = rw (f) at fr.flexible;
       unread = strip_bom c.args.text.now;
-      source = rw rdr fr.source;
-      reached = rw rdr (sym fr.state, refl);
+      source = fr.source;
+      reached = (sym fr.state, refl);
     }
