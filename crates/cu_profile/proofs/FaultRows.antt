@@ -1,15 +1,15 @@
 -- A fault that names a piece names one of the pieces, so its row is one of theirs.
 use Rattle.std.proofs.Common.{◌≡◌, ◌<◌, ◌≤◌, ◌+◌, ℕ, List, [], ◌∷◌, Bool, true, false, Option, Some, None, length, refl, subst, arith, inl, inr}
-use Rattle.std.specs.Prelude.{nat_lt, not, if◌then◌else◌}
-use Rattle.std.specs.List.{position}
+use Rattle.std.specs.Prelude.{nat_lt, not, position, if◌then◌else◌}
 use Rattle.std.specs.Option.{option_map, option_or}
 use Rattle.std.proofs.lemmas.Bool.{cases_Bool}
 use Rattle.std.proofs.lemmas.List.Quantifiers.{position-Some}
 use Rattle.cu_model.specs.declared.profiles.Piece.{Piece}
 use Rattle.cu_model.specs.declared.profiles.Rule.TheVariants.{Travel}
 use Rattle.cu_model.specs.declared.profiles.PieceFault.{PieceFault}
-use Rattle.cu_model.specs.declared.profiles.PieceFault.TheVariants.{Limit, Start, Rising, Early, Fifo}
-use Rattle.cu_model.specs.Faults.{first_fallen, is_in_limit, piece_fault, starts_day}
+use Rattle.cu_model.specs.declared.profiles.PieceFault.TheVariants.{Limit, Start, Rising, Closed, Early, Fifo}
+use Rattle.cu_model.specs.Faults.{first_fallen, piece_fault, starts_day}
+use Rattle.cu_model.specs.Profiles.{is_closed_piece, is_in_limit}
 use Rattle.cu_profile.specs.ProfileTexts.{fault_row}
 
 fallen_within : (index : ℕ) (pieces : List Piece) (found : ℕ) → first_fallen index pieces ≡ Some found → found < index + length pieces
@@ -20,24 +20,34 @@ fallen_within index (piece ∷ next ∷ pieces) found e = elim (cases_Bool (nat_
   | inr falls ↦ let k : index + 1 ≡ found = cc (rw falls at e) in omega (arith, k)
 ]
 
-within : (first n : ℕ) (limit : Option ℕ) (starts : Bool) (rising early fifo : Option ℕ) (fault : PieceFault)
-    → ((i : ℕ) → limit ≡ Some i → i < n) → ((i : ℕ) → rising ≡ Some i → i < n)
-    → option_or (option_map Limit limit) (option_or (if starts then None else Some Start) (option_or (option_map Rising rising) (option_or (option_map Early early) (option_map Fifo fifo)))) ≡ Some fault
-    → fault_row first fault ≤ first + n
-within first n (Some i) starts rising early fifo fault h k e =
-    let same : Limit i ≡ fault = cc e in let l = h i refl in subst (λ (f : PieceFault). fault_row first f ≤ first + n) same (omega (arith, l))
-within first n None false rising early fifo fault h k e =
-    let same : Start ≡ fault = cc e in subst (λ (f : PieceFault). fault_row first f ≤ first + n) same (omega arith)
-within first n None true (Some i) early fifo fault h k e =
-    let same : Rising i ≡ fault = cc e in let l = k i refl in subst (λ (f : PieceFault). fault_row first f ≤ first + n) same (omega (arith, l))
-within first n None true None (Some s) fifo fault h k e =
-    let same : Early s ≡ fault = cc e in subst (λ (f : PieceFault). fault_row first f ≤ first + n) same (omega arith)
-within first n None true None None (Some s) fault h k e =
-    let same : Fifo s ≡ fault = cc e in subst (λ (f : PieceFault). fault_row first f ≤ first + n) same (omega arith)
-within first n None true None None None fault h k e = absurd (cc e)
+-- a fault, where there is one, names a row no further than this
+abbrev Within : ℕ → ℕ → Option PieceFault → Type 0
+Within first last fault = (found : PieceFault) → fault ≡ Some found → fault_row first found ≤ last
+
+or_within : (first last : ℕ) (a b : Option PieceFault) → Within first last a → Within first last b → Within first last (option_or a b)
+or_within first last None b h k found e = k found e
+or_within first last (Some fault) b h k found e = h found e
+
+map_within : (first last : ℕ) (name : ℕ → PieceFault) (o : Option ℕ) → ((i : ℕ) → o ≡ Some i → fault_row first (name i) ≤ last) → Within first last (option_map name o)
+map_within first last name None h found e = absurd (cc e)
+map_within first last name (Some i) h found e = let same : name i ≡ found = cc e in subst (λ (f : PieceFault). fault_row first f ≤ last) same (h i refl)
+
+start_within : (first n : ℕ) (starts : Bool) → Within first (first + n) (if starts then None else Some Start)
+start_within first n true found e = absurd (cc e)
+start_within first n false found e = let same : Start ≡ found = cc e in subst (λ (f : PieceFault). fault_row first f ≤ first + n) same (omega arith)
+
+if_within : (first last : ℕ) (test : Bool) (o : Option PieceFault) → Within first last o → Within first last (if test then o else None)
+if_within first last true o h found e = h found e
+if_within first last false o h found e = absurd (cc e)
+
+position_within : (first : ℕ) (pieces : List Piece) (test : Piece → Bool) (i : ℕ) → position test pieces ≡ Some i → first + i ≤ first + length pieces
+position_within first pieces test i e = let k = (position-Some test pieces i (record { from = 0; rule = Travel 0 }) e).0 in omega (arith, k)
 
 pub fault_within : (first : ℕ) (pieces : List Piece) (fault : PieceFault) → piece_fault pieces ≡ Some fault → fault_row first fault ≤ first + length pieces
-fault_within first pieces fault e =
-    within first (length pieces) (position (λ piece. not (is_in_limit piece)) pieces) (starts_day pieces) (first_fallen 0 pieces) _ _ fault
-    (λ i h. (position-Some (λ (piece : Piece). not (is_in_limit piece)) pieces i (record { from = 0; rule = Travel 0 }) h).0)
-    (λ i h. let k = fallen_within 0 pieces i h in omega (arith, k)) e
+fault_within first pieces =
+    let last = first + length pieces in
+    or_within first last _ _ (map_within first last Limit _ (position_within first pieces (λ piece. not (is_in_limit piece))))
+    (or_within first last _ _ (start_within first (length pieces) (starts_day pieces))
+    (or_within first last _ _ (map_within first last Rising _ (λ i h. let k = fallen_within 0 pieces i h in omega (arith, k)))
+    (or_within first last _ _ (if_within first last (nat_lt 1 (length pieces)) _ (map_within first last Closed _ (position_within first pieces is_closed_piece)))
+    (or_within first last _ _ (map_within first last Early _ (λ i h. omega arith)) (map_within first last Fifo _ (λ i h. omega arith))))))

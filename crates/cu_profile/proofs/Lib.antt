@@ -1,4 +1,5 @@
 pub mod FaultRows
+pub mod KeptProfiles
 pub mod RowFacts
 pub mod TextFacts
 pub mod WritingFacts

@@ -1,77 +1,49 @@
--- What a reader has kept once all rows were taken, or one was refused.
+-- What a text gives, once its rows were gone through.
 use Rattle.std.proofs.Common.{◌≡◌, ◌∙◌, ℕ, List, [], Option, Some, None, Result, Ok, Err, refl, sym, ap, arith}
-use Rattle.std.specs.Prelude.{IfErr}
-use Rattle.std.proofs.lemmas.List.{append-nil}
-use Rattle.std.proofs.lemmas.List.Elements.{All-nil}
 use Rattle.cu_model.specs.declared.profiles.Piece.{Piece}
-use Rattle.cu_model.specs.Profiles.{IsProfile}
+use Rattle.std.specs.Prelude.{IfErr, IfOk}
+use Rattle.cu_tables.specs.Checks.{Gives, IsRefused, below}
 use Rattle.cu_tables.specs.Tables.{rows_below, table}
-use Rattle.cu_tables.specs.Taking.{StopsIn, TakesAll}
-use Rattle.cu_tables.proofs.TakingFacts.{held_at_stop, rows_held}
+use Rattle.cu_tables.specs.Taking.{EndsBelow}
+use Rattle.cu_tables.proofs.TakingFacts.{Leads, walked_below}
 use Rattle.cu_profile.specs.declared.refusals.ProfileRefusal.{ProfileRefusal}
-use Rattle.cu_profile.specs.declared.progress.Reading.{Reading}
-use Rattle.cu_profile.specs.ProfileTexts.{header, profiles_from, profiles_of_rows, profiles_of_text, rows_fault, unless}
-use Rattle.cu_profile.specs.Reading.{joined, EndsProfile, HasTaken, StopsAtRow, TakesRow}
+use Rattle.cu_profile.specs.declared.refusals.ProfileRefusal.TheVariants.{Header, NoMemory}
+use Rattle.cu_profile.specs.declared.progress.ProfileRows.{ProfileRows}
+use Rattle.cu_profile.specs.ProfileTexts.{by_profile, header, profiles_of_groups, profiles_of_rows, profiles_of_text, rows_fault}
+use Rattle.cu_profile.specs.Steps.ReadRows.{groups_behind, IsBetweenRows, IsNew, RefusesRow, rows_behind, TakesRow}
+use Rattle.cu_profile.proofs.KeptProfiles.{joined_none}
+use Rattle.cu_profile.proofs.RowFacts.{follows}
 
-joined_none : (more : Result (List (List Piece)) ProfileRefusal) → more ≡ joined None [] more
-joined_none (Ok profiles) = refl
-joined_none (Err refusal) = refl
-
--- a new reader has taken no row
-pub fresh : (s : Reading) → s.row ≡ 0 → s.last ≡ None → s.first ≡ 0 → s.wrong_kind ≡ None → s.pieces.items ≡ [] → s.profiles.items ≡ [] → s.fault ≡ None → HasTaken s []
-fresh s row last first kind pieces profiles fault = record {
-  small = rw last tt;
-  rows = λ rest. rw (row, last) refl;
-  current = [];
-  is_current = record { count = omega (arith, row, first); pieces = pieces; kind = kind };
-  last = last;
-  profiles = λ rest. rw (fault, profiles, first) (joined_none (profiles_from 0 [] rest));
-  few = rw profiles (omega arith);
-  sum = rw profiles (omega arith);
-  valid = rw profiles (All-nil IsProfile);
+new_between : (s : ProfileRows) → IsNew s → IsBetweenRows s
+new_between s n = record {
+  small = rw n.last tt;
+  few = rw n.profiles (omega arith);
+  fresh = λ none. (n.first ∙ sym n.row, (n.wrong_kind, n.pieces));
 }
 
--- each row taken is one more of the rows taken
-pub all_taken : (s t : Reading) (rows : List (List (List ℕ))) → HasTaken s [] → TakesAll TakesRow s rows t → HasTaken t rows
-all_taken s t rows h k = rows_held TakesRow HasTaken (λ s row t done h held. h done held) s t [] rows k h
+new_given : (s : ProfileRows) (rows : List (List (List ℕ))) → IsNew s → rows_behind s rows ≡ profiles_of_rows rows
+new_given s rows n =
+    let groups = by_profile rows in
+    let faults : rows_fault s.row s.last rows ≡ rows_fault 0 None rows = ap (λ (k : ℕ). rows_fault k s.last rows) n.row ∙ ap (λ (l : Option ℕ). rows_fault 0 l rows) n.last in
+    let behind : groups_behind s s.last groups ≡ profiles_of_groups 0 groups = ap (λ (l : Option ℕ). groups_behind s l groups) n.last ∙ ap (λ (k : ℕ). profiles_of_groups k groups) n.row in
+    rw (faults, behind, n.fault, n.profiles, joined_none (profiles_of_groups 0 groups)) refl
 
--- a row that stopped the reader refuses the text
-pub stopped : (s t : Reading) (rows : List (List (List ℕ))) (refusal : ProfileRefusal) → HasTaken s [] → StopsIn TakesRow StopsAtRow s rows t → t.refusal ≡ Some refusal
-    → profiles_of_rows (Some rows) ≡ Err refusal
-stopped s t rows refusal h k e =
-    let (front, row, rest, m, all, held, stops) = held_at_stop TakesRow StopsAtRow HasTaken (λ s row t done h held. h done held) s t rows k h in
-    let (found, is, fault) = stops in
-    let same : found ≡ refusal = cc (is, e) in
-    ap (λ (o : Option ProfileRefusal). unless o (profiles_from 0 [] rows)) (ap (rows_fault 0 None) all ∙ fault front rest held) ∙ ap (λ (r : ProfileRefusal). Err r) same
+-- what a text gives, once its rows were gone through
+pub text_read : {U : Type 0} (names : List (List ℕ)) (text : List ℕ) (s t : ProfileRows) (answer : Result U ProfileRefusal) → names ≡ header → IsNew s
+    → EndsBelow TakesRow RefusesRow Header s (rows_below names (table text)) t answer → Leads (profiles_of_text text) IsBetweenRows rows_behind t answer
+text_read names text s t answer same n h =
+    let k = walked_below follows s t (rows_below names (table text)) Header answer (new_between s n) h in
+    from_new (rows_below header (table text)) (rw same at k)
+  where
+    given_new : (o : Option (List (List (List ℕ)))) → below Header (rows_behind s) o ≡ below Header profiles_of_rows o
+    given_new None = refl
+    given_new (Some rows) = new_given s rows n
 
--- and then it has kept a refusal
-pub stopped_some : (s t : Reading) (rows : List (List (List ℕ))) → StopsIn TakesRow StopsAtRow s rows t → (refusal : ProfileRefusal) × (t.refusal ≡ Some refusal)
-stopped_some s t rows h =
-    let (front, row, rest, m, all, taken, stops) = h in
-    let (found, is, fault) = stops in
-    (found, is)
+    from_new : (o : Option (List (List (List ℕ)))) → Leads (below Header (rows_behind s) o) IsBetweenRows rows_behind t answer → Leads (below Header profiles_of_rows o) IsBetweenRows rows_behind t answer
+    from_new o k = rw (given_new o) at k
 
--- once the last profile ended, what was kept is what the rows say
-pub whole : (s t : Reading) (rows : List (List (List ℕ))) → HasTaken s rows → EndsProfile s t → profiles_of_rows (Some rows) ≡ joined t.fault t.profiles.items (Ok [])
-whole s t rows h ends =
-    let ended = ends.2 h.current h.is_current in
-    let passed = ap (rows_fault 0 None) (sym (append-nil rows)) ∙ h.rows [] in
-    ap (λ (o : Option ProfileRefusal). unless o (profiles_from 0 [] rows)) passed
-    ∙ ap (profiles_from 0 []) (sym (append-nil rows)) ∙ h.profiles [] ∙ ended.profiles (Ok [])
-
-pub whole_ok : (s t : Reading) (rows : List (List (List ℕ))) → HasTaken s rows → EndsProfile s t → t.fault ≡ None → profiles_of_rows (Some rows) ≡ Ok t.profiles.items
-whole_ok s t rows h ends e =
-    whole s t rows h ends ∙ ap (λ (f : Option ProfileRefusal). joined f t.profiles.items (Ok [])) e ∙ ap (λ (ps : List (List Piece)). Ok ps) (append-nil t.profiles.items)
-
-pub whole_refused : (s t : Reading) (rows : List (List (List ℕ))) (refusal : ProfileRefusal) → HasTaken s rows → EndsProfile s t → t.fault ≡ Some refusal → profiles_of_rows (Some rows) ≡ Err refusal
-whole_refused s t rows refusal h ends e = whole s t rows h ends ∙ ap (λ (f : Option ProfileRefusal). joined f t.profiles.items (Ok [])) e
-
--- the rows below the header are those whose profiles the text names
-pub text_rows : (names : List (List ℕ)) (text : List ℕ) (rows : List (List (List ℕ))) (profiles : Result (List (List Piece)) ProfileRefusal) → names ≡ header
-    → rows_below names (table text) ≡ Some rows → profiles_of_rows (Some rows) ≡ profiles → profiles_of_text text ≡ profiles
-text_rows names text rows profiles same below e =
-    ap (λ (h : List (List ℕ)). profiles_of_rows (rows_below h (table text))) (sym same) ∙ ap profiles_of_rows below ∙ e
-
-pub if_err_weaker : {A E : Type 0} (P Q : E → Type 0) (r : Result A E) → ((x : E) → P x → Q x) → IfErr r P → IfErr r Q
-if_err_weaker P Q (Ok x) f h = h
-if_err_weaker P Q (Err e) f h = f e h
+-- what was finished is what the text gives
+pub finished : {S : Type 0} (items : S → List (List Piece)) (answer : Result S ProfileRefusal) (all : Result (List (List Piece)) ProfileRefusal) (t : ProfileRows) → all ≡ rows_behind t []
+    → IfOk answer (λ (profiles : S). rows_behind t [] ≡ Ok (items profiles)) → IfErr answer (IsRefused NoMemory (rows_behind t [])) → Gives NoMemory items all answer
+finished items (Ok profiles) all t e ok refused = e ∙ ok
+finished items (Err why) all t e ok refused = λ n. e ∙ refused n

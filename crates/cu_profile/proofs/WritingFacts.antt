@@ -1,7 +1,6 @@
 -- The rows that profiles are written as, one profile after the other.
-use Rattle.std.proofs.Common.{◌≡◌, ◌∙◌, ◌+◌, ◌<◌, get_or, take, ℕ, suc, List, [], ◌∷◌, ◌++◌, Option, Some, length, map, sym, ap, arith, append_assoc, length-take}
+use Rattle.std.proofs.Common.{◌≡◌, ◌∙◌, ◌+◌, ◌<◌, get_or, take, ℕ, suc, List, [], ◌∷◌, ◌++◌, length, map, sym, ap, arith, append_assoc, length-take}
 use Rattle.std.proofs.lemmas.List.{append-nil, map-append, take_more}
-use Rattle.csv.proofs.RoundTrip.{rows_text}
 use Rattle.cu_model.specs.declared.profiles.Piece.{Piece}
 use Rattle.cu_profile.specs.ProfileTexts.{header}
 use Rattle.cu_profile.specs.Written.{piece_row, rows_from, table_of}
@@ -39,10 +38,3 @@ pub more_written : (profiles : List (List Piece)) (profile : List Piece) (i : �
 more_written profiles profile i h e =
     let so_many : i ≡ length (take i profiles) = omega (arith, h, length-take i profiles) in
     table_more (take i profiles) profile i so_many ∙ ap table_of (taken_with profiles profile i h e)
-
--- a text that was written whole
-pub text_is : (writer : Option (List ℕ)) (text : List ℕ) (profiles taken : List (List Piece)) → writer ≡ Some text → writer ≡ Some (rows_text (table_of taken)) → taken ≡ profiles
-    → text ≡ rows_text (table_of profiles)
-text_is writer text profiles taken e written whole =
-    let same : text ≡ rows_text (table_of taken) = cc (e, written) in
-    same ∙ ap (λ (ps : List (List Piece)). rows_text (table_of ps)) whole

@@ -1,15 +1,17 @@
 -- The table of profiles: a header, then one row for each piece, `profile,from,kind,value`, the pieces of a profile in rows next to each other.
-use Rattle.std.specs.Prelude.{ℕ, List, [], ◌∷◌, ◌++◌, Bool, false, not, Option, Some, None, Result, Ok, Err, ◌+◌, ◌&&◌, ◌||◌, ◌==◌, min, length, bytes_eq, codes, if◌then◌else◌}
+use Rattle.std.specs.Prelude.{ℕ, List, [], ◌∷◌, Bool, false, not, Option, Some, None, Result, Ok, Err, ◌+◌, ◌&&◌, ◌||◌, ◌==◌, length, bytes_eq, codes, if◌then◌else◌}
 use Rattle.std.specs.List.{filter_map}
 use Rattle.std.specs.Option.{option_or}
+use Rattle.cu_model.specs.declared.limits.TheConstants.{MAX_PROFILES}
 use Rattle.cu_model.specs.declared.profiles.Piece.{Piece}
-use Rattle.cu_model.specs.declared.profiles.Rule.TheVariants.{Travel, Until}
+use Rattle.cu_model.specs.declared.profiles.Rule.TheVariants as rule
 use Rattle.cu_model.specs.declared.profiles.PieceFault.{PieceFault}
-use Rattle.cu_model.specs.declared.profiles.PieceFault.TheVariants.{Limit, Start, Rising, Early, Fifo}
+use Rattle.cu_model.specs.declared.profiles.PieceFault.TheVariants.{Limit, Start, Rising, Closed, Early, Fifo}
 use Rattle.cu_model.specs.declared.profiles.PieceRefusal.TheVariants as piece
 use Rattle.cu_model.specs.Faults.{piece_fault}
 use Rattle.cu_model.specs.Numbers.{is_number_word, number_value}
-use Rattle.cu_tables.specs.Tables.{field_of, rows_below, table}
+use Rattle.cu_tables.specs.Checks.{below, unless}
+use Rattle.cu_tables.specs.Tables.{field_of, kept_number, rows_below, table}
 use Rattle.cu_profile.specs.declared.refusals.ProfileRefusal.{ProfileRefusal}
 use Rattle.cu_profile.specs.declared.refusals.ProfileRefusal.TheVariants.{Header, Fields, Number, Sequence, TooMany, Row}
 
@@ -30,40 +32,37 @@ may_follow None profile = profile == 0
 may_follow (Some last) profile = (profile == last) || (profile == last + 1)
 
 -- the first check that a row fails by itself, where it has this number and the row before it is of the last profile
-abbrev pub row_fault : ℕ → Option ℕ → List (List ℕ) → Option ProfileRefusal
-row_fault number last row =
+abbrev pub piece_row_fault : ℕ → Option ℕ → List (List ℕ) → Option ProfileRefusal
+piece_row_fault number last row =
     if number == 4294967295 then Some (TooMany number)
     else if not (length row == 4) then Some (Fields number)
     else if not (has_numbers row) then Some (Number number)
     else if not (may_follow last (profile_number row)) then Some (Sequence number)
-    else if profile_number row == 1048576 then Some (TooMany number)
+    else if profile_number row == MAX_PROFILES then Some (TooMany number)
     else None
 
 -- the first row that fails such a check, from the row with this number on
 abbrev pub rows_fault : ℕ → Option ℕ → List (List (List ℕ)) → Option ProfileRefusal
 rows_fault number last [] = None
-rows_fault number last (row ∷ rows) = option_or (row_fault number last row) (rows_fault (number + 1) (Some (profile_number row)) rows)
+rows_fault number last (row ∷ rows) = option_or (piece_row_fault number last row) (rows_fault (number + 1) (Some (profile_number row)) rows)
 
--- a number as a piece keeps it: one too wide is the widest, which is past each limit
-abbrev pub piece_number : List ℕ → ℕ
-piece_number word = min (number_value word) 4294967295
-
--- the piece of these fields, none where the kind is neither word
+-- the piece of these fields, none where the kind is none of the three words
 abbrev pub piece_of_fields : List ℕ → ℕ → ℕ → Option Piece
 piece_of_fields kind from value =
-    if bytes_eq kind (codes "travel") then Some (record { from = from; rule = Travel value })
-    else if bytes_eq kind (codes "until") then Some (record { from = from; rule = Until value })
+    if bytes_eq kind (codes "travel") then Some (record { from = from; rule = rule.Travel value })
+    else if bytes_eq kind (codes "until") then Some (record { from = from; rule = rule.Until value })
+    else if bytes_eq kind (codes "closed") then Some (record { from = from; rule = rule.Closed value })
     else None
 
 abbrev pub piece_of_row : List (List ℕ) → Option Piece
-piece_of_row row = piece_of_fields (field_of row 2) (piece_number (field_of row 1)) (piece_number (field_of row 3))
+piece_of_row row = piece_of_fields (field_of row 2) (kept_number (field_of row 1)) (kept_number (field_of row 3))
 
 -- this number, where there is no piece
 abbrev pub missing : ℕ → Option Piece → Option ℕ
 missing number None = Some number
 missing number (Some piece) = None
 
--- the first row whose kind is neither word, from the row with this number on
+-- the first row whose kind is no word of a kind, from the row with this number on
 abbrev pub wrong_kind : ℕ → List (List (List ℕ)) → Option ℕ
 wrong_kind number [] = None
 wrong_kind number (row ∷ rows) = option_or (missing number (piece_of_row row)) (wrong_kind (number + 1) rows)
@@ -71,8 +70,9 @@ wrong_kind number (row ∷ rows) = option_or (missing number (piece_of_row row))
 -- the row that a fault of pieces names, where they stand in the rows from `first` on: that of the piece, or the first
 abbrev pub fault_row : ℕ → PieceFault → ℕ
 fault_row first (Limit piece) = first + piece
-fault_row first (Rising piece) = first + piece
 fault_row first Start = first
+fault_row first (Rising piece) = first + piece
+fault_row first (Closed piece) = first + piece
 fault_row first (Early second) = first
 fault_row first (Fifo second) = first
 
@@ -90,39 +90,36 @@ profile_checked first None pieces = faulted first pieces (piece_fault pieces)
 abbrev pub profile_of_rows : ℕ → List (List (List ℕ)) → Result (List Piece) ProfileRefusal
 profile_of_rows first rows = profile_checked first (wrong_kind first rows) (filter_map piece_of_row rows)
 
+-- whether rows begin with one of the profile with this number
+abbrev pub begin_with : ℕ → List (List (List ℕ)) → Bool
+begin_with profile [] = false
+begin_with profile (row ∷ rows) = profile_number row == profile
+
+-- a row before groups of rows: in the first of them, where that is of the same profile
+abbrev pub onto : List (List ℕ) → List (List (List (List ℕ))) → List (List (List (List ℕ)))
+onto row [] = (row ∷ []) ∷ []
+onto row (rows ∷ groups) = if begin_with (profile_number row) rows then (row ∷ rows) ∷ groups else (row ∷ []) ∷ rows ∷ groups
+
+-- rows in groups, those of one profile in each
+abbrev pub by_profile : List (List (List ℕ)) → List (List (List (List ℕ)))
+by_profile [] = []
+by_profile (row ∷ rows) = onto row (by_profile rows)
+
 -- a profile and then more; the first refusal stands
 abbrev pub then_more : Result (List Piece) ProfileRefusal → Result (List (List Piece)) ProfileRefusal → Result (List (List Piece)) ProfileRefusal
 then_more (Err refusal) more = Err refusal
 then_more (Ok profile) (Err refusal) = Err refusal
 then_more (Ok profile) (Ok profiles) = Ok (profile ∷ profiles)
 
--- the profile of these rows, if any, and then more
-abbrev pub profile_before : ℕ → List (List (List ℕ)) → Result (List (List Piece)) ProfileRefusal → Result (List (List Piece)) ProfileRefusal
-profile_before first [] more = more
-profile_before first (row ∷ rows) more = then_more (profile_of_rows first (row ∷ rows)) more
-
--- whether a row is of the same profile as these
-abbrev pub is_of_same : List (List (List ℕ)) → List (List ℕ) → Bool
-is_of_same [] row = false
-is_of_same (head ∷ rows) row = profile_number row == profile_number head
-
--- the profiles, one after the other, where these rows of the current one, the first with this number, come before the others
-abbrev pub profiles_from : ℕ → List (List (List ℕ)) → List (List (List ℕ)) → Result (List (List Piece)) ProfileRefusal
-profiles_from first current [] = profile_before first current (Ok [])
-profiles_from first current (row ∷ rows) =
-    if is_of_same current row then profiles_from first (current ++ (row ∷ [])) rows
-    else profile_before first current (profiles_from (first + length current) (row ∷ []) rows)
-
--- this refusal where there is one
-abbrev pub unless : Option ProfileRefusal → Result (List (List Piece)) ProfileRefusal → Result (List (List Piece)) ProfileRefusal
-unless None result = result
-unless (Some refusal) result = Err refusal
+-- the profile of each group of rows, the first row of which has this number
+abbrev pub profiles_of_groups : ℕ → List (List (List (List ℕ))) → Result (List (List Piece)) ProfileRefusal
+profiles_of_groups first [] = Ok []
+profiles_of_groups first (rows ∷ groups) = then_more (profile_of_rows first rows) (profiles_of_groups (first + length rows) groups)
 
 -- the profiles of the rows below the header: first each row is checked by itself, and then profile by profile
-abbrev pub profiles_of_rows : Option (List (List (List ℕ))) → Result (List (List Piece)) ProfileRefusal
-profiles_of_rows None = Err Header
-profiles_of_rows (Some rows) = unless (rows_fault 0 None rows) (profiles_from 0 [] rows)
+abbrev pub profiles_of_rows : List (List (List ℕ)) → Result (List (List Piece)) ProfileRefusal
+profiles_of_rows rows = unless (rows_fault 0 None rows) (profiles_of_groups 0 (by_profile rows))
 
 -- the profiles that a text names, or why it is refused
 abbrev pub profiles_of_text : List ℕ → Result (List (List Piece)) ProfileRefusal
-profiles_of_text text = profiles_of_rows (rows_below header (table text))
+profiles_of_text text = below Header profiles_of_rows (rows_below header (table text))

@@ -1,17 +1,19 @@
 //! Texts of day profiles: the table `profile,from,kind,value`, one row for each piece.
+//!
+//! Its promise to the crates above: [`read_profiles`] gives exactly the profiles that a text names, or the first check that
+//! it fails (`profiles_of_text` in `specs/ProfileTexts.antt`), and what [`write_profiles`] writes is read back as the same.
+//! It stands on `cu_model` and `cu_tables`. What only its own functions cite is in `specs/Steps`.
 #![tactic(auto)]
 
-mod header;
 mod progress;
-mod read;
-mod reading;
+mod reader;
 mod refusals;
 mod rows;
-mod writing;
+mod writer;
 
-pub use read::read_profiles;
+pub use reader::read_profiles;
 pub use refusals::ProfileRefusal;
-pub use writing::write_profiles;
+pub use writer::write_profiles;
 
 #[cfg(test)]
 mod tests;

@@ -1,50 +1,28 @@
 //! What a reader of profiles keeps from row to row.
 
-ghost use Rattle.std.specs.Prelude.{◌≡◌, ◌+◌, ◌≤◌, [], None, length};
+ghost use Rattle.std.specs.Prelude.{◌+◌, ◌≤◌, ◌<◌, ◌^◌, All, length, sum_by};
+ghost use Rattle.cu_model.specs.Profiles.{IsProfile};
 
 use crate::refusals::ProfileRefusal;
 use cu_model::{Piece, Profile};
-use std::alloc::Global;
 
-// What was read of a text: the profiles that ended, and the pieces of the current one.
+// What was read of a text: the profiles that ended, and the pieces of the last one.
 #[derive(Drop)]
-pub(crate) struct Reading {
+pub(crate) struct ProfileRows {
     // How many rows were taken.
     pub row: u32,
     // The profile of the last of them.
     pub last: Option<u32>,
-    // The first row of the current profile.
+    // The first row of the last profile.
     pub first: u32,
-    // Its first row whose kind is neither word.
+    // Its first row whose kind is no word of a kind.
     pub wrong_kind: Option<u32>,
     pub pieces: Vec<Piece>,
     pub profiles: Vec<Profile>,
     // Why the first profile that isn't one is refused. A row that fails its own checks goes before it.
     pub fault: Option<ProfileRefusal>,
-    // Why the last row is refused.
-    pub refusal: Option<ProfileRefusal>,
+    ghost narrow: { row < 2 ^ 32 },
     ghost few: { first + length pieces.items ≤ row },
-}
-
-impl Reading {
-    pub fn new(alloc: Global) -> Reading
-        ensures row { result.row ≡ 0 }
-        ensures last { result.last ≡ None }
-        ensures first { result.first ≡ 0 }
-        ensures wrong_kind { result.wrong_kind ≡ None }
-        ensures pieces { result.pieces.items ≡ [] }
-        ensures profiles { result.profiles.items ≡ [] }
-        ensures fault { result.fault ≡ None }
-    {
-        Reading {
-            row: 0,
-            last: None,
-            first: 0,
-            wrong_kind: None,
-            pieces: Vec::new(alloc),
-            profiles: Vec::new(alloc),
-            fault: None,
-            refusal: None,
-        }
-    }
+    ghost sum: { sum_by length profiles.items ≤ first },
+    ghost valid: { All IsProfile profiles.items },
 }

@@ -1,17 +1,28 @@
-//! The checks of one row.
+//! The header, and the checks of one row.
 
-ghost use Rattle.std.specs.Prelude.{◌≡◌, ◌<◌, ◌-◌, ◌^◌, Some, None, IfSome, OnOk, length, if◌then◌else◌};
+ghost use Rattle.std.specs.Prelude.{◌≡◌, ◌<◌, ◌-◌, ◌^◌, IfSome, OnOk, length, map};
 ghost use Rattle.csv.specs.Records.{fields_of};
-ghost use Rattle.cu_model.specs.Numbers.{is_number_word};
-ghost use Rattle.cu_profile.specs.ProfileTexts.{may_follow, piece_number, piece_of_fields};
-ghost use Rattle.cu_profile.specs.Reading.{RowChecked, numbers_of};
+ghost use Rattle.cu_profile.specs.ProfileTexts.{header, may_follow, piece_of_fields};
+ghost use Rattle.cu_profile.specs.Steps.ReadRows.{RowChecked, numbers_of};
 
 use crate::refusals::ProfileRefusal;
 use csv::ByteRecord;
-use cu_model::{Number, Piece, Rule, parse_number};
-use cu_tables::field;
+use cu_model::{MAX_PROFILES, Piece, Rule};
+use cu_tables::{field, number_at};
 
-/// A row that passed its checks: its profile, and its piece, none where the kind is neither `travel` nor `until`.
+/// The names of the four columns.
+pub(crate) fn header() -> [&'static [u8]; 4]
+    ensures { map (λ f. f.now) result ≡ header }
+{
+    [
+        b"profile".as_slice(),
+        b"from".as_slice(),
+        b"kind".as_slice(),
+        b"value".as_slice(),
+    ]
+}
+
+/// A row that passed its checks: its profile, and its piece, none where the kind is no word of a kind.
 #[derive(Clone, Copy)]
 pub(crate) struct PieceRow {
     pub profile: u32,
@@ -32,7 +43,8 @@ pub(crate) fn check_row(
     number: u32,
     last: Option<u32>,
 ) -> Result<PieceRow, ProfileRefusal>
-    ensures checked { IfSome last (λ profile. profile < 1048576) → RowChecked number last (fields_of row.now) result }
+    ensures checked { IfSome last (λ profile. profile < MAX_PROFILES)
+        → RowChecked number last (fields_of row.now) result }
     ensures number { OnOk result (number < 2 ^ 32 - 1) }
 {
     if number == u32::MAX {
@@ -47,7 +59,7 @@ pub(crate) fn check_row(
     if !may_follow(last, numbers.profile) {
         return Err(ProfileRefusal::Sequence { row: number });
     }
-    if numbers.profile == 1_048_576 {
+    if numbers.profile == MAX_PROFILES {
         return Err(ProfileRefusal::TooMany { row: number });
     }
     Ok(PieceRow {
@@ -60,23 +72,14 @@ fn row_numbers(row: &ByteRecord) -> Option<RowNumbers>
     requires { length (fields_of row.now) ≡ 4 }
     ensures { result ≡ numbers_of (fields_of row.now) }
 {
-    let profile = piece_number(field(row, 0))?;
-    let from = piece_number(field(row, 1))?;
-    let value = piece_number(field(row, 3))?;
+    let profile = number_at(row, 0)?;
+    let from = number_at(row, 1)?;
+    let value = number_at(row, 3)?;
     Some(RowNumbers {
         profile,
         from,
         value,
     })
-}
-
-fn piece_number(word: &[u8]) -> Option<u32>
-    ensures { result ≡ (if is_number_word word.now then Some (piece_number word.now) else None) }
-{
-    match parse_number(word)? {
-        Number::Value(value) => Some(value.min(u64::from(u32::MAX)) as u32),
-        Number::Huge => Some(u32::MAX),
-    }
 }
 
 fn may_follow(last: Option<u32>, profile: u32) -> bool
@@ -95,6 +98,8 @@ fn piece_of(kind: &[u8], from: u32, value: u32) -> Option<Piece>
         Rule::Travel(value)
     } else if kind == b"until".as_slice() {
         Rule::Until(value)
+    } else if kind == b"closed".as_slice() {
+        Rule::Closed(value)
     } else {
         return None;
     };

@@ -59,7 +59,7 @@ fn refuses_rows(rt: HostRuntime) {
 
 #[test]
 fn refuses_profiles(rt: HostRuntime) {
-    let cases: [(&[u8], Option<ProfileRefusal>); 6] = [
+    let cases: [(&[u8], Option<ProfileRefusal>); 9] = [
         (
             b"profile,from,kind,value\n0,0,travel,604801\n0,1,fly,1\n".as_slice(),
             kind(1),
@@ -83,6 +83,18 @@ fn refuses_profiles(rt: HostRuntime) {
         (
             b"profile,from,kind,value\n0,0,travel,0\n0,43200,travel,100\n".as_slice(),
             fault(0, PieceFault::Fifo { second: 86399 }),
+        ),
+        (
+            b"profile,from,kind,value\n0,0,closed,1\n".as_slice(),
+            fault(0, PieceFault::Limit { piece: 0 }),
+        ),
+        (
+            b"profile,from,kind,value\n0,0,travel,1\n1,0,travel,1\n1,5,closed,0\n".as_slice(),
+            fault(2, PieceFault::Closed { piece: 1 }),
+        ),
+        (
+            b"profile,from,kind,value\n0,0,closed,0\n0,5,closes,0\n".as_slice(),
+            kind(1),
         ),
     ];
     for (text, refusal) in cases {
@@ -112,9 +124,9 @@ fn takes_other_spellings(rt: HostRuntime) {
 #[test]
 fn reads_and_writes(rt: HostRuntime) -> Result<(), ProfileRefusal> {
     let text =
-        b"profile,from,kind,value\n0,0,travel,60\n1,0,travel,100\n1,28800,travel,300\n1,35800,until,36100\n1,36000,travel,100\n".as_slice();
+        b"profile,from,kind,value\n0,0,travel,60\n1,0,travel,100\n1,28800,travel,300\n1,35800,until,36100\n1,36000,travel,100\n2,0,closed,0\n".as_slice();
     let profiles = read_profiles(rt.alloc(), text)?;
-    assert_eq!(rt; profiles.len(), 2);
+    assert_eq!(rt; profiles.len(), 3);
     let until = Piece {
         from: 35800,
         rule: Rule::Until(36100),
@@ -122,6 +134,7 @@ fn reads_and_writes(rt: HostRuntime) -> Result<(), ProfileRefusal> {
     let pieces = profiles[1].pieces();
     assert_eq!(rt; pieces.len(), 4);
     assert!(rt; pieces.get(2) == Some(&until));
+    assert!(rt; profiles[2].is_closed());
     let written = write_profiles(rt.alloc(), &profiles)?;
     assert!(rt; written.as_slice() == text);
     Ok(())
