@@ -1,4 +1,4 @@
 pub mod RowWalks
 pub mod TableReads
-pub mod Refusals
+pub mod RefusedNetworks
 pub mod NetworkReads

@@ -5,9 +5,9 @@ use Rattle.cu_model.specs.declared.profiles.Piece.{Piece}
 use Rattle.cu_model.specs.declared.roads.RoadArc.{RoadArc}
 use Rattle.cu_profile.specs.declared.refusals.ProfileRefusal.{ProfileRefusal}
 use Rattle.cu_profile.specs.ProfileTexts.{profiles_of_text}
-use Rattle.cu_roads.specs.declared.networks.Place.{Place}
-use Rattle.cu_roads.specs.declared.networks.RoadRefusal.{RoadRefusal}
-use Rattle.cu_roads.specs.declared.networks.RoadRefusal.TheVariants.{Profiles}
+use Rattle.cu_roads.specs.declared.places.Place.{Place}
+use Rattle.cu_roads.specs.declared.refusals.RoadRefusal.{RoadRefusal}
+use Rattle.cu_roads.specs.declared.refusals.RoadRefusal.TheVariants.{Profiles}
 use Rattle.cu_roads.specs.NetworkTexts.{arcs_of_text, joined, network_of, places_of_text, with_places, with_profiles}
 
 -- places that are refused

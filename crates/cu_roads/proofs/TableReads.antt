@@ -1,99 +1,75 @@
--- What the rows of a table give, where a reader takes them all or stops.
-use Rattle.std.proofs.Common.{◌≡◌, ◌∙◌, ℕ, List, [], ◌∷◌, Option, Some, sym, ap, length}
-use Rattle.std.specs.Prelude.{Result, Ok}
-use Rattle.std.proofs.lemmas.List.{append-nil}
+-- What the rows of a table give, once they were gone through.
+use Rattle.std.proofs.Common.{◌≡◌, ◌∙◌, ℕ, List, [], Some, false, length, refl, subst}
+use Rattle.std.specs.Prelude.{Result}
 use Rattle.cu_model.specs.declared.roads.RoadArc.{RoadArc}
+use Rattle.cu_tables.specs.Checks.{Adds, below}
 use Rattle.cu_tables.specs.Tables.{rows_below, table}
-use Rattle.cu_tables.specs.Taking.{StopsIn, TakesAll}
-use Rattle.cu_tables.proofs.TakingFacts.{all_taken, stopped_at}
-use Rattle.cu_roads.specs.declared.networks.Place.{Place}
-use Rattle.cu_roads.specs.declared.networks.RoadRefusal.{RoadRefusal}
+use Rattle.cu_tables.specs.Taking.{EndsBelow}
+use Rattle.cu_tables.proofs.TakingFacts.{Follows, Leads, walked_below}
+use Rattle.cu_roads.specs.declared.places.Place.{Place}
+use Rattle.cu_roads.specs.declared.refusals.File.TheVariants.{Nodes, Roads}
+use Rattle.cu_roads.specs.declared.refusals.RoadRefusal.{RoadRefusal}
+use Rattle.cu_roads.specs.declared.refusals.RoadRefusal.TheVariants.{Header}
 use Rattle.cu_roads.specs.declared.nodes.NodeRows.{NodeRows}
 use Rattle.cu_roads.specs.declared.arcs.ArcRows.{ArcRows}
-use Rattle.cu_roads.specs.NetworkTexts.{arc_fault, arc_header, arc_of_row, arcs_of_text, node_fault, node_header, place_of_row, places_of_text, unless}
-use Rattle.cu_roads.specs.Reading.{Adds, Fails}
-use Rattle.cu_roads.proofs.RowWalks.{rest-failed, rest-passed, rest_of}
+use Rattle.cu_roads.specs.NetworkTexts.{arc_fault, arc_header, arc_of_row, arcs_of_rows, arcs_of_text, node_fault, node_header, place_of_row, places_of_rows, places_of_text}
+use Rattle.cu_roads.specs.Steps.TableRows.{is_of_profiles}
+use Rattle.cu_roads.proofs.RowWalks.{rest_failed, rest_of, rest_passed}
 
 abbrev pub takes_node : NodeRows → List (List ℕ) → NodeRows → Type 0
 takes_node s row t = Adds (node_fault (length s.places.items) row) (place_of_row row) s.places.items t.places.items
 
-abbrev pub stops_node : NodeRows → List (List ℕ) → NodeRows → Type 0
-stops_node s row t = Fails (node_fault (length s.places.items) row) t.refusal
+abbrev pub refuses_node : NodeRows → List (List ℕ) → RoadRefusal → Type 0
+refuses_node s row why = (is_of_profiles why ≡ false) × (node_fault (length s.places.items) row ≡ Some why)
 
 abbrev pub takes_arc : ArcRows → List (List ℕ) → ArcRows → Type 0
 takes_arc s row t = (t.nodes ≡ s.nodes) × (t.profiles ≡ s.profiles) × Adds (arc_fault s.nodes s.profiles (length s.arcs.items) row) (arc_of_row row) s.arcs.items t.arcs.items
 
-abbrev pub stops_arc : ArcRows → List (List ℕ) → ArcRows → Type 0
-stops_arc s row t = Fails (arc_fault s.nodes s.profiles (length s.arcs.items) row) t.refusal
+abbrev pub refuses_arc : ArcRows → List (List ℕ) → RoadRefusal → Type 0
+refuses_arc s row why = (is_of_profiles why ≡ false) × (arc_fault s.nodes s.profiles (length s.arcs.items) row ≡ Some why)
 
 -- what the rows behind those taken give
-nodes_rest : NodeRows → List (List (List ℕ)) → Result (List Place) RoadRefusal
+abbrev pub nodes_rest : NodeRows → List (List (List ℕ)) → Result (List Place) RoadRefusal
 nodes_rest s rows = rest_of node_fault place_of_row s.places.items rows
 
-arcs_rest : ArcRows → List (List (List ℕ)) → Result (List RoadArc) RoadRefusal
-arcs_rest s rows = rest_of (arc_fault s.nodes s.profiles) arc_of_row s.arcs.items rows
+abbrev pub arcs_rest : ℕ → ℕ → ArcRows → List (List (List ℕ)) → Result (List RoadArc) RoadRefusal
+arcs_rest nodes profiles s rows = rest_of (arc_fault nodes profiles) arc_of_row s.arcs.items rows
 
-node_taken : (s : NodeRows) (row : List (List ℕ)) (m : NodeRows) (rest : List (List (List ℕ))) → takes_node s row m → nodes_rest s (row ∷ rest) ≡ nodes_rest m rest
-unfolding nodes_rest
-node_taken s row m rest h = rest-passed node_fault place_of_row s.places.items m.places.items row rest h.0 h.1
+abbrev pub Any : NodeRows → Type 0
+Any s = Unit {0}
 
-node_stopped : (s : NodeRows) (row : List (List ℕ)) (t : NodeRows) (rest : List (List (List ℕ))) → stops_node s row t → nodes_rest s (row ∷ rest) ≡ unless t.refusal []
-unfolding nodes_rest
-node_stopped s row t rest h =
-    rest-failed node_fault place_of_row s.places.items row rest h.0 h.1 ∙ sym (ap (λ (r : Option RoadRefusal). unless {T = List Place} r []) h.2)
+-- the roads are between so many nodes, by so many profiles
+abbrev pub HasCounts : ℕ → ℕ → ArcRows → Type 0
+HasCounts nodes profiles s = (s.nodes ≡ nodes) × (s.profiles ≡ profiles)
 
-arc_taken : (s : ArcRows) (row : List (List ℕ)) (m : ArcRows) (rest : List (List (List ℕ))) → takes_arc s row m → arcs_rest s (row ∷ rest) ≡ arcs_rest m rest
-unfolding arcs_rest
-arc_taken s row m rest h =
-    rw (h.0, h.1) (rest-passed (arc_fault s.nodes s.profiles) arc_of_row s.arcs.items m.arcs.items row rest h.2.0 h.2.1)
+nodes_follow : Follows takes_node refuses_node Any nodes_rest
+nodes_follow = record {
+  kept = λ s row t h k. tt;
+  taken = λ s row t rest h k. rest_passed node_fault place_of_row s.places.items t.places.items row rest h;
+  refused = λ s row why rest h k. rest_failed node_fault place_of_row s.places.items row rest why h.1;
+}
 
-arc_stopped : (s : ArcRows) (row : List (List ℕ)) (t : ArcRows) (rest : List (List (List ℕ))) → stops_arc s row t → arcs_rest s (row ∷ rest) ≡ unless t.refusal []
-unfolding arcs_rest
-arc_stopped s row t rest h =
-    rest-failed (arc_fault s.nodes s.profiles) arc_of_row s.arcs.items row rest h.0 h.1 ∙ sym (ap (λ (r : Option RoadRefusal). unless {T = List RoadArc} r []) h.2)
+arcs_follow : (nodes profiles : ℕ) → Follows takes_arc refuses_arc (HasCounts nodes profiles) (arcs_rest nodes profiles)
+arcs_follow nodes profiles = record {
+  kept = λ s row t h k. (h.0 ∙ k.0, h.1 ∙ k.1);
+  taken = λ s row t rest h k. rest_passed (arc_fault nodes profiles) arc_of_row s.arcs.items t.arcs.items row rest (rw (k.0, k.1) at h.2);
+  refused = λ s row why rest h k. rest_failed (arc_fault nodes profiles) arc_of_row s.arcs.items row rest why (rw (k.0, k.1) at h.1);
+}
 
--- rows that are all taken are the places
-pub places-all : (text : List ℕ) (header : List (List ℕ)) (s t : NodeRows) → header ≡ node_header → s.places.items ≡ []
-    → ((rows : List (List (List ℕ))) × (rows_below header (table text) ≡ Some rows) × TakesAll takes_node s rows t)
-    → places_of_text text ≡ Ok t.places.items
-unfolding nodes_rest
-places-all text header s t e empty h =
-    let (rows, found, taken) = h in
-    let k = rw (empty, append-nil t.places.items) at (all_taken takes_node nodes_rest node_taken s t rows taken) in
-    rw (rw e at found) k
+-- what a table of nodes gives, once it was gone through
+pub places_read : {U : Type 0} (text : List ℕ) (names : List (List ℕ)) (s t : NodeRows) (answer : Result U RoadRefusal) → names ≡ node_header → s.places.items ≡ []
+    → EndsBelow takes_node refuses_node (Header Nodes) s (rows_below names (table text)) t answer → Leads (places_of_text text) Any nodes_rest t answer
+places_read text names s t answer e empty h =
+    subst (λ (header : List (List ℕ)). Leads (below (Header Nodes) places_of_rows (rows_below header (table text))) Any nodes_rest t answer) e
+    (subst (λ (places : List Place). Leads (below (Header Nodes) (λ rows. rest_of node_fault place_of_row places rows) (rows_below names (table text))) Any nodes_rest t answer) empty
+    (walked_below nodes_follow s t (rows_below names (table text)) (Header Nodes) answer tt h))
 
--- a row that stops it is refused
-pub places-stopped : (text : List ℕ) (header : List (List ℕ)) (s t : NodeRows) → header ≡ node_header → s.places.items ≡ []
-    → ((rows : List (List (List ℕ))) × (rows_below header (table text) ≡ Some rows) × StopsIn takes_node stops_node s rows t)
-    → places_of_text text ≡ unless t.refusal []
-unfolding nodes_rest
-places-stopped text header s t e empty h =
-    let (rows, found, stopped) = h in
-    let k = rw empty at (stopped_at takes_node stops_node nodes_rest (λ (m : NodeRows). unless {T = List Place} m.refusal []) node_taken node_stopped s t rows stopped) in
-    rw (rw e at found) k
-
--- the same of the roads
-pub arcs-all : (text : List ℕ) (header : List (List ℕ)) (s t : ArcRows) → header ≡ arc_header → s.arcs.items ≡ []
-    → ((rows : List (List (List ℕ))) × (rows_below header (table text) ≡ Some rows) × TakesAll takes_arc s rows t)
-    → arcs_of_text s.nodes s.profiles text ≡ Ok t.arcs.items
-unfolding arcs_rest
-arcs-all text header s t e empty h =
-    let (rows, found, taken) = h in
-    let k = rw (empty, append-nil t.arcs.items) at (all_taken takes_arc arcs_rest arc_taken s t rows taken) in
-    rw (rw e at found) k
-
-pub arcs-stopped : (text : List ℕ) (header : List (List ℕ)) (s t : ArcRows) → header ≡ arc_header → s.arcs.items ≡ []
-    → ((rows : List (List (List ℕ))) × (rows_below header (table text) ≡ Some rows) × StopsIn takes_arc stops_arc s rows t)
-    → arcs_of_text s.nodes s.profiles text ≡ unless t.refusal []
-unfolding arcs_rest
-arcs-stopped text header s t e empty h =
-    let (rows, found, stopped) = h in
-    let k = rw empty at (stopped_at takes_arc stops_arc arcs_rest (λ (m : ArcRows). unless {T = List RoadArc} m.refusal []) arc_taken arc_stopped s t rows stopped) in
-    rw (rw e at found) k
-
--- the number of nodes and of profiles stays
-pub counts-stay : (s t : ArcRows) (rows : List (List (List ℕ))) → TakesAll takes_arc s rows t → (t.nodes ≡ s.nodes) × (t.profiles ≡ s.profiles)
-counts-stay s t [] h = (ap (λ (m : ArcRows). m.nodes) h, ap (λ (m : ArcRows). m.profiles) h)
-counts-stay s t (row ∷ rows) h =
-    let k = counts-stay h.0 t rows h.2 in
-    (k.0 ∙ h.1.0, k.1 ∙ h.1.1)
+-- the same of a table of roads
+pub arcs_read : {U : Type 0} (text : List ℕ) (names : List (List ℕ)) (s t : ArcRows) (answer : Result U RoadRefusal) → names ≡ arc_header → s.arcs.items ≡ []
+    → EndsBelow takes_arc refuses_arc (Header Roads) s (rows_below names (table text)) t answer
+    → Leads (arcs_of_text s.nodes s.profiles text) (HasCounts s.nodes s.profiles) (arcs_rest s.nodes s.profiles) t answer
+arcs_read text names s t answer e empty h =
+    let rest = arcs_rest s.nodes s.profiles in
+    subst (λ (header : List (List ℕ)). Leads (below (Header Roads) (arcs_of_rows s.nodes s.profiles) (rows_below header (table text))) (HasCounts s.nodes s.profiles) rest t answer) e
+    (subst (λ (arcs : List RoadArc). Leads (below (Header Roads) (λ rows. rest_of (arc_fault s.nodes s.profiles) arc_of_row arcs rows) (rows_below names (table text))) (HasCounts s.nodes s.profiles) rest t answer) empty
+    (walked_below (arcs_follow s.nodes s.profiles) s t (rows_below names (table text)) (Header Roads) answer (refl, refl) h))

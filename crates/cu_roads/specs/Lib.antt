@@ -1,2 +1,2 @@
 pub mod NetworkTexts
-pub mod Reading
+pub mod Steps

@@ -1,15 +1,17 @@
 //! The table of roads: `arc,tail,head,profile`.
 
-ghost use Rattle.std.specs.Prelude.{◌≡◌, ◌<◌, ◌≤◌, All, IfErr, IfOk, Ok, OnOk, false, length};
+ghost use Rattle.std.specs.Prelude.{◌≡◌, ◌<◌, ◌≤◌, All, IfErr, IfOk, Ok, OnOk, Some, false, length};
 ghost use Rattle.csv.specs.Records.{fields_of};
+ghost use Rattle.cu_model.specs.declared.limits.TheConstants.{MAX_ARCS, MAX_NODES, MAX_PROFILES};
+ghost use Rattle.cu_tables.specs.Checks.{Adds, Checked, IsRefused};
 ghost use Rattle.cu_roads.specs.NetworkTexts.{arc_fault, arc_of_row, arcs_of_text};
-ghost use Rattle.cu_roads.specs.Reading.{Adds, Checked, Fails, IsBetween, IsRefused, arc_row_of, is_of_profiles, may_be_of_profiles};
+ghost use Rattle.cu_roads.specs.Steps.TableRows.{IsBetween, arc_row_of, is_of_profiles};
+ghost use Rattle.cu_roads.specs.declared.refusals.RoadRefusal.TheVariants as refusal;
 
-use crate::fields::number_at;
-use crate::networks::{File, RoadRefusal};
+use crate::refusals::{File, RoadRefusal};
 use csv::ByteRecord;
-use cu_model::{NoMemory, RoadArc};
-use cu_tables::{Below, TakesRows, each_row_below};
+use cu_model::{MAX_ARCS, NoMemory, RoadArc};
+use cu_tables::{TakesRows, each_row_below, number_at};
 use std::alloc::Global;
 
 /// The numbers of a row of the table.
@@ -44,13 +46,14 @@ fn check_arc(
     nodes: u32,
     profiles: u32,
 ) -> Result<RoadArc, RoadRefusal>
-    requires number { number ≤ 1048576 }
-    requires nodes { nodes ≤ 262144 }
-    requires profiles { profiles ≤ 1048576 }
-    ensures checked { Checked (arc_fault nodes profiles number (fields_of row.now)) (arc_of_row (fields_of row.now)) result }
-    ensures few { OnOk result (number < 1048576) }
+    requires number { number ≤ MAX_ARCS }
+    requires nodes { nodes ≤ MAX_NODES }
+    requires profiles { profiles ≤ MAX_PROFILES }
+    ensures checked { Checked (arc_fault nodes profiles number (fields_of row.now))
+        (arc_of_row (fields_of row.now)) result }
+    ensures few { OnOk result (number < MAX_ARCS) }
     ensures range { IfOk result (IsBetween nodes profiles) }
-    ensures table { IfErr result (λ refusal. is_of_profiles refusal ≡ false) }
+    ensures table { IfErr result (λ why. is_of_profiles why ≡ false) }
 {
     let file = File::Roads;
     if row.len() != 4 {
@@ -59,7 +62,7 @@ fn check_arc(
     let Some(numbers) = arc_row(row) else {
         return Err(RoadRefusal::Number { file, row: number });
     };
-    if number == 1_048_576 {
+    if number == MAX_ARCS {
         return Err(RoadRefusal::TooManyArcs { row: number });
     }
     if numbers.number != number {
@@ -75,36 +78,39 @@ fn check_arc(
     Ok(arc)
 }
 
-// The roads of the rows so far between so many nodes, and why the last row is refused.
+// The roads of the rows so far between so many nodes, by so many profiles.
 #[derive(Drop)]
 struct ArcRows {
     nodes: u32,
     profiles: u32,
     arcs: Vec<RoadArc>,
-    refusal: Option<RoadRefusal>,
-    ghost few_nodes: { nodes ≤ 262144 },
-    ghost few_profiles: { profiles ≤ 1048576 },
-    ghost few_arcs: { length arcs.items ≤ 1048576 },
+    ghost few_nodes: { nodes ≤ MAX_NODES },
+    ghost few_profiles: { profiles ≤ MAX_PROFILES },
+    ghost few_arcs: { length arcs.items ≤ MAX_ARCS },
     ghost in_range: { All (IsBetween nodes profiles) arcs.items },
-    ghost table: { may_be_of_profiles refusal ≡ false },
 }
 
 impl TakesRows for ArcRows {
+    type Refusal = RoadRefusal;
+
     ghost takes = { λ s row t. (t.nodes ≡ s.nodes) × (t.profiles ≡ s.profiles)
-        × Adds (arc_fault s.nodes s.profiles (length s.arcs.items) row) (arc_of_row row) s.arcs.items t.arcs.items };
+        × Adds (arc_fault s.nodes s.profiles (length s.arcs.items) row) (arc_of_row row)
+        s.arcs.items t.arcs.items };
 
-    ghost stops = { λ s row t. Fails (arc_fault s.nodes s.profiles (length s.arcs.items) row) t.refusal };
+    ghost refuses = { λ s row why. (is_of_profiles why ≡ false)
+        × (arc_fault s.nodes s.profiles (length s.arcs.items) row ≡ Some why) };
 
-    fn take_row(&mut self, _alloc: Global, row: &ByteRecord) -> Result<bool, NoMemory> {
+    fn take_row(
+        &mut self,
+        _alloc: Global,
+        row: &ByteRecord,
+    ) -> Result<Result<(), RoadRefusal>, NoMemory> {
         match check_arc(row, self.arcs.len() as u32, self.nodes, self.profiles) {
             Ok(arc) => {
                 self.arcs.push(arc)?;
-                Ok(true)
+                Ok(Ok(()))
             }
-            Err(refusal) => {
-                self.refusal = Some(refusal);
-                Ok(false)
-            }
+            Err(refusal) => Ok(Err(refusal)),
         }
     }
 }
@@ -116,13 +122,14 @@ pub(crate) fn read_arcs(
     nodes: u32,
     profiles: u32,
 ) -> Result<Vec<RoadArc>, RoadRefusal>
-    requires nodes { nodes ≤ 262144 }
-    requires profiles { profiles ≤ 1048576 }
+    requires nodes { nodes ≤ MAX_NODES }
+    requires profiles { profiles ≤ MAX_PROFILES }
     ensures arcs { IfOk result (λ arcs. arcs_of_text nodes profiles text.now ≡ Ok arcs.items) }
-    ensures few { IfOk result (λ arcs. length arcs.items ≤ 1048576) }
+    ensures few { IfOk result (λ arcs. length arcs.items ≤ MAX_ARCS) }
     ensures range { IfOk result (λ arcs. All (IsBetween nodes profiles) arcs.items) }
-    ensures refused { IfErr result (λ refusal. IsRefused refusal (arcs_of_text nodes profiles text.now)) }
-    ensures table { IfErr result (λ refusal. is_of_profiles refusal ≡ false) }
+    ensures refused { IfErr result (IsRefused refusal.NoMemory
+        (arcs_of_text nodes profiles text.now)) }
+    ensures table { IfErr result (λ why. is_of_profiles why ≡ false) }
 {
     let header = [
         b"arc".as_slice(),
@@ -130,15 +137,12 @@ pub(crate) fn read_arcs(
         b"head".as_slice(),
         b"profile".as_slice(),
     ];
+    let no_header = RoadRefusal::Header { file: File::Roads };
     let mut rows = ArcRows {
         nodes,
         profiles,
         arcs: Vec::new(alloc),
-        refusal: None,
     };
-    match each_row_below(alloc, &header, text, &mut rows)? {
-        Below::NoHeader => Err(RoadRefusal::Header { file: File::Roads }),
-        Below::Stopped => Err(rows.refusal.unwrap()),
-        Below::All => Ok(rows.arcs),
-    }
+    each_row_below(alloc, &header, no_header, text, &mut rows)??;
+    Ok(rows.arcs)
 }

@@ -1,12 +1,19 @@
 //! Network texts: the tables of nodes, roads and profiles that give a road network and the places of its nodes.
+//!
+//! Its promise to the crates above: [`read_network`] gives exactly the network and the places that the texts name, or the
+//! first check that they fail (`network_of` in `specs/NetworkTexts.antt`). It stands on `cu_model`, `cu_tables` and
+//! `cu_profile`. What only its own functions cite is in `specs/Steps`.
 #![tactic(auto)]
 
 mod arcs;
-mod fields;
-pub mod networks;
 mod nodes;
+mod places;
+mod reader;
+mod refusals;
 
-pub use networks::{File, Place, Places, RoadRefusal, read_network};
+pub use places::{MAX_COORDINATE, Place, Places};
+pub use reader::read_network;
+pub use refusals::{File, RoadRefusal};
 
 #[cfg(test)]
 mod tests;

@@ -1,15 +1,20 @@
 //! The table of nodes: `node,x,y`.
 
-ghost use Rattle.std.specs.Prelude.{◌≡◌, ◌<◌, ◌≤◌, IfErr, IfOk, Ok, OnOk, false, length};
+ghost use Rattle.std.specs.Prelude.{◌≡◌, ◌<◌, ◌≤◌, IfErr, IfOk, Ok, OnOk, Some, None, false, length, if◌then◌else◌};
 ghost use Rattle.csv.specs.Records.{fields_of};
-ghost use Rattle.cu_roads.specs.NetworkTexts.{node_fault, place_of_row, places_of_text};
-ghost use Rattle.cu_roads.specs.Reading.{Adds, Checked, Fails, IsRefused, is_of_profiles, may_be_of_profiles, node_row_of};
+ghost use Rattle.cu_model.specs.declared.limits.TheConstants.{MAX_NODES};
+ghost use Rattle.cu_model.specs.Numbers.{number_value};
+ghost use Rattle.cu_tables.specs.Checks.{Adds, Checked, IsRefused};
+ghost use Rattle.cu_tables.specs.Tables.{field_of};
+ghost use Rattle.cu_roads.specs.NetworkTexts.{is_coordinate, node_fault, place_of_row, places_of_text};
+ghost use Rattle.cu_roads.specs.Steps.TableRows.{is_of_profiles, node_row_of};
+ghost use Rattle.cu_roads.specs.declared.refusals.RoadRefusal.TheVariants as refusal;
 
-use crate::fields::{coordinate_at, number_at};
-use crate::networks::{File, Place, RoadRefusal};
+use crate::places::{MAX_COORDINATE, Place};
+use crate::refusals::{File, RoadRefusal};
 use csv::ByteRecord;
-use cu_model::NoMemory;
-use cu_tables::{Below, TakesRows, each_row_below};
+use cu_model::{MAX_NODES, NoMemory};
+use cu_tables::{TakesRows, each_row_below, number_at};
 use std::alloc::Global;
 
 /// The numbers of a row of the table.
@@ -32,12 +37,27 @@ fn node_row(row: &ByteRecord) -> Option<NodeRow>
     })
 }
 
+/// The coordinate that a field names, none where it isn't a number of at most 1,000,000,000.
+fn coordinate_at(row: &ByteRecord, index: usize) -> Option<u32>
+    requires { index < length (fields_of row.now) }
+    ensures { let word = field_of (fields_of row.now) index in
+        result ≡ (if is_coordinate word then Some (number_value word) else None) }
+{
+    let value = number_at(row, index)?;
+    if value <= MAX_COORDINATE {
+        Some(value)
+    } else {
+        None
+    }
+}
+
 // The place in the row with this number, or the first check that the row fails.
 fn check_node(row: &ByteRecord, number: u32) -> Result<Place, RoadRefusal>
-    requires { number ≤ 262144 }
-    ensures checked { Checked (node_fault number (fields_of row.now)) (place_of_row (fields_of row.now)) result }
-    ensures few { OnOk result (number < 262144) }
-    ensures table { IfErr result (λ refusal. is_of_profiles refusal ≡ false) }
+    requires { number ≤ MAX_NODES }
+    ensures checked { Checked (node_fault number (fields_of row.now))
+        (place_of_row (fields_of row.now)) result }
+    ensures few { OnOk result (number < MAX_NODES) }
+    ensures table { IfErr result (λ why. is_of_profiles why ≡ false) }
 {
     let file = File::Nodes;
     if row.len() != 3 {
@@ -46,7 +66,7 @@ fn check_node(row: &ByteRecord, number: u32) -> Result<Place, RoadRefusal>
     let Some(numbers) = node_row(row) else {
         return Err(RoadRefusal::Number { file, row: number });
     };
-    if number == 262_144 {
+    if number == MAX_NODES {
         return Err(RoadRefusal::TooManyNodes { row: number });
     }
     if numbers.node != number {
@@ -55,30 +75,33 @@ fn check_node(row: &ByteRecord, number: u32) -> Result<Place, RoadRefusal>
     Ok(numbers.place)
 }
 
-// The places of the rows so far, and why the last row is refused.
+// The places of the rows so far.
 #[derive(Drop)]
 struct NodeRows {
     places: Vec<Place>,
-    refusal: Option<RoadRefusal>,
-    ghost few: { length places.items ≤ 262144 },
-    ghost table: { may_be_of_profiles refusal ≡ false },
+    ghost few: { length places.items ≤ MAX_NODES },
 }
 
 impl TakesRows for NodeRows {
-    ghost takes = { λ s row t. Adds (node_fault (length s.places.items) row) (place_of_row row) s.places.items t.places.items };
+    type Refusal = RoadRefusal;
 
-    ghost stops = { λ s row t. Fails (node_fault (length s.places.items) row) t.refusal };
+    ghost takes = { λ s row t. Adds (node_fault (length s.places.items) row) (place_of_row row)
+        s.places.items t.places.items };
 
-    fn take_row(&mut self, _alloc: Global, row: &ByteRecord) -> Result<bool, NoMemory> {
+    ghost refuses = { λ s row why. (is_of_profiles why ≡ false)
+        × (node_fault (length s.places.items) row ≡ Some why) };
+
+    fn take_row(
+        &mut self,
+        _alloc: Global,
+        row: &ByteRecord,
+    ) -> Result<Result<(), RoadRefusal>, NoMemory> {
         match check_node(row, self.places.len() as u32) {
             Ok(place) => {
                 self.places.push(place)?;
-                Ok(true)
+                Ok(Ok(()))
             }
-            Err(refusal) => {
-                self.refusal = Some(refusal);
-                Ok(false)
-            }
+            Err(refusal) => Ok(Err(refusal)),
         }
     }
 }
@@ -86,18 +109,15 @@ impl TakesRows for NodeRows {
 /// The places of the nodes, by node number.
 pub(crate) fn read_places(alloc: Global, text: &[u8]) -> Result<Vec<Place>, RoadRefusal>
     ensures places { IfOk result (λ places. places_of_text text.now ≡ Ok places.items) }
-    ensures few { IfOk result (λ places. length places.items ≤ 262144) }
-    ensures refused { IfErr result (λ refusal. IsRefused refusal (places_of_text text.now)) }
-    ensures table { IfErr result (λ refusal. is_of_profiles refusal ≡ false) }
+    ensures few { IfOk result (λ places. length places.items ≤ MAX_NODES) }
+    ensures refused { IfErr result (IsRefused refusal.NoMemory (places_of_text text.now)) }
+    ensures table { IfErr result (λ why. is_of_profiles why ≡ false) }
 {
     let header = [b"node".as_slice(), b"x".as_slice(), b"y".as_slice()];
+    let no_header = RoadRefusal::Header { file: File::Nodes };
     let mut rows = NodeRows {
         places: Vec::new(alloc),
-        refusal: None,
     };
-    match each_row_below(alloc, &header, text, &mut rows)? {
-        Below::NoHeader => Err(RoadRefusal::Header { file: File::Nodes }),
-        Below::Stopped => Err(rows.refusal.unwrap()),
-        Below::All => Ok(rows.places),
-    }
+    each_row_below(alloc, &header, no_header, text, &mut rows)??;
+    Ok(rows.places)
 }

@@ -3,14 +3,14 @@ use Rattle.std.specs.Prelude.{Ok, Err}
 use Rattle.std.proofs.lemmas.Result.{err_from_is_err_and}
 use Rattle.cu_profile.specs.declared.refusals.ProfileRefusal.TheVariants as profile
 use Rattle.cu_roads.proofs.NetworkReads.{arcs-joined, nodes-refused, profiles-refused}
-use Rattle.cu_roads.proofs.Refusals.{gives_refused, gives_refused_profiles, of_table}
-use Rattle.cu_roads.proofs.networks.read_network.Goals as goal
+use Rattle.cu_roads.proofs.RefusedNetworks.{gives_refused_profiles, of_table}
+use Rattle.cu_roads.proofs.reader.read_network.Goals as goal
 
 pub returns-in_err-places-clause-network : goal.returns-in_err-places-clause-network
 returns-in_err-places-clause-network c =
     let p = err_from_is_err_and c.from_residual.result c.from_residual.ensures.1 in
     let why = c.in_err-places.field-0.0 in
-    rw (p.1, p.2) (gives_refused why _ _ (nodes-refused c.args.nodes.now c.args.roads.now c.args.profiles.now why) c.in_err-places.ensures.refused)
+    rw (p.1, p.2) (λ n. nodes-refused c.args.nodes.now c.args.roads.now c.args.profiles.now why (c.in_err-places.ensures.refused n))
 
 pub returns-in_err-places-clause-memory : goal.returns-in_err-places-clause-memory
 returns-in_err-places-clause-memory c =
@@ -29,10 +29,8 @@ pub returns-in_err-arcs-clause-network : goal.returns-in_err-arcs-clause-network
 returns-in_err-arcs-clause-network c =
     let p = err_from_is_err_and c.from_residual-in_err-arcs.result c.from_residual-in_err-arcs.ensures.1 in
     let why = c.in_err-arcs.field-0.0 in
-    rw (p.1, p.2) (gives_refused why _ _
-    (λ e. arcs-joined c.args.nodes.now c.args.roads.now c.args.profiles.now c.in_ok-places.places.items c.in_ok-profiles.profiles.items
-    c.len-node_count.result c.len.result (Err why) c.in_ok-places.ensures.places c.in_ok-profiles.ensures.profiles (search rules) (search rules) e)
-    c.in_err-arcs.ensures.refused)
+    rw (p.1, p.2) (λ n. arcs-joined c.args.nodes.now c.args.roads.now c.args.profiles.now c.in_ok-places.places.items c.in_ok-profiles.profiles.items
+    c.len-node_count.result c.len.result (Err why) c.in_ok-places.ensures.places c.in_ok-profiles.ensures.profiles (search rules) (search rules) (c.in_err-arcs.ensures.refused n))
 
 pub returns-in_err-arcs-clause-memory : goal.returns-in_err-arcs-clause-memory
 returns-in_err-arcs-clause-memory c =
