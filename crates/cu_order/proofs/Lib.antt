@@ -1,4 +1,3 @@
-pub mod ListedNodes
+pub mod SeenNodes
 pub mod RowWalks
-pub mod RefusedTexts
 pub mod WrittenOrders

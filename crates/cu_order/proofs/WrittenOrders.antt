@@ -1,6 +1,6 @@
 -- What is written is read as the same order.
-use Rattle.std.proofs.Common.{◌≡◌, ◌≢◌, ◌∙◌, ◌≤◌, ◌<◌, ◌+◌, ◌^◌, ℕ, zero, suc, List, [], ◌∷◌, ◌++◌, Bool, true, false, Option, Some, None, arith, eqb, length, get_or, take, map, refl, sym, ap, subst, append_assoc, length-append}
-use Rattle.std.specs.Prelude.{All, Result, Ok, Err, decimal, slice_get, nat_lt, not, ◌&&◌, ◌||◌, if◌then◌else◌}
+use Rattle.std.proofs.Common.{◌≡◌, ◌∙◌, ◌≤◌, ◌<◌, ◌+◌, ◌^◌, ℕ, List, [], ◌∷◌, ◌++◌, Bool, true, false, Option, Some, None, arith, eqb, length, get_or, take, map, refl, sym, ap, subst, append_assoc, length-append}
+use Rattle.std.specs.Prelude.{All, Ok, decimal, slice_get, nat_lt, not, if◌then◌else◌}
 use Rattle.std.specs.List.{IsDistinct, list_any}
 use Rattle.std.specs.Str.Parse.{AllDigits}
 use Rattle.std.proofs.lemmas.List.{append-nil, map-append, take_more}
@@ -11,32 +11,22 @@ use Rattle.std.proofs.lemmas.Bool.{ne_eqb, le-ltb, lt-ltb}
 use Rattle.std.proofs.lemmas.List.Folds.{list_any_none}
 use Rattle.std.proofs.lemmas.Bool.Decides.{Decides-eqb}
 use Rattle.std.proofs.lemmas.Fmt.{decimal_is_IsNumeral}
-use Rattle.std.proofs.lemmas.List.Elements.{All-from_get_or}
+use Rattle.std.proofs.lemmas.List.Elements.{All-from_get_or, All-head, All-tail}
 use Rattle.std.proofs.lemmas.Map.Made.{AllPairs-from_IsDistinct, IsDistinct-from_AllPairs}
 use Rattle.std.proofs.lemmas.Str.Parse.{digit_at}
 use Rattle.csv.proofs.RoundTrip.{rows_text}
 use Rattle.csv.specs.Writing.{default_writer, end_text, escaped, field_text, fields_text, is_blank, needs_quotes, read_back}
 use Rattle.cu_model.specs.Numbers.{is_number_word}
+use Rattle.cu_model.specs.declared.limits.TheConstants.{MAX_NODES}
 use Rattle.cu_model.specs.Orders.{OrderValue, IsOrder}
+use Rattle.cu_tables.specs.Checks.{unless}
 use Rattle.cu_tables.specs.Tables.{table}
 use Rattle.cu_tables.proofs.Numerals.{decimal_value, decimal_word}
 use Rattle.cu_tables.proofs.Round.{table_of_none, table_of_rows}
 use Rattle.cu_order.specs.declared.refusals.OrderRefusal.{OrderRefusal}
 use Rattle.cu_order.specs.declared.refusals.OrderRefusal.TheVariants.{Number, Range, Twice}
-use Rattle.cu_order.specs.OrderTexts.{is_node_row, node_of_row, nodes_from, order_of, row_fault, unless}
+use Rattle.cu_order.specs.OrderTexts.{is_node_row, node_fault, node_of_row, nodes_from, order_of}
 use Rattle.cu_order.specs.Written.{node_row}
-
--- no rows are the empty text
-pub no_rows : rows_text [] ≡ []
-unfolding rows_text
-no_rows = refl
-
--- a text that was written whole
-pub text_is : (writer : Option (List ℕ)) (text nodes taken : List ℕ) → writer ≡ Some text → writer ≡ Some (rows_text (map node_row taken)) → taken ≡ nodes
-    → text ≡ rows_text (map node_row nodes)
-text_is writer text nodes taken e written whole =
-    let same : text ≡ rows_text (map node_row taken) = cc (e, written) in
-    same ∙ ap (λ (list : List ℕ). rows_text (map node_row list)) whole
 
 -- one more row
 pub node_more : (nodes : List ℕ) (rank node : ℕ) → slice_get nodes rank ≡ Some node → map node_row (take rank nodes) ++ (node_row node ∷ []) ≡ map node_row (take (rank + 1) nodes)
@@ -71,17 +61,11 @@ rows_back : (nodes : List ℕ) → map read_back (map node_row nodes) ≡ map no
 rows_back [] = refl
 rows_back (node ∷ nodes) = ap (λ (rows : List (List (List ℕ))). node_row node ∷ rows) (rows_back nodes)
 
-head_of : {A : Type 0} (P : A → Type 0) (x : A) (xs : List A) → All P (x ∷ xs) → P x
-head_of P x xs a = a zero x (omega arith)
-
-tail_of : {A : Type 0} (P : A → Type 0) (x : A) (xs : List A) → All P (x ∷ xs) → All P xs
-tail_of P x xs a = λ k d h. a (suc k) d (omega (arith, h))
-
 -- the text is read as its rows
-table_written : (count : ℕ) (nodes : List ℕ) → count ≤ 262144 → All (λ node. node < count) nodes → table (rows_text (map node_row nodes)) ≡ map node_row nodes
+table_written : (count : ℕ) (nodes : List ℕ) → count ≤ MAX_NODES → All (λ node. node < count) nodes → table (rows_text (map node_row nodes)) ≡ map node_row nodes
 table_written count [] few a = table_of_none
 table_written count (node ∷ nodes) few a =
-    let below : node < count = head_of (λ x. x < count) node nodes a in
+    let below : node < count = All-head (λ x. x < count) node nodes a in
     let (first, rest, e, low) = begins node nodes (omega (arith, below, few)) in
     table_of_rows (map node_row (node ∷ nodes)) first rest e low ∙ rows_back (node ∷ nodes)
 
@@ -102,7 +86,7 @@ passes_all : (b1 b2 b3 : Bool) (x1 x2 x3 : OrderRefusal) → b1 ≡ true → b2 
     → (if not b1 then Some x1 else if not b2 then Some x2 else if b3 then Some x3 else None) ≡ None
 passes_all b1 b2 b3 x1 x2 x3 e1 e2 e3 = rw (e1, e2, e3) refl
 
-row_passes : (count : ℕ) (before : List ℕ) (node : ℕ) → count ≤ 262144 → node < count → list_any (eqb node) before ≡ false → row_fault count before (node_row node) ≡ None
+row_passes : (count : ℕ) (before : List ℕ) (node : ℕ) → count ≤ MAX_NODES → node < count → list_any (eqb node) before ≡ false → node_fault count before (node_row node) ≡ None
 row_passes count before node few below new =
     let value : node_of_row (node_row node) ≡ node = decimal_value node (omega (arith, below, few)) in
     let word : is_number_word (decimal node) ≡ true = decimal_word node (omega (arith, below, few)) in
@@ -112,20 +96,20 @@ row_passes count before node few below new =
     (ap (λ (n : ℕ). nat_lt n count) value ∙ lt-ltb node count below)
     (ap (λ (n : ℕ). list_any (eqb n) before) value ∙ new)
 
-nodes_again : (count : ℕ) (before rest : List ℕ) → count ≤ 262144 → count ≡ length before + length rest → All (λ node. node < count) rest → IsDistinct eqb (before ++ rest)
+nodes_again : (count : ℕ) (before rest : List ℕ) → count ≤ MAX_NODES → count ≡ length before + length rest → All (λ node. node < count) rest → IsDistinct eqb (before ++ rest)
     → nodes_from count before (map node_row rest) ≡ Ok (before ++ rest)
 nodes_again count before [] few e a d =
     let whole : before ++ [] ≡ before = append-nil before in
     rw (le-ltb (length before) count (omega (arith, e)), whole) refl
 nodes_again count before (node ∷ rest) few e a d =
-    let below : node < count = head_of (λ x. x < count) node rest a in
+    let below : node < count = All-head (λ x. x < count) node rest a in
     let value : node_of_row (node_row node) ≡ node = decimal_value node (omega (arith, below, few)) in
     let passes = row_passes count before node few below (not_before before node rest d) in
     let joined : (before ++ (node ∷ [])) ++ rest ≡ before ++ (node ∷ rest) = append_assoc before (node ∷ []) rest in
     let long = length-append before (node ∷ []) in
     ap (λ (f : Option OrderRefusal). unless f (nodes_from count (before ++ (node_of_row (node_row node) ∷ [])) (map node_row rest))) passes
     ∙ ap (λ (n : ℕ). nodes_from count (before ++ (n ∷ [])) (map node_row rest)) value
-    ∙ nodes_again count (before ++ (node ∷ [])) rest few (omega (arith, e, long)) (tail_of (λ x. x < count) node rest a) (subst (IsDistinct eqb) (sym joined) d)
+    ∙ nodes_again count (before ++ (node ∷ [])) rest few (omega (arith, e, long)) (All-tail (λ x. x < count) node rest a) (subst (IsDistinct eqb) (sym joined) d)
     ∙ ap Ok joined
 
 -- an order has each node once

@@ -1,3 +1,3 @@
 pub mod OrderTexts
-pub mod Reading
 pub mod Written
+pub mod Steps

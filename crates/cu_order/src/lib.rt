@@ -1,13 +1,17 @@
 //! Order texts: which node has which rank, one node number a row.
+//!
+//! Its promise to the crates above: [`read_order`] gives exactly the order that a text names, or the first check that it
+//! fails (`order_of` in `specs/OrderTexts.antt`), and what [`write_order`] writes is read back as the same. It stands on
+//! `cu_model` and `cu_tables`. What only its own functions cite is in `specs/Steps`.
 #![tactic(auto)]
 
-mod reading;
+mod reader;
 mod refusals;
-mod writing;
+mod writer;
 
-pub use reading::read_order;
+pub use reader::read_order;
 pub use refusals::OrderRefusal;
-pub use writing::write_order;
+pub use writer::write_order;
 
 #[cfg(test)]
 mod tests;

@@ -1,11 +1,12 @@
 ghost use Rattle.std.specs.Prelude.{◌≤◌};
 
 use crate::{OrderRefusal, read_order, write_order};
+use cu_model::MAX_NODES;
 use std::alloc::Global;
 
 // Why a text is refused as an order of so many nodes, none where it isn't.
 fn refusal_of(alloc: Global, text: &[u8], nodes: u32) -> Option<OrderRefusal>
-    requires { nodes ≤ 262144 }
+    requires { nodes ≤ MAX_NODES }
 {
     match read_order(alloc, text, nodes) {
         Ok(_) => None,

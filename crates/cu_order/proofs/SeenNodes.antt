@@ -1,20 +1,21 @@
 -- The flags of the nodes of the rows so far.
-use Rattle.std.proofs.Common.{◌≡◌, ◌≢◌, ◌∙◌, ◌≤◌, ◌<◌, ◌+◌, ℕ, zero, suc, List, [], ◌∷◌, ◌++◌, Bool, true, false, arith, eqb, length, get_or, set, refl, sym, ap, subst, inl, inr, length-append, length-set}
+use Rattle.std.proofs.Common.{◌≡◌, ◌∙◌, ◌≤◌, ◌<◌, ℕ, List, [], ◌∷◌, ◌++◌, Bool, true, false, arith, eqb, length, get_or, set, refl, sym, ap, subst, inl, inr, length-set}
 use Rattle.std.specs.Prelude.{All, ◌||◌}
-use Rattle.std.specs.List.{IsDistinct, list_any, Any}
+use Rattle.std.specs.List.{IsDistinct, list_any}
 use Rattle.std.proofs.Math.Bool.{or-false}
 use Rattle.std.proofs.Math.ListN.{replicate, get_or-eq_default}
 use Rattle.std.proofs.lemmas.List.{get_or-replicate, length-replicate, get_or-set_same, get_or-set_other}
 use Rattle.std.proofs.lemmas.Bool.{eqb-true, eq-eqb, ne_eqb, cases_eq, cases_order}
-use Rattle.std.proofs.lemmas.List.Elements.{All-append}
+use Rattle.std.proofs.lemmas.List.Elements.{All-append, All-cons, All-nil}
 use Rattle.std.proofs.lemmas.List.Folds.{Any-from_list_any, list_any-append}
 use Rattle.std.proofs.lemmas.Map.Keys.{IsDistinct-push}
 use Rattle.std.proofs.lemmas.Cmp.{nat_eq_equiv}
 use Rattle.std.proofs.lemmas.Bool.Decides.{Decides-eqb}
 use Rattle.std.proofs.lemmas.Map.Made.{AllPairs-from_IsDistinct, IsDistinct-from_AllPairs}
 use Rattle.std.proofs.lemmas.Map.Steps.{length-le_from_distinct_below}
+use Rattle.cu_model.specs.declared.limits.TheConstants.{MAX_NODES}
 use Rattle.cu_model.specs.Orders.{ListsEachNodeOnce}
-use Rattle.cu_order.specs.Reading.{IsListed}
+use Rattle.cu_order.specs.Steps.Listed.{IsListed}
 
 no_flag : (count node : ℕ) → get_or (replicate count false) node false ≡ false
 no_flag count node =
@@ -43,10 +44,6 @@ or_true false = refl
 any_more : (q node : ℕ) (nodes : List ℕ) → list_any (eqb q) (nodes ++ (node ∷ [])) ≡ (list_any (eqb q) nodes || (eqb q node || false))
 any_more q node nodes = list_any-append (eqb q) nodes (node ∷ [])
 
-one_below : (n node : ℕ) → node < n → All (λ x. x < n) (node ∷ [])
-one_below n node h zero d k = h
-one_below n node h (suc i) d k = absurd (omega (arith, k))
-
 within : (n : ℕ) (nodes : List ℕ) → All (λ x. x < n) nodes → (q : ℕ) → list_any (eqb q) nodes ≡ true → q < n
 within n nodes all q h =
     let found = Any-from_list_any (eqb q) nodes h in
@@ -62,7 +59,7 @@ listed_more seen nodes node f below unseen =
     let long : length (set seen node true) ≡ length seen = length-set _ _ _ in
     let new : list_any (eqb node) nodes ≡ false = sym (f.told node) ∙ unseen in
     let once : IsDistinct eqb (nodes ++ (node ∷ [])) = IsDistinct-push nat_eq_equiv nodes node (IsDistinct-from_AllPairs Decides-eqb nodes f.once) new in
-    let in_range : All (λ x. x < length seen) (nodes ++ (node ∷ [])) = All-append (λ x. x < length seen) nodes (node ∷ []) f.in_range (one_below (length seen) node below) in
+    let in_range : All (λ x. x < length seen) (nodes ++ (node ∷ [])) = All-append (λ x. x < length seen) nodes (node ∷ []) f.in_range (All-cons (λ x. x < length seen) node [] below (All-nil (λ x. x < length seen))) in
     let few : length (nodes ++ (node ∷ [])) ≤ length seen = length-le_from_distinct_below (nodes ++ (node ∷ [])) (length seen) once (within (length seen) (nodes ++ (node ∷ [])) in_range) in
     record {
       told = λ q. elim (cases_eq q node) [
@@ -79,7 +76,7 @@ listed_more seen nodes node f below unseen =
     }
 
 -- as many nodes as flags are all nodes
-pub each_once : (seen : List Bool) (nodes : List ℕ) → IsListed seen nodes → length seen ≤ 262144 → length seen ≤ length nodes → ListsEachNodeOnce nodes
+pub each_once : (seen : List Bool) (nodes : List ℕ) → IsListed seen nodes → length seen ≤ MAX_NODES → length seen ≤ length nodes → ListsEachNodeOnce nodes
 each_once seen nodes f limit whole =
     let same : length nodes ≡ length seen = omega (arith, f.few, whole) in
     record {

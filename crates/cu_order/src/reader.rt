@@ -1,39 +1,40 @@
 //! Reading an order from a text.
 
-ghost use Rattle.std.specs.Prelude.{◌≡◌, ◌<◌, ◌≤◌, ℕ, List, [], IfErr, IfOk, Ok, false, length, slice_index_or};
+ghost use Rattle.std.specs.Prelude.{◌≡◌, ◌<◌, ◌≤◌, ℕ, List, [], IfErr, IfOk, Ok, Some, false, length, slice_index_or};
 ghost use Rattle.csv.specs.Records.{fields_of};
+ghost use Rattle.cu_model.specs.declared.limits.TheConstants.{MAX_NODES};
 ghost use Rattle.cu_model.specs.Orders.{IsOrder, ListsEachNodeOnce};
-ghost use Rattle.cu_order.specs.OrderTexts.{Gives, node_of_row, order_of, row_fault};
-ghost use Rattle.cu_order.specs.Reading.{Adds, Checked, Fails, IsListed, IsRefused, kept_node};
+ghost use Rattle.cu_tables.specs.Checks.{Adds, Checked, Gives, IsRefused};
+ghost use Rattle.cu_order.specs.OrderTexts.{node_fault, node_of_row, order_of};
+ghost use Rattle.cu_order.specs.Steps.Listed.{IsListed, number_of_row};
+ghost use Rattle.cu_order.specs.declared.refusals.OrderRefusal.TheVariants as refusal;
 
 use crate::OrderRefusal;
 use csv::ByteRecord;
-use cu_model::{NoMemory, Number, Order, parse_number};
-use cu_tables::{TakesRows, each_row, field};
+use cu_model::{NoMemory, Order};
+use cu_tables::{TakesRows, each_row, number_at};
 use std::alloc::Global;
 
-// The number of a row, none where the row isn't one number word. One too wide is 4,294,967,295, which is no node.
-fn node_named(row: &ByteRecord) -> Option<u32>
-    ensures { result ≡ kept_node (fields_of row.now) }
+// The number of a row, none where the row isn't one number word.
+fn number_of_row(row: &ByteRecord) -> Option<u32>
+    ensures { result ≡ number_of_row (fields_of row.now) }
 {
     if row.len() != 1 {
         return None;
     }
-    match parse_number(field(row, 0))? {
-        Number::Value(value) => Some(value.min(u64::from(u32::MAX)) as u32),
-        Number::Huge => Some(u32::MAX),
-    }
+    number_at(row, 0)
 }
 
 // The node of the row with this number, or the first check that the row fails. The flags tell the nodes of the rows before it.
 fn check_row(row: &ByteRecord, number: u32, seen: &[bool]) -> Result<u32, OrderRefusal>
-    requires { length seen.now ≤ 262144 }
+    requires { length seen.now ≤ MAX_NODES }
     ensures checked { (before : List ℕ) → IsListed seen.now before → number ≡ length before
-        → Checked (row_fault (length seen.now) before (fields_of row.now)) (node_of_row (fields_of row.now)) result }
+        → Checked (node_fault (length seen.now) before (fields_of row.now))
+        (node_of_row (fields_of row.now)) result }
     ensures range { IfOk result (λ node. node < length seen.now) }
     ensures unseen { IfOk result (λ node. slice_index_or seen.now node false ≡ false) }
 {
-    let Some(node) = node_named(row) else {
+    let Some(node) = number_of_row(row) else {
         return Err(OrderRefusal::Number { row: number });
     };
     if node as usize >= seen.len() {
@@ -45,65 +46,64 @@ fn check_row(row: &ByteRecord, number: u32, seen: &[bool]) -> Result<u32, OrderR
     Ok(node)
 }
 
-// The nodes of the rows so far, a flag for each node that tells whether it is one of them, and why the last row is refused.
+// The nodes of the rows so far, and a flag for each node that tells whether it is one of them.
 #[derive(Drop)]
-struct OrderRows {
+struct ListedNodes {
     nodes: Vec<u32>,
     seen: Vec<bool>,
-    refusal: Option<OrderRefusal>,
-    ghost limit: { length seen.items ≤ 262144 },
+    ghost limit: { length seen.items ≤ MAX_NODES },
     ghost listed: { IsListed seen.items nodes.items },
 }
 
-impl OrderRows {
+impl ListedNodes {
     // No rows yet, of a text for so many nodes.
-    fn new(alloc: Global, nodes: u32) -> Result<OrderRows, NoMemory>
-        requires { nodes ≤ 262144 }
+    fn new(alloc: Global, nodes: u32) -> Result<ListedNodes, NoMemory>
+        requires { nodes ≤ MAX_NODES }
         ensures none { IfOk result (λ rows. rows.nodes.items ≡ []) }
         ensures count { IfOk result (λ rows. length rows.seen.items ≡ nodes) }
     {
         let seen = vec![in alloc; false; nodes as usize]?;
-        Ok(OrderRows {
+        Ok(ListedNodes {
             nodes: Vec::new(alloc),
             seen,
-            refusal: None,
         })
     }
 }
 
-impl TakesRows for OrderRows {
+impl TakesRows for ListedNodes {
+    type Refusal = OrderRefusal;
+
     ghost takes = { λ s row t. (length t.seen.items ≡ length s.seen.items)
-        × Adds (row_fault (length s.seen.items) s.nodes.items row) (node_of_row row) s.nodes.items t.nodes.items };
+        × Adds (node_fault (length s.seen.items) s.nodes.items row) (node_of_row row)
+        s.nodes.items t.nodes.items };
 
-    ghost stops = { λ s row t. Fails (row_fault (length s.seen.items) s.nodes.items row) t.refusal };
+    ghost refuses = { λ s row why. node_fault (length s.seen.items) s.nodes.items row ≡ Some why };
 
-    fn take_row(&mut self, _alloc: Global, row: &ByteRecord) -> Result<bool, NoMemory> {
-        match check_row(row, self.nodes.len() as u32, &self.seen) {
-            Ok(node) => {
-                self.nodes.push(node)?;
-                self.seen[node as usize] = true;
-                Ok(true)
-            }
-            Err(refusal) => {
-                self.refusal = Some(refusal);
-                Ok(false)
-            }
-        }
+    fn take_row(
+        &mut self,
+        _alloc: Global,
+        row: &ByteRecord,
+    ) -> Result<Result<(), OrderRefusal>, NoMemory> {
+        let node = match check_row(row, self.nodes.len() as u32, &self.seen) {
+            Ok(node) => node,
+            Err(refusal) => return Ok(Err(refusal)),
+        };
+        self.nodes.push(node)?;
+        self.seen[node as usize] = true;
+        Ok(Ok(()))
     }
 }
 
 // The node at each rank.
 fn read_nodes(alloc: Global, text: &[u8], nodes: u32) -> Result<Vec<u32>, OrderRefusal>
-    requires { nodes ≤ 262144 }
+    requires { nodes ≤ MAX_NODES }
     ensures nodes { IfOk result (λ list. order_of nodes text.now ≡ Ok list.items) }
     ensures count { IfOk result (λ list. length list.items ≡ nodes) }
     ensures once { IfOk result (λ list. ListsEachNodeOnce list.items) }
-    ensures refused { IfErr result (λ refusal. IsRefused refusal (order_of nodes text.now)) }
+    ensures refused { IfErr result (IsRefused refusal.NoMemory (order_of nodes text.now)) }
 {
-    let mut rows = OrderRows::new(alloc, nodes)?;
-    if !each_row(alloc, text, &mut rows)? {
-        return Err(rows.refusal.unwrap());
-    }
+    let mut rows = ListedNodes::new(alloc, nodes)?;
+    each_row(alloc, text, &mut rows)??;
     let count = rows.nodes.len() as u32;
     if count < nodes {
         return Err(OrderRefusal::Count { rows: count });
@@ -116,10 +116,12 @@ fn read_nodes(alloc: Global, text: &[u8], nodes: u32) -> Result<Vec<u32>, OrderR
 ///
 /// The first row that fails a check is refused; the checks of a row are, in this order, `Number`, `Range`, `Twice`. `Count`
 /// is answered exactly where each row passes and there are fewer rows than nodes. A number word is one or more ASCII
-/// digits, with any leading zeros and of any length. No rows are the whole order of no nodes.
+/// digits, with any leading zeros and of any length. No rows are the whole order of no nodes. `NoMemory` may come instead
+/// of any answer, also where csv answers an error.
 pub fn read_order(alloc: Global, bytes: &[u8], nodes: u32) -> Result<Order, OrderRefusal>
-    requires { nodes ≤ 262144 }
-    ensures order { Gives result (order_of nodes bytes.now) }
+    requires { nodes ≤ MAX_NODES }
+    ensures order { Gives refusal.NoMemory (λ order. order.node_at)
+        (order_of nodes bytes.now) result }
     ensures count { IfOk result (λ order. length order.node_at ≡ nodes) }
     ensures sound { IfOk result (λ order. IsOrder order) }
 {

@@ -1,10 +1,10 @@
 use Rattle.std.proofs.Common.{rules, ◌≡◌, ◌<◌, ◌++◌, ◌∷◌, [], List, ℕ, arith, sym, subst, false, true, length, length-set, get_or, set}
-use Rattle.cu_order.specs.Reading.{IsListed}
-use Rattle.cu_order.proofs.ListedNodes.{listed_more}
-use Rattle.cu_order.proofs.reading.OrderRowsTakesRows.take_row.Goals as goal
+use Rattle.cu_order.specs.Steps.Listed.{IsListed}
+use Rattle.cu_order.proofs.SeenNodes.{listed_more}
+use Rattle.cu_order.proofs.reader.ListedNodesTakesRows.take_row.Goals as goal
 
-pub invariant_of-self-in-Ok : goal.invariant_of-self-in-Ok
-invariant_of-self-in-Ok c =
+pub invariant_of-self-2 : goal.invariant_of-self-2
+invariant_of-self-2 c =
     let seen = c.args.self.now.seen.items in
     let nodes = c.args.self.now.nodes.items in
     let node = c.in-Ok.node in
