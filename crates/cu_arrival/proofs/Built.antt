@@ -3,16 +3,17 @@ use Rattle.std.proofs.Common.{◌≡◌, ◌≢◌, ◌≤◌, ◌<◌, ◌+◌,
 use Rattle.std.specs.Prelude.{slice_get, All}
 use Rattle.std.specs.List.{AllAdjacentBelow}
 use Rattle.std.proofs.lemmas.Bool.{cases_lt}
+use Rattle.std.proofs.lemmas.List.Elements.{All-push}
 use Rattle.std.proofs.lemmas.Option.{slice_get_cases}
-use Rattle.cu_model.specs.Profiles.{day}
+use Rattle.cu_model.specs.Days.{day}
 use Rattle.cu_arrival.specs.declared.runs.Run.{Run}
 use Rattle.cu_arrival.specs.declared.runs.RunRule.{RunRule}
 use Rattle.cu_arrival.specs.declared.runs.RunRule.TheVariants.{Shift, Fixed}
 use Rattle.cu_arrival.specs.Runs.{run_at, run_value, rule_value, rule_number, arrival_value, IsRunInLimit, IsArrivalFunction}
-use Rattle.cu_arrival.specs.Pushes.{IsPushed, last_says}
-use Rattle.cu_arrival.specs.Stretches.{arrives}
+use Rattle.cu_arrival.specs.Steps.Pushes.{IsPushed, last_says}
+use Rattle.cu_arrival.specs.Steps.Stretches.{arrives}
 use Rattle.cu_arrival.proofs.RunLaws.{value_in_day, value-days}
-use Rattle.cu_arrival.proofs.Tiling.{IsTiled, tiled_push, tiled_keep, tiled_none, adjacent_push, each_push}
+use Rattle.cu_arrival.proofs.Tiling.{IsTiled, tiled_push, tiled_keep, tiled_none, adjacent_push}
 
 -- the last item of a list that says something
 last_item : {A B : Type 0} (says : A → B) (xs : List A) (b : B) → last_says says xs ≡ Some b → (y : A) × (slice_get xs (length xs - 1) ≡ Some y) × (says y ≡ b)
@@ -56,7 +57,7 @@ grown_push {A} {B} from says means old new x t end grown (inr pushed) at more me
 -- what holds of each item of the old list and of the pushed one holds of each of the new
 pub all_pushed : {A B : Type 0} (says : A → B) (P : A → Type 0) (old new : List A) (x : A) → IsPushed says old x new → All P old → P x → All P new
 all_pushed {A} says P old new x (inl kept) all here = subst (λ (xs : List A). All P xs) (sym kept.1) all
-all_pushed {A} says P old new x (inr pushed) all here = subst (λ (xs : List A). All P xs) (sym pushed.1) (each_push P old x all here)
+all_pushed {A} says P old new x (inr pushed) all here = subst (λ (xs : List A). All P xs) (sym pushed.1) (All-push P old x all here)
 
 -- a rule that means this second's value of a function of the seconds of a day
 abbrev pub Means : (ℕ → ℕ) → RunRule → ℕ → Type 0

@@ -1,15 +1,15 @@
 -- One step of a composition, and that a composition is an arrival function.
 use Rattle.std.proofs.Common.{◌≡◌, ◌≤◌, ◌<◌, ◌+◌, ◌^◌, ◌∙◌, ℕ, List, sym, ap, subst, arith, min}
-use Rattle.cu_model.specs.Profiles.{day}
+use Rattle.cu_model.specs.Days.{day}
 use Rattle.cu_arrival.specs.declared.runs.Run.{Run}
 use Rattle.cu_arrival.specs.declared.runs.RunRule.{RunRule}
 use Rattle.cu_arrival.specs.declared.stretches.Stretch.{Stretch}
 use Rattle.cu_arrival.specs.declared.composition.Linked.{Linked}
 use Rattle.cu_arrival.specs.Runs.{rule_number, arrival_value, IsArrivalFunction}
-use Rattle.cu_arrival.specs.Pushes.{IsPushed}
-use Rattle.cu_arrival.specs.Stretches.{arrives, IsStretch}
-use Rattle.cu_arrival.specs.Steps.{IsLinked}
-use Rattle.cu_arrival.proofs.RunLaws.{arrival_value-onward, arrival_value-fifo, next_day}
+use Rattle.cu_arrival.specs.Steps.Pushes.{IsPushed}
+use Rattle.cu_arrival.specs.Steps.Stretches.{arrives, IsStretch}
+use Rattle.cu_arrival.specs.Steps.TwoRules.{IsLinked}
+use Rattle.cu_arrival.proofs.RunLaws.{arrival_value-onward, arrival_value-fifo, arrival_value-next_day}
 use Rattle.cu_arrival.proofs.StretchLaws.{stretch_later, stretch_value}
 use Rattle.cu_arrival.proofs.Built.{IsBuilt, IsDayFunction, built_push}
 
@@ -36,8 +36,8 @@ composed_day first second f g = record {
   midnight =
       let a = arrival_value-fifo first f 86399 (day + 0) (omega arith) in
       let b = arrival_value-fifo second g (arrival_value first 86399) (arrival_value first (day + 0)) a in
-      let c = subst (λ (x : ℕ). arrival_value second (arrival_value first 86399) ≤ arrival_value second x) (next_day first f 0) b in
-      let d = next_day second g (arrival_value first 0) in
+      let c = subst (λ (x : ℕ). arrival_value second (arrival_value first 86399) ≤ arrival_value second x) (arrival_value-next_day first f 0) b in
+      let d = arrival_value-next_day second g (arrival_value first 0) in
       omega (arith, c, d);
   bounded = λ s h. omega arith;
 }
@@ -47,14 +47,14 @@ pub composing_step : (first second old new : List Run) (x y : Stretch) (at : ℕ
     → IsStretch second v (arrives u.rule at) → IsLinked u.rule v.rule at u.end step → ((s : ℕ) → at ≤ s → s < step.end → arrives u.rule s < v.end)
     → run.from ≡ at → run.rule ≡ step.rule → IsPushed (λ (r : Run). r.rule) old run new → IsComposing first second new u v step.end
 composing_step first second old new x y at step run f g is in_day u v on_first more day_end on_second linked reached from rule pushed =
-    let here : arrival_value first at ≡ arrives u.rule at = stretch_value first u at at f on_first (omega arith) more in
+    let here : arrival_value first at ≡ arrives u.rule at = stretch_value first u at f on_first at (omega arith) more in
     let later = linked.later in
     let within = linked.within in
     let means : (s : ℕ) → at ≤ s → s < step.end → arrives run.rule s ≡ composed first second s = λ s low high.
-    let at_first : arrival_value first s ≡ arrives u.rule s = stretch_value first u at s f on_first low (omega (arith, high, within)) in
+    let at_first : arrival_value first s ≡ arrives u.rule s = stretch_value first u at f on_first s low (omega (arith, high, within)) in
     let rises = arrival_value-fifo first f at s low in
     let onwards : arrives u.rule at ≤ arrives u.rule s = omega (arith, here, at_first, rises) in
-    let at_second : arrival_value second (arrives u.rule s) ≡ arrives v.rule (arrives u.rule s) = stretch_value second v (arrives u.rule at) (arrives u.rule s) g on_second onwards (reached s low high) in
+    let at_second : arrival_value second (arrives u.rule s) ≡ arrives v.rule (arrives u.rule s) = stretch_value second v (arrives u.rule at) g on_second (arrives u.rule s) onwards (reached s low high) in
     let both : arrival_value second (arrival_value first s) ≡ arrives v.rule (arrives u.rule s) = ap (λ (t : ℕ). arrival_value second t) at_first ∙ at_second in
     ap (λ (r : RunRule). arrives r s) rule ∙ linked.arrival s low high ∙ ap (λ (t : ℕ). min t (2 ^ 62)) (sym both) in
     let limit : rule_number run.rule ≤ 2 ^ 62 = subst (λ (r : RunRule). rule_number r ≤ 2 ^ 62) (sym rule) linked.limit in

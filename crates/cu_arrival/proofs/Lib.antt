@@ -1,4 +1,4 @@
-pub mod Begun
+pub mod Mapped
 pub mod RunLaws
 pub mod Tiling
 pub mod StretchLaws

@@ -1,7 +1,7 @@
 -- One step of a minimum, that a minimum is an arrival function, and what the choices come to.
 use Rattle.std.proofs.Common.{◌≡◌, ◌≤◌, ◌<◌, ◌+◌, ◌^◌, ◌∙◌, ℕ, List, Bool, Some, sym, ap, subst, arith, min}
 use Rattle.std.specs.Prelude.{nat_lt}
-use Rattle.cu_model.specs.Profiles.{day}
+use Rattle.cu_model.specs.Days.{day}
 use Rattle.cu_arrival.specs.declared.runs.Run.{Run}
 use Rattle.cu_arrival.specs.declared.runs.Choice.{Choice}
 use Rattle.cu_arrival.specs.declared.runs.RunRule.{RunRule}
@@ -9,10 +9,10 @@ use Rattle.cu_arrival.specs.declared.stretches.Stretch.{Stretch}
 use Rattle.cu_arrival.specs.declared.minimum.Earlier.{Earlier}
 use Rattle.cu_arrival.specs.Runs.{rule_number, arrival_value, IsArrivalFunction}
 use Rattle.cu_arrival.specs.Choices.{is_second, IsChoices}
-use Rattle.cu_arrival.specs.Pushes.{IsPushed}
-use Rattle.cu_arrival.specs.Stretches.{arrives, IsStretch}
-use Rattle.cu_arrival.specs.Steps.{IsEarlier}
-use Rattle.cu_arrival.proofs.RunLaws.{arrival_value-onward, arrival_value-fifo, next_day}
+use Rattle.cu_arrival.specs.Steps.Pushes.{IsPushed}
+use Rattle.cu_arrival.specs.Steps.Stretches.{arrives, IsStretch}
+use Rattle.cu_arrival.specs.Steps.TwoRules.{IsEarlier}
+use Rattle.cu_arrival.proofs.RunLaws.{arrival_value-onward, arrival_value-fifo, arrival_value-next_day}
 use Rattle.cu_arrival.proofs.StretchLaws.{stretch_later, stretch_value}
 use Rattle.cu_arrival.proofs.Built.{IsBuilt, IsDayFunction, IsGrown, built_push, grown_push}
 
@@ -44,8 +44,8 @@ least_day first second f g = record {
   midnight =
       let a = arrival_value-fifo first f 86399 (day + 0) (omega arith) in
       let b = arrival_value-fifo second g 86399 (day + 0) (omega arith) in
-      let c = next_day first f 0 in
-      let d = next_day second g 0 in
+      let c = arrival_value-next_day first f 0 in
+      let d = arrival_value-next_day second g 0 in
       omega (arith, a, b, c, d);
   bounded = λ s h. let a = f.bounded s h in omega (arith, a);
 }
@@ -60,9 +60,9 @@ merging_step first second old new picked more_picked x y at step run choice f g 
     let later = earlier.later in
     let within = earlier.within in
     let at_first : (s : ℕ) → at ≤ s → s < step.end → arrival_value first s ≡ arrives u.rule s = λ s low high.
-    stretch_value first u at s f on_first low (omega (arith, high, within)) in
+    stretch_value first u at f on_first s low (omega (arith, high, within)) in
     let at_second : (s : ℕ) → at ≤ s → s < step.end → arrival_value second s ≡ arrives v.rule s = λ s low high.
-    stretch_value second v at s g on_second low (omega (arith, high, within)) in
+    stretch_value second v at g on_second s low (omega (arith, high, within)) in
     let means : (s : ℕ) → at ≤ s → s < step.end → arrives run.rule s ≡ least_of first second s = λ s low high.
     let a = at_first s low high in
     let b = at_second s low high in

@@ -5,11 +5,11 @@ use Rattle.std.specs.Option.{option_map}
 use Rattle.std.specs.List.{AllAdjacentBelow}
 use Rattle.std.proofs.lemmas.Bool.{cases_lt}
 use Rattle.std.proofs.lemmas.List.{get_or_append_left, length_push}
+use Rattle.std.proofs.lemmas.List.Elements.{All-push}
 use Rattle.std.proofs.Math.Seq.{get_or-append_seam}
 use Rattle.std.proofs.lemmas.Option.{slice_get-get_or, get_or_from_slice_get, slice_get_within}
-use Rattle.cu_model.specs.Profiles.{later_of}
-use Rattle.cu_arrival.specs.Runs.{last_begun}
-use Rattle.cu_arrival.proofs.Begun.{Rises, begun_until, le_test, gt_test}
+use Rattle.cu_model.specs.Begun.{later_of, last_begun, Rises}
+use Rattle.cu_model.proofs.Begun.{begun_until, le_test, gt_test}
 
 -- the items begin at later and later seconds from 0 on, all before `t`, and at each second before `t` the last one that has begun says what it is to say
 pub record IsTiled {A : Type 0} (from : A → ℕ) (says : A → ℕ → Type 0) (xs : List A) (t : ℕ) : Type 0 where
@@ -36,21 +36,6 @@ adjacent_push {A} R xs x all last k d h =
           let place : length xs - 1 ≡ k = omega (arith, index) in
           let there : slice_get xs (length xs - 1) ≡ Some (get_or xs k d) = subst (λ (i : ℕ). slice_get xs i ≡ Some (get_or xs k d)) (sym place) (slice_get-get_or xs k d inside) in
           rw (left, right) (last (get_or xs k d) there)
-    ]
-
--- what holds of each item holds with a further one of which it holds
-pub each_push : {A : Type 0} (P : A → Type 0) (xs : List A) (x : A) → ((i : ℕ) (d : A) → i < length xs → P (get_or xs i d)) → P x
-    → (i : ℕ) (d : A) → i < length (xs ++ x ∷ []) → P (get_or (xs ++ x ∷ []) i d)
-each_push {A} P xs x all here i d h =
-    let size : length (xs ++ x ∷ []) ≡ length xs + 1 = length_push xs x in
-    elim (cases_lt i (length xs)) [
-      | inl lt ↦
-          let left : get_or (xs ++ x ∷ []) i d ≡ get_or xs i d = get_or_append_left xs (x ∷ []) d i lt in
-          rw left (all i d lt)
-      | inr ge ↦
-          let index : length xs ≡ i = omega (arith, ge, size, h) in
-          let there : get_or (xs ++ x ∷ []) i d ≡ x = subst (λ (j : ℕ). get_or (xs ++ x ∷ []) j d ≡ x) index (get_or-append_seam xs x [] d) in
-          rw there here
     ]
 
 later_left : {A : Type 0} (o : Option A) → later_of None o ≡ o
@@ -108,7 +93,7 @@ tiled_push {A} from says xs t end x tiled at more new = record {
       ]);
   empty = λ zero_end. absurd (omega (arith, zero_end, more));
   rises = adjacent_push (λ (y z : A). from y < from z) xs x tiled.rises (λ y last. let b = last_below from xs t y tiled.below last in omega (arith, at, b));
-  below = each_push (λ (y : A). from y < end) xs x (λ i d h. let b = tiled.below i d h in omega (arith, b, more)) (omega (arith, at, more));
+  below = All-push (λ (y : A). from y < end) xs x (λ i d h. let b = tiled.below i d h in omega (arith, b, more)) (omega (arith, at, more));
   holds = λ s h. elim (cases_lt s t) [
     | inl lt ↦
         let (y, last, said) = tiled.holds s lt in

@@ -1,16 +1,12 @@
 -- Arrival functions: what a list of runs says about each second, and which lists are arrival functions.
-use Rattle.std.specs.Prelude.{ℕ, List, [], ◌∷◌, Option, Some, None, ◌≡◌, ◌≢◌, ◌≤◌, ◌<◌, ◌+◌, ◌*◌, ◌/◌, ◌%◌, ◌^◌, nat_le, slice_get, length, if◌then◌else◌, All}
+use Rattle.std.specs.Prelude.{ℕ, List, Option, Some, None, ◌≡◌, ◌≢◌, ◌≤◌, ◌<◌, ◌+◌, ◌*◌, ◌/◌, ◌%◌, ◌^◌, slice_get, length, All}
 use Rattle.std.specs.Option.{option_map}
 use Rattle.std.specs.List.{AllAdjacentBelow}
-use Rattle.cu_model.specs.Profiles.{day, later_of}
+use Rattle.cu_model.specs.Begun.{last_begun, Rises}
+use Rattle.cu_model.specs.Days.{day, IsOnward, KeepsOrder}
 use Rattle.cu_arrival.specs.declared.runs.Run.{Run}
 use Rattle.cu_arrival.specs.declared.runs.RunRule.{RunRule}
 use Rattle.cu_arrival.specs.declared.runs.RunRule.TheVariants.{Shift, Fixed}
-
--- the last item that has begun by this second, where each has a second from which it holds
-abbrev pub last_begun : {A : Type 0} → (A → ℕ) → List A → ℕ → Option A
-last_begun from [] second = None
-last_begun from (x ∷ xs) second = later_of (if nat_le (from x) second then Some x else None) (last_begun from xs second)
 
 -- the last run that has begun by this second of the day
 abbrev pub run_at : List Run → ℕ → Option Run
@@ -39,14 +35,13 @@ abbrev pub IsRunInLimit : Run → Type 0
 IsRunInLimit run = (run.from < day) × (rule_number run.rule ≤ 2 ^ 62)
 
 -- An arrival function: runs within their limits, the first from second 0, each from a later second than the one before, that arrive
--- no earlier than they leave, let no later departure arrive earlier and, leaving on day 0, arrive by 2 ^ 62. The second after 86,399 is
--- the next day's first, so midnight is among them.
+-- no earlier than they leave, let no later departure arrive earlier, midnight included, and, leaving on day 0, arrive by 2 ^ 62.
 pub record IsArrivalFunction (runs : List Run) : Type 0 where
   pub limits : All IsRunInLimit runs
   pub starts : option_map (λ (run : Run). run.from) (slice_get runs 0) ≡ Some 0
-  pub rises : AllAdjacentBelow (λ (run next : Run). run.from < next.from) runs (length runs)
-  pub onward : (second : ℕ) → second < day → second ≤ arrival_value runs second
-  pub fifo : (second : ℕ) → second < day → arrival_value runs second ≤ arrival_value runs (second + 1)
+  pub rises : Rises (λ (run : Run). run.from) runs
+  pub onward : IsOnward (arrival_value runs)
+  pub fifo : KeepsOrder (arrival_value runs)
   pub bounded : (second : ℕ) → second < day → arrival_value runs second ≤ 2 ^ 62
 
 -- no two neighbouring runs say the same

@@ -2,15 +2,17 @@
 //! time-dependent contraction hierarchies call link, here exact at whole seconds.
 
 ghost use Rattle.std.specs.Prelude.{◌≡◌, ◌≤◌, ◌<◌, ◌+◌, ◌^◌, ℕ, IfOk, min};
+ghost use Rattle.cu_model.specs.declared.limits.TheConstants.{DAY};
 ghost use Rattle.cu_arrival.specs.declared.runs.RunRule.TheVariants.{Shift};
-ghost use Rattle.cu_arrival.specs.Runs.{arrival_value, rule_number, IsCompact};
-ghost use Rattle.cu_arrival.specs.Stretches.{arrives};
-ghost use Rattle.cu_arrival.specs.Steps.{IsLinked};
+ghost use Rattle.cu_arrival.specs.Runs.{arrival_value, rule_number, IsArrivalFunction, IsCompact};
+ghost use Rattle.cu_arrival.specs.Steps.Stretches.{arrives};
+ghost use Rattle.cu_arrival.specs.Steps.TwoRules.{IsLinked};
 
 use crate::growing::push_run;
+use crate::packing::RunList;
 use crate::runs::{Arrival, Run, RunRule};
-use crate::stretches::{DAY, Stretch, arrive_by, reach, stretch_at};
-use cu_model::NoMemory;
+use crate::stretches::{Stretch, arrive_by, reach, stretch_at};
+use cu_model::{DAY, NoMemory};
 use std::alloc::Global;
 
 // The last second at which a function arrives on day 0.
@@ -26,16 +28,18 @@ struct Linked {
 /// The composition: along the first function and from where it arrives along the second, which repeats by whole days. A
 /// value past 2^62 becomes 2^62. Neighbouring runs differ. The work is linear in the runs of both.
 pub fn compose(alloc: Global, first: &Arrival, second: &Arrival) -> Result<Arrival, NoMemory>
-    ensures value { IfOk result (λ f. (t : ℕ) → t < 86400 → arrival_value f t ≡ min (arrival_value second.now (arrival_value first.now t)) (2 ^ 62)) }
+    ensures value { IfOk result (λ f. (t : ℕ) → t < DAY
+        → arrival_value f t ≡ min (arrival_value second.now (arrival_value first.now t)) (2 ^ 62)) }
+    ensures sound { IfOk result IsArrivalFunction }
     ensures compact { IfOk result IsCompact }
 {
     let first_runs = first.runs();
     let second_runs = second.runs();
-    let mut runs = Vec::with_capacity(alloc, first_runs.len() + second_runs.len())?;
+    let mut runs = RunList::with_capacity(alloc, first_runs.len() + second_runs.len())?;
     let mut first_stretch = stretch_at(first_runs, 0);
     let mut second_stretch = stretch_at(second_runs, first.value(0));
     let mut at = 0;
-    'day: while at < DAY {
+    'day: while at < u64::from(DAY) {
         first_stretch = reach(first_runs, first_stretch, at);
         second_stretch = reach(
             second_runs,
@@ -56,7 +60,7 @@ pub fn compose(alloc: Global, first: &Arrival, second: &Arrival) -> Result<Arriv
 // The rule of the composition at a second at which both stretches are reached, and until when it holds.
 fn link_stretches(first: Stretch, second: Stretch, at: u64) -> Linked
     requires now { at < first.end }
-    requires day { first.end ≤ 86400 }
+    requires day { first.end ≤ DAY }
     requires first { rule_number first.rule ≤ 2 ^ 62 }
     requires second { rule_number second.rule ≤ 2 ^ 63 }
     requires reached { arrives first.rule at < second.end }
@@ -81,7 +85,7 @@ fn link_stretches(first: Stretch, second: Stretch, at: u64) -> Linked
 // The same where the first rule shifts by so many seconds.
 fn shifted(seconds: u64, second: RunRule, at: u64, end: u64) -> Linked
     requires now { at < end }
-    requires day { end ≤ 86400 }
+    requires day { end ≤ DAY }
     requires first { seconds ≤ 2 ^ 62 }
     requires second { rule_number second ≤ 2 ^ 63 }
     ensures { IsLinked (Shift seconds) second at end result }
@@ -98,7 +102,7 @@ fn shifted(seconds: u64, second: RunRule, at: u64, end: u64) -> Linked
 // A shift by so many seconds, by the last second: what would arrive after it arrives then.
 fn capped(seconds: u64, at: u64, end: u64) -> Linked
     requires now { at < end }
-    requires day { end ≤ 86400 }
+    requires day { end ≤ DAY }
     requires room { seconds ≤ 2 ^ 62 + 2 ^ 63 }
     ensures { IsLinked (Shift 0) (Shift seconds) at end result }
 {

@@ -1,13 +1,13 @@
 //! Arrival functions: runs that say when a road or shortcut arrives, at each second of a day that repeats.
 
-ghost use Rattle.std.specs.Prelude.{◌≡◌, ◌≤◌, ◌<◌, ◌+◌, ◌*◌, ◌^◌, ◌/◌, ◌%◌, ℕ, Some, IfOk, length, map, nat_le, slice_get, true, false};
-ghost use Rattle.std.specs.List.Sorted.{IsNonDecreasingBy, IsPartitionPoint};
-ghost use Rattle.cu_model.specs.Roads.{arc_value, pieces_of};
-ghost use Rattle.cu_arrival.specs.declared.runs.Run.{Run};
+ghost use Rattle.std.specs.Prelude.{◌≡◌, ◌≤◌, ◌<◌, ◌+◌, ◌*◌, ◌^◌, ◌/◌, ◌%◌, ℕ, Some, IfOk, length, map, false};
+ghost use Rattle.cu_model.specs.declared.limits.TheConstants.{DAY};
+ghost use Rattle.cu_model.specs.Roads.{arc_value, is_closed_arc, pieces_of};
 ghost use Rattle.cu_arrival.specs.Runs.{IsArrivalFunction, run_at, arrival_value, rule_number, rule_value};
-ghost use Rattle.cu_arrival.specs.OfPieces.{run_of};
+ghost use Rattle.cu_arrival.specs.Steps.OfPieces.{run_of};
 
-use cu_model::{NoMemory, Piece, Roads, Rule};
+use crate::packing::RunList;
+use cu_model::{DAY, NoMemory, Piece, Roads, Rule};
 use std::alloc::Global;
 use std::marker::Model;
 
@@ -39,7 +39,7 @@ pub struct Choice {
 /// list of runs.
 #[derive(Debug, Drop)]
 pub struct Arrival {
-    runs: Vec<Run>,
+    runs: RunList,
 }
 
 impl Model for Arrival {
@@ -49,36 +49,39 @@ impl Model for Arrival {
 
     ghost Value = { List Run };
 
-    ghost view = { λ arrival. arrival.runs.items };
+    ghost view = { λ arrival. arrival.runs };
 
-    ghost invariant = { λ arrival. IsArrivalFunction arrival.runs.items };
+    ghost invariant = { λ arrival. IsArrivalFunction arrival.runs };
 }
 
 impl Arrival {
-    /// The function of these runs. Takes no memory.
-    pub(crate) fn of_runs(runs: Vec<Run>) -> Arrival
-        requires { IsArrivalFunction runs.items }
-        ensures { result ≡ runs.items }
+    /// The function of these runs. The memory that they don't take is given back.
+    pub(crate) fn of_runs(mut runs: RunList) -> Arrival
+        requires { IsArrivalFunction runs }
+        ensures { result ≡ runs }
     {
+        runs.shrink();
         Arrival { runs }
     }
 
-    /// The function of the road with this number, below the number of roads: the value of its profile.
+    /// The function of the road with this number, below the number of roads; it isn't closed. At every second it is when the
+    /// road's profile arrives.
     pub fn of_arc<N: Roads>(alloc: Global, roads: &N, arc: u32) -> Result<Arrival, NoMemory>
-        requires { arc < length (N.network roads.now).arcs }
-        ensures { IfOk result (λ f. (t : ℕ) → arrival_value f t ≡ arc_value (N.network roads.now) arc t) }
+        requires road { arc < length (N.network roads.now).arcs }
+        requires open { is_closed_arc (N.network roads.now) arc ≡ false }
+        ensures value { IfOk result
+            (λ f. (t : ℕ) → arrival_value f t ≡ arc_value (N.network roads.now) arc t) }
+        ensures sound { IfOk result IsArrivalFunction }
     {
-        // What this call ensures is that the road's profile is there and valid.
-        let _nodes = roads.nodes();
         let runs = profile_runs(alloc, roads, roads.arc(arc).profile)?;
-        Ok(Arrival { runs })
+        Ok(Arrival::of_runs(runs))
     }
 
     /// Its runs, by rising second, the first from second 0: 1 to 86,400 of them.
-    pub fn runs(&self) -> &[Run]
+    pub(crate) fn runs(&self) -> &RunList
         ensures all { result.now ≡ self.now }
         ensures valid { IsArrivalFunction self.now }
-        ensures few { length result.now ≤ 86400 }
+        ensures few { length result.now ≤ DAY }
     {
         &self.runs
     }
@@ -88,35 +91,40 @@ impl Arrival {
     pub fn value(&self, second: u64) -> u64
         requires { second ≤ 2 ^ 62 }
         ensures value { result ≡ arrival_value self.now second }
+        ensures sound { IsArrivalFunction self.now }
         ensures onward { second ≤ result }
         ensures fifo { (later : ℕ) → second ≤ later → result ≤ arrival_value self.now later }
-        ensures days { (days : ℕ) → arrival_value self.now (days * 86400 + second) ≡ days * 86400 + result }
+        ensures days { (days : ℕ)
+            → arrival_value self.now (days * DAY + second) ≡ days * DAY + result }
     {
-        let run = run_begun(&self.runs, (second % 86400) as u32);
+        let run = run_begun(&self.runs, (second % u64::from(DAY)) as u32);
         departing(run.rule, second)
     }
 }
 
 // The runs of a profile, one for each piece.
-fn profile_runs<N: Roads>(alloc: Global, roads: &N, profile: u32) -> Result<Vec<Run>, NoMemory>
+fn profile_runs<N: Roads>(alloc: Global, roads: &N, profile: u32) -> Result<RunList, NoMemory>
     requires { profile < length (N.network roads.now).profiles }
-    ensures { IfOk result (λ runs. runs.items ≡ map run_of (pieces_of (N.network roads.now) profile)) }
+    ensures { IfOk result
+        (λ runs. runs ≡ map run_of (pieces_of (N.network roads.now) profile)) }
 {
     let pieces = roads.pieces(profile);
-    let mut runs = Vec::with_capacity(alloc, pieces as usize)?;
+    let mut runs = RunList::with_capacity(alloc, pieces as usize)?;
     for index in 0..pieces {
         runs.push(run_of_piece(roads.piece(profile, index)))?;
     }
     Ok(runs)
 }
 
-// The run that says what a piece says.
+// The run that says what a piece says. A closed one is asked by nobody.
 fn run_of_piece(piece: Piece) -> Run
-    ensures { result ≡ run_of piece }
+    ensures run { result ≡ run_of piece }
+    ensures in_limit { rule_number result.rule ≤ 2 ^ 62 }
 {
     let rule = match piece.rule {
         Rule::Travel(seconds) => RunRule::Shift(u64::from(seconds)),
         Rule::Until(arrival) => RunRule::Fixed(u64::from(arrival)),
+        Rule::Closed(_) => RunRule::Shift(0),
     };
     Run {
         from: piece.from,
@@ -128,38 +136,20 @@ fn run_of_piece(piece: Piece) -> Run
 fn departing(rule: RunRule, second: u64) -> u64
     requires in_limit { rule_number rule ≤ 2 ^ 62 }
     requires time { second ≤ 2 ^ 62 }
-    ensures { result ≡ rule_value rule (second / 86400) (second % 86400) }
+    ensures { result ≡ rule_value rule (second / DAY) (second % DAY) }
 {
     match rule {
         RunRule::Shift(seconds) => second + seconds,
-        RunRule::Fixed(arrival) => second - second % 86400 + arrival,
+        RunRule::Fixed(arrival) => second - second % u64::from(DAY) + arrival,
     }
 }
 
 // The last run that has begun by this second of the day.
-fn run_begun(runs: &[Run], time: u32) -> Run
-    requires { IsArrivalFunction runs.now }
+fn run_begun(runs: &RunList, time: u32) -> Run
+    requires valid { IsArrivalFunction runs.now }
+    requires time { time < DAY }
     ensures run { run_at runs.now time ≡ Some result }
     ensures in_limit { rule_number result.rule ≤ 2 ^ 62 }
 {
-    runs[index_begun(runs, time)]
-}
-
-/// The index of the last run that has begun by this second of the day.
-pub fn index_begun(runs: &[Run], time: u32) -> usize
-    requires { IsArrivalFunction runs.now }
-    ensures within { result < length runs.now }
-    ensures last { run_at runs.now time ≡ slice_get runs.now result }
-    ensures begun { (run : Run) × (slice_get runs.now result ≡ Some run) × (run.from ≤ time) }
-{
-    begun(runs, time) - 1
-}
-
-// How many runs are from this second of the day or before it.
-fn begun(runs: &[Run], time: u32) -> usize
-    requires { IsNonDecreasingBy (λ (run : Run). run.from) runs.now }
-    ensures bound { result ≤ length runs.now }
-    ensures point { IsPartitionPoint (λ (run : Run). nat_le run.from time ≡ true) (λ (run : Run). nat_le run.from time ≡ false) runs.now result }
-{
-    runs.partition_point(|run| run.from <= time)
+    runs.at(runs.index_begun(time))
 }

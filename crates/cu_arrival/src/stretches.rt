@@ -1,14 +1,14 @@
 //! Stretches of seconds over which one run of an arrival function is in force, taken one after the other.
 
 ghost use Rattle.std.specs.Prelude.{◌≡◌, ◌≤◌, ◌<◌, ◌+◌, ◌^◌, ◌%◌, ℕ, Some, length, slice_get};
+ghost use Rattle.cu_model.specs.declared.limits.TheConstants.{DAY};
 ghost use Rattle.cu_arrival.specs.declared.runs.Run.{Run};
 ghost use Rattle.cu_arrival.specs.Runs.{IsArrivalFunction, arrival_value, rule_number};
-ghost use Rattle.cu_arrival.specs.Stretches.{IsStretch, arrives, on_day, until_next};
+ghost use Rattle.cu_arrival.specs.Steps.Stretches.{IsStretch, arrives, on_day, until_next};
 
-use crate::runs::{Run, RunRule, index_begun};
-
-/// The seconds of a day, after which an arrival function repeats.
-pub const DAY: u64 = 86_400;
+use crate::packing::RunList;
+use crate::runs::RunRule;
+use cu_model::DAY;
 
 /// A run in force, in absolute seconds: the begin of its day, its index, the first second at which another run begins,
 /// and its rule. A `Fixed` rule names an absolute second here.
@@ -42,72 +42,77 @@ fn rule_on(rule: RunRule, midnight: u64) -> RunRule
     }
 }
 
-// The second of the day from which the run of this index holds, or the end of the day where there is none.
-fn begin_or_end(runs: &[Run], index: usize) -> u64
-    ensures { result ≡ until_next (slice_get runs.now index) }
+// The second of the day from which the run after the one with this index holds, or the end of the day where that is the last.
+fn next_begin(runs: &RunList, index: usize) -> u64
+    requires { index < length runs.now }
+    ensures { result ≡ until_next (slice_get runs.now (index + 1)) }
 {
-    match runs.get(index) {
-        Some(next) => u64::from(next.from),
-        None => DAY,
+    if index < runs.len() - 1 {
+        u64::from(runs.at(index + 1).from)
+    } else {
+        u64::from(DAY)
     }
 }
 
 /// The stretch of the run with this index, on the day that begins at this second.
-pub fn stretch_of(runs: &[Run], index: usize, midnight: u64) -> Stretch
+pub fn stretch_of(runs: &RunList, index: usize, midnight: u64) -> Stretch
     requires valid { IsArrivalFunction runs.now }
     requires within { index < length runs.now }
-    requires whole { midnight % 86400 ≡ 0 }
+    requires whole { midnight % DAY ≡ 0 }
     requires time { midnight ≤ 2 ^ 62 }
     ensures midnight { result.midnight ≡ midnight }
     ensures index { result.index ≡ index }
     ensures end { result.end ≡ midnight + until_next (slice_get runs.now (index + 1)) }
-    ensures run { (run : Run) × (slice_get runs.now index ≡ Some run) × (result.rule ≡ on_day run.rule midnight) }
+    ensures run { (run : Run)
+        × (slice_get runs.now index ≡ Some run)
+        × (result.rule ≡ on_day run.rule midnight) }
 {
     Stretch {
         midnight,
         index,
-        end: midnight + begin_or_end(runs, index + 1),
-        rule: rule_on(runs[index].rule, midnight),
+        end: midnight + next_begin(runs, index),
+        rule: rule_on(runs.at(index).rule, midnight),
     }
 }
 
 /// The stretch in which an absolute second lies.
-pub fn stretch_at(runs: &[Run], second: u64) -> Stretch
+pub fn stretch_at(runs: &RunList, second: u64) -> Stretch
     requires valid { IsArrivalFunction runs.now }
     requires time { second ≤ 2 ^ 62 }
-    ensures { IsStretch runs.now result second }
+    ensures stretch { IsStretch runs.now result second }
+    ensures holds { second < result.end }
 {
-    let time = second % DAY;
-    stretch_of(runs, index_begun(runs, time as u32), second - time)
+    let time = second % u64::from(DAY);
+    stretch_of(runs, runs.index_begun(time as u32), second - time)
 }
 
 // The stretch that begins where one ends: the next run's, or the first one's of the next day.
-fn following(runs: &[Run], last: Stretch) -> Stretch
+fn following(runs: &RunList, last: Stretch) -> Stretch
     requires valid { IsArrivalFunction runs.now }
     requires stretch { IsStretch runs.now last last.end }
     requires time { last.end ≤ 2 ^ 62 }
     ensures stretch { IsStretch runs.now result last.end }
     ensures later { last.end < result.end }
 {
-    if last.index + 1 < runs.len() {
+    if last.index < runs.len() - 1 {
         stretch_of(runs, last.index + 1, last.midnight)
     } else {
-        stretch_of(runs, 0, last.midnight + DAY)
+        stretch_of(runs, 0, last.midnight + u64::from(DAY))
     }
 }
 
 /// The stretch in which an absolute second lies, from one that begins no later.
-pub fn reach(runs: &[Run], from: Stretch, second: u64) -> Stretch
+pub fn reach(runs: &RunList, from: Stretch, second: u64) -> Stretch
     requires valid { IsArrivalFunction runs.now }
     requires stretch { IsStretch runs.now from second }
     requires time { second ≤ 2 ^ 62 }
     ensures stretch { IsStretch runs.now result second }
     ensures holds { second < result.end }
     ensures value { arrival_value runs.now second ≡ arrives result.rule second }
-    ensures near { result.end ≤ second + 86400 }
+    ensures near { result.end ≤ second + DAY }
     ensures limit { rule_number result.rule ≤ second + 2 ^ 62 }
-    ensures day { second < 86400 → result.end ≤ 86400 }
-    ensures day_limit { second < 86400 → rule_number result.rule ≤ 2 ^ 62 }
+    ensures day { second < DAY → result.end ≤ DAY }
+    ensures day_limit { second < DAY → rule_number result.rule ≤ 2 ^ 62 }
 {
     let mut stretch = from;
     while stretch.end <= second {

@@ -1,15 +1,18 @@
 //! What no clause says: that calls succeed, and values worked by hand from the pieces of three roads.
 
-ghost use Rattle.std.specs.Prelude.{◌<◌, ◌^◌, length};
+ghost use Rattle.std.specs.Prelude.{◌≡◌, ◌<◌, ◌^◌, false, length};
+ghost use Rattle.cu_model.specs.Profiles.{is_closed};
+ghost use Rattle.cu_model.specs.declared.profiles.Rule.TheVariants.{Travel};
 
 use super::*;
 use cu_model::{Network, Piece, Profile, RoadArc, Rule};
 use std::alloc::Global;
 use std::test::Fail;
 
-// The arrival function of a road with these pieces.
+// The arrival function of a road with these pieces, which aren't closed.
 fn road(alloc: Global, pieces: Vec<Piece>) -> Result<Arrival, Fail>
-    requires { length pieces.items < 2 ^ 32 }
+    requires few { length pieces.items < 2 ^ 32 }
+    requires open { is_closed pieces.items ≡ false }
 {
     let profile = Profile::of(pieces)?;
     let _pieces = profile.pieces();
@@ -22,16 +25,18 @@ fn road(alloc: Global, pieces: Vec<Piece>) -> Result<Arrival, Fail>
     Ok(Arrival::of_arc(alloc, &network, 0)?)
 }
 
-fn travel(from: u32, seconds: u32) -> Piece {
+fn travel(from: u32, seconds: u32) -> Piece
+    ensures { result ≡ record { from = from; rule = Travel seconds } }
+{
     Piece {
         from,
         rule: Rule::Travel(seconds),
     }
 }
 
-// A road of a minute, and one that is slow from 8:00 and closed from 9:56:40 to 10:01:40.
+// A road of a minute, and one that is slow from 8:00 and waits from 9:56:40 to 10:01:40.
 fn both_roads(alloc: Global) -> Result<Arrival, Fail> {
-    let closed = Piece {
+    let waiting = Piece {
         from: 35_800,
         rule: Rule::Until(36_100),
     };
@@ -39,7 +44,7 @@ fn both_roads(alloc: Global) -> Result<Arrival, Fail> {
     let pieces = vec![in alloc;
         travel(0, 100),
         travel(28_800, 300),
-        closed,
+        waiting,
         travel(36_000, 100),
     ]?;
     let second = road(alloc, pieces)?;

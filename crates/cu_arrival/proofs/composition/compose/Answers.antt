@@ -1,9 +1,9 @@
 use Rattle.std.proofs.Common.{arith, ◌≡◌, ◌≤◌, ◌^◌, ℕ, sym, List, subst, refl, rules}
-use Rattle.cu_model.specs.Profiles.{day}
+use Rattle.cu_model.specs.Days.{day}
 use Rattle.cu_arrival.specs.declared.runs.Run.{Run}
 use Rattle.cu_arrival.specs.declared.stretches.Stretch.{Stretch}
 use Rattle.cu_arrival.specs.Runs.{arrival_value}
-use Rattle.cu_arrival.specs.Stretches.{IsStretch}
+use Rattle.cu_arrival.specs.Steps.Stretches.{IsStretch}
 use Rattle.cu_arrival.proofs.ComposeLaws.{IsComposing, composed, composed_day, composing_step}
 use Rattle.cu_arrival.proofs.Built.{IsBuilt, built_function, built_value}
 use Rattle.cu_arrival.proofs.composition.compose.Goals as goal
@@ -22,7 +22,7 @@ reach-second_stretch-requires-clause-time c =
 
 pub day-preserved : goal.day-preserved
 day-preserved c =
-    composing_step c.runs-first_runs.result.now c.runs-second_runs.result.now c.day.runs.items c.push_run.new.runs.items c.day.first_stretch c.day.second_stretch c.day.at
+    composing_step c.runs-first_runs.result.now c.runs-second_runs.result.now c.day.runs c.push_run.new.runs c.day.first_stretch c.day.second_stretch c.day.at
     c.link_stretches-step.result _ (search rules) (search rules) c.day.invariant (omega arith) c.reach-first_stretch.result c.reach-second_stretch.result
     c.reach-first_stretch.ensures.stretch c.reach-first_stretch.ensures.holds (search rules) (search rules) c.link_stretches-step.ensures.link c.link_stretches-step.ensures.reached
     refl refl c.in_ok-push_run.ensures
@@ -36,13 +36,13 @@ pub of_runs-requires : goal.of_runs-requires
 of_runs-requires c =
     let first = c.runs-first_runs.result.now in
     let second = c.runs-second_runs.result.now in
-    built_function (composed first second) c.day.runs.items (whole_day first second c.day.runs.items c.day.first_stretch c.day.second_stretch c.day.at c.day.invariant c.day-test.false)
+    built_function (composed first second) c.day.runs (whole_day first second c.day.runs c.day.first_stretch c.day.second_stretch c.day.at c.day.invariant (omega arith))
     (composed_day first second (search rules) (search rules))
 
 pub returns-clause-value : goal.returns-clause-value
 returns-clause-value c t h =
     let first = c.runs-first_runs.result.now in
     let second = c.runs-second_runs.result.now in
-    let value : arrival_value c.day.runs.items t ≡ composed first second t =
-    built_value (composed first second) c.day.runs.items (whole_day first second c.day.runs.items c.day.first_stretch c.day.second_stretch c.day.at c.day.invariant c.day-test.false) t h in
+    let value : arrival_value c.day.runs t ≡ composed first second t =
+    built_value (composed first second) c.day.runs (whole_day first second c.day.runs c.day.first_stretch c.day.second_stretch c.day.at c.day.invariant (omega arith)) t h in
     cc (value, c.of_runs.ensures, c.runs-first_runs.ensures.all, c.runs-second_runs.ensures.all)

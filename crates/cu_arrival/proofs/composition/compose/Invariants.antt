@@ -3,7 +3,7 @@ use Rattle.cu_arrival.proofs.ComposeLaws.{IsComposing}
 use Rattle.cu_arrival.proofs.composition.compose.Given as goal
 
 abbrev pub invariant-day : goal.invariant-day
-invariant-day l = IsComposing l.first_runs l.second_runs l.runs.items l.first_stretch l.second_stretch l.at
+invariant-day l = IsComposing l.first_runs l.second_runs l.runs l.first_stretch l.second_stretch l.at
 
 abbrev pub decreases-day : goal.decreases-day
 decreases-day l = 86400 - l.at

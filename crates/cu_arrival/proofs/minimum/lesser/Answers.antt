@@ -1,10 +1,10 @@
-use Rattle.std.proofs.Common.{arith, ◌≡◌, ◌≤◌, ℕ, List, subst, refl, rules}
-use Rattle.cu_model.specs.Profiles.{day}
+use Rattle.std.proofs.Common.{arith, ◌≡◌, ◌≤◌, ℕ, List, sym, subst, refl, rules}
+use Rattle.cu_model.specs.Days.{day}
 use Rattle.cu_arrival.specs.declared.runs.Run.{Run}
 use Rattle.cu_arrival.specs.declared.runs.Choice.{Choice}
 use Rattle.cu_arrival.specs.declared.stretches.Stretch.{Stretch}
 use Rattle.cu_arrival.specs.Choices.{IsChoices}
-use Rattle.cu_arrival.specs.Steps.{IsEarlier}
+use Rattle.cu_arrival.specs.Steps.TwoRules.{IsEarlier}
 use Rattle.cu_arrival.specs.Runs.{arrival_value}
 use Rattle.cu_arrival.proofs.MinimumLaws.{IsMerging, least_of, least_day, merging_step, merged_choices}
 use Rattle.cu_arrival.proofs.Built.{built_function, built_value}
@@ -12,7 +12,7 @@ use Rattle.cu_arrival.proofs.minimum.lesser.Goals as goal
 
 pub day-preserved : goal.day-preserved
 day-preserved c =
-    merging_step c.runs-first_runs.result.now c.runs-second_runs.result.now c.day.runs.items c.push_run.new.runs.items c.day.choices.items c.push_choice.new.choices.items
+    merging_step c.runs-first_runs.result.now c.runs-second_runs.result.now c.day.runs c.push_run.new.runs c.day.choices.items c.push_choice.new.choices.items
     c.day.first_stretch c.day.second_stretch c.day.at c.earlier_rule-step.result _ _ (search rules) (search rules) c.day.invariant (omega arith)
     c.reach-first_stretch.result c.reach-second_stretch.result c.reach-first_stretch.ensures.stretch (search rules) c.reach-second_stretch.ensures.stretch (subst (λ (end : ℕ). IsEarlier c.reach-first_stretch.result.rule c.reach-second_stretch.result.rule c.day.at end c.earlier_rule-step.result) c.min-end.ensures c.earlier_rule-step.ensures)
     refl refl c.in_ok-push_run.ensures refl refl c.in_ok-push_choice.ensures
@@ -27,22 +27,23 @@ pub of_runs-requires : goal.of_runs-requires
 of_runs-requires c =
     let first = c.runs-first_runs.result.now in
     let second = c.runs-second_runs.result.now in
-    let merged = whole_day first second c.day.runs.items c.day.choices.items c.day.first_stretch c.day.second_stretch c.day.at c.day.invariant c.day-test.false in
-    built_function (least_of first second) c.day.runs.items merged.built (least_day first second (search rules) (search rules))
+    let merged = whole_day first second c.day.runs c.day.choices.items c.day.first_stretch c.day.second_stretch c.day.at c.day.invariant (omega arith) in
+    built_function (least_of first second) c.day.runs merged.built (least_day first second (search rules) (search rules))
 
 pub returns-clause-value : goal.returns-clause-value
 returns-clause-value c t h =
     let first = c.runs-first_runs.result.now in
     let second = c.runs-second_runs.result.now in
-    let merged = whole_day first second c.day.runs.items c.day.choices.items c.day.first_stretch c.day.second_stretch c.day.at c.day.invariant c.day-test.false in
-    let value : arrival_value c.day.runs.items t ≡ least_of first second t = built_value (least_of first second) c.day.runs.items merged.built t h in
+    let merged = whole_day first second c.day.runs c.day.choices.items c.day.first_stretch c.day.second_stretch c.day.at c.day.invariant (omega arith) in
+    let value : arrival_value c.day.runs t ≡ least_of first second t = built_value (least_of first second) c.day.runs merged.built t h in
     cc (value, c.of_runs.ensures, c.runs-first_runs.ensures.all, c.runs-second_runs.ensures.all)
 
 pub returns-clause-choices : goal.returns-clause-choices
 returns-clause-choices c =
     let first = c.runs-first_runs.result.now in
     let second = c.runs-second_runs.result.now in
-    let merged = whole_day first second c.day.runs.items c.day.choices.items c.day.first_stretch c.day.second_stretch c.day.at c.day.invariant c.day-test.false in
-    let told = merged_choices first second c.day.runs.items c.day.choices.items c.day.first_stretch c.day.second_stretch merged in
+    let merged = whole_day first second c.day.runs c.day.choices.items c.day.first_stretch c.day.second_stretch c.day.at c.day.invariant (omega arith) in
+    let told = merged_choices first second c.day.runs c.day.choices.items c.day.first_stretch c.day.second_stretch merged in
     let with_first = subst (λ (runs : List Run). IsChoices runs second c.day.choices.items) c.runs-first_runs.ensures.all told in
-    subst (λ (runs : List Run). IsChoices c.args.first.now runs c.day.choices.items) c.runs-second_runs.ensures.all with_first
+    let with_both = subst (λ (runs : List Run). IsChoices c.args.first.now runs c.day.choices.items) c.runs-second_runs.ensures.all with_first in
+    subst (λ (choices : List Choice). IsChoices c.args.first.now c.args.second.now choices) (sym c.shrink_to_fit.ensures.items) with_both

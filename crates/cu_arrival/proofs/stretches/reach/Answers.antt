@@ -3,7 +3,7 @@ use Rattle.cu_arrival.proofs.StretchLaws.{stretch_value, stretch_near, stretch_d
 use Rattle.cu_arrival.proofs.stretches.reach.Goals as goal
 
 pub returns-clause-value : goal.returns-clause-value
-returns-clause-value c = stretch_value c.args.runs.now c.loop-stretch.stretch c.args.second c.args.second c.requires.valid c.loop-stretch.invariant (omega arith) (omega arith)
+returns-clause-value c = stretch_value c.args.runs.now c.loop-stretch.stretch c.args.second c.requires.valid c.loop-stretch.invariant c.args.second (omega arith) (omega arith)
 
 pub returns-clause-near : goal.returns-clause-near
 returns-clause-near c = (stretch_near c.args.runs.now c.loop-stretch.stretch c.args.second c.requires.valid c.loop-stretch.invariant).1

@@ -1,5 +1,5 @@
 use Rattle.std.proofs.Common.{◌+◌, ◌-◌}
-use Rattle.cu_arrival.specs.Stretches.{IsStretch}
+use Rattle.cu_arrival.specs.Steps.Stretches.{IsStretch}
 use Rattle.cu_arrival.proofs.stretches.reach.Given as goal
 
 abbrev pub invariant-loop-stretch : goal.invariant-loop-stretch

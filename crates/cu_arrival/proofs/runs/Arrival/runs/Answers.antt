@@ -1,7 +1,7 @@
 use Rattle.std.proofs.Common.{rules}
 use Rattle.cu_arrival.specs.declared.runs.Run.{Run}
 use Rattle.cu_arrival.specs.Runs.{IsArrivalFunction}
-use Rattle.cu_arrival.proofs.Begun.{few_items}
+use Rattle.cu_model.proofs.Begun.{few_items}
 use Rattle.cu_arrival.proofs.runs.Arrival.runs.Goals as goal
 
 pub returns-clause-few : goal.returns-clause-few

@@ -7,4 +7,6 @@ abbrev pub last_says : {A B : Type 0} → (A → B) → List A → Option B
 last_says says xs = option_map says (slice_get xs (length xs - 1))
 
 abbrev pub IsPushed : {A B : Type 0} → (A → B) → List A → A → List A → Type 0
-IsPushed says old x new = ((last_says says old ≡ Some (says x)) × (new ≡ old)) ⊎ ((last_says says old ≢ Some (says x)) × (new ≡ old ++ x ∷ []))
+IsPushed says old x new =
+    ((last_says says old ≡ Some (says x)) × (new ≡ old))
+    ⊎ ((last_says says old ≢ Some (says x)) × (new ≡ old ++ x ∷ []))
