@@ -6,12 +6,13 @@ use Rattle.std.proofs.lemmas.Bool.{cases_eq}
 use Rattle.std.proofs.lemmas.List.{get_or_default}
 use Rattle.std.proofs.lemmas.List.Elements.{Contains-append_left, Contains-append_right, Contains-append_cases}
 use Rattle.std.proofs.lemmas.Option.{slice_get-get_or, get_or_from_slice_get}
+use Rattle.cu_model.specs.declared.limits.TheConstants.{MAX_NODES}
 use Rattle.cu_model.specs.Networks.{NetworkValue}
 use Rattle.cu_model.specs.Orders.{OrderValue}
 use Rattle.cu_chordal.specs.declared.graph.Ends.{Ends}
-use Rattle.cu_chordal.specs.Graphs.{IsChordal, IsRising, HasEdge, up_of}
+use Rattle.cu_chordal.specs.Graphs.{IsChordal, IsRising, HasEdge, parent_of, up_of}
 use Rattle.cu_chordal.specs.Edges.{Adjacent, IsEdge, ListsEdges}
-use Rattle.cu_chordal.specs.Closing.{AddsRank, AreClosed, IsSource, edges_to, parent_of}
+use Rattle.cu_chordal.specs.Steps.Closing.{AddsRank, AreClosed, IsSource, edges_to}
 use Rattle.cu_chordal.proofs.Members.{there, member_at, none_in_nil, place_of}
 use Rattle.cu_chordal.proofs.Tables.{member_edges_to, edge_from_up_of, up_of_from_edge, up_rising}
 use Rattle.cu_chordal.proofs.Joined.{IsUp, HasParents, edge_from_up, from_link_or_child, up_from_child, up_from_edge}
@@ -108,10 +109,13 @@ low_in_range edges ranks x y f c =
 pub closure_all : (g : NetworkValue) (o : OrderValue) (edges : List Ends) → AreClosed edges g.nodes g.nodes → AreUps g o g.nodes edges → ((x y : ℕ) → IsEdge g o x y → x < g.nodes) → ListsEdges g o edges
 closure_all g o edges closed f in_range = record {
   sorted = closed.rising;
-  exact = λ x y lt. ((λ c. edge_from_up g o x y ((f x y (low_in_range edges g.nodes x y closed c)).0 c)), (λ e. (f x y (in_range x y e)).1 (up_from_edge g o x y lt e)));
+  exact = λ x y. (
+    (λ c. let up = (f x y (low_in_range edges g.nodes x y closed c)).0 c in (up.0, edge_from_up g o x y up)),
+    (λ both. (f x y (in_range x y both.1)).1 (up_from_edge g o x y both.0 both.1)),
+  );
 }
 
-pub chordal_all : (g : NetworkValue) (o : OrderValue) (edges : List Ends) (ranks : ℕ) → ranks ≤ 262144 → AreClosed edges ranks ranks → AreUps g o ranks edges → IsChordal (record { ranks = ranks; edges = edges })
+pub chordal_all : (g : NetworkValue) (o : OrderValue) (edges : List Ends) (ranks : ℕ) → ranks ≤ MAX_NODES → AreClosed edges ranks ranks → AreUps g o ranks edges → IsChordal (record { ranks = ranks; edges = edges })
 chordal_all g o edges ranks few f ups = record {
   few_ranks = few;
   few_edges = f.few;

@@ -1,6 +1,5 @@
 -- Where there are more edges than the limit.
-use Rattle.std.proofs.Common.{◌≡◌, ◌≢◌, ◌≤◌, ◌<◌, ◌-◌, ℕ, Bool, true, false, ◌&&◌, List, [], ◌∷◌, ◌++◌, eqb, length, refl, sym, ◌∙◌, ap, subst, arith, inl, inr}
-use Rattle.std.specs.Prelude.{◌↔◌}
+use Rattle.std.proofs.Common.{◌≡◌, ◌≢◌, ◌≤◌, ◌<◌, ℕ, Bool, true, false, ◌&&◌, List, [], ◌∷◌, ◌++◌, eqb, length, refl, sym, ◌∙◌, ap, subst, arith, inl, inr}
 use Rattle.std.specs.Bool.{Decides}
 use Rattle.std.specs.List.{Contains, AllPairs}
 use Rattle.std.specs.Cmp.{IsEquivalence}
@@ -15,10 +14,13 @@ use Rattle.cu_model.specs.Networks.{NetworkValue}
 use Rattle.cu_model.specs.Orders.{OrderValue}
 use Rattle.cu_chordal.specs.declared.graph.Ends.{Ends}
 use Rattle.cu_chordal.specs.Graphs.{IsRising, HasEdge}
-use Rattle.cu_chordal.specs.Edges.{Adjacent, ListsEdges}
-use Rattle.cu_chordal.specs.Closing.{AreClosed, HasMoreThan, IsSource, edges_to}
+use Rattle.cu_chordal.specs.Edges.{HasTooManyEdges, ListsEdges}
+use Rattle.cu_chordal.specs.Steps.Closing.{AreClosed, IsCrowded, IsReady, edges_to}
+use Rattle.cu_chordal.specs.Steps.Flat.{edges_in}
+use Rattle.cu_chordal.specs.Steps.Links.{AreLinks}
+use Rattle.cu_chordal.specs.declared.closure.Closing.{Closing}
 use Rattle.cu_chordal.proofs.Members.{pairs_append, pairs_tail, pairs_head}
-use Rattle.cu_chordal.proofs.Tables.{member_edges_to, length_edges_to, lows_of_edges_to}
+use Rattle.cu_chordal.proofs.Tables.{length_paired, member_edges_to, length_edges_to, lows_of_edges_to}
 use Rattle.cu_chordal.proofs.Joined.{IsUp, edge_from_up}
 use Rattle.cu_chordal.proofs.Closed.{AreUps, source_up}
 
@@ -87,14 +89,17 @@ no_more some all differ inside =
 
 -- a closed edge is in every list of the chordal edges
 in_list : (g : NetworkValue) (o : OrderValue) (edges : List Ends) (x y : ℕ) → ListsEdges g o edges → IsUp g o x y → HasEdge edges x y
-in_list g o edges x y f up = (f.exact x y up.0).1 (edge_from_up g o x y up)
+in_list g o edges x y f up = (f.exact x y).1 (up.0, edge_from_up g o x y up)
 
 member_range : (edges : List Ends) (ranks rank : ℕ) (e : Ends) → AreClosed edges ranks rank → Contains edges e → (e.low < rank) × (e.low < e.high) × (e.high < ranks)
 member_range edges ranks rank e f c = subst (λ (x : Ends). (x.low < rank) × (x.low < x.high) × (x.high < ranks)) c.2 (f.in_range c.0 e c.1)
 
-pub too_many_edges : (g : NetworkValue) (o : OrderValue) (ranks rank : ℕ) (edges all : List Ends) (links : List ℕ) → AreClosed edges ranks rank → AreUps g o rank edges → ((z : ℕ) → Contains links z ↔ ((rank ≤ z) × Adjacent g o rank z))
-    → HasMoreThan (16777216 - length edges) (IsSource edges links rank) → ListsEdges g o all → 16777216 < length all
-too_many_edges g o ranks rank edges all links closed ups linked more lists =
+pub too_many_edges : (g : NetworkValue) (o : OrderValue) (ranks rank : ℕ) (closing : Closing) (links : List ℕ) → IsReady ranks rank closing → AreUps g o rank (edges_in closing.table) → AreLinks g o rank links
+    → IsCrowded closing.table links rank → HasTooManyEdges g o
+too_many_edges g o ranks rank closing links ready ups linked more all lists =
+    let edges : List Ends = edges_in closing.table in
+    let closed : AreClosed edges ranks rank = ready.edges in
+    let edges_long : length edges ≡ length closing.table.lows.items = length_paired closing.table.lows.items closing.table.highs.items ready.layout.pairs in
     let found : List ℕ = more.0 in
     let some : List Ends = edges ++ edges_to rank found in
     let differ : AllPairs (λ (a b : Ends). a ≢ b) some =
@@ -109,10 +114,10 @@ too_many_edges g o ranks rank edges all links closed ups linked more lists =
       | inl old ↦ in_list g o all e.low e.high lists ((ups e.low e.high (member_range edges ranks rank e closed old).0).0 old)
       | inr own ↦
           let at = member_edges_to rank found e own in
-          let up : IsUp g o rank e.high = (source_up g o edges links rank e.high closed.rising ups linked).0 (more.3 e.high at.1) in
+          let up : IsUp g o rank e.high = (source_up g o edges links rank e.high closed.rising ups linked.exact).0 (more.3 e.high at.1) in
           subst (λ k. Contains all (record { low = k; high = e.high })) (sym at.0) (in_list g o all rank e.high lists up)
     ] in
     let fits = no_more some all differ inside in
     let long = length-append edges (edges_to rank found) in
     let count = length_edges_to rank found in
-    omega (arith, fits, long, count, more.2, closed.few)
+    omega (arith, fits, long, count, more.2, closed.few, edges_long)

@@ -6,7 +6,7 @@ use Rattle.std.proofs.lemmas.Bool.{cases_eq}
 use Rattle.std.proofs.lemmas.List.{get_or-set_same, get_or-set_other, take_more, take_all, length_push, length-take-le, get_or-take}
 use Rattle.std.proofs.lemmas.List.Elements.{All-set, Contains-append_left, Contains-push_cases, Contains-push, Contains-get_or}
 use Rattle.std.proofs.lemmas.List.Quantifiers.{all_pairs_push}
-use Rattle.cu_chordal.specs.Closing.{AreStamped, Gathers, HasMoreThan}
+use Rattle.cu_chordal.specs.Steps.Closing.{AreStamped, Gathers, HasMoreThan, IsGathered}
 use Rattle.cu_chordal.proofs.Members.{none_in_nil}
 
 -- one more number with its stamp
@@ -98,7 +98,7 @@ member_of_take i xs z le c =
 -- where there is no room for one more
 too_many : (rank i y room : ℕ) (candidates stamps old new : List ℕ) → i < length candidates → y ≡ get_or candidates i 0 → get_or stamps y 0 ≢ rank + 1 → y < length stamps
     → AreStamped rank stamps new → Gathers rank (take i candidates) old new → length new ≡ room
-    → HasMoreThan room (λ z. Contains old z ⊎ (Contains candidates z × (z ≢ rank)))
+    → HasMoreThan room (IsGathered rank old candidates)
 too_many rank i y room candidates stamps old new h read fresh inside f g full =
     let stamped = stamped_more rank y stamps new inside fresh f in
     let other : y ≢ rank = λ e. fresh (subst (λ k. get_or stamps k 0 ≡ rank + 1) (sym e) f.itself) in
@@ -152,6 +152,6 @@ gathering_none rank room candidates stamps part f le = record { marked = f; gath
 
 pub gathering_full : (rank room i : ℕ) (candidates stamps old part : List ℕ) → i < length candidates → All (λ y. y < length stamps) candidates
     → get_or stamps (get_or candidates i 0) 0 ≢ rank + 1 → IsGathering rank room (take i candidates) stamps old part → length part ≡ room
-    → HasMoreThan room (λ z. Contains old z ⊎ (Contains candidates z × (z ≢ rank)))
+    → HasMoreThan room (IsGathered rank old candidates)
 gathering_full rank room i candidates stamps old part h inside fresh f full =
     too_many rank i (get_or candidates i 0) room candidates stamps old part h refl fresh (inside i 0 h) f.marked f.gathered full

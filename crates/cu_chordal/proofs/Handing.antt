@@ -1,6 +1,6 @@
 -- Each rank hands its higher neighbours to its parent.
-use Rattle.std.proofs.Common.{◌≡◌, ◌≢◌, ◌≤◌, ◌<◌, ◌+◌, ℕ, suc, List, [], Option, Some, None, Result, Err, length, get_or, set, refl, sym, ◌∙◌, ap, subst, arith, inl, inr, ◌⊎◌}
-use Rattle.std.specs.Prelude.{All, ◌↔◌}
+use Rattle.std.proofs.Common.{◌≡◌, ◌≢◌, ◌≤◌, ◌<◌, ◌+◌, ◌-◌, ℕ, suc, List, [], Option, Some, None, Result, Err, length, get_or, set, refl, sym, ◌∙◌, ap, subst, arith, inl, inr}
+use Rattle.std.specs.Prelude.{All}
 use Rattle.std.specs.List.{Contains}
 use Rattle.std.specs.Result.{IsErrAnd}
 use Rattle.std.proofs.lemmas.Result.{err_from_is_err_and}
@@ -9,9 +9,13 @@ use Rattle.std.proofs.lemmas.List.{get_or-set_same, get_or-set_other, get_or_pas
 use Rattle.std.proofs.lemmas.List.Elements.{All-set, All-weaker}
 use Rattle.std.proofs.lemmas.Option.{slice_get_read}
 use Rattle.cu_chordal.specs.declared.graph.Ends.{Ends}
-use Rattle.cu_chordal.specs.Graphs.{up_of}
-use Rattle.cu_chordal.specs.Closing.{AreChildren, AreClosed, AreStamped, AreUpper, Gathers, HasMoreThan, IsBefore, IsLatestChild, IsSource, parent_of}
+use Rattle.cu_chordal.specs.declared.closure.Children.{Children}
+use Rattle.cu_chordal.specs.declared.table.EdgeTable.{EdgeTable}
+use Rattle.cu_chordal.specs.Graphs.{parent_of, up_of}
+use Rattle.cu_chordal.specs.Steps.Closing.{AreChildren, AreClosed, AreStamped, Gathers, HasMoreThan, IsBefore, IsCrowded, IsGathered, IsLatestChild, IsSource, ListsSources}
+use Rattle.cu_chordal.specs.Steps.Flat.{IsTable, edges_in}
 use Rattle.cu_chordal.proofs.Members.{none_in_nil, all_from_members}
+use Rattle.cu_chordal.specs.declared.graph.TheConstants.{MAX_EDGES}
 use Rattle.cu_chordal.proofs.Tables.{edge_from_up_of, length_paired}
 
 -- with its own stamp alone
@@ -52,10 +56,10 @@ pub record IsHanding (edges : List Ends) (links : List ℕ) (rank room : ℕ) (s
   pub handed : (k y : ℕ) → bound ≤ k → k < rank → parent_of edges k ≡ Some rank → Contains (up_of edges k) y → y ≢ rank → Contains part y
   pub next : IsLatestChild edges rank bound child
 
-pub handing_none : (edges : List Ends) (links : List ℕ) (ranks rank room : ℕ) (stamps part : List ℕ) (latest before : List (Option ℕ)) (child : Option ℕ) → rank < ranks
-    → AreStamped rank stamps part → length part ≤ room → Gathers rank links [] part → AreChildren edges ranks rank latest before → child ≡ get_or latest rank child
+pub handing_none : (edges : List Ends) (links : List ℕ) (ranks rank room : ℕ) (stamps part : List ℕ) (children : Children) (child : Option ℕ) → rank < ranks
+    → AreStamped rank stamps part → length part ≤ room → Gathers rank links [] part → AreChildren edges ranks rank children → child ≡ get_or children.latest.items rank child
     → IsHanding edges links rank room stamps part child
-handing_none edges links ranks rank room stamps part latest before child below marked within gathered f read = record {
+handing_none edges links ranks rank room stamps part children child below marked within gathered f read = record {
   marked = marked;
   within = within;
   sound = λ y c. elim (gathered.from y c) [
@@ -66,14 +70,14 @@ handing_none edges links ranks rank room stamps part latest before child below m
   bound = rank;
   below = omega arith;
   handed = λ k y le lt. absurd (omega (arith, le, lt));
-  next = f.begin rank child (omega arith) (slice_get_read latest (length latest) rank child refl (omega (arith, below, f.latest_long)) read);
+  next = f.begin rank child (omega arith) (slice_get_read children.latest.items (length children.latest.items) rank child refl (omega (arith, below, f.latest_long)) read);
 }
 
-pub handing_more : (edges : List Ends) (links : List ℕ) (ranks rank room lower : ℕ) (stamps stamps_new part part_new group : List ℕ) (latest before : List (Option ℕ)) (child : Option ℕ) → rank < ranks
+pub handing_more : (edges : List Ends) (links : List ℕ) (ranks rank room lower : ℕ) (stamps stamps_new part part_new group : List ℕ) (children : Children) (child : Option ℕ) → rank < ranks
     → IsHanding edges links rank room stamps part (Some lower) → AreStamped rank stamps_new part_new → length part_new ≤ room → group ≡ up_of edges lower → Gathers rank group part part_new
-    → AreChildren edges ranks rank latest before → child ≡ get_or before lower child
+    → AreChildren edges ranks rank children → child ≡ get_or children.before.items lower child
     → IsHanding edges links rank room stamps_new part_new child
-handing_more edges links ranks rank room lower stamps stamps_new part part_new group latest before child below h marked within same gathered f read =
+handing_more edges links ranks rank room lower stamps stamps_new part part_new group children child below h marked within same gathered f read =
     let lower_below : lower < h.bound = h.next.0 in
     let lower_low : lower < rank = omega (arith, lower_below, h.below) in
     let is_child : parent_of edges lower ≡ Some rank = h.next.1 in
@@ -96,7 +100,7 @@ handing_more edges links ranks rank room lower stamps stamps_new part part_new g
                   | inr least ↦ gathered.kept y (h.handed k y least lt p c ne)
                 ]
           ];
-      next = f.onward lower rank child lower_low is_child (slice_get_read before (length before) lower child refl (omega (arith, lower_low, below, f.before_long)) read);
+      next = f.onward lower rank child lower_low is_child (slice_get_read children.before.items (length children.before.items) lower child refl (omega (arith, lower_low, below, f.before_long)) read);
     }
 
 latest_less : (edges : List Ends) (rank lower : ℕ) (child : Option ℕ) → IsLatestChild edges rank lower child → latest_size child < latest_size (Some lower)
@@ -104,10 +108,10 @@ unfolding latest_size
 latest_less edges rank lower None f = omega arith
 latest_less edges rank lower (Some k) f = omega (arith, f.0)
 
-pub handing_falls : (edges : List Ends) (ranks rank lower : ℕ) (latest before : List (Option ℕ)) (child : Option ℕ) → rank < ranks → lower < rank → parent_of edges lower ≡ Some rank
-    → AreChildren edges ranks rank latest before → child ≡ get_or before lower child → latest_size child < latest_size (Some lower)
-handing_falls edges ranks rank lower latest before child below lower_low is_child f read =
-    latest_less edges rank lower child (f.onward lower rank child lower_low is_child (slice_get_read before (length before) lower child refl (omega (arith, lower_low, below, f.before_long)) read))
+pub handing_falls : (edges : List Ends) (ranks rank lower : ℕ) (children : Children) (child : Option ℕ) → rank < ranks → lower < rank → parent_of edges lower ≡ Some rank
+    → AreChildren edges ranks rank children → child ≡ get_or children.before.items lower child → latest_size child < latest_size (Some lower)
+handing_falls edges ranks rank lower children child below lower_low is_child f read =
+    latest_less edges rank lower child (f.onward lower rank child lower_low is_child (slice_get_read children.before.items (length children.before.items) lower child refl (omega (arith, lower_low, below, f.before_long)) read))
 
 whole : (edges : List Ends) (links : List ℕ) (rank room : ℕ) (stamps part : List ℕ) → IsHanding edges links rank room stamps part None
     → (y : ℕ) → IsSource edges links rank y → Contains part y
@@ -120,13 +124,15 @@ whole edges links rank room stamps part h y (ne, inr child) =
 
 -- when no child is left, the sources are whole
 pub handing_all : (edges : List Ends) (links : List ℕ) (rank room : ℕ) (stamps part : List ℕ) → IsHanding edges links rank room stamps part None
-    → (y : ℕ) → Contains part y ↔ IsSource edges links rank y
+    → ListsSources edges links rank part
 handing_all edges links rank room stamps part h y = (h.sound y, λ s. whole edges links rank room stamps part h y s)
 
 -- what is asked at a child's group
-pub child_in_table : (ranks rank lower : ℕ) (lows starts highs : List ℕ) → lower < rank → AreUpper rank lows starts highs
-    → (lower + 1 < length starts) × (get_or starts lower 0 ≤ get_or starts (lower + 1) 0) × (get_or starts (lower + 1) 0 ≤ length highs)
-child_in_table ranks rank lower lows starts highs lt f = (omega (arith, lt, f.groups.long), f.groups.rising lower lt, f.groups.within (lower + 1) (omega (arith, lt)))
+pub child_there : (rank lower : ℕ) (table : EdgeTable) → lower < rank → IsTable rank table → lower + 1 < length table.starts.items
+child_there rank lower table lt f = omega (arith, lt, f.groups.long)
+
+pub child_table : (rank : ℕ) (table : EdgeTable) → IsTable rank table → IsTable (length table.starts.items - 1) table
+child_table rank table f = subst (λ n. IsTable n table) (omega (arith, f.groups.long)) f
 
 pub group_in_range : (edges : List Ends) (ranks rank lower : ℕ) (group : List ℕ) → AreClosed edges ranks rank → group ≡ up_of edges lower → All (λ y. y < ranks) group
 group_in_range edges ranks rank lower group f same =
@@ -136,32 +142,35 @@ group_in_range edges ranks rank lower group f same =
     let range = f.in_range e.0 (record { low = lower; high = y }) e.1 in
     (subst (λ (x : Ends). (x.low < rank) × (x.low < x.high) × (x.high < ranks)) e.2 range).2))
 
-pub edges_fit : (ranks rank : ℕ) (lows starts highs stamps : List ℕ) (latest before : List (Option ℕ)) → IsBefore ranks rank lows starts highs latest before stamps → length lows ≤ 16777216
-edges_fit ranks rank lows starts highs stamps latest before f = let long = length_paired lows highs f.table.pairs in omega (arith, long, f.edges.few)
+pub edges_fit : (ranks rank : ℕ) (table : EdgeTable) (children : Children) (stamps : List ℕ) → IsBefore ranks rank table children stamps → length table.lows.items ≤ MAX_EDGES
+edges_fit ranks rank table children stamps f = let long = length_paired table.lows.items table.highs.items f.layout.pairs in omega (arith, long, f.edges.few)
 
 pub is_none : (o : Option ℕ) → ((x : ℕ) → o ≡ Some x → ⊥) → o ≡ None
 is_none None f = refl
 is_none (Some x) f = absurd (f x refl)
 
 -- more than fit from the links, or from a child
-pub more_from_links : (edges : List Ends) (links old : List ℕ) (rank room most : ℕ) → old ≡ [] → room ≡ most → HasMoreThan room (λ y. Contains old y ⊎ (Contains links y × (y ≢ rank))) → HasMoreThan most (IsSource edges links rank)
-more_from_links edges links old rank room most none same h =
-    subst (λ n. HasMoreThan n (IsSource edges links rank)) same
-    (more_weaker room (λ y. Contains old y ⊎ (Contains links y × (y ≢ rank))) (IsSource edges links rank)
+crowded : (table : EdgeTable) (links : List ℕ) (rank room : ℕ) (P : ℕ → Type 0) → room ≡ MAX_EDGES - length table.lows.items → ((y : ℕ) → P y → IsSource (edges_in table) links rank y) → HasMoreThan room P → IsCrowded table links rank
+crowded table links rank room P same f h = subst (λ n. HasMoreThan n (IsSource (edges_in table) links rank)) same (more_weaker room P (IsSource (edges_in table) links rank) f h)
+
+pub crowded_by_links : (table : EdgeTable) (links old : List ℕ) (rank room : ℕ) → old ≡ [] → room ≡ MAX_EDGES - length table.lows.items → HasMoreThan room (IsGathered rank old links) → IsCrowded table links rank
+crowded_by_links table links old rank room none same h =
+    crowded table links rank room (IsGathered rank old links) same
     (λ y s. elim s [
       | inl was ↦ absurd (none_in_nil y (subst (λ xs. Contains xs y) none was))
       | inr both ↦ (both.1, inl both.0)
-    ]) h)
+    ])
+    h
 
-pub more_from_child : (edges : List Ends) (links : List ℕ) (rank room most lower : ℕ) (stamps part group : List ℕ) → IsHanding edges links rank room stamps part (Some lower) → group ≡ up_of edges lower → room ≡ most
-    → HasMoreThan room (λ y. Contains part y ⊎ (Contains group y × (y ≢ rank))) → HasMoreThan most (IsSource edges links rank)
-more_from_child edges links rank room most lower stamps part group f group_is same h =
-    subst (λ n. HasMoreThan n (IsSource edges links rank)) same
-    (more_weaker room (λ y. Contains part y ⊎ (Contains group y × (y ≢ rank))) (IsSource edges links rank)
+pub crowded_by_child : (table : EdgeTable) (links : List ℕ) (rank room lower : ℕ) (stamps part group : List ℕ) → IsHanding (edges_in table) links rank room stamps part (Some lower) → group ≡ up_of (edges_in table) lower
+    → room ≡ MAX_EDGES - length table.lows.items → HasMoreThan room (IsGathered rank part group) → IsCrowded table links rank
+crowded_by_child table links rank room lower stamps part group f group_is same h =
+    crowded table links rank room (IsGathered rank part group) same
     (λ y s. elim s [
       | inl was ↦ f.sound y was
       | inr both ↦ (both.1, inr (lower, omega (arith, f.next.0, f.below), f.next.1, subst (λ xs. Contains xs y) group_is both.0))
-    ]) h)
+    ])
+    h
 
 same_err : {U E : Type 0} (r : Result U E) (x y : E) → r ≡ Err x → r ≡ Err y → x ≡ y
 same_err r x y e f = cc

@@ -10,3 +10,4 @@ pub mod Closed
 pub mod Linked
 pub mod Adding
 pub mod Crowded
+pub mod Unique

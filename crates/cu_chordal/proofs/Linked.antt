@@ -7,12 +7,12 @@ use Rattle.std.proofs.lemmas.Bool.Decides.{eqb_tells}
 use Rattle.std.proofs.lemmas.List.{get_or_push, get_or_append_left, length_push, get_or_default}
 use Rattle.std.proofs.lemmas.Option.{slice_get_within, same_Some}
 use Rattle.cu_model.specs.declared.roads.RoadArc.{RoadArc}
-use Rattle.cu_model.specs.Networks.{NetworkValue, IsNetwork}
+use Rattle.cu_model.specs.Networks.{NetworkValue}
 use Rattle.cu_model.specs.Orders.{OrderValue, IsOrder}
 use Rattle.cu_chordal.specs.Edges.{LinksRanks, Adjacent}
-use Rattle.cu_chordal.specs.Groups.{HoldsGroups, group_of}
-use Rattle.cu_chordal.specs.Closing.{AreRankEnds, HoldsLinks}
-use Rattle.cu_chordal.proofs.Members.{here, there, member_cases, none_in_nil}
+use Rattle.cu_chordal.specs.Groups.{AreGroups, group_of}
+use Rattle.cu_chordal.specs.Steps.Links.{AreLinks, AreRankEnds, HoldsLinks}
+use Rattle.cu_chordal.proofs.Members.{all_from_members, here, there, member_cases, none_in_nil}
 
 -- the members of a group are the values with its key
 pub group_member : (keys values : List ℕ) (key y : ℕ) → Contains (group_of keys values key) y → (i : ℕ) × (i < length keys) × (i < length values) × (get_or keys i 0 ≡ key) × (get_or values i 0 ≡ y)
@@ -96,28 +96,32 @@ link_below g o lows highs rank y f c =
     omega (arith, e.4, e.5, e.6, m.4)
 
 -- grouped, they are the links
-pub links_from_ends : (g : NetworkValue) (o : OrderValue) (lows highs starts members : List ℕ) → AreRankEnds g o (length g.arcs) lows highs → HoldsGroups g.nodes starts members (group_of lows highs)
-    → HoldsLinks g o starts members
-links_from_ends g o lows highs starts members f h = record {
-  long = h.long;
-  rising = h.rising;
-  within = h.within;
-  exact = λ rank y lt. ((λ c. link_sound g o lows highs rank y f (subst (λ xs. Contains xs y) (h.part rank lt) c)), (λ both. subst (λ xs. Contains xs y) (sym (h.part rank lt)) (link_there g o lows highs rank y f both.0 both.1)));
-  in_range = λ rank y lt c. link_below g o lows highs rank y f (subst (λ xs. Contains xs y) (h.part rank lt) c);
+group_links : (g : NetworkValue) (o : OrderValue) (lows highs : List ℕ) (rank : ℕ) → AreRankEnds g o (length g.arcs) lows highs → AreLinks g o rank (group_of lows highs rank)
+group_links g o lows highs rank f = record {
+  exact = λ y. (link_sound g o lows highs rank y f, λ both. link_there g o lows highs rank y f both.0 both.1);
+  in_range = all_from_members (λ y. (rank ≤ y) × (y < g.nodes)) (group_of lows highs rank) (λ y c. ((link_sound g o lows highs rank y f c).0, link_below g o lows highs rank y f c));
 }
 
+pub links_from_ends : (g : NetworkValue) (o : OrderValue) (lows highs : List ℕ) (groups : List (List ℕ)) → AreRankEnds g o (length g.arcs) lows highs → AreGroups lows highs g.nodes groups → HoldsLinks g o groups
+links_from_ends g o lows highs groups f h = record {
+  long = h.long;
+  each = λ rank part at.
+      let within = slice_get_within groups rank part at in
+      let same : group_of lows highs rank ≡ part = same_Some _ _ (sym (h.each rank (omega (arith, within, h.long))) ∙ at) in
+      subst (AreLinks g o rank) same (group_links g o lows highs rank f);
+}
+
+-- the same with what is handed over
+pub ends_given : (g : NetworkValue) (o : OrderValue) (lows highs given_lows given_highs : List ℕ) → given_lows ≡ lows → given_highs ≡ highs → AreRankEnds g o (length g.arcs) lows highs → AreRankEnds g o (length g.arcs) given_lows given_highs
+ends_given g o lows highs given_lows given_highs lows_same highs_same f =
+    subst (λ xs. AreRankEnds g o (length g.arcs) xs given_highs) (sym lows_same) (subst (AreRankEnds g o (length g.arcs) lows) (sym highs_same) f)
+
 -- what is asked where the roads are grouped
-pub ends_in_range : (g : NetworkValue) (o : OrderValue) (lows highs : List ℕ) → IsNetwork g → AreRankEnds g o (length g.arcs) lows highs
-    → (length lows ≡ length highs) × (length lows ≤ 16777216) × (g.nodes ≤ 262144) × All (λ key. key < g.nodes) lows
-ends_in_range g o lows highs sound f = (
-  omega (arith, f.lows_long, f.highs_long),
-  omega (arith, f.lows_long, sound.few_arcs),
-  sound.few_nodes,
-  λ k d h.
-      let e = f.each k (omega (arith, h, f.lows_long)) in
-      let same = get_or_default lows k d 0 h in
-      omega (arith, same, e.3, e.5, e.6),
-)
+pub ends_in_range : (g : NetworkValue) (o : OrderValue) (lows highs : List ℕ) → AreRankEnds g o (length g.arcs) lows highs → All (λ key. key < g.nodes) lows
+ends_in_range g o lows highs f = λ k d h.
+    let e = f.each k (omega (arith, h, f.lows_long)) in
+    let same = get_or_default lows k d 0 h in
+    omega (arith, same, e.3, e.5, e.6)
 
 -- one more road
 pub ends_more : (g : NetworkValue) (o : OrderValue) (a x y : ℕ) (arc : RoadArc) (lows highs lows_new highs_new : List ℕ) → AreRankEnds g o a lows highs

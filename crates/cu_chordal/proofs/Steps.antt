@@ -8,9 +8,13 @@ use Rattle.std.proofs.lemmas.List.Elements.{All-append, All-weaker}
 use Rattle.std.proofs.lemmas.Option.{slice_get_within, slice_get-get_or, get_or_from_slice_get}
 use Rattle.std.proofs.lemmas.Slice.{between_is}
 use Rattle.cu_chordal.specs.declared.graph.Ends.{Ends}
-use Rattle.cu_chordal.specs.Graphs.{up_of, first_edge_of}
-use Rattle.cu_chordal.specs.Closing.{AreUpper, AreClosed, AreChildren, IsLatestChild, HandsOn, paired, edges_to, parent_of}
+use Rattle.cu_chordal.specs.declared.closure.Children.{Children}
+use Rattle.cu_chordal.specs.declared.table.EdgeTable.{EdgeTable}
+use Rattle.cu_chordal.specs.Graphs.{first_edge_of, parent_of, up_of}
+use Rattle.cu_chordal.specs.Steps.Closing.{Appends, AreChildren, AreClosed, HandsOn, IsLatestChild, edges_to}
+use Rattle.cu_chordal.specs.Steps.Flat.{IsTable, edges_in, paired}
 use Rattle.cu_chordal.proofs.Members.{member_at}
+use Rattle.cu_chordal.specs.declared.graph.TheConstants.{MAX_EDGES}
 use Rattle.cu_chordal.proofs.Tables.{paired_append, length_paired, up_append, up_edges_to, up_other, up_none, first_append, first_all, first_none, lows_of_edges_to, rising_append, length_edges_to}
 
 -- all lower ends are below the rank
@@ -37,11 +41,19 @@ part_added xs ys n m first last =
     ap (take (m - n)) cut ∙ ap (λ k. take k ys) count ∙ take_all (length ys) ys (omega arith)
 
 -- the table with one more rank
-pub table_more : (ranks rank : ℕ) (lows starts highs part lows_new starts_new highs_new : List ℕ) → AreUpper rank lows starts highs → AreClosed (paired lows highs) ranks rank
-    → lows_new ≡ lows ++ replicate (length part) rank → highs_new ≡ highs ++ part → starts_new ≡ starts ++ ((length lows + length part) ∷ [])
-    → AreUpper (rank + 1) lows_new starts_new highs_new × (paired lows_new highs_new ≡ paired lows highs ++ edges_to rank part)
-table_more ranks rank lows starts highs part lows_new starts_new highs_new f g lows_is highs_is starts_is =
-    let edges : List Ends = paired lows highs in
+pub table_more : (ranks rank : ℕ) (table table_new : EdgeTable) (part : List ℕ) → IsTable rank table → AreClosed (edges_in table) ranks rank → Appends rank part table table_new
+    → IsTable (rank + 1) table_new × (edges_in table_new ≡ edges_in table ++ edges_to rank part)
+table_more ranks rank table table_new part f g appended =
+    let edges : List Ends = edges_in table in
+    let lows : List ℕ = table.lows.items in
+    let starts : List ℕ = table.starts.items in
+    let highs : List ℕ = table.highs.items in
+    let lows_new : List ℕ = table_new.lows.items in
+    let starts_new : List ℕ = table_new.starts.items in
+    let highs_new : List ℕ = table_new.highs.items in
+    let lows_is : lows_new ≡ lows ++ replicate (length part) rank = appended.lows in
+    let highs_is : highs_new ≡ highs ++ part = appended.highs in
+    let starts_is : starts_new ≡ starts ++ ((length lows + length part) ∷ []) = appended.starts in
     let same : paired lows_new highs_new ≡ edges ++ edges_to rank part = ap (λ xs. paired xs highs_new) lows_is ∙ ap (paired (lows ++ replicate (length part) rank)) highs_is ∙ paired_append lows highs rank part f.pairs in
     let low : All (λ (e : Ends). e.low < rank) edges = lows_below edges ranks rank g in
     let edges_long : length edges ≡ length lows = length_paired lows highs f.pairs in
@@ -106,7 +118,7 @@ table_more ranks rank lows starts highs part lows_new starts_new highs_new f g l
     )
 
 -- what the closure keeps of its edges
-pub closed_more : (edges : List Ends) (ranks rank : ℕ) (part : List ℕ) → AreClosed edges ranks rank → AllPairs (λ x y. x < y) part → ((y : ℕ) → Contains part y → (rank < y) × (y < ranks)) → length edges + length part ≤ 16777216
+pub closed_more : (edges : List Ends) (ranks rank : ℕ) (part : List ℕ) → AreClosed edges ranks rank → AllPairs (λ x y. x < y) part → ((y : ℕ) → Contains part y → (rank < y) × (y < ranks)) → length edges + length part ≤ MAX_EDGES
     → AreClosed (edges ++ edges_to rank part) ranks (rank + 1)
 closed_more edges ranks rank part f rising range few =
     let long = length-append edges (edges_to rank part) in
@@ -167,17 +179,17 @@ set_read_other xs i j x o other e =
     slice_get-get_or xs j None (omega (arith, within, length-set xs i x)) ∙ ap Some (sym (get_or-set_other xs i j x None other) ∙ read)
 
 -- the children with one more rank
-children_step : (edges : List Ends) (ranks rank : ℕ) (part : List ℕ) (o : Option ℕ) (latest before latest_new before_new : List (Option ℕ)) → rank < ranks → ((first : ℕ) → o ≡ Some first → (rank ≤ first) × (first < ranks)) → parent_of (edges ++ edges_to rank part) rank ≡ o
-    → AreChildren edges ranks rank latest before → HandsOn rank o latest before latest_new before_new
-    → AreChildren (edges ++ edges_to rank part) ranks (rank + 1) latest_new before_new
-children_step edges ranks rank part None latest before latest_new before_new below range own f h = record {
+children_step : (edges : List Ends) (ranks rank : ℕ) (part : List ℕ) (o : Option ℕ) (children children_new : Children) → rank < ranks → ((first : ℕ) → o ≡ Some first → (rank ≤ first) × (first < ranks)) → parent_of (edges ++ edges_to rank part) rank ≡ o
+    → AreChildren edges ranks rank children → HandsOn rank o children children_new
+    → AreChildren (edges ++ edges_to rank part) ranks (rank + 1) children_new
+children_step edges ranks rank part None children children_new below range own f h = record {
   latest_long = ap length h.0 ∙ f.latest_long;
   before_long = ap length h.1 ∙ f.before_long;
   begin = λ parent o le e.
-      let old : slice_get latest parent ≡ Some o = ap (λ xs. slice_get xs parent) (sym h.0) ∙ e in
+      let old : slice_get children.latest.items parent ≡ Some o = ap (λ xs. slice_get xs parent) (sym h.0) ∙ e in
       latest_skips (edges ++ edges_to rank part) parent rank o (λ p. none_is_some parent (sym own ∙ p)) (latest_stays edges rank parent rank part o (omega arith) (f.begin parent o (omega (arith, le)) old));
   onward = λ k parent o lt p e.
-      let old : slice_get before k ≡ Some o = ap (λ xs. slice_get xs k) (sym h.1) ∙ e in
+      let old : slice_get children.before.items k ≡ Some o = ap (λ xs. slice_get xs k) (sym h.1) ∙ e in
       elim (cases_eq k rank) [
         | inl same ↦ absurd (none_is_some parent (sym own ∙ ap (parent_of (edges ++ edges_to rank part)) (sym same) ∙ p))
         | inr other ↦
@@ -185,39 +197,39 @@ children_step edges ranks rank part None latest before latest_new before_new bel
             latest_stays edges rank parent k part o (omega (arith, less)) (f.onward k parent o less (sym (parent_before edges rank k part less) ∙ p) old)
       ];
 }
-children_step edges ranks rank part (Some first) latest before latest_new before_new below range own f h = record {
-  latest_long = ap length h.0 ∙ length-set latest first (Some rank) ∙ f.latest_long;
-  before_long = ap length h.1 ∙ length-set before rank _ ∙ f.before_long;
+children_step edges ranks rank part (Some first) children children_new below range own f h = record {
+  latest_long = ap length h.0 ∙ length-set children.latest.items first (Some rank) ∙ f.latest_long;
+  before_long = ap length h.1 ∙ length-set children.before.items rank _ ∙ f.before_long;
   begin = λ parent o le e.
-      let now : slice_get (set latest first (Some rank)) parent ≡ Some o = ap (λ xs. slice_get xs parent) (sym h.0) ∙ e in
+      let now : slice_get (set children.latest.items first (Some rank)) parent ≡ Some o = ap (λ xs. slice_get xs parent) (sym h.0) ∙ e in
       elim (cases_eq parent first) [
         | inl same ↦
-            let found : o ≡ Some rank = set_read_same latest first (Some rank) o (subst (λ j. slice_get (set latest first (Some rank)) j ≡ Some o) same now) in
+            let found : o ≡ Some rank = set_read_same children.latest.items first (Some rank) o (subst (λ j. slice_get (set children.latest.items first (Some rank)) j ≡ Some o) same now) in
             subst (IsLatestChild (edges ++ edges_to rank part) parent (rank + 1)) (sym found)
             (omega arith, own ∙ ap Some (sym same), λ k above lt. absurd (omega (arith, above, lt)))
         | inr other ↦
-            let old : slice_get latest parent ≡ Some o = set_read_other latest first parent (Some rank) o other now in
+            let old : slice_get children.latest.items parent ≡ Some o = set_read_other children.latest.items first parent (Some rank) o other now in
             latest_skips (edges ++ edges_to rank part) parent rank o (λ p. other (sym (same_some first parent (sym own ∙ p)))) (latest_stays edges rank parent rank part o (omega arith) (f.begin parent o (omega (arith, le)) old))
       ];
   onward = λ k parent o lt p e.
-      let now : slice_get (set before rank (slice_index_or latest first None)) k ≡ Some o = ap (λ xs. slice_get xs k) (sym h.1) ∙ e in
+      let now : slice_get (set children.before.items rank (slice_index_or children.latest.items first None)) k ≡ Some o = ap (λ xs. slice_get xs k) (sym h.1) ∙ e in
       elim (cases_eq k rank) [
         | inl same ↦
             let at_parent : parent ≡ first = same_some parent first (sym p ∙ ap (parent_of (edges ++ edges_to rank part)) same ∙ own) in
-            let found : o ≡ slice_index_or latest first None = set_read_same before rank (slice_index_or latest first None) o (subst (λ j. slice_get (set before rank (slice_index_or latest first None)) j ≡ Some o) same now) in
-            let latest_read : slice_get latest first ≡ Some o = slice_get-get_or latest first None (omega (arith, (range first refl).1, f.latest_long)) ∙ ap Some (sym found) in
+            let found : o ≡ slice_index_or children.latest.items first None = set_read_same children.before.items rank (slice_index_or children.latest.items first None) o (subst (λ j. slice_get (set children.before.items rank (slice_index_or children.latest.items first None)) j ≡ Some o) same now) in
+            let latest_read : slice_get children.latest.items first ≡ Some o = slice_get-get_or children.latest.items first None (omega (arith, (range first refl).1, f.latest_long)) ∙ ap Some (sym found) in
             let was : IsLatestChild edges first rank o = f.begin first o (range first refl).0 latest_read in
             subst (λ j. IsLatestChild (edges ++ edges_to rank part) parent j o) (sym same)
             (subst (λ j. IsLatestChild (edges ++ edges_to rank part) j rank o) (sym at_parent) (latest_stays edges rank first rank part o (omega arith) was))
         | inr other ↦
             let less : k < rank = omega (arith, lt, other) in
-            let old : slice_get before k ≡ Some o = set_read_other before rank k _ o other now in
+            let old : slice_get children.before.items k ≡ Some o = set_read_other children.before.items rank k _ o other now in
             latest_stays edges rank parent k part o (omega (arith, less)) (f.onward k parent o less (sym (parent_before edges rank k part less) ∙ p) old)
       ];
 }
 
-pub children_more : (edges : List Ends) (ranks rank : ℕ) (part : List ℕ) (latest before latest_new before_new : List (Option ℕ)) → rank < ranks → ((y : ℕ) → Contains part y → (rank < y) × (y < ranks)) → AreClosed edges ranks rank
-    → AreChildren edges ranks rank latest before → HandsOn rank (slice_get part 0) latest before latest_new before_new
-    → AreChildren (edges ++ edges_to rank part) ranks (rank + 1) latest_new before_new
-children_more edges ranks rank part latest before latest_new before_new below range g f h =
-    children_step edges ranks rank part (slice_get part 0) latest before latest_new before_new below (λ first e. let r = range first (member_at part first 0 e) in (omega (arith, r.0), r.1)) (ap (λ xs. slice_get xs 0) (up_at edges ranks rank part g)) f h
+pub children_more : (edges : List Ends) (ranks rank : ℕ) (part : List ℕ) (children children_new : Children) → rank < ranks → ((y : ℕ) → Contains part y → (rank < y) × (y < ranks)) → AreClosed edges ranks rank
+    → AreChildren edges ranks rank children → HandsOn rank (slice_get part 0) children children_new
+    → AreChildren (edges ++ edges_to rank part) ranks (rank + 1) children_new
+children_more edges ranks rank part children children_new below range g f h =
+    children_step edges ranks rank part (slice_get part 0) children children_new below (λ first e. let r = range first (member_at part first 0 e) in (omega (arith, r.0), r.1)) (ap (λ xs. slice_get xs 0) (up_at edges ranks rank part g)) f h

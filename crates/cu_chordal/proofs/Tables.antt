@@ -8,9 +8,10 @@ use Rattle.std.proofs.lemmas.Bool.Decides.{nat_tests, eqb_tells}
 use Rattle.std.proofs.lemmas.List.Elements.{All-head, All-tail, All-cons}
 use Rattle.std.proofs.lemmas.List.Kept.{AllPairs-cons}
 use Rattle.cu_chordal.specs.declared.graph.Ends.{Ends}
-use Rattle.cu_chordal.specs.Graphs.{ComesBefore, IsRising, HasEdge, up_of, down_of, first_edge_of}
-use Rattle.cu_chordal.specs.Groups.{one_if, group_of}
-use Rattle.cu_chordal.specs.Closing.{paired, edges_to}
+use Rattle.cu_chordal.specs.Graphs.{ComesBefore, IsRising, HasEdge, one_if, up_of, down_of, first_edge_of}
+use Rattle.cu_chordal.specs.Groups.{group_of}
+use Rattle.cu_chordal.specs.Steps.Closing.{edges_to}
+use Rattle.cu_chordal.specs.Steps.Flat.{paired}
 use Rattle.cu_chordal.proofs.Members.{here, there, member_at, member_cases, none_in_nil, all_from_members, pairs_tail, pairs_head, pairs_append}
 
 paired_one_rank : (rank : ℕ) (part : List ℕ) → paired (replicate (length part) rank) part ≡ edges_to rank part
@@ -117,6 +118,75 @@ up_rising (e ∷ es) rank f =
           ]) in
           subst (AllPairs (λ x y. x < y)) (sym (up_first e es rank at)) (AllPairs-cons (λ x y. x < y) e.high (up_of es rank) all rest)
       | inr off ↦ subst (AllPairs (λ x y. x < y)) (sym (up_skip e es rank off)) rest
+    ]
+
+-- the lower neighbours are those that edges lead from
+down_cases : (e : Ends) (es : List Ends) (rank y : ℕ) → Contains (down_of (e ∷ es) rank) y → ((e.high ≡ rank) × (e.low ≡ y)) ⊎ Contains (down_of es rank) y
+down_cases e es rank y c =
+    elim (eqb_tells e.high rank) [
+      | inl at ↦
+          let c2 : Contains (e.low ∷ down_of es rank) y = subst (λ b. Contains (cond b (e.low ∷ down_of es rank) (down_of es rank)) y) at.0 c in
+          elim (member_cases e.low (down_of es rank) y c2) [
+            | inl same ↦ inl (at.1, same)
+            | inr rest ↦ inr rest
+          ]
+      | inr off ↦ inr (subst (λ b. Contains (cond b (e.low ∷ down_of es rank) (down_of es rank)) y) off.0 c)
+    ]
+
+down_first : (e : Ends) (es : List Ends) (rank : ℕ) → e.high ≡ rank → down_of (e ∷ es) rank ≡ e.low ∷ down_of es rank
+down_first e es rank at = ap (λ b. cond b (e.low ∷ down_of es rank) (down_of es rank)) (eq-eqb e.high rank at)
+
+down_skip : (e : Ends) (es : List Ends) (rank : ℕ) → e.high ≢ rank → down_of (e ∷ es) rank ≡ down_of es rank
+down_skip e es rank off =
+    elim (eqb_tells e.high rank) [
+      | inl at ↦ absurd (off at.1)
+      | inr other ↦ ap (λ b. cond b (e.low ∷ down_of es rank) (down_of es rank)) other.0
+    ]
+
+pub edge_from_down_of : (edges : List Ends) (rank y : ℕ) → Contains (down_of edges rank) y → HasEdge edges y rank
+edge_from_down_of [] rank y c = absurd (none_in_nil y c)
+edge_from_down_of (e ∷ es) rank y c =
+    elim (down_cases e es rank y c) [
+      | inl at ↦
+          let same : e ≡ record { low = y; high = rank } = same_ends e y rank at.1 at.0 in
+          subst (λ (x : Ends). Contains (x ∷ es) (record { low = y; high = rank })) (sym same) (here _ es)
+      | inr rest ↦ there e es _ (edge_from_down_of es rank y rest)
+    ]
+
+pub down_of_from_edge : (edges : List Ends) (rank y : ℕ) → HasEdge edges y rank → Contains (down_of edges rank) y
+down_of_from_edge [] rank y c = absurd (none_in_nil _ c)
+down_of_from_edge (e ∷ es) rank y c =
+    elim (member_cases e es (record { low = y; high = rank }) c) [
+      | inl same ↦
+          let first : down_of (e ∷ es) rank ≡ e.low ∷ down_of es rank = down_first e es rank (ap (λ (x : Ends). x.high) same) in
+          let low : e.low ≡ y = ap (λ (x : Ends). x.low) same in
+          subst (λ xs. Contains xs y) (sym first) (subst (λ h. Contains (h ∷ down_of es rank) y) (sym low) (here y (down_of es rank)))
+      | inr rest ↦
+          let deeper = down_of_from_edge es rank y rest in
+          elim (cases_eq e.high rank) [
+            | inl at ↦ subst (λ xs. Contains xs y) (sym (down_first e es rank at)) (there e.low (down_of es rank) y deeper)
+            | inr off ↦ subst (λ xs. Contains xs y) (sym (down_skip e es rank off)) deeper
+          ]
+    ]
+
+-- they rise
+pub down_rising : (edges : List Ends) (rank : ℕ) → IsRising edges → AllPairs (λ x y. x < y) (down_of edges rank)
+down_rising [] rank f = λ i j d lt h. absurd (omega (arith, h))
+down_rising (e ∷ es) rank f =
+    let rest = down_rising es rank (pairs_tail ComesBefore e es f) in
+    elim (cases_eq e.high rank) [
+      | inl at ↦
+          let all : All (λ y. e.low < y) (down_of es rank) =
+          all_from_members (λ y. e.low < y) (down_of es rank)
+          (λ y c.
+          let edge = edge_from_down_of es rank y c in
+          let before : ComesBefore e (record { low = y; high = rank }) = after_first e es f _ edge in
+          elim before [
+            | inl less ↦ less
+            | inr both ↦ absurd (omega (arith, both.1, at))
+          ]) in
+          subst (AllPairs (λ x y. x < y)) (sym (down_first e es rank at)) (AllPairs-cons (λ x y. x < y) e.low (down_of es rank) all rest)
+      | inr off ↦ subst (AllPairs (λ x y. x < y)) (sym (down_skip e es rank off)) rest
     ]
 
 push_step : (b : Bool) (v : ℕ) (xs ys zs : List ℕ) → xs ≡ ys ++ zs → cond b (v ∷ xs) xs ≡ cond b (v ∷ ys) ys ++ zs

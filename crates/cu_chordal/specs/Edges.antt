@@ -1,10 +1,11 @@
 -- Which ranks a chordal edge joins, said by paths of roads.
-use Rattle.std.specs.Prelude.{ℕ, List, [], ◌∷◌, Some, ◌≡◌, ◌≢◌, ◌<◌, ◌⊎◌, ◌↔◌, min, slice_get}
+use Rattle.std.specs.Prelude.{ℕ, List, [], ◌∷◌, Some, ◌≡◌, ◌≢◌, ◌<◌, ◌⊎◌, ◌↔◌, length, min, slice_get}
 use Rattle.cu_model.specs.Networks.{NetworkValue}
 use Rattle.cu_model.specs.Orders.{OrderValue}
 use Rattle.cu_model.specs.Roads.{Links}
 use Rattle.cu_chordal.specs.Graphs.{ChordalValue, HasEdge, IsRising}
 use Rattle.cu_chordal.specs.declared.graph.Ends.{Ends}
+use Rattle.cu_chordal.specs.declared.graph.TheConstants.{MAX_EDGES}
 
 -- the road with this number is from rank x to rank y
 abbrev pub LinksRanks : NetworkValue → OrderValue → ℕ → ℕ → ℕ → Type 0
@@ -26,10 +27,14 @@ JoinedBelow g o m x y = (inner : List ℕ) × PathBelow g o m x inner y
 abbrev pub IsEdge : NetworkValue → OrderValue → ℕ → ℕ → Type 0
 IsEdge g o x y = (x ≢ y) × JoinedBelow g o (min x y) x y
 
--- a list of the chordal edges, each once, by lower rank and then by higher rank
+-- the list of the chordal edges, each once and from its lower rank to its higher, by lower rank and then by higher rank
 pub record ListsEdges (g : NetworkValue) (o : OrderValue) (edges : List Ends) : Type 0 where
   pub sorted : IsRising edges
-  pub exact : (x y : ℕ) → x < y → HasEdge edges x y ↔ IsEdge g o x y
+  pub exact : (x y : ℕ) → HasEdge edges x y ↔ ((x < y) × IsEdge g o x y)
+
+-- more chordal edges than the limit
+abbrev pub HasTooManyEdges : NetworkValue → OrderValue → Type 0
+HasTooManyEdges g o = (edges : List Ends) → ListsEdges g o edges → MAX_EDGES < length edges
 
 -- the chordal supergraph of a road network under an order
 pub record IsClosureOf (g : NetworkValue) (o : OrderValue) (graph : ChordalValue) : Type 0 where

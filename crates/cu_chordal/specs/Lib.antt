@@ -1,4 +1,4 @@
 pub mod Edges
 pub mod Graphs
 pub mod Groups
-pub mod Closing
+pub mod Steps

@@ -2,29 +2,30 @@
 //! each rank hands its higher neighbours to the lowest of them (Rose, Tarjan, Lueker: "Algorithmic aspects of vertex
 //! elimination on graphs", 1976; George, Liu: "Computer solution of large sparse positive definite systems", 1981).
 
-ghost use Rattle.std.specs.Prelude.{◌≡◌, ◌≤◌, ◌<◌, ◌+◌, ◌-◌, ℕ, List, ◌≢◌, ◌↔◌, ◌⊎◌, Some, Err, OnOk, IfOk, All, eqb, length, replicate, slice_get, slice_index};
+ghost use Rattle.std.specs.Prelude.{◌≡◌, ◌≤◌, ◌<◌, ◌+◌, ◌-◌, Err, OnOk, IfOk, All, eqb, length, replicate, slice_get};
 ghost use Rattle.std.specs.List.{Contains, IsDistinct};
-ghost use Rattle.std.specs.List.Sorted.{IsStrictlyIncreasing};
 ghost use Rattle.cu_model.specs.Networks.{NetworkValue, IsNetwork};
 ghost use Rattle.cu_model.specs.Orders.{OrderValue, IsOrder};
-ghost use Rattle.cu_chordal.specs.declared.graph.Ends.{Ends};
-ghost use Rattle.cu_chordal.specs.Edges.{IsClosureOf, ListsEdges};
-ghost use Rattle.cu_chordal.specs.Closing.{AddsRank, AreChildren, AreClosed, AreStamped, AreUpper, Gathers, HasMoreThan, IsBefore, IsSource, HandsOn, AreRankEnds, HoldsLinks, paired};
+ghost use Rattle.cu_chordal.specs.Graphs.{IsChordal};
+ghost use Rattle.cu_chordal.specs.Edges.{HasTooManyEdges, IsClosureOf};
+ghost use Rattle.cu_chordal.specs.Steps.Closing.{AddsRank, AreStamped, Gathers, HandsOn, HasMoreThan, IsBefore, IsCrowded, IsGathered, IsReady, ListsSources};
+ghost use Rattle.cu_chordal.specs.Steps.Flat.{edges_in};
+ghost use Rattle.cu_chordal.specs.Steps.Links.{AreEnds, HoldsLinks};
 
-use crate::graph::{Chordal, EdgeTable};
+use crate::graph::{Chordal, MAX_EDGES};
 use crate::groups::Groups;
-use cu_model::{NoMemory, Order, Roads};
+use crate::table::EdgeTable;
+use cu_model::{MAX_NODES, NoMemory, Order, Roads};
 use std::alloc::{AllocError, AllocFailed, Global};
 use thiserror::Error;
 
-const MOST_EDGES: usize = 16_777_216;
-
-/// Why a graph was not closed.
+/// Why a graph was not closed. Want of memory may come in place of the other answers.
 #[derive(Clone, Copy, Debug, PartialEq, Eq, Error)]
 pub enum CloseRefusal {
-    /// It has more than 16,777,216 edges.
+    /// It has more than [`MAX_EDGES`] edges.
     #[error("more than 16,777,216 edges")]
     TooManyEdges,
+    /// An allocation failed.
     #[error("out of memory")]
     NoMemory,
 }
@@ -86,12 +87,13 @@ fn gather(
     requires in_range { All (λ y. y < length stamps.old) candidates.now }
     requires own { rank < length stamps.old }
     requires marked { AreStamped rank stamps.old part.old.items }
-    requires fits { rank < 262144 }
+    requires fits { rank < MAX_NODES }
     requires room { length part.old.items ≤ room }
     ensures marked { OnOk result (AreStamped rank stamps.new part.new.items) }
     ensures gathered { OnOk result (Gathers rank candidates.now part.old.items part.new.items) }
     ensures room { OnOk result (length part.new.items ≤ room) }
-    ensures too_many { result ≡ Err CloseRefusal.TooManyEdges → HasMoreThan room (λ y. Contains part.old.items y ⊎ (Contains candidates.now y × (y ≢ rank))) }
+    ensures too_many { result ≡ Err CloseRefusal.TooManyEdges
+        → HasMoreThan room (IsGathered rank part.old.items candidates.now) }
 {
     for candidate in candidates {
         if stamps[*candidate as usize] != rank + 1 {
@@ -116,21 +118,22 @@ fn gather_all(
 ) -> Result<Vec<u32>, CloseRefusal>
     requires below { rank < length stamps.old }
     requires links { All (λ y. y < length stamps.old) links.now }
-    requires before { IsBefore (length stamps.old) rank table.now.lows.items table.now.highs.starts.items table.now.highs.members.items children.now.latest.items children.now.before.items stamps.old }
-    requires few { length stamps.old ≤ 262144 }
-    ensures exact { IfOk result (λ part. (y : ℕ) → Contains part.items y ↔ IsSource (paired table.now.lows.items table.now.highs.members.items) links.now rank y) }
+    requires before { IsBefore (length stamps.old) rank table.now children.now stamps.old }
+    requires few { length stamps.old ≤ MAX_NODES }
+    ensures exact { IfOk result
+        (λ part. ListsSources (edges_in table.now) links.now rank part.items) }
     ensures once { IfOk result (λ part. IsDistinct eqb part.items) }
-    ensures room { IfOk result (λ part. length table.now.lows.items + length part.items ≤ 16777216) }
+    ensures room { IfOk result (λ part. length table.now.lows.items + length part.items ≤ MAX_EDGES) }
     ensures stamps { OnOk result (All (λ stamp. stamp ≤ rank + 1) stamps.new) }
-    ensures too_many { result ≡ Err CloseRefusal.TooManyEdges → HasMoreThan (16777216 - length table.now.lows.items) (IsSource (paired table.now.lows.items table.now.highs.members.items) links.now rank) }
+    ensures too_many { result ≡ Err CloseRefusal.TooManyEdges → IsCrowded table.now links.now rank }
 {
-    let room = MOST_EDGES - table.lows.len();
+    let room = MAX_EDGES as usize - table.lows.len();
     let mut part = Vec::new(alloc);
     stamps[rank as usize] = rank + 1;
     gather(&mut part, stamps, rank, room, links)?;
     let mut child = children.latest[rank as usize];
     'children: while let Some(lower) = child {
-        gather(&mut part, stamps, rank, room, table.highs.group(lower))?;
+        gather(&mut part, stamps, rank, room, table.up(lower))?;
         child = children.before[lower as usize];
     }
     Ok(part)
@@ -148,19 +151,11 @@ fn filled<T: Copy + Drop>(alloc: Global, count: u32, value: T) -> Result<Vec<T>,
 impl Closing {
     // The closure of no rank yet.
     fn new(alloc: Global, ranks: u32) -> Result<Closing, NoMemory>
-        requires { ranks ≤ 262144 }
-        ensures { IfOk result (λ closing. IsBefore ranks 0 closing.table.lows.items closing.table.highs.starts.items closing.table.highs.members.items closing.children.latest.items closing.children.before.items closing.stamps.items) }
+        requires { ranks ≤ MAX_NODES }
+        ensures { IfOk result (IsReady ranks 0) }
     {
-        let mut starts = Vec::with_capacity(alloc, ranks as usize + 1)?;
-        starts.push(0u32)?;
         Ok(Closing {
-            table: EdgeTable {
-                lows: Vec::new(alloc),
-                highs: Groups {
-                    starts,
-                    members: Vec::new(alloc),
-                },
-            },
+            table: EdgeTable::new(alloc, ranks)?,
             children: Children {
                 latest: filled(alloc, ranks, None)?,
                 before: filled(alloc, ranks, None)?,
@@ -173,11 +168,13 @@ impl Closing {
     fn add_rank(&mut self, alloc: Global, rank: u32, links: &[u32]) -> Result<(), CloseRefusal>
         requires below { rank < length self.old.stamps.items }
         requires links { All (λ y. (rank ≤ y) × (y < length self.old.stamps.items)) links.now }
-        requires before { IsBefore (length self.old.stamps.items) rank self.old.table.lows.items self.old.table.highs.starts.items self.old.table.highs.members.items self.old.children.latest.items self.old.children.before.items self.old.stamps.items }
-        requires few { length self.old.stamps.items ≤ 262144 }
-        ensures before { OnOk result (IsBefore (length self.old.stamps.items) (rank + 1) self.new.table.lows.items self.new.table.highs.starts.items self.new.table.highs.members.items self.new.children.latest.items self.new.children.before.items self.new.stamps.items) }
-        ensures added { OnOk result (AddsRank links.now rank (paired self.old.table.lows.items self.old.table.highs.members.items) (paired self.new.table.lows.items self.new.table.highs.members.items)) }
-        ensures too_many { result ≡ Err CloseRefusal.TooManyEdges → HasMoreThan (16777216 - length self.old.table.lows.items) (IsSource (paired self.old.table.lows.items self.old.table.highs.members.items) links.now rank) }
+        requires before { IsReady (length self.old.stamps.items) rank self.old }
+        requires few { length self.old.stamps.items ≤ MAX_NODES }
+        ensures before { OnOk result (IsReady (length self.old.stamps.items) (rank + 1) self.new) }
+        ensures added { OnOk result
+            (AddsRank links.now rank (edges_in self.old.table) (edges_in self.new.table)) }
+        ensures too_many { result ≡ Err CloseRefusal.TooManyEdges
+            → IsCrowded self.old.table links.now rank }
     {
         let mut part = gather_all(
             alloc,
@@ -199,7 +196,7 @@ impl Children {
     fn hand_on(&mut self, rank: u32, part: &[u32])
         requires below { rank < length self.old.before.items }
         requires in_range { All (λ y. y < length self.old.latest.items) part.now }
-        ensures { HandsOn rank (slice_get part.now 0) self.old.latest.items self.old.before.items self.new.latest.items self.new.before.items }
+        ensures { HandsOn rank (slice_get part.now 0) self.old self.new }
     {
         if let Some(parent) = part.first() {
             self.before[rank as usize] = self.latest[*parent as usize];
@@ -217,9 +214,8 @@ struct RankEnds {
 
 fn rank_ends<N: Roads>(alloc: Global, roads: &N, order: &Order) -> Result<RankEnds, NoMemory>
     requires same { length order.now.node_at ≡ (N.network roads.now).nodes }
-    requires sound { IsNetwork (N.network roads.now) }
     requires ordered { IsOrder order.now }
-    ensures { IfOk result (λ ends. AreRankEnds (N.network roads.now) order.now (length (N.network roads.now).arcs) ends.lows.items ends.highs.items) }
+    ensures { IfOk result (AreEnds (N.network roads.now) order.now) }
 {
     let mut lows = Vec::with_capacity(alloc, roads.arcs() as usize)?;
     let mut highs = Vec::with_capacity(alloc, roads.arcs() as usize)?;
@@ -237,7 +233,7 @@ fn rank_ends<N: Roads>(alloc: Global, roads: &N, order: &Order) -> Result<RankEn
 fn links<N: Roads>(alloc: Global, roads: &N, order: &Order) -> Result<Groups, NoMemory>
     requires same { length order.now.node_at ≡ (N.network roads.now).nodes }
     requires ordered { IsOrder order.now }
-    ensures { IfOk result (λ links. HoldsLinks (N.network roads.now) order.now links.starts.items links.members.items) }
+    ensures { IfOk result (HoldsLinks (N.network roads.now) order.now) }
 {
     let ranks = roads.nodes();
     let ends = rank_ends(alloc, roads, order)?;
@@ -246,13 +242,15 @@ fn links<N: Roads>(alloc: Global, roads: &N, order: &Order) -> Result<Groups, No
 
 /// The chordal supergraph of a road network under an order of as many nodes: two ranks are joined by an edge where a path
 /// of roads, taken in either direction, leads from one to the other and its inner nodes rank below both. A road joins
-/// its ends whether or not it may be driven; a loop makes no edge. Refused are exactly the graphs of more than 16,777,216
-/// edges.
+/// its ends whether or not it may be driven; a loop makes no edge. Refused are exactly the graphs of more than
+/// [`MAX_EDGES`] edges.
 pub fn close<N: Roads>(alloc: Global, roads: &N, order: &Order) -> Result<Chordal, CloseRefusal>
     requires { length order.now.node_at ≡ (N.network roads.now).nodes }
     ensures closed { IfOk result (λ graph. IsClosureOf (N.network roads.now) order.now graph) }
-    ensures few { IfOk result (λ graph. length graph.edges ≤ 16777216) }
-    ensures too_many { result ≡ Err CloseRefusal.TooManyEdges → (edges : List Ends) → ListsEdges (N.network roads.now) order.now edges → 16777216 < length edges }
+    ensures sound { IfOk result (λ graph. IsChordal graph) }
+    ensures few { IfOk result (λ graph. length graph.edges ≤ MAX_EDGES) }
+    ensures too_many { result ≡ Err CloseRefusal.TooManyEdges
+        → HasTooManyEdges (N.network roads.now) order.now }
 {
     let ranks = order.nodes();
     let links = links(alloc, roads, order)?;

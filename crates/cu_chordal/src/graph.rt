@@ -1,28 +1,26 @@
 //! The chordal graph: its edges by number, and the neighbours of each rank.
 
-ghost use Rattle.std.specs.Prelude.{◌≡◌, ◌≤◌, ◌<◌, ◌+◌, ℕ, [], ◌∷◌, ◌++◌, Some, IfOk, OnOk, length, replicate, slice_get};
+ghost use Rattle.std.specs.Prelude.{◌≡◌, ◌≤◌, ◌<◌, ◌+◌, ◌↔◌, ℕ, Some, IfOk, length, slice_get};
+ghost use Rattle.std.specs.List.{Contains};
 ghost use Rattle.std.specs.List.Sorted.{IsStrictlyIncreasing};
 ghost use Rattle.cu_chordal.specs.declared.graph.Ends.{Ends};
-ghost use Rattle.cu_chordal.specs.Graphs.{ChordalValue, FindsEdge, IsChordal, down_of, first_edge_of, up_of};
-ghost use Rattle.cu_chordal.specs.Closing.{AreUpper, FindsIndex, paired};
+ghost use Rattle.cu_chordal.specs.Graphs.{ChordalValue, FindsEdge, HasEdge, IsChordal, NumbersEdges, down_of, first_edge_of, up_of};
+ghost use Rattle.cu_chordal.specs.Steps.Flat.{FindsIndex, IsTable, graph_in};
 
 use crate::groups::Groups;
+use crate::table::EdgeTable;
 use cu_model::NoMemory;
-use std::alloc::{AllocError, Global};
+use std::alloc::Global;
 use std::marker::Model;
+
+/// The most edges that a chordal graph has.
+pub const MAX_EDGES: u32 = 16_777_216;
 
 /// The ends of an edge, by rank.
 #[derive(Clone, Copy, Debug, PartialEq, Eq)]
 pub struct Ends {
     pub low: u32,
     pub high: u32,
-}
-
-// The edges by number, the higher ends grouped by their lower ends.
-#[derive(Debug, Drop)]
-pub struct EdgeTable {
-    pub lows: Vec<u32>,
-    pub highs: Groups,
 }
 
 /// A chordal graph on ranks: any two higher neighbours of one rank are joined by an edge. Its edges are numbered from 0,
@@ -39,36 +37,21 @@ impl Model for Chordal {
 
     ghost Value = { ChordalValue };
 
-    ghost use Rattle.cu_chordal.specs.Closing.{IsLaidOut, paired};
+    ghost use Rattle.cu_chordal.specs.Steps.Flat.{IsLaidOut, graph_in};
 
-    ghost view = { λ graph. record { ranks = graph.ranks; edges = paired graph.table.lows.items graph.table.highs.members.items } };
+    ghost view = { λ graph. graph_in graph.ranks graph.table };
 
-    ghost invariant = { λ graph. IsLaidOut graph.ranks graph.table.lows.items graph.table.highs.starts.items graph.table.highs.members.items graph.lower.starts.items graph.lower.members.items };
-}
-
-impl EdgeTable {
-    // Adds the edges of the next rank to its higher neighbours.
-    pub fn append(&mut self, rank: u32, part: &[u32]) -> Result<(), AllocError>
-        requires few { length self.old.lows.items + length part.now ≤ 16777216 }
-        requires table { AreUpper rank self.old.lows.items self.old.highs.starts.items self.old.highs.members.items }
-        ensures lows { OnOk result (self.new.lows.items ≡ self.old.lows.items ++ replicate (length part.now) rank) }
-        ensures highs { OnOk result (self.new.highs.members.items ≡ self.old.highs.members.items ++ part.now) }
-        ensures starts { OnOk result (self.new.highs.starts.items ≡ self.old.highs.starts.items ++ (length self.old.lows.items + length part.now) ∷ []) }
-    {
-        self.lows.resize(self.lows.len() + part.len(), rank)?;
-        self.highs.members.extend_from_slice(part)?;
-        Ok(self.highs.starts.push(self.lows.len() as u32)?)
-    }
+    ghost invariant = { λ graph. IsLaidOut graph.ranks graph.table graph.lower };
 }
 
 impl Chordal {
     // The graph of these edges.
     pub fn of_table(alloc: Global, ranks: u32, table: EdgeTable) -> Result<Chordal, NoMemory>
-        requires table { AreUpper ranks table.lows.items table.highs.starts.items table.highs.members.items }
-        requires sound { IsChordal (record { ranks = ranks; edges = paired table.lows.items table.highs.members.items }) }
-        ensures { IfOk result (λ graph. graph ≡ record { ranks = ranks; edges = paired table.lows.items table.highs.members.items }) }
+        requires table { IsTable ranks table }
+        requires sound { IsChordal (graph_in ranks table) }
+        ensures { IfOk result (λ graph. graph ≡ graph_in ranks table) }
     {
-        let lower = Groups::of(alloc, &table.highs.members, &table.lows, ranks)?;
+        let lower = table.lower(alloc, ranks)?;
         Ok(Chordal {
             ranks,
             table,
@@ -76,7 +59,7 @@ impl Chordal {
         })
     }
 
-    /// How many ranks there are, at most 262,144.
+    /// How many ranks there are, at most `MAX_NODES` of `cu_model`.
     pub fn ranks(&self) -> u32
         ensures count { result ≡ self.now.ranks }
         ensures sound { IsChordal self.now }
@@ -84,9 +67,10 @@ impl Chordal {
         self.ranks
     }
 
-    /// How many edges there are, at most 16,777,216.
+    /// How many edges there are, at most [`MAX_EDGES`].
     pub fn edges(&self) -> u32
-        ensures { result ≡ length self.now.edges }
+        ensures count { result ≡ length self.now.edges }
+        ensures sound { IsChordal self.now }
     {
         self.table.lows.len() as u32
     }
@@ -95,15 +79,20 @@ impl Chordal {
     pub fn up(&self, rank: u32) -> &[u32]
         requires { rank < self.now.ranks }
         ensures exact { result.now ≡ up_of self.now.edges rank }
+        ensures members { (y : ℕ) → Contains result.now y ↔ HasEdge self.now.edges rank y }
         ensures rising { IsStrictlyIncreasing result.now }
+        ensures sound { IsChordal self.now }
     {
-        self.table.highs.group(rank)
+        self.table.up(rank)
     }
 
     /// The lower neighbours of a rank below the number of ranks, rising.
     pub fn down(&self, rank: u32) -> &[u32]
         requires { rank < self.now.ranks }
-        ensures { result.now ≡ down_of self.now.edges rank }
+        ensures exact { result.now ≡ down_of self.now.edges rank }
+        ensures members { (x : ℕ) → Contains result.now x ↔ HasEdge self.now.edges x rank }
+        ensures rising { IsStrictlyIncreasing result.now }
+        ensures sound { IsChordal self.now }
     {
         self.lower.group(rank)
     }
@@ -113,20 +102,22 @@ impl Chordal {
     pub fn first_edge(&self, rank: u32) -> u32
         requires { rank < self.now.ranks }
         ensures count { result ≡ first_edge_of self.now.edges rank }
-        ensures few { result + length (up_of self.now.edges rank) ≤ 16777216 }
-        ensures numbers { (i high : ℕ) → slice_get (up_of self.now.edges rank) i ≡ Some high → slice_get self.now.edges (result + i) ≡ Some (record { low = rank; high = high }) }
+        ensures few { result + length (up_of self.now.edges rank) ≤ MAX_EDGES }
+        ensures numbers { NumbersEdges self.now.edges rank result }
+        ensures sound { IsChordal self.now }
     {
-        self.table.highs.starts[rank as usize]
+        self.table.starts[rank as usize]
     }
 
     /// The ends of the edge with this number, which is below the number of edges.
     pub fn ends(&self, edge: u32) -> Ends
         requires { edge < length self.now.edges }
-        ensures { slice_get self.now.edges edge ≡ Some result }
+        ensures there { slice_get self.now.edges edge ≡ Some result }
+        ensures sound { IsChordal self.now }
     {
         Ends {
             low: self.table.lows[edge as usize],
-            high: self.table.highs.members[edge as usize],
+            high: self.table.highs[edge as usize],
         }
     }
 
@@ -134,7 +125,8 @@ impl Chordal {
     /// there is no such edge.
     pub fn edge(&self, low: u32, high: u32) -> Option<u32>
         requires { low < self.now.ranks }
-        ensures { FindsEdge self.now.edges low high result }
+        ensures found { FindsEdge self.now.edges low high result }
+        ensures sound { IsChordal self.now }
     {
         let index = index_of(self.up(low), high)?;
         Some(self.first_edge(low) + index as u32)

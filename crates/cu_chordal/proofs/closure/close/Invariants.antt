@@ -2,6 +2,4 @@ use Rattle.cu_chordal.proofs.Adding.{IsClosing}
 use Rattle.cu_chordal.proofs.closure.close.Given as goal
 
 abbrev pub invariant-loop-rank : goal.invariant-loop-rank
-invariant-loop-rank g l =
-    IsClosing (g.N.Roads.network l.roads) l.order l.ranks l.rank l.closing.table.lows.items l.closing.table.highs.starts.items l.closing.table.highs.members.items l.closing.children.latest.items l.closing.children.before.items
-    l.closing.stamps.items
+invariant-loop-rank g l = IsClosing (g.N.Roads.network l.roads) l.order l.ranks l.rank l.closing

@@ -1,4 +1,4 @@
-use Rattle.cu_chordal.specs.Closing.{AreRankEnds}
+use Rattle.cu_chordal.specs.Steps.Links.{AreRankEnds}
 use Rattle.cu_chordal.proofs.closure.rank_ends.Given as goal
 
 abbrev pub invariant-loop-arc : goal.invariant-loop-arc

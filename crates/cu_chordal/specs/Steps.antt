@@ -1,0 +1,3 @@
+pub mod Flat
+pub mod Closing
+pub mod Links
