@@ -1,29 +1,30 @@
 -- Climbing from a rank to its parent and on.
-use Rattle.std.proofs.Common.{◌≡◌, ◌≤◌, ◌<◌, ◌+◌, ℕ, zero, suc, List, [], ◌∷◌, ◌++◌, Option, Some, None, length, get_or, refl, sym, ◌∙◌, ap, subst, arith, inl, inr, ◌⊎◌}
-use Rattle.std.specs.Prelude.{All, slice_get}
+use Rattle.std.proofs.Common.{◌≡◌, ◌≤◌, ◌<◌, ◌+◌, ℕ, zero, suc, List, [], ◌∷◌, ◌++◌, Option, Some, None, eqb, length, get_or, refl, sym, ◌∙◌, ap, subst, arith, inl, inr, ◌⊎◌}
+use Rattle.std.specs.Prelude.{◌↔◌, All, IsTrue, slice_get}
+use Rattle.std.specs.Iterator.{Yields, YieldsFirst}
 use Rattle.std.specs.List.{Contains, AllPairs}
 use Rattle.std.specs.List.Sorted.{IsStrictlyIncreasing}
-use Rattle.std.proofs.lemmas.Bool.{cases_eq}
+use Rattle.std.proofs.lemmas.Bool.{cases_eq, eqb-true, eq-eqb}
 use Rattle.std.proofs.lemmas.List.{length_push, get_or_push, get_or_append_left}
-use Rattle.std.proofs.lemmas.List.Kept.{AllPairs-cons}
-use Rattle.std.proofs.lemmas.List.Elements.{All-cons}
+use Rattle.std.proofs.lemmas.List.Kept.{AllPairs-cons, AllPairs-from_increasing}
+use Rattle.std.proofs.lemmas.List.Elements.{All-cons, All-contains, Contains-append_cases, Contains-append_right}
 use Rattle.std.proofs.lemmas.Option.{slice_get-get_or, slice_get_within, get_or_from_slice_get}
 use Rattle.cu_chordal.specs.declared.graph.Ends.{Ends}
-use Rattle.cu_chordal.specs.Graphs.{ChordalValue, HasEdge, IsChordal, up_of}
-use Rattle.cu_chordal.proofs.Members.{here, there, member_at}
+use Rattle.cu_chordal.specs.Graphs.{ChordalValue, HasEdge, IsChordal, parent_of, up_of}
+use Rattle.cu_chordal.proofs.Members.{here, there, member_at, member_cases, none_in_nil, pairs_head, pairs_tail}
 use Rattle.cu_chordal.proofs.Tables.{edge_from_up_of, up_of_from_edge, increasing_from_pairs}
 use Rattle.cu_chordal.proofs.Closed.{parent_least}
-use Rattle.cu_elimtree.specs.Trees.{HoldsHigherNeighbours, IsTree, IsTreeOf, Rises, ancestors_of, climb, flat, parent_in}
+use Rattle.cu_elimtree.specs.Trees.{HoldsAncestorNeighbours, HoldsHigherNeighbours, IsTree, IsTreeOf, Rises, ancestors_of, climb, flat}
 
 -- the parents so far
 pub record AreParents (graph : ChordalValue) (rank : ℕ) (parents : List (Option ℕ)) : Type 0 where
   pub long : length parents ≡ rank
-  pub each : (k : ℕ) → k < rank → slice_get parents k ≡ Some (parent_in graph k)
+  pub each : (k : ℕ) → k < rank → slice_get parents k ≡ Some (parent_of graph.edges k)
 
 pub parents_none : (graph : ChordalValue) (parents : List (Option ℕ)) → parents ≡ [] → AreParents graph 0 parents
 parents_none graph parents e = record { long = ap length e; each = λ k lt. absurd (omega (arith, lt)) }
 
-pub parents_more : (graph : ChordalValue) (rank : ℕ) (parents grown : List (Option ℕ)) (parent : Option ℕ) → AreParents graph rank parents → parent ≡ parent_in graph rank → grown ≡ parents ++ (parent ∷ []) → AreParents graph (rank + 1) grown
+pub parents_more : (graph : ChordalValue) (rank : ℕ) (parents grown : List (Option ℕ)) (parent : Option ℕ) → AreParents graph rank parents → parent ≡ parent_of graph.edges rank → grown ≡ parents ++ (parent ∷ []) → AreParents graph (rank + 1) grown
 parents_more graph rank parents grown parent f is e =
     let long : length grown ≡ rank + 1 = ap length e ∙ length_push parents parent ∙ ap (λ n. n + 1) f.long in
     record {
@@ -32,11 +33,11 @@ parents_more graph rank parents grown parent f is e =
           elim (cases_eq k rank) [
             | inl same ↦
                 let read : get_or grown k None ≡ parent = ap (λ xs. get_or xs k None) e ∙ get_or_push parents parent None k (f.long ∙ sym same) in
-                slice_get-get_or grown k None (omega (arith, lt, long)) ∙ ap Some (read ∙ is ∙ ap (parent_in graph) (sym same))
+                slice_get-get_or grown k None (omega (arith, lt, long)) ∙ ap Some (read ∙ is ∙ ap (parent_of graph.edges) (sym same))
             | inr other ↦
                 let before : k < rank = omega (arith, lt, other) in
                 let read : get_or grown k None ≡ get_or parents k None = ap (λ xs. get_or xs k None) e ∙ get_or_append_left parents (parent ∷ []) None k (omega (arith, before, f.long)) in
-                slice_get-get_or grown k None (omega (arith, lt, long)) ∙ ap Some (read ∙ get_or_from_slice_get parents k (parent_in graph k) None (f.each k before))
+                slice_get-get_or grown k None (omega (arith, lt, long)) ∙ ap Some (read ∙ get_or_from_slice_get parents k (parent_of graph.edges k) None (f.each k before))
           ];
     }
 
@@ -46,16 +47,16 @@ parents_all graph rank parents last f = record { long = f.long ∙ last; each = 
 edge_range : (graph : ChordalValue) → IsChordal graph → (x y : ℕ) → HasEdge graph.edges x y → (x < y) × (y < graph.ranks)
 edge_range graph f x y c = subst (λ (e : Ends). (e.low < e.high) × (e.high < graph.ranks)) c.2 (f.in_range c.0 (record { low = x; high = y }) c.1)
 
-parent_edge : (graph : ChordalValue) (rank parent : ℕ) → parent_in graph rank ≡ Some parent → HasEdge graph.edges rank parent
+parent_edge : (graph : ChordalValue) (rank parent : ℕ) → parent_of graph.edges rank ≡ Some parent → HasEdge graph.edges rank parent
 parent_edge graph rank parent e = edge_from_up_of graph.edges rank parent (member_at (up_of graph.edges rank) parent 0 e)
 
 same_option : (x y : Option ℕ) → Some x ≡ Some y → x ≡ y
 same_option x y e = cc
 
-parent_read : (graph : ChordalValue) (parents : List (Option ℕ)) (rank : ℕ) (o : Option ℕ) → IsTreeOf graph parents → slice_get parents rank ≡ Some o → parent_in graph rank ≡ o
+parent_read : (graph : ChordalValue) (parents : List (Option ℕ)) (rank : ℕ) (o : Option ℕ) → IsTreeOf graph parents → slice_get parents rank ≡ Some o → parent_of graph.edges rank ≡ o
 parent_read graph parents rank o f e =
     let within : rank < length parents = slice_get_within parents rank o e in
-    same_option (parent_in graph rank) o (sym (f.each rank (omega (arith, within, f.long))) ∙ e)
+    same_option (parent_of graph.edges rank) o (sym (f.each rank (omega (arith, within, f.long))) ∙ e)
 
 -- the parents are a tree
 pub tree_of : (graph : ChordalValue) (parents : List (Option ℕ)) → IsChordal graph → IsTreeOf graph parents → IsTree parents
@@ -73,7 +74,7 @@ next_up graph parents rank high sound f edge =
     let range = edge_range graph sound rank high edge in
     let member : Contains (up_of graph.edges rank) high = up_of_from_edge graph.edges rank high edge in
     let p : ℕ = get_or (up_of graph.edges rank) 0 0 in
-    let is_parent : parent_in graph rank ≡ Some p = slice_get-get_or (up_of graph.edges rank) 0 0 (omega (arith, member.1)) in
+    let is_parent : parent_of graph.edges rank ≡ Some p = slice_get-get_or (up_of graph.edges rank) 0 0 (omega (arith, member.1)) in
     let to_parent = parent_edge graph rank p is_parent in
     let parent_range = edge_range graph sound rank p to_parent in
     let least : p ≤ high = parent_least graph.edges rank p high sound.rising is_parent member in
@@ -128,3 +129,70 @@ climb_pairs parents (suc fuel) (Some r) f =
 
 pub ancestors_rise : (parents : List (Option ℕ)) (rank : ℕ) → IsTree parents → IsStrictlyIncreasing (ancestors_of parents rank)
 ancestors_rise parents rank f = increasing_from_pairs (ancestors_of parents rank) (climb_pairs parents (length parents) (Some rank) f.rises)
+
+-- and of each ancestor those of that ancestor
+climb_upwards : (graph : ChordalValue) (parents : List (Option ℕ)) (fuel : ℕ) (o : Option ℕ) (low high : ℕ) → IsChordal graph → IsTreeOf graph parents → ((r : ℕ) → o ≡ Some r → graph.ranks ≤ r + fuel)
+    → HasEdge graph.edges low high → Contains (climb fuel parents o) low → Contains (climb fuel parents o) high
+climb_upwards graph parents zero o low high sound f enough edge c = absurd (none_in_nil low c)
+climb_upwards graph parents (suc fuel) None low high sound f enough edge c = absurd (none_in_nil low c)
+climb_upwards graph parents (suc fuel) (Some r) low high sound f enough edge c =
+    let above_r : List ℕ = climb fuel parents (flat (slice_get parents r)) in
+    elim (member_cases r above_r low c) [
+      | inl same ↦
+          let at : HasEdge graph.edges r high = subst (λ k. HasEdge graph.edges k high) (sym same) edge in
+          let range = edge_range graph sound r high at in
+          climbs graph parents (suc fuel) r high sound f (omega (arith, range.0, range.1)) (enough r refl) (inr at)
+      | inr rest ↦
+          let deeper = climb_upwards graph parents fuel (flat (slice_get parents r)) low high sound f
+          (λ p e. let up = (tree_of graph parents sound f).rises r p (parent_there (slice_get parents r) p e) in let le = enough r refl in omega (arith, up.0, le)) edge rest in
+          there r above_r high deeper
+    ]
+
+pub holds_upwards : (graph : ChordalValue) (parents : List (Option ℕ)) → IsChordal graph → IsTreeOf graph parents → HoldsAncestorNeighbours graph parents
+holds_upwards graph parents sound f rank low high c edge = climb_upwards graph parents (length parents) (Some rank) low high sound f (λ r e. omega (arith, f.long)) edge c
+
+-- ancestors are ranks
+climb_below : (parents : List (Option ℕ)) (fuel : ℕ) (o : Option ℕ) → Rises parents → ((r : ℕ) → o ≡ Some r → r < length parents) → All (λ x. x < length parents) (climb fuel parents o)
+climb_below parents zero o f start = λ k d h. absurd (omega (arith, h))
+climb_below parents (suc fuel) None f start = λ k d h. absurd (omega (arith, h))
+climb_below parents (suc fuel) (Some r) f start =
+    All-cons (λ x. x < length parents) r (climb fuel parents (flat (slice_get parents r))) (start r refl)
+    (climb_below parents fuel (flat (slice_get parents r)) f (λ p e. (f r p (parent_there (slice_get parents r) p e)).1))
+
+same_rank : (x y : ℕ) → Some x ≡ Some y → x ≡ y
+same_rank x y e = cc
+
+pub ancestors_below : (parents : List (Option ℕ)) (rank : ℕ) → IsTree parents → rank < length parents → All (λ x. x < length parents) (ancestors_of parents rank)
+ancestors_below parents rank f below = climb_below parents (length parents) (Some rank) f.rises (λ r e. subst (λ k. k < length parents) (same_rank rank r e) below)
+
+-- what was yielded and what is left are what there was
+pub yielded_first : {S A : Type 0} (rest : S → List A) (s : S) (xs : List A) (t : S) → Yields (YieldsFirst rest) s xs t → rest s ≡ xs ++ rest t
+yielded_first rest s [] t same = ap rest same
+yielded_first rest s (x ∷ xs) t (next, first, later) = first ∙ ap (λ ys. x ∷ ys) (yielded_first rest next xs t later)
+
+pairs_behind : (xs ys : List ℕ) → AllPairs (λ x y. x < y) (xs ++ ys) → AllPairs (λ x y. x < y) ys
+pairs_behind [] ys f = f
+pairs_behind (x ∷ xs) ys f = pairs_behind xs ys (pairs_tail (λ x y. x < y) x (xs ++ ys) f)
+
+after_head : (x : ℕ) (xs : List ℕ) (y : ℕ) → AllPairs (λ a b. a < b) (x ∷ xs) → Contains xs y → x < y
+after_head x xs y f c = subst (λ z. x < z) c.2 (pairs_head (λ a b. a < b) x xs f c.0 y c.1)
+
+-- in a list that rises, the first number that isn't below a rank tells whether the rank is there
+first_tells : (before behind : List ℕ) (first rank : ℕ) → AllPairs (λ x y. x < y) (before ++ (first ∷ behind)) → All (λ x. x < rank) before → rank ≤ first → Contains (before ++ (first ∷ behind)) rank → first ≡ rank
+first_tells before behind first rank rising low le c =
+    elim (Contains-append_cases before (first ∷ behind) rank c) [
+      | inl there ↦ let less = All-contains (λ x. x < rank) before rank low there in absurd (omega (arith, less))
+      | inr rest ↦ elim (member_cases first behind rank rest) [
+        | inl same ↦ same
+        | inr later ↦
+            let above = after_head first behind rank (pairs_behind before (first ∷ behind) rising) later in
+            absurd (omega (arith, above, le))
+      ]
+    ]
+
+pub tells : (all before behind : List ℕ) (first rank : ℕ) → IsStrictlyIncreasing all → all ≡ before ++ (first ∷ behind) → All (λ x. x < rank) before → rank ≤ first → IsTrue (eqb first rank) ↔ Contains all rank
+tells all before behind first rank rising whole low le =
+    let pairs : AllPairs (λ x y. x < y) (before ++ (first ∷ behind)) = subst (AllPairs (λ x y. x < y)) whole (AllPairs-from_increasing all rising) in (
+      (λ t. subst (λ xs. Contains xs rank) (sym whole) (Contains-append_right before (first ∷ behind) rank (subst (Contains (first ∷ behind)) (eqb-true first rank t) (here first behind)))),
+      (λ c. eq-eqb first rank (first_tells before behind first rank pairs low le (subst (λ xs. Contains xs rank) whole c))),
+    )

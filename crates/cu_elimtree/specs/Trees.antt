@@ -1,16 +1,13 @@
 -- The elimination tree of a chordal graph.
 use Rattle.std.specs.Prelude.{ℕ, zero, suc, List, [], ◌∷◌, Option, Some, None, ◌≡◌, ◌<◌, ◌≤◌, length, slice_get}
 use Rattle.std.specs.List.{Contains}
-use Rattle.cu_chordal.specs.Graphs.{ChordalValue, HasEdge, up_of}
-
--- the lowest higher neighbour of a rank, if it has any
-abbrev pub parent_in : ChordalValue → ℕ → Option ℕ
-parent_in graph rank = slice_get (up_of graph.edges rank) 0
+use Rattle.cu_model.specs.declared.limits.TheConstants.{MAX_NODES}
+use Rattle.cu_chordal.specs.Graphs.{ChordalValue, HasEdge, parent_of}
 
 -- the parent of each rank
 pub record IsTreeOf (graph : ChordalValue) (parents : List (Option ℕ)) : Type 0 where
   pub long : length parents ≡ graph.ranks
-  pub each : (rank : ℕ) → rank < graph.ranks → slice_get parents rank ≡ Some (parent_in graph rank)
+  pub each : (rank : ℕ) → rank < graph.ranks → slice_get parents rank ≡ Some (parent_of graph.edges rank)
 
 abbrev pub flat : Option (Option ℕ) → Option ℕ
 flat None = None
@@ -31,9 +28,13 @@ abbrev pub Rises : List (Option ℕ) → Type 0
 Rises parents = (rank parent : ℕ) → slice_get parents rank ≡ Some (Some parent) → (rank < parent) × (parent < length parents)
 
 pub record IsTree (parents : List (Option ℕ)) : Type 0 where
-  pub few : length parents ≤ 262144
+  pub few : length parents ≤ MAX_NODES
   pub rises : Rises parents
 
 -- every higher neighbour of a rank is one of its ancestors
 abbrev pub HoldsHigherNeighbours : ChordalValue → List (Option ℕ) → Type 0
 HoldsHigherNeighbours graph parents = (rank high : ℕ) → HasEdge graph.edges rank high → Contains (ancestors_of parents rank) high
+
+-- every higher neighbour of an ancestor of a rank is an ancestor of that rank too
+abbrev pub HoldsAncestorNeighbours : ChordalValue → List (Option ℕ) → Type 0
+HoldsAncestorNeighbours graph parents = (rank low high : ℕ) → Contains (ancestors_of parents rank) low → HasEdge graph.edges low high → Contains (ancestors_of parents rank) high

@@ -1,10 +1,11 @@
 //! Parents and ancestors of ranks (Liu: "The role of elimination trees in sparse factorization", 1990).
 
-ghost use Rattle.std.specs.Prelude.{◌≡◌, ◌≤◌, ◌<◌, ℕ, Some, IsTrue, ◌↔◌, IfOk, length, slice_get};
+ghost use Rattle.std.specs.Prelude.{◌≡◌, ◌<◌, ◌↔◌, Some, IsTrue, IfOk, All, length, slice_get};
 ghost use Rattle.std.specs.List.{Contains};
 ghost use Rattle.std.specs.List.Sorted.{IsStrictlyIncreasing};
 ghost use Rattle.cu_elimtree.specs.Ancestors.{ancestors_left};
-ghost use Rattle.cu_elimtree.specs.Trees.{HoldsHigherNeighbours, IsTree, IsTreeOf, ancestors_of};
+ghost use Rattle.cu_elimtree.specs.SweepArcs.{parents_in};
+ghost use Rattle.cu_elimtree.specs.Trees.{HoldsAncestorNeighbours, HoldsHigherNeighbours, IsTree, IsTreeOf, ancestors_of};
 
 use cu_chordal::Chordal;
 use cu_model::NoMemory;
@@ -20,6 +21,7 @@ pub struct Tree {
 
 impl Model for Tree {
     ghost use Rattle.std.specs.Prelude.{ℕ, List, Option};
+    ghost use Rattle.cu_elimtree.specs.SweepArcs.{parents_in};
     ghost use Rattle.cu_elimtree.specs.Trees.{IsTree};
 
     ghost Value = { List (Option ℕ) };
@@ -30,16 +32,20 @@ impl Model for Tree {
 }
 
 impl Tree {
-    /// The elimination tree of a chordal graph. All higher neighbours of a rank are among its ancestors.
+    /// The elimination tree of a chordal graph. All higher neighbours of a rank are among its ancestors, and so are those
+    /// of its ancestors.
     pub fn of(alloc: Global, graph: &Chordal) -> Result<Tree, NoMemory>
         ensures parents { IfOk result (λ tree. IsTreeOf graph.now tree) }
+        ensures named { IfOk result (λ tree. tree ≡ parents_in graph.now) }
         ensures holds { IfOk result (λ tree. HoldsHigherNeighbours graph.now tree) }
+        ensures upwards { IfOk result (λ tree. HoldsAncestorNeighbours graph.now tree) }
+        ensures sound { IfOk result (λ tree. IsTree tree) }
     {
         let parents = parents_of(alloc, graph)?;
         Ok(Tree { parents })
     }
 
-    /// How many ranks there are, at most 262,144.
+    /// How many ranks there are, at most `MAX_NODES` of `cu_model`.
     pub fn ranks(&self) -> u32
         ensures count { result ≡ length self.now }
         ensures sound { IsTree self.now }
@@ -50,16 +56,20 @@ impl Tree {
     /// The lowest higher neighbour of a rank, which is below the number of ranks. None exactly where it has none.
     pub fn parent(&self, rank: u32) -> Option<u32>
         requires { rank < length self.now }
-        ensures { slice_get self.now rank ≡ Some result }
+        ensures there { slice_get self.now rank ≡ Some result }
+        ensures sound { IsTree self.now }
     {
         self.parents[rank as usize]
     }
 
-    /// The rank itself, its parent, the parent's parent and so on: they rise. The rank is below the number of ranks.
+    /// The rank itself, its parent, the parent's parent and so on: they rise, and all are below the number of ranks, as
+    /// the rank is.
     pub fn ancestors(&self, rank: u32) -> Ancestors<'_>
         requires { rank < length self.now }
         ensures left { ancestors_left result ≡ ancestors_of self.now rank }
         ensures rising { IsStrictlyIncreasing (ancestors_of self.now rank) }
+        ensures below { All (λ ancestor. ancestor < length self.now) (ancestors_of self.now rank) }
+        ensures sound { IsTree self.now }
     {
         Ancestors {
             parents: &self.parents,
@@ -71,7 +81,8 @@ impl Tree {
     /// Whether one rank is an ancestor of another. Each is its own. Both are below the number of ranks.
     pub fn is_ancestor(&self, upper: u32, lower: u32) -> bool
         requires { (upper < length self.now) × (lower < length self.now) }
-        ensures { IsTrue result ↔ Contains (ancestors_of self.now lower) upper }
+        ensures told { IsTrue result ↔ Contains (ancestors_of self.now lower) upper }
+        ensures sound { IsTree self.now }
     {
         has(self.ancestors(lower), upper)
     }
@@ -114,6 +125,7 @@ fn parents_of(alloc: Global, graph: &Chordal) -> Result<Vec<Option<u32>>, NoMemo
     ensures parents { IfOk result (λ parents. IsTreeOf graph.now parents.items) }
     ensures sound { IfOk result (λ parents. IsTree parents.items) }
     ensures holds { IfOk result (λ parents. HoldsHigherNeighbours graph.now parents.items) }
+    ensures upwards { IfOk result (λ parents. HoldsAncestorNeighbours graph.now parents.items) }
 {
     let ranks = graph.ranks();
     let mut parents = Vec::with_capacity(alloc, ranks as usize)?;
@@ -123,13 +135,14 @@ fn parents_of(alloc: Global, graph: &Chordal) -> Result<Vec<Option<u32>>, NoMemo
     Ok(parents)
 }
 
-// Whether a rank is among these.
+// Whether a rank is among these, which rise: the first that isn't below the rank tells.
 fn has(ancestors: Ancestors<'_>, rank: u32) -> bool
+    requires { IsStrictlyIncreasing (ancestors_left ancestors) }
     ensures { IsTrue result ↔ Contains (ancestors_left ancestors.entry) rank }
 {
     for ancestor in ancestors {
-        if ancestor == rank {
-            return true;
+        if ancestor >= rank {
+            return ancestor == rank;
         }
     }
     false
