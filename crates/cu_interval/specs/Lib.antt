@@ -1,0 +1,10 @@
+pub mod Low
+pub mod WayLists
+pub mod FirstWays
+pub mod Hierarchies
+pub mod Unpacking
+pub mod Calls
+pub mod Touching
+pub mod Resettling
+pub mod EdgeArcs
+pub mod Steps
