@@ -1,0 +1,160 @@
+-- Comparing a candidate with the old list, stretch by stretch.
+use Rattle.std.proofs.Common.{◌≡◌, ◌≢◌, ◌≤◌, ◌<◌, ◌+◌, ◌∙◌, ℕ, List, [], Some, refl, sym, ap, subst, arith, inl, inr, length, get_or, min}
+use Rattle.std.specs.Prelude.{slice_get}
+use Rattle.std.proofs.lemmas.Bool.{cases_lt}
+use Rattle.std.proofs.lemmas.Option.{get_or_from_slice_get, slice_get_within}
+use Rattle.cu_model.specs.Days.{day}
+use Rattle.cu_arrival.specs.declared.runs.Run.{Run}
+use Rattle.cu_arrival.specs.Runs.{arrival_value}
+use Rattle.cu_arrival.proofs.Tiling.{IsTiled, tiled_none}
+use Rattle.cu_customize.specs.declared.merging.Least.{Least}
+use Rattle.cu_customize.specs.declared.merging.Next.{Next}
+use Rattle.cu_customize.specs.Words.{arrives, IsDayList}
+use Rattle.cu_customize.specs.Least.{Held, held_from, least_arrival}
+use Rattle.cu_customize.specs.Steps.Merging.{least_held, next_held, IsHeld, IsNext, IsMerging, Merges, SaysMerged}
+use Rattle.cu_customize.proofs.DayLists.{item_from, from_in_day, value_in_force}
+use Rattle.cu_customize.proofs.MergeLaws.{old_at, way_beside, read_there}
+use Rattle.cu_customize.proofs.CopyLaws.{next_later, next_there}
+
+-- the run of an index holds at a second
+pub record IsAt (words : List Run) (i t : ℕ) : Type 0 where
+  pub begun : (run : Run) × (slice_get words i ≡ Some run) × (run.from ≤ t)
+  pub lasts : (next : Run) → slice_get words (i + 1) ≡ Some next → t < next.from
+  pub in_day : t ≤ day
+
+module _ (words : List Run) (is : IsDayList words) where
+  -- the first run holds at second 0
+  pub at_start : IsAt words 0 0
+  at_start =
+      let (run, there, from) = item_from (λ (r : Run). r.from) words 0 0 is.starts in
+      record {
+        begun = (run, there, omega (arith, from));
+        lasts = λ next after. let order = next_later words 0 run next is there after in omega (arith, order);
+        in_day = omega arith;
+      }
+
+  -- before the end of the day another run follows
+  pub at_next : (i t : ℕ) → IsAt words i t → t < day → (next : Run) × (slice_get words (i + 1) ≡ Some next) × (t < next.from) × (next.from ≤ day) × (i + 1 < length words)
+  at_next i t at before =
+      let (run, there, from) = at.begun in
+      let (next, after) = next_there words i run is there (omega (arith, from, before)) in
+      let inside = slice_get_within words (i + 1) next after in
+      let last = from_in_day words is (i + 1) run inside in
+      let same = ap (λ (r : Run). r.from) (get_or_from_slice_get words (i + 1) next run after) in
+      (next, after, at.lasts next after, omega (arith, last, same), inside)
+
+  -- at the end of a stretch the run that holds is the next one, or still the same
+  pub at_stepped : (i t end new : ℕ) (next : Run) → IsAt words i t → slice_get words (i + 1) ≡ Some next → t ≤ end → end ≤ next.from → end ≤ day
+      → (next.from ≡ end → new ≡ i + 1) → (next.from ≢ end → new ≡ i) → IsAt words new end
+  at_stepped i t end new next at after later before in_day ended lasts = elim (cases_lt end next.from) [
+    | inl lt ↦
+        let same : new ≡ i = lasts (λ e. absurd (omega (arith, lt, e))) in
+        let (run, there, from) = at.begun in
+        let still : IsAt words i end = record {
+          begun = (run, there, omega (arith, from, later));
+          lasts = λ other follows. let is_next : next ≡ other = cc (after, follows) in subst (λ (r : Run). end < r.from) is_next lt;
+          in_day = in_day;
+        } in
+        subst (λ (k : ℕ). IsAt words k end) (sym same) still
+    | inr ge ↦
+        let here : next.from ≡ end = omega (arith, ge, before) in
+        let same : new ≡ i + 1 = ended here in
+        let moved : IsAt words (i + 1) end = record {
+          begun = (next, after, omega (arith, here));
+          lasts = λ other follows. let order = next_later words (i + 1) next other is after follows in omega (arith, order, here);
+          in_day = in_day;
+        } in
+        subst (λ (k : ℕ). IsAt words k end) (sym same) moved
+  ]
+
+  -- while a run holds it says the value
+  pub at_value : (i t end s : ℕ) (read next : Run) → IsAt words i t → slice_get words i ≡ Some read → slice_get words (i + 1) ≡ Some next → end ≤ next.from → t ≤ s → s < end
+      → arrival_value words s ≡ arrives read.rule s
+  at_value i t end s read next at there after until late early =
+      let (run, here, from) = at.begun in
+      let same : run ≡ read = cc (here, there) in
+      let read_from : read.from ≤ t = subst (λ (r : Run). r.from ≤ t) same from in
+      let is_read : get_or words i read ≡ read = get_or_from_slice_get words i read read there in
+      let is_next = ap (λ (r : Run). r.from) (get_or_from_slice_get words (i + 1) next read after) in
+      let begun = ap (λ (r : Run). r.from) is_read in
+      value_in_force words is i s read (slice_get_within words (i + 1) next after) (omega (arith, begun, read_from, late)) (omega (arith, is_next, until, early)) ∙ ap (λ (r : Run). arrives r.rule s) is_read
+
+-- and in the old list it says the least
+pub at_least : (l : Least) (i t end s : ℕ) (read next : Run) → IsHeld l → IsAt l.words.items i t → slice_get l.words.items i ≡ Some read → slice_get l.words.items (i + 1) ≡ Some next
+    → end ≤ next.from → t ≤ s → s < end → least_arrival (least_held l) s ≡ arrives read.rule s
+at_least l i t end s read next is at there after until late early =
+    let (run, here, from) = at.begun in
+    let same : run ≡ read = cc (here, there) in
+    let read_from : read.from ≤ t = subst (λ (r : Run). r.from ≤ t) same from in
+    let (way, beside) = way_beside l i read is there in
+    let held = old_at l i s read next way is there after beside (omega (arith, read_from, late)) (omega (arith, until, early)) in
+    rw held refl
+
+-- what the comparison knows at a second
+pub record IsComparing (l : Least) (candidate : List Run) (way : ℕ) (n : Next) (index other at : ℕ) : Type 0 where
+  pub run : IsAt candidate index at
+  pub held : IsAt l.words.items other at
+  pub next : IsNext l n
+  pub merging : IsMerging l (arrival_value candidate) way n at
+
+pub comparing_none : (l : Least) (candidate : List Run) (way : ℕ) (n : Next) → IsHeld l → IsDayList candidate → IsNext l n → n.done ≡ 0 → next_held n ≡ []
+    → IsComparing l candidate way n 0 0 0
+comparing_none l candidate way n is day_list next none empty =
+    let says = SaysMerged l (arrival_value candidate) way in
+    let tiled : IsTiled held_from says (next_held n) 0 = subst (λ (hs : List Held). IsTiled held_from says hs 0) (sym empty) (tiled_none held_from says) in
+    record {
+      run = at_start candidate day_list;
+      held = at_start l.words.items is.over_day;
+      next = next;
+      merging = record {
+        order = omega (arith, none);
+        merged = subst (λ (t : ℕ). IsTiled held_from says (next_held n) t) (sym none) tiled;
+        held = λ s late early. absurd (omega (arith, early));
+      };
+    }
+
+module _ (l : Least) (candidate : List Run) (way : ℕ) (n : Next) (index other at end : ℕ) (run run_next held held_next : Run) (is : IsHeld l) (over_day : IsDayList candidate)
+    (comparing : IsComparing l candidate way n index other at) (before : at < day) (is_run : run ≡ get_or candidate index run) (is_run_next : run_next ≡ get_or candidate (index + 1) run_next)
+    (is_held : held ≡ get_or l.words.items other held) (is_held_next : held_next ≡ get_or l.words.items (other + 1) held_next) (is_end : end ≡ min run_next.from held_next.from) where
+  -- another run follows in both lists
+  pub more_runs : (index + 1 < length candidate) × (other + 1 < length l.words.items)
+  more_runs =
+      let (a, there_a, lasts_a, last_a, inside_a) = at_next candidate over_day index at comparing.run before in
+      let (b, there_b, lasts_b, last_b, inside_b) = at_next l.words.items is.over_day other at comparing.held before in
+      (inside_a, inside_b)
+
+  run_there : slice_get candidate index ≡ Some run
+  run_there = let more = more_runs in read_there candidate index run (omega (arith, more.0)) is_run
+
+  run_next_there : slice_get candidate (index + 1) ≡ Some run_next
+  run_next_there = read_there candidate (index + 1) run_next more_runs.0 is_run_next
+
+  held_there : slice_get l.words.items other ≡ Some held
+  held_there = let more = more_runs in read_there l.words.items other held (omega (arith, more.1)) is_held
+
+  held_next_there : slice_get l.words.items (other + 1) ≡ Some held_next
+  held_next_there = read_there l.words.items (other + 1) held_next more_runs.1 is_held_next
+
+  pub stretch_order : (at < end) × (end ≤ day)
+  stretch_order =
+      let a = comparing.run.lasts run_next run_next_there in
+      let b = comparing.held.lasts held_next held_next_there in
+      let last = from_in_day candidate over_day (index + 1) run_next more_runs.0 in
+      let same = ap (λ (r : Run). r.from) is_run_next in
+      (omega (arith, a, b, is_end), omega (arith, last, same, is_end))
+
+  pub stretch_held : (s : ℕ) → at ≤ s → s < end → least_arrival (least_held l) s ≡ arrives held.rule s
+  stretch_held s late early = at_least l other at end s held held_next is comparing.held held_there held_next_there (omega (arith, is_end)) late early
+
+  pub stretch_next : (m : Next) (index_after other_after : ℕ) → IsNext l m → Merges l at end (arrives run.rule) way n m
+      → (run_next.from ≡ end → index_after ≡ index + 1) → (run_next.from ≢ end → index_after ≡ index)
+      → (held_next.from ≡ end → other_after ≡ other + 1) → (held_next.from ≢ end → other_after ≡ other)
+      → IsComparing l candidate way m index_after other_after end
+  stretch_next m index_after other_after next merges ended lasts held_ended held_lasts =
+      let order = stretch_order in
+      record {
+        run = at_stepped candidate over_day index at end index_after run_next comparing.run run_next_there (omega (arith, order.0)) (omega (arith, is_end)) order.1 ended lasts;
+        held = at_stepped l.words.items is.over_day other at end other_after held_next comparing.held held_next_there (omega (arith, order.0)) (omega (arith, is_end)) order.1 held_ended held_lasts;
+        next = next;
+        merging = merges (arrival_value candidate) (λ s late early. at_value candidate over_day index at end s run run_next comparing.run run_there run_next_there (omega (arith, is_end)) late early) comparing.merging;
+      }

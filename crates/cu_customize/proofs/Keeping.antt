@@ -1,0 +1,250 @@
+-- Functions that are kept: they are those of the network and order, and all halves of the next edge are among them.
+use Rattle.std.proofs.Common.{◌≡◌, ◌≢◌, ◌<◌, ◌+◌, ◌*◌, ◌/◌, ◌%◌, ◌∙◌, ◌++◌, ℕ, Bool, true, false, List, [], ◌∷◌, Option, Some, None, refl, sym, ap, subst, arith, inl, inr, length, get_or, ltb, min}
+use Rattle.std.specs.Prelude.{All, slice_get}
+use Rattle.std.specs.Option.{option_map}
+use Rattle.std.proofs.lemmas.Bool.{cases_eq, cases_lt, ltb-true}
+use Rattle.std.proofs.lemmas.List.{get_or_append_left, length_push}
+use Rattle.std.proofs.Math.Seq.{get_or-append_seam}
+use Rattle.std.proofs.lemmas.Option.{slice_get-get_or, get_or_from_slice_get, slice_get_within, slice_get_cases}
+use Rattle.cu_model.specs.Networks.{NetworkValue, IsNetwork}
+use Rattle.cu_model.specs.Orders.{OrderValue, IsOrder}
+use Rattle.cu_model.specs.Days.{day}
+use Rattle.cu_model.specs.Roads.{is_closed_arc}
+use Rattle.cu_model.proofs.DayLaws.{day_parts}
+use Rattle.cu_model.proofs.RoadLaws.{all_at, links_within}
+use Rattle.cu_arrival.specs.declared.runs.Run.{Run}
+use Rattle.cu_arrival.specs.Runs.{IsArrivalFunction, arrival_value}
+use Rattle.cu_arrival.proofs.RunLaws.{arrival_value-repeats}
+use Rattle.cu_chordal.specs.declared.graph.Ends.{Ends}
+use Rattle.cu_chordal.specs.Edges.{IsClosureOf, ListsEdges}
+use Rattle.cu_chordal.specs.Graphs.{ChordalValue, ComesBefore, IsChordal, IsRising}
+use Rattle.cu_chordal.proofs.Members.{all_from_members, place_of}
+use Rattle.cu_interval.specs.declared.ways.Dir.{Dir}
+use Rattle.cu_interval.specs.declared.ways.Dir.TheVariants.{Up, Down}
+use Rattle.cu_interval.specs.declared.ways.Entry.{Entry}
+use Rattle.cu_interval.specs.EdgeArcs.{AreEdgeArcs}
+use Rattle.cu_interval.specs.FirstWays.{IsBuiltList}
+use Rattle.cu_interval.specs.Hierarchies.{end_of, list_number, number_from, start_of}
+use Rattle.cu_interval.specs.Low.{IsLeastLowDrive}
+use Rattle.cu_interval.proofs.Lookups.{number_found}
+use Rattle.cu_customize.specs.Functions.{AreFunctionsOf, IsLowFunction, IsRoadFunction}
+use Rattle.cu_customize.specs.Settling.{IsSettledList, IsValueOf, KnowsHalves}
+use Rattle.cu_customize.specs.Steps.Kept.{IsBuiltTo, kept_state, road_if, value_kept}
+use Rattle.cu_customize.proofs.Lows.{HasLeastBelow, settled_low}
+use Rattle.cu_customize.proofs.LowFunctions.{low_edge, low_edge_back, settled_built}
+use Rattle.cu_customize.proofs.Settles.{setting_at}
+
+-- arrival functions that are the same over the day are the same
+pub same_over_day : (a b : List Run) → IsArrivalFunction a → IsArrivalFunction b → ((t : ℕ) → t < day → arrival_value a t ≡ arrival_value b t) → (t : ℕ) → arrival_value a t ≡ arrival_value b t
+same_over_day a b f g same t =
+    let (k, s, lt, e) = day_parts t in
+    let one = arrival_value-repeats a f k s lt in
+    let two = arrival_value-repeats b g k s lt in
+    let day_same = same s lt in
+    subst (λ (x : ℕ). arrival_value a x ≡ arrival_value b x) (sym e) (omega (arith, one, two, day_same))
+
+road_is : (g : NetworkValue) (a : ℕ) (b : Bool) → is_closed_arc g a ≡ b → IsRoadFunction g a (road_if b g a)
+road_is g a true e = e
+road_is g a false e = (e, λ t. refl)
+
+pub kept_are : (g : NetworkValue) (o : OrderValue) (edges : List Ends) (count : ℕ) (functions : List (Option (List Run))) (lists : List (List Entry)) → IsBuiltTo g o edges count functions lists
+    → AreFunctionsOf g o edges (kept_state g functions)
+kept_are g o edges count functions lists is = record {
+  arcs = refl;
+  roads = λ a lt. road_is g a (is_closed_arc g a) refl;
+  shortcuts = λ edge dir ends at known.
+      let lt : list_number edge dir < length functions = ltb-true (list_number edge dir) (length functions) known in
+      let long = is.functions_long in
+      is.low edge dir ends at (omega (arith, lt, long));
+}
+
+-- an edge with a lower lower end has a lower number
+pub number_below : (edges : List Ends) → IsRising edges → (j k : ℕ) (a b : Ends) → slice_get edges j ≡ Some a → slice_get edges k ≡ Some b → a.low < b.low → j < k
+number_below edges rising j k a b at there lt =
+    elim (cases_lt j k) [
+      | inl less ↦ less
+      | inr more ↦
+          let one : get_or edges j a ≡ a = get_or_from_slice_get edges j a a at in
+          let two : get_or edges k a ≡ b = get_or_from_slice_get edges k b a there in
+          elim (cases_eq j k) [
+            | inl same ↦
+                let equal : a ≡ b = sym one ∙ ap (λ (i : ℕ). get_or edges i a) same ∙ two in
+                let low : a.low ≡ b.low = ap (λ (e : Ends). e.low) equal in
+                absurd (omega (arith, low, lt))
+            | inr apart ↦
+                let before : ComesBefore (get_or edges k a) (get_or edges j a) = rising k j a (omega (arith, more, apart)) (slice_get_within edges j a at) in
+                let is : ComesBefore b a = subst (λ (x : Ends). ComesBefore x a) two (subst (λ (x : Ends). ComesBefore (get_or edges k a) x) one before) in
+                elim is [ inl less ↦ absurd (omega (arith, less, lt)) | inr tie ↦ absurd (let e = tie.0 in omega (arith, e, lt)) ]
+          ]
+    ]
+
+number_in : (edge j : ℕ) (dir other : Dir) → j < edge → list_number j other < list_number edge dir
+number_in edge j Up Up lt = omega (arith, lt)
+number_in edge j Up Down lt = omega (arith, lt)
+number_in edge j Down Up lt = omega (arith, lt)
+number_in edge j Down Down lt = omega (arith, lt)
+
+low_below : (ends : Ends) (dir : Dir) (m : ℕ) → m < start_of ends dir → m < end_of ends dir → m < ends.low
+low_below ends Up m a b = a
+low_below ends Down m a b = b
+
+-- both halves of each lower triangle are kept
+pub kept_halves : (g : NetworkValue) (graph : ChordalValue) → IsChordal graph → (functions : List (Option (List Run))) (edge : ℕ) (dir : Dir) (ends : Ends) → slice_get graph.edges edge ≡ Some ends
+    → length functions ≡ list_number edge dir → KnowsHalves graph.edges (kept_state g functions) (start_of ends dir) (end_of ends dir)
+kept_halves g graph is functions edge dir ends at long m mu mv one two =
+    let known : (other : Dir) (y e : ℕ) → number_from 0 graph.edges m y ≡ Some e → ltb (list_number e other) (length functions) ≡ true = λ other y e found.
+    let (j, same, there) = number_found 0 graph.edges m y e found in
+    let before = number_below graph.edges is.rising j edge (record { low = m; high = y }) ends there at (low_below ends dir m mu mv) in
+    let number = number_in edge e dir other (omega (arith, before, same)) in
+    let inside : list_number e other < length functions = omega (arith, number, long) in
+    grind (arith, inside) in
+    (known Down (start_of ends dir), known Up (end_of ends dir))
+
+-- below the lower end of the next edge there is a least walk wherever there is one
+pub kept_least : (g : NetworkValue) (o : OrderValue) (edges : List Ends) (functions : List (Option (List Run))) (lists : List (List Entry)) (edge : ℕ) (dir : Dir) (ends : Ends) → ListsEdges g o edges
+    → IsBuiltTo g o edges (list_number edge dir) functions lists → slice_get edges edge ≡ Some ends → HasLeastBelow g o ends.low
+kept_least g o edges functions lists edge dir ends listed is at x y t w lt l =
+    elim (cases_lt x y) [
+      | inl less ↦
+          let (j, there) = place_of edges (record { low = x; high = y }) (low_edge g o edges listed x y (w, l) less) in
+          let before = number_below edges listed.sorted j edge (record { low = x; high = y }) ends there at (omega (arith, lt, less)) in
+          least_of (value_kept (slice_get functions (list_number j Up))) (is.low j Up (record { low = x; high = y }) there (number_in edge j dir Up before))
+      | inr more ↦
+          let apart = l.0 in
+          let less : y < x = omega (arith, more, apart) in
+          let (j, there) = place_of edges (record { low = y; high = x }) (low_edge_back g o edges listed x y (w, l) less) in
+          let before = number_below edges listed.sorted j edge (record { low = y; high = x }) ends there at (omega (arith, lt, less)) in
+          least_of (value_kept (slice_get functions (list_number j Down))) (is.low j Down (record { low = y; high = x }) there (number_in edge j dir Down before))
+    ]
+  where
+    least_of : (f : Option (ℕ → ℕ)) → IsLowFunction g o x y f → (a : ℕ) × IsLeastLowDrive g o x y t a
+    least_of None h = absurd (h (w, l))
+    least_of (Some f) h = (f t, h t)
+
+-- each list number is that of an edge and a direction
+pub number_parts : (edges : List Ends) (k : ℕ) → k < 2 * length edges → (edge : ℕ) × (dir : Dir) × (ends : Ends) × (k ≡ list_number edge dir) × (slice_get edges edge ≡ Some ends)
+number_parts edges k h =
+    let edge = k / 2 in
+    elim (slice_get_cases edges edge).1 [
+      | inl (ends, inside, at, same) ↦ elim (cases_eq (k % 2) 0) [
+        | inl even ↦ (edge, Up, ends, omega (arith, even), at)
+        | inr odd ↦ (edge, Down, ends, omega (arith, odd), at)
+      ]
+      | inr past ↦ absurd (let over = past.0 in omega (arith, over, h))
+    ]
+
+-- the roads of each edge are roads
+pub arcs_in : (g : NetworkValue) (o : OrderValue) (edges : List Ends) (lists : List (List ℕ)) → AreEdgeArcs g o edges lists → All (λ (list : List ℕ). All (λ (a : ℕ). a < length g.arcs) list) lists
+arcs_in g o edges lists f k d h =
+    let long = f.long in
+    let (edge, dir, ends, is, at) = number_parts edges k (omega (arith, h, long)) in
+    let there : slice_get lists (list_number edge dir) ≡ Some (get_or lists k d) = subst (λ (n : ℕ). slice_get lists n ≡ Some (get_or lists k d)) is (slice_get-get_or lists k d h) in
+    let from = f.each edge dir ends (get_or lists k d) at there in
+    all_from_members (λ (a : ℕ). a < length g.arcs) (get_or lists k d) (λ a held. let l = (from.exact a).0 held in links_within g a l.0 l.1 l.2)
+
+push_last : {A : Type 0} (xs : List A) (x : A) (n : ℕ) → n ≡ length xs → slice_get (xs ++ x ∷ []) n ≡ Some x
+push_last {A} xs x n is =
+    let size = length_push xs x in
+    let inside : n < length (xs ++ x ∷ []) = omega (arith, size, is) in
+    slice_get-get_or (xs ++ x ∷ []) n x inside ∙ ap Some (subst (λ (i : ℕ). get_or (xs ++ x ∷ []) i x ≡ x) (sym is) (get_or-append_seam xs x [] x))
+
+push_before : {A : Type 0} (xs : List A) (x : A) (n : ℕ) → n < length xs → slice_get (xs ++ x ∷ []) n ≡ slice_get xs n
+push_before {A} xs x n lt =
+    let size = length_push xs x in
+    let inside : n < length (xs ++ x ∷ []) = omega (arith, size, lt) in
+    slice_get-get_or (xs ++ x ∷ []) n x inside ∙ ap Some (get_or_append_left xs (x ∷ []) x n lt) ∙ sym (slice_get-get_or xs n x lt)
+
+same_number : (edge e : ℕ) (dir d : Dir) → list_number e d ≡ list_number edge dir → (edge ≡ e) × (dir ≡ d)
+same_number edge e Up Up h = (omega (arith, h), refl)
+same_number edge e Up Down h = absurd (omega (arith, h))
+same_number edge e Down Up h = absurd (omega (arith, h))
+same_number edge e Down Down h = (omega (arith, h), refl)
+
+-- one list and one function more
+pub built_step : (g : NetworkValue) (o : OrderValue) (edges : List Ends) (functions : List (Option (List Run))) (lists : List (List Entry)) (edge : ℕ) (dir : Dir) (ends : Ends)
+    (function : Option (List Run)) (ways : List Entry) → slice_get edges edge ≡ Some ends → IsBuiltTo g o edges (list_number edge dir) functions lists
+    → IsLowFunction g o (start_of ends dir) (end_of ends dir) (option_map arrival_value function) → IsBuiltList g o (start_of ends dir) (end_of ends dir) ways
+    → IsBuiltTo g o edges (list_number edge dir + 1) (functions ++ function ∷ []) (lists ++ ways ∷ [])
+built_step g o edges functions lists edge dir ends function ways at is low built =
+    let long = is.functions_long in
+    let lists_long = is.lists_long in
+    let size = length_push functions function in
+    let lists_size = length_push lists ways in
+    record {
+      functions_long = omega (arith, size, long);
+      lists_long = omega (arith, lists_size, lists_long);
+      low = λ e d other there lt.
+          elim (cases_lt (list_number e d) (list_number edge dir)) [
+            | inl less ↦
+                subst (λ (x : Option (Option (List Run))). IsLowFunction g o (start_of other d) (end_of other d) (value_kept x))
+                (sym (push_before functions function (list_number e d) (omega (arith, less, long)))) (is.low e d other there less)
+            | inr more ↦
+                let (same, same_dir) = same_number edge e dir d (omega (arith, more, lt)) in
+                let same_ends : ends ≡ other = let here = subst (λ (x : ℕ). slice_get edges x ≡ Some ends) same at in cc (here, there) in
+                let last = push_last functions function (list_number e d) (omega (arith, more, lt, long)) in
+                subst (λ (x : Option (Option (List Run))). IsLowFunction g o (start_of other d) (end_of other d) (value_kept x)) (sym last)
+                (subst (λ (x : Dir). IsLowFunction g o (start_of other x) (end_of other x) (option_map arrival_value function)) same_dir
+                (subst (λ (x : Ends). IsLowFunction g o (start_of x dir) (end_of x dir) (option_map arrival_value function)) same_ends low))
+          ];
+      built = λ e d other entries there lt found.
+          elim (cases_lt (list_number e d) (list_number edge dir)) [
+            | inl less ↦ is.built e d other entries there less (sym (push_before lists ways (list_number e d) (omega (arith, less, lists_long))) ∙ found)
+            | inr more ↦
+                let (same, same_dir) = same_number edge e dir d (omega (arith, more, lt)) in
+                let same_ends : ends ≡ other = let here = subst (λ (x : ℕ). slice_get edges x ≡ Some ends) same at in cc (here, there) in
+                let last = push_last lists ways (list_number e d) (omega (arith, more, lt, lists_long)) in
+                let same_ways : ways ≡ entries = cc (last, found) in
+                subst (λ (x : List Entry). IsBuiltList g o (start_of other d) (end_of other d) x) same_ways
+                (subst (λ (x : Dir). IsBuiltList g o (start_of other x) (end_of other x) ways) same_dir (subst (λ (x : Ends). IsBuiltList g o (start_of x dir) (end_of x dir) ways) same_ends built))
+          ];
+    }
+
+pub nothing_built : (g : NetworkValue) (o : OrderValue) (edges : List Ends) → IsBuiltTo g o edges 0 [] []
+nothing_built g o edges = record {
+  functions_long = refl;
+  lists_long = refl;
+  low = λ e d ends at lt. absurd (omega (arith, lt));
+  built = λ e d ends entries at lt. absurd (omega (arith, lt));
+}
+
+lower_end : (ends : Ends) (dir : Dir) → ends.low < ends.high → (min (start_of ends dir) (end_of ends dir) ≡ ends.low) × (start_of ends dir ≢ end_of ends dir)
+lower_end ends Up lt = (omega (arith, lt), λ e. absurd (omega (arith, lt, e)))
+lower_end ends Down lt = (omega (arith, lt), λ e. absurd (omega (arith, lt, e)))
+
+-- what settling the next list by the functions that are kept gives
+pub next_built : (g : NetworkValue) (o : OrderValue) (graph : ChordalValue) (arcs : List (List ℕ)) (list : List ℕ) (functions : List (Option (List Run))) (lists : List (List Entry)) (edge : ℕ) (dir : Dir) (ends : Ends)
+    (function : Option (List Run)) (ways : List Entry) → IsChordal graph → IsNetwork g → IsOrder o → IsClosureOf g o graph → AreEdgeArcs g o graph.edges arcs
+    → slice_get graph.edges edge ≡ Some ends → slice_get arcs (list_number edge dir) ≡ Some list → IsBuiltTo g o graph.edges (list_number edge dir) functions lists
+    → IsSettledList graph.edges list (kept_state g functions) (start_of ends dir) (end_of ends dir) ways
+    → IsValueOf graph.edges (kept_state g functions) (start_of ends dir) (end_of ends dir) ways function
+    → IsBuiltTo g o graph.edges (list_number edge dir + 1) (functions ++ function ∷ []) (lists ++ ways ∷ [])
+next_built g o graph arcs list functions lists edge dir ends function ways chordal n k closed are at listed is settled value =
+    let state = kept_state g functions in
+    let u = start_of ends dir in
+    let v = end_of ends dir in
+    let range = all_at (λ (e : Ends). (e.low < e.high) × (e.high < graph.ranks)) graph.edges edge ends chordal.in_range at in
+    let (lower, apart) = lower_end ends dir range.0 in
+    let setting = setting_at g o graph edge ends dir arcs list state n k closed are (kept_are g o graph.edges (list_number edge dir) functions lists is) at listed
+    (kept_halves g graph chordal functions edge dir ends at is.functions_long) in
+    let has = subst (λ (m : ℕ). HasLeastBelow g o m) (sym lower) (kept_least g o graph.edges functions lists edge dir ends closed.edges is at) in
+    built_step g o graph.edges functions lists edge dir ends function ways at is (settled_low g o graph.edges list state u v setting apart has ways function settled value)
+    (settled_built g o graph.edges list state u v setting ways settled)
+
+pub edge_there : (edges : List Ends) (edge : ℕ) → edge < length edges → (ends : Ends) × (slice_get edges edge ≡ Some ends)
+edge_there edges edge lt =
+    elim (slice_get_cases edges edge).1 [
+      | inl (ends, inside, at, same) ↦ (ends, at)
+      | inr past ↦ absurd (let over = past.0 in omega (arith, over, lt))
+    ]
+
+pub number_within : (edge count : ℕ) (dir : Dir) → edge < count → list_number edge dir < 2 * count
+number_within edge count Up lt = omega (arith, lt)
+number_within edge count Down lt = omega (arith, lt)
+
+pub list_there : {A : Type 0} (edges : List Ends) (lists : List A) (edge : ℕ) (dir : Dir) → edge < length edges → length lists ≡ 2 * length edges → (list : A) × (slice_get lists (list_number edge dir) ≡ Some list)
+list_there edges lists edge dir lt long =
+    let inside = number_within edge (length edges) dir lt in
+    elim (slice_get_cases lists (list_number edge dir)).1 [
+      | inl (list, within, at, same) ↦ (list, at)
+      | inr past ↦ absurd (let over = past.0 in omega (arith, over, inside, long))
+    ]

@@ -1,0 +1,234 @@
+-- Composing word by word: what a place says, and what a further word adds to what is linked.
+use Rattle.std.proofs.Common.{◌≡◌, ◌≤◌, ◌<◌, ◌+◌, ◌-◌, ◌++◌, ◌∙◌, ℕ, suc, List, [], ◌∷◌, Some, refl, sym, ap, subst, arith, length, get_or, min}
+use Rattle.std.specs.Prelude.{slice_get, All, true, false}
+use Rattle.std.specs.Option.{option_map}
+use Rattle.std.proofs.lemmas.List.{length_push}
+use Rattle.std.proofs.lemmas.Option.{get_or_from_slice_get, slice_get_within, slice_get-get_or}
+use Rattle.cu_model.specs.Days.{day}
+use Rattle.cu_arrival.specs.declared.runs.Run.{Run}
+use Rattle.cu_arrival.specs.declared.runs.RunRule.{RunRule}
+use Rattle.cu_arrival.specs.declared.runs.RunRule.TheVariants.{Shift, Fixed}
+use Rattle.cu_arrival.specs.Runs.{run_at, run_value, rule_value, rule_number, arrival_value}
+use Rattle.cu_arrival.proofs.RunLaws.{value_in_day}
+use Rattle.cu_arrival.proofs.Tiling.{IsTiled, tiled_push, tiled_none}
+use Rattle.cu_customize.specs.declared.linking.Place.{Place}
+use Rattle.cu_customize.specs.Words.{IsDayList, IsFunctionWords, end_run, arrives, after_shift, after_arrival, composed, is_fixed}
+use Rattle.cu_customize.specs.declared.words.TheConstants.{MAX_NUMBER}
+use Rattle.cu_customize.specs.Steps.Linking.{IsPlace, IsSaid, Says, Continues}
+use Rattle.cu_customize.proofs.DayLists.{has_next, two_words, starts_from, next_from, from_in_day, value_after, value_in_force}
+
+-- an item that is there is the same by any other
+pub get_or-same : {A : Type 0} (xs : List A) (i : ℕ) (d e : A) → i < length xs → get_or xs i d ≡ get_or xs i e
+get_or-same xs i d e inside = get_or_from_slice_get xs i (get_or xs i e) d (slice_get-get_or xs i e inside)
+
+-- a place that begins by a second begins by every later one
+pub place_later : (words : List Run) (place : Place) (t s : ℕ) → IsPlace words place t → t ≤ s → IsPlace words place s
+place_later words place t s is h =
+    let (run, there, begun) = is.begun in
+    record { whole = is.whole; begun = (run, there, omega (arith, begun, h)); next = is.next }
+
+-- where the runs of a place stand
+pub record IsSpan (words : List Run) (place : Place) (t : ℕ) (d : Run) : Type 0 where
+  pub inside : place.index + 1 < length words
+  pub begun : place.midnight + (get_or words place.index d).from ≤ t
+  pub end : place.end ≡ place.midnight + (get_or words (place.index + 1) d).from
+
+pub place_span : (words : List Run) (place : Place) (t : ℕ) (d : Run) → IsPlace words place t → IsSpan words place t d
+place_span words place t d is =
+    let (run, there, begun) = is.begun in
+    let (next, after, end) = is.next in
+    record {
+      inside = slice_get_within words (place.index + 1) next after;
+      begun = subst (λ (r : Run). place.midnight + r.from ≤ t) (sym (get_or_from_slice_get words place.index run d there)) begun;
+      end = subst (λ (r : Run). place.end ≡ place.midnight + r.from) (sym (get_or_from_slice_get words (place.index + 1) next d after)) end;
+    }
+
+-- a place begins before it ends
+pub place_end : (words : List Run) (place : Place) (t : ℕ) → IsDayList words → IsPlace words place t → IsPlace words place place.end
+place_end words place t over is =
+    let (run, there, begun) = is.begun in
+    let span = place_span words place t run is in
+    let same = get_or_from_slice_get words place.index run run there in
+    let from : (get_or words place.index run).from ≡ run.from = ap (λ (r : Run). r.from) same in
+    let order = next_from words over place.index run span.inside in
+    record { whole = is.whole; begun = (run, there, omega (arith, span.end, from, order)); next = is.next }
+
+-- what the run of a place says
+pub place_value : (words : List Run) (place : Place) (t0 t seconds : ℕ) (d : Run) → IsDayList words → IsPlace words place t0 → t0 ≤ t + seconds
+    → t + seconds < place.end → arrival_value words (t + seconds) ≡ arrives (after_shift (get_or words place.index d).rule seconds place.midnight) t
+place_value words place t0 t seconds d over is h before =
+    let span = place_span words place t0 d is in
+    value_after words over place.index t seconds place.midnight d is.whole span.inside (omega (arith, span.begun, h)) (omega (arith, span.end, before))
+
+-- a list that says what a first rule and then the second function do, from what it was before `from` to `t`
+abbrev pub Reaches : List Run → (ℕ → ℕ) → ℕ → ℕ → List Run → List Run → ℕ → Type 0
+Reaches second first from until old new t = (f : ℕ → ℕ) → IsSaid f old from
+    → ((s : ℕ) → from ≤ s → s < until → f s ≡ arrival_value second (first s)) → IsSaid f new t
+
+-- a further word after a drive of so many seconds
+pub shift_pushed : (second old xs new : List Run) (place : Place) (seconds from at t until t0 : ℕ) (word read : Run) → IsDayList second → IsPlace second place t0
+    → t0 ≤ at + seconds → at + seconds < place.end → from ≤ at → at < until → t ≡ at
+    → read ≡ get_or second place.index read → word.from ≡ at → word.rule ≡ after_shift read.rule seconds place.midnight → new ≡ xs ++ word ∷ []
+    → Reaches second (arrives (Shift seconds)) from until old xs t
+    → Reaches second (arrives (Shift seconds)) from until old new (min (place.end - seconds) until)
+shift_pushed second old xs new place seconds from at t until t0 word read over is begun before order inside is_at same is_from is_rule is_new reached f said means =
+    let rule : word.rule ≡ after_shift (get_or second place.index read).rule seconds place.midnight = subst (λ (r : Run). word.rule ≡ after_shift r.rule seconds place.midnight) same is_rule in
+    let before_at : IsSaid f xs at = subst (λ (n : ℕ). IsSaid f xs n) is_at (reached f said means) in
+    let longer : IsSaid f (xs ++ word ∷ []) (min (place.end - seconds) until) =
+    tiled_push (λ (run : Run). run.from) (Says f) xs at (min (place.end - seconds) until) word before_at is_from (omega (arith, before, inside))
+    (λ s late early.
+    let value = place_value second place t0 s seconds read over is (omega (arith, begun, late)) (omega (arith, early)) in
+    ap (λ (r : RunRule). arrives r s) rule ∙ sym value ∙ sym (means s (omega (arith, order, late)) (omega (arith, early)))) in
+    subst (λ (ys : List Run). IsSaid f ys (min (place.end - seconds) until)) (sym is_new) longer
+
+arrival_word : (r : RunRule) (arrival midnight s : ℕ) → arrives (after_arrival r arrival midnight) s ≡ arrives (after_shift r 0 midnight) arrival
+arrival_word (Shift d) arrival midnight s = omega arith
+arrival_word (Fixed c) arrival midnight s = omega arith
+
+-- a further word after an arrival at one second
+pub fixed_pushed : (second old new : List Run) (rule : RunRule) (place : Place) (arrival from until : ℕ) (word read : Run) → IsDayList second → IsPlace second place arrival
+    → arrival < place.end → from < until → is_fixed rule ≡ true → arrival ≡ arrives rule from
+    → read ≡ get_or second place.index read → word.from ≡ from → word.rule ≡ after_arrival read.rule arrival place.midnight → new ≡ old ++ word ∷ []
+    → Continues second (arrives rule) from until old new
+fixed_pushed second old new (Shift d) place arrival from until word read over is before order fixed arrives_at same is_from is_rule is_new f said means = absurd (cc fixed)
+fixed_pushed second old new (Fixed c) place arrival from until word read over is before order fixed arrives_at same is_from is_rule is_new f said means =
+    let rule : word.rule ≡ after_arrival (get_or second place.index read).rule arrival place.midnight = subst (λ (r : Run). word.rule ≡ after_arrival r.rule arrival place.midnight) same is_rule in
+    let longer : IsSaid f (old ++ word ∷ []) until =
+    tiled_push (λ (run : Run). run.from) (Says f) old from until word said is_from order
+    (λ s late early.
+    let same : arrival + 0 ≡ arrival = omega arith in
+    let value = place_value second place arrival arrival 0 read over is (omega arith) (omega (arith, before)) in
+    let here = subst (λ (n : ℕ). arrival_value second n ≡ arrives (after_shift (get_or second place.index read).rule 0 place.midnight) arrival) same value in
+    ap (λ (r : RunRule). arrives r s) rule ∙ arrival_word (get_or second place.index read).rule arrival place.midnight s ∙ sym here ∙ ap (arrival_value second) arrives_at ∙ sym (means s late early)) in
+    subst (λ (ys : List Run). IsSaid f ys until) (sym is_new) longer
+
+-- a rule that isn't fixed takes the seconds of its number
+pub shift_arrives : (rule : RunRule) (s : ℕ) → is_fixed rule ≡ false → arrives rule s ≡ s + rule_number rule
+shift_arrives (Shift d) s e = refl
+shift_arrives (Fixed c) s e = absurd (cc e)
+
+pub shift_rule : (rule : RunRule) → is_fixed rule ≡ false → rule ≡ Shift (rule_number rule)
+shift_rule (Shift d) e = refl
+shift_rule (Fixed c) e = absurd (cc e)
+
+-- what a word reads is in its limit
+pub read_limit : (words : List Run) (i : ℕ) (read : Run) → All (λ (run : Run). rule_number run.rule ≤ MAX_NUMBER) words → i < length words
+    → read ≡ get_or words i read → rule_number read.rule ≤ MAX_NUMBER
+read_limit words i read limits inside same = subst (λ (run : Run). rule_number run.rule ≤ MAX_NUMBER) (sym same) (limits i read inside)
+
+-- what the composition has come to at a second: the first function's run of this index begins here, and the second's place holds its arrival
+pub record IsComposing (first second linked : List Run) (reached : Place) (index at : ℕ) : Type 0 where
+  pub inside : index < length first
+  pub from : (d : Run) → (get_or first index d).from ≡ at
+  pub place : IsPlace second reached (arrival_value first at)
+  pub said : IsSaid (composed first second) linked at
+
+module _ (first : List Run) (f : IsFunctionWords first) (index at until : ℕ) (run next : Run) (inside : index + 1 < length first)
+    (is_run : run ≡ get_or first index run) (is_next : next ≡ get_or first (index + 1) next) (from : (d : Run) → (get_or first index d).from ≡ at) (is_until : until ≡ next.from) where
+  next_begins : until ≡ (get_or first (index + 1) run).from
+  next_begins =
+      let other : get_or first (index + 1) run ≡ next = get_or-same first (index + 1) run next inside ∙ sym is_next in
+      is_until ∙ sym (ap (λ (r : Run). r.from) other)
+
+  pub step_order : (at < until) × (until ≤ day)
+  step_order =
+      let order = next_from first f.over_day index run inside in
+      let end = from_in_day first f.over_day (index + 1) run inside in
+      let start = from run in
+      let stop = next_begins in
+      (omega (arith, order, start, stop), omega (arith, end, stop))
+
+  -- the run's arrivals are the function's
+  pub step_value : (s : ℕ) → at ≤ s → s < until → arrival_value first s ≡ arrives run.rule s
+  step_value s late early =
+      let start = from run in
+      let stop = next_begins in
+      value_in_force first f.over_day index s run inside (omega (arith, start, late)) (omega (arith, stop, early)) ∙ ap (λ (r : Run). arrives r.rule s) (sym is_run)
+
+  pub step_preserved : (second old new : List Run) (place last : Place) → IsComposing first second old place index at → IsPlace second last (arrives run.rule (until - 1))
+      → Continues second (arrives run.rule) at until old new → IsComposing first second new last (index + 1) until
+  step_preserved second old new place last composing arrived continued =
+      let order = step_order in
+      let before : arrival_value first (until - 1) ≡ arrives run.rule (until - 1) = step_value (until - 1) (omega (arith, order.0)) (omega (arith, order.0)) in
+      let rise = f.fifo (until - 1) (omega (arith, order.0, order.1)) in
+      let is_until : until - 1 + 1 ≡ until = omega (arith, order.0) in
+      let never_falls = subst (λ (s : ℕ). arrival_value first (until - 1) ≤ arrival_value first s) is_until rise in
+      record {
+        inside = inside;
+        from = λ d. ap (λ (r : Run). r.from) (get_or-same first (index + 1) d run inside) ∙ sym next_begins;
+        place = place_later second last (arrives run.rule (until - 1)) (arrival_value first until) arrived (omega (arith, before, never_falls));
+        said = continued (composed first second) composing.said (λ s late early. ap (arrival_value second) (step_value s late early));
+      }
+
+-- at the end of the day the list is closed by an item that is never in force
+pub tiled_closed : {A : Type 0} (from : A → ℕ) (says : A → ℕ → Type 0) (xs : List A) (x : A) → IsTiled from says xs day → from x ≡ day
+    → IsTiled from (λ y s. s < day → says y s) (xs ++ x ∷ []) (day + 1)
+tiled_closed {A} from says xs x tiled is =
+    let weak : IsTiled from (λ y s. s < day → says y s) xs day = record {
+      starts = tiled.starts;
+      empty = tiled.empty;
+      rises = tiled.rises;
+      below = tiled.below;
+      holds = λ s h. let (y, last, said) = tiled.holds s h in (y, last, λ lt. said);
+    } in
+    tiled_push from (λ y s. s < day → says y s) xs day (day + 1) x weak is (omega arith) (λ s late early lt. absurd (omega (arith, late, lt)))
+
+pub last_pushed : {A : Type 0} (xs : List A) (x : A) → slice_get (xs ++ x ∷ []) (length (xs ++ x ∷ []) - 1) ≡ Some x
+last_pushed [] x = refl
+last_pushed (y ∷ ys) x =
+    let size : length (ys ++ x ∷ []) ≡ length ys + 1 = length_push ys x in
+    let place : length ((y ∷ ys) ++ x ∷ []) - 1 ≡ suc (length (ys ++ x ∷ []) - 1) = omega (arith, size) in
+    subst (λ (i : ℕ). slice_get ((y ∷ ys) ++ x ∷ []) i ≡ Some x) (sym place) (last_pushed ys x)
+
+pub rule_at_once : (r : RunRule) (t : ℕ) → rule_value r 0 t ≡ arrives r t
+rule_at_once (Shift d) t = omega arith
+rule_at_once (Fixed c) t = omega arith
+
+-- runs that say a function over the day, with their end
+pub closed : (f : ℕ → ℕ) (xs : List Run) → IsSaid f xs day → IsDayList (xs ++ end_run ∷ []) × ((t : ℕ) → t < day → arrival_value (xs ++ end_run ∷ []) t ≡ f t)
+closed f xs said =
+    let tiled = tiled_closed (λ (run : Run). run.from) (Says f) xs end_run said refl in (
+      record {
+        starts = tiled.starts (omega arith);
+        rises = tiled.rises;
+        ends = ap (option_map (λ (run : Run). run.from)) (last_pushed xs end_run);
+      },
+      λ t h.
+          let (run, last, says) = tiled.holds t (omega (arith, h)) in
+          let of_run : run_value (run_at (xs ++ end_run ∷ []) t) 0 t ≡ rule_value run.rule 0 t = rw last refl in
+          value_in_day (xs ++ end_run ∷ []) t h ∙ of_run ∙ rule_at_once run.rule t ∙ says h,
+    )
+
+-- before the first run
+pub composing_none : (first second linked : List Run) (place : Place) (read : Run) → IsFunctionWords first → linked ≡ [] → read ≡ get_or first 0 read
+    → IsPlace second place (arrives read.rule 0) → IsComposing first second linked place 0 0
+composing_none first second linked place read f none is_read is_place =
+    let two = two_words first f.over_day in
+    let next = next_from first f.over_day 0 read two in
+    let value : arrival_value first 0 ≡ arrives read.rule 0 =
+    value_in_force first f.over_day 0 0 read two (omega (arith, starts_from first f.over_day read)) (omega (arith, next)) ∙ ap (λ (r : Run). arrives r.rule 0) (sym is_read) in
+    record {
+      inside = omega (arith, two);
+      from = λ d. starts_from first f.over_day d;
+      place = subst (λ (t : ℕ). IsPlace second place t) (sym value) is_place;
+      said = subst (λ (xs : List Run). IsSaid (composed first second) xs 0) (sym none) (tiled_none (λ (run : Run). run.from) (Says (composed first second)));
+    }
+
+-- while the day lasts there is a further run
+pub composing_next : (first second linked : List Run) (place : Place) (index at : ℕ) → IsFunctionWords first → IsComposing first second linked place index at
+    → at < day → index + 1 < length first
+composing_next first second linked place index at f composing before =
+    let d : Run = end_run in
+    has_next first f.over_day index d composing.inside (omega (arith, composing.from d, before))
+
+-- and after it the list is closed
+pub composing_closed : (first second linked new : List Run) (place : Place) (index at : ℕ) (end : Run) → IsFunctionWords first → IsComposing first second linked place index at
+    → day ≤ at → end ≡ end_run → new ≡ linked ++ end ∷ []
+    → IsDayList new × ((t : ℕ) → t < day → arrival_value new t ≡ composed first second t)
+composing_closed first second linked new place index at end f composing late is_end is_new =
+    let d : Run = end_run in
+    let last = from_in_day first f.over_day index d composing.inside in
+    let is_day : at ≡ day = omega (arith, last, late, composing.from d) in
+    let done = closed (composed first second) linked (subst (λ (t : ℕ). IsSaid (composed first second) linked t) is_day composing.said) in
+    let same : new ≡ linked ++ end_run ∷ [] = is_new ∙ ap (λ (x : Run). linked ++ x ∷ []) is_end in
+    subst (λ (xs : List Run). IsDayList xs × ((t : ℕ) → t < day → arrival_value xs t ≡ composed first second t)) (sym same) done

@@ -1,0 +1,91 @@
+-- The value of a settled list is the least arrival over the low walks.
+use Rattle.std.proofs.Common.{◌≡◌, ◌≢◌, ◌<◌, ◌+◌, ◌*◌, ◌∙◌, ◌++◌, ℕ, List, [], ◌∷◌, Option, Some, None, sym, ap, subst, arith, min}
+use Rattle.std.specs.Option.{option_map}
+use Rattle.std.proofs.Math.Nat.{min-eq_left, min-eq_right}
+use Rattle.cu_model.specs.Networks.{NetworkValue, IsNetwork}
+use Rattle.cu_model.specs.Orders.{OrderValue}
+use Rattle.cu_model.specs.Days.{day}
+use Rattle.cu_model.specs.Roads.{drive}
+use Rattle.cu_model.proofs.DayLaws.{day_parts}
+use Rattle.cu_model.proofs.RoadLaws.{drive-append}
+use Rattle.cu_arrival.specs.declared.runs.Run.{Run}
+use Rattle.cu_arrival.specs.Runs.{arrival_value}
+use Rattle.cu_arrival.proofs.RunLaws.{arrival_value-repeats}
+use Rattle.cu_chordal.specs.declared.graph.Ends.{Ends}
+use Rattle.cu_interval.specs.declared.ways.Entry.{Entry}
+use Rattle.cu_interval.specs.declared.ways.Way.{Way}
+use Rattle.cu_interval.specs.declared.ways.Way.TheVariants.{Road, Via}
+use Rattle.cu_interval.specs.FirstWays.{Arrives, IsBuiltList, IsCandidate, IsFirstWay}
+use Rattle.cu_interval.specs.Low.{HasLowWalk, IsLeastLowDrive, IsLowWalk, WalkBelow}
+use Rattle.cu_interval.specs.WayLists.{way_in}
+use Rattle.cu_interval.proofs.BuiltWalks.{least_unique}
+use Rattle.cu_interval.proofs.Candidates.{candidate_below}
+use Rattle.cu_interval.proofs.Days.{least-days}
+use Rattle.cu_interval.proofs.Middles.{first_least}
+use Rattle.cu_interval.proofs.Unpacked.{way_there}
+use Rattle.cu_interval.proofs.Walks.{below-append, below-more}
+use Rattle.cu_customize.specs.Functions.{FunctionsState, IsLowFunction}
+use Rattle.cu_customize.specs.Settling.{ArrivesBy, IsSettledList, IsValueOf}
+use Rattle.cu_customize.proofs.LowFunctions.{IsSetting, settled_built, value_there}
+
+-- wherever a low walk joins two ranks of which one is below this, there is a least one
+abbrev pub HasLeastBelow : NetworkValue → OrderValue → ℕ → Type 0
+HasLeastBelow g o m = (x y t : ℕ) (w : List ℕ) → min x y < m → IsLowWalk g o x w y → (a : ℕ) × IsLeastLowDrive g o x y t a
+
+-- a way arrives at one second
+arrives_once : (g : NetworkValue) (o : OrderValue) (u v t : ℕ) (way : Way) (a b : ℕ) → Arrives g o u v t way a → Arrives g o u v t way b → a ≡ b
+arrives_once g o u v t (Road r) a b p q = sym p ∙ q
+arrives_once g o u v t (Via m) a b p q =
+    let one : p.0 ≡ q.0 = least_unique g o u m t p.0 q.0 p.1 q.1 in
+    least_unique g o m v q.0 a b (subst (λ (x : ℕ). IsLeastLowDrive g o m v x a) one p.2) q.2
+
+-- a candidate's arrival is that of a low walk
+candidate_walk : (g : NetworkValue) (o : OrderValue) (u v t : ℕ) (way : Way) (a : ℕ) → u ≢ v → IsCandidate g o u v way → Arrives g o u v t way a → (w : List ℕ) × IsLowWalk g o u w v × (drive g w t ≡ a)
+candidate_walk g o u v t (Road r) a apart leads arrives = (r ∷ [], (apart, leads), arrives)
+candidate_walk g o u v t (Via m) a apart (mu, mv, one, two) (between, first, second) =
+    let (w1, l1, e1) = first.reached in
+    let (w2, l2, e2) = second.reached in
+    let low_u : min u m ≡ m = min-eq_right (omega (arith, mu)) in
+    let low_v : min m v ≡ m = min-eq_left (omega (arith, mv)) in
+    let below : m < min u v = omega (arith, mu, mv) in
+    let to = below-more g o m (min u v) u w1 m (omega (arith, below)) (subst (λ (k : ℕ). WalkBelow g o k u w1 m) low_u l1.1) in
+    let on = below-more g o m (min u v) m w2 v (omega (arith, below)) (subst (λ (k : ℕ). WalkBelow g o k m w2 v) low_v l2.1) in (
+      w1 ++ w2,
+      (apart, below-append g o (min u v) u m w1 w2 v below to on),
+      drive-append g w1 w2 t ∙ ap (drive g w2) e1 ∙ e2,
+    )
+
+-- where a low walk leads, the built list has a way
+pub built_some : (g : NetworkValue) (o : OrderValue) → IsNetwork g → (u v : ℕ) → HasLeastBelow g o (min u v) → (entries : List Entry) → IsBuiltList g o u v entries → HasLowWalk g o u v → entries ≢ []
+built_some g o n u v has entries built (w, l) empty =
+    let c = candidate_below g o n u v has (min u v) (omega arith) (omega arith) w 0 l.1 in
+    built.none empty c.way c.candidate
+
+module _ (g : NetworkValue) (o : OrderValue) (edges : List Ends) (arcs : List ℕ) (f : FunctionsState) (u v : ℕ) (s : IsSetting g o edges arcs f u v) where
+  -- over the day
+  settled_in_day : u ≢ v → HasLeastBelow g o (min u v) → (entries : List Entry) (runs : List Run) → IsSettledList edges arcs f u v entries → entries ≢ []
+      → ((t : ℕ) (way : Way) → t < day → way_in entries t ≡ Some way → ArrivesBy edges f u v t way (arrival_value runs t))
+      → (t : ℕ) → t < day → IsLeastLowDrive g o u v t (arrival_value runs t)
+  settled_in_day apart has entries runs settled some value t lt =
+      let (way, e) = way_there entries settled.spelled some t in
+      let built = settled_built g o edges arcs f u v s entries settled in
+      let first : IsFirstWay g o u v t way = built.first t way lt e in
+      let arrives = value_there g o edges arcs f u v s t (arrival_value runs t) way lt first.candidate (value t way lt e) in
+      let same : first.arrival ≡ arrival_value runs t = arrives_once g o u v t way first.arrival (arrival_value runs t) first.arrives arrives in
+      record {
+        reached = candidate_walk g o u v t way (arrival_value runs t) apart first.candidate arrives;
+        least = λ w l. let p = first_least g o s.network u v t way has first w l in omega (arith, p, same);
+      }
+
+  -- at every second
+  pub settled_low : u ≢ v → HasLeastBelow g o (min u v) → (entries : List Entry) (function : Option (List Run)) → IsSettledList edges arcs f u v entries → IsValueOf edges f u v entries function
+      → IsLowFunction g o u v (option_map arrival_value function)
+  settled_low apart has entries None settled value =
+      λ walk. built_some g o s.network u v has entries (settled_built g o edges arcs f u v s entries settled) walk value
+  settled_low apart has entries (Some runs) settled value =
+      λ t.
+      let (k, r, lt, e) = day_parts t in
+      let here = settled_in_day apart has entries runs settled value.0 value.2 r lt in
+      let later = least-days g o s.network u v k r (arrival_value runs r) here in
+      let same = arrival_value-repeats runs value.1 k r lt in
+      subst (λ (x : ℕ). IsLeastLowDrive g o u v x (arrival_value runs x)) (sym e) (subst (λ (a : ℕ). IsLeastLowDrive g o u v (k * day + r) a) (sym same) later)

@@ -1,0 +1,128 @@
+-- The least and the greatest travel time of a function, run by run.
+use Rattle.std.proofs.Common.{◌≡◌, ◌≤◌, ◌<◌, ◌+◌, ◌-◌, ◌∙◌, ℕ, List, sym, ap, arith, inl, inr, length, get_or, min, max}
+use Rattle.std.proofs.lemmas.Bool.{cases_lt}
+use Rattle.cu_model.specs.Days.{day, IsOnward}
+use Rattle.cu_arrival.specs.declared.runs.Run.{Run}
+use Rattle.cu_arrival.specs.declared.runs.RunRule.{RunRule}
+use Rattle.cu_arrival.specs.declared.runs.RunRule.TheVariants.{Shift, Fixed}
+use Rattle.cu_arrival.specs.Runs.{arrival_value}
+use Rattle.cu_customize.specs.Words.{arrives, IsDayList, end_run}
+use Rattle.cu_customize.proofs.DayLists.{next_from, from_in_day, starts_from, two_words, has_next, value_in_force}
+use Rattle.cu_customize.proofs.LinkLaws.{get_or-same}
+
+-- the second from which the run of an index holds
+abbrev pub begin_of : List Run → ℕ → ℕ
+begin_of words i = (get_or words i end_run).from
+
+-- a travel time that is met at some second of the day, and is the least, or the greatest, of all before a second
+pub record IsLeastBefore (f : ℕ → ℕ) (least t : ℕ) : Type 0 where
+  pub below : (s : ℕ) → s < t → s + least ≤ f s
+  pub taken : (s : ℕ) × (s < day) × (f s ≡ s + least)
+
+pub record IsMostBefore (f : ℕ → ℕ) (most t : ℕ) : Type 0 where
+  pub above : (s : ℕ) → s < t → f s ≤ s + most
+  pub taken : (s : ℕ) × (s < day) × (f s ≡ s + most)
+
+travel_least : (r : RunRule) (t last : ℕ) → t ≤ last → last ≤ arrives r last → t + (arrives r last - last) ≤ arrives r t
+travel_least (Shift d) t last h o = omega (arith, h)
+travel_least (Fixed c) t last h o = omega (arith, h, o)
+
+travel_most : (r : RunRule) (from t : ℕ) → from ≤ t → from ≤ arrives r from → arrives r t ≤ t + (arrives r from - from)
+travel_most (Shift d) from t h o = omega (arith, h)
+travel_most (Fixed c) from t h o = omega (arith, h, o)
+
+module _ (words : List Run) (is : IsDayList words) where
+  pub begin_start : begin_of words 0 ≡ 0
+  begin_start = starts_from words is end_run
+
+  pub begin_end : (i : ℕ) → i + 1 ≡ length words → begin_of words i ≡ day
+  begin_end i e =
+      let inside : i < length words = omega (arith, e) in
+      let until = from_in_day words is i end_run inside in
+      elim (cases_lt (begin_of words i) day) [
+        | inl lt ↦ let more = has_next words is i end_run inside lt in absurd (omega (arith, more, e))
+        | inr ge ↦ omega (arith, until, ge)
+      ]
+
+  -- the run of an index, where another follows it
+  pub begin_next : (i : ℕ) → i + 1 < length words → (begin_of words i < begin_of words (i + 1)) × (begin_of words (i + 1) ≤ day)
+  begin_next i inside = (next_from words is i end_run inside, from_in_day words is (i + 1) end_run inside)
+
+  pub begin_read : (i : ℕ) (read : Run) → i < length words → read ≡ get_or words i read → begin_of words i ≡ read.from
+  begin_read i read inside same = ap (λ (r : Run). r.from) (get_or-same words i end_run read inside ∙ sym same)
+
+  pub begin_value : (i s : ℕ) (read : Run) → i + 1 < length words → read ≡ get_or words i read → begin_of words i ≤ s → s < begin_of words (i + 1) → arrival_value words s ≡ arrives read.rule s
+  begin_value i s read inside same late early =
+      value_in_force words is i s end_run inside late early ∙ ap (λ (r : Run). arrives r.rule s) (get_or-same words i end_run read (omega (arith, inside)) ∙ sym same)
+
+module _ (words : List Run) (is : IsDayList words) (onward : IsOnward (arrival_value words)) where
+  -- the travel time of second 0
+  first_taken : (read : Run) → read ≡ get_or words 0 read → (s : ℕ) × (s < day) × (arrival_value words s ≡ s + arrives read.rule 0)
+  first_taken read same =
+      let two = two_words words is in
+      let start = begin_start words is in
+      let order = begin_next words is 0 two in
+      let value = begin_value words is 0 0 read two same (omega (arith, start)) (omega (arith, order.0)) in
+      (0, omega arith, omega (arith, value))
+
+  pub least_first : (read : Run) → read ≡ get_or words 0 read → IsLeastBefore (arrival_value words) (arrives read.rule 0) (begin_of words 0)
+  least_first read same = let start = begin_start words is in record { below = λ s h. absurd (omega (arith, h, start)); taken = first_taken read same }
+
+  pub most_first : (read : Run) → read ≡ get_or words 0 read → IsMostBefore (arrival_value words) (arrives read.rule 0) (begin_of words 0)
+  most_first read same = let start = begin_start words is in record { above = λ s h. absurd (omega (arith, h, start)); taken = first_taken read same }
+
+  -- no arrival of a run is before its departure
+  pub run_onward : (i s : ℕ) (read : Run) → i + 1 < length words → read ≡ get_or words i read → begin_of words i ≤ s → s < begin_of words (i + 1) → s ≤ arrives read.rule s
+  run_onward i s read inside same late early =
+      let value = begin_value words is i s read inside same late early in
+      let end = (begin_next words is i inside).1 in
+      let after = onward s (omega (arith, early, end)) in
+      omega (arith, value, after)
+
+  -- with the run of an index, whose least travel time is that of its last second
+  pub least_more : (i least : ℕ) (read next : Run) → i + 1 < length words → read ≡ get_or words i read → next ≡ get_or words (i + 1) next
+      → IsLeastBefore (arrival_value words) least (begin_of words i)
+      → IsLeastBefore (arrival_value words) (min least (arrives read.rule (next.from - 1) - (next.from - 1))) (begin_of words (i + 1))
+  least_more i least read next inside same is_next before =
+      let last = next.from - 1 in
+      let until = begin_read words is (i + 1) next inside is_next in
+      let order = begin_next words is i inside in
+      let value = begin_value words is i last read inside same (omega (arith, until, order.0)) (omega (arith, until, order.0)) in
+      let after = run_onward i last read inside same (omega (arith, until, order.0)) (omega (arith, until, order.0)) in
+      let (t, in_day, met) = before.taken in
+      record {
+        below = λ s h. elim (cases_lt s (begin_of words i)) [
+          | inl lt ↦ let old = before.below s lt in omega (arith, old)
+          | inr ge ↦
+              let here = begin_value words is i s read inside same ge h in
+              let least_here = travel_least read.rule s last (omega (arith, until, h)) after in
+              omega (arith, here, least_here)
+        ];
+        taken = elim (cases_lt least (arrives read.rule last - last)) [
+          | inl lt ↦ (t, in_day, omega (arith, met, lt))
+          | inr ge ↦ (last, omega (arith, until, order.0, order.1), omega (arith, value, after, ge))
+        ];
+      }
+
+  -- with the run of an index, whose greatest travel time is that of its first second
+  pub most_more : (i most : ℕ) (read : Run) → i + 1 < length words → read ≡ get_or words i read → IsMostBefore (arrival_value words) most (begin_of words i)
+      → IsMostBefore (arrival_value words) (max most (arrives read.rule read.from - read.from)) (begin_of words (i + 1))
+  most_more i most read inside same before =
+      let begins = begin_read words is i read (omega (arith, inside)) same in
+      let order = begin_next words is i inside in
+      let value = begin_value words is i read.from read inside same (omega (arith, begins)) (omega (arith, begins, order.0)) in
+      let after = run_onward i read.from read inside same (omega (arith, begins)) (omega (arith, begins, order.0)) in
+      let (t, in_day, met) = before.taken in
+      record {
+        above = λ s h. elim (cases_lt s (begin_of words i)) [
+          | inl lt ↦ let old = before.above s lt in omega (arith, old)
+          | inr ge ↦
+              let here = begin_value words is i s read inside same ge h in
+              let most_here = travel_most read.rule read.from s (omega (arith, begins, ge)) after in
+              omega (arith, here, most_here)
+        ];
+        taken = elim (cases_lt (arrives read.rule read.from - read.from) most) [
+          | inl lt ↦ (t, in_day, omega (arith, met, lt))
+          | inr ge ↦ (read.from, omega (arith, begins, order.0, order.1), omega (arith, value, after, ge))
+        ];
+      }

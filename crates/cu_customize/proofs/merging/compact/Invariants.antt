@@ -1,0 +1,13 @@
+use Rattle.std.proofs.Common.{◌<◌, length}
+use Rattle.cu_arrival.specs.declared.runs.Run.{Run}
+use Rattle.cu_arrival.specs.Runs.{arrival_value}
+use Rattle.cu_arrival.proofs.Built.{IsGrown}
+use Rattle.cu_customize.proofs.ReadLaws.{SaysRule}
+use Rattle.cu_customize.proofs.TravelLaws.{begin_of}
+use Rattle.cu_customize.proofs.merging.compact.Given as goal
+
+abbrev pub invariant-runs : goal.invariant-runs
+invariant-runs l = record {
+  inside : l.index < length l.words;
+  grown : IsGrown (λ (r : Run). r.from) (λ (r : Run). r.rule) (SaysRule (arrival_value l.words)) l.list.items (begin_of l.words l.index);
+}

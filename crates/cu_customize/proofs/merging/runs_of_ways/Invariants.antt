@@ -1,0 +1,13 @@
+use Rattle.std.proofs.Common.{◌<◌, length}
+use Rattle.cu_arrival.proofs.Built.{IsGrown}
+use Rattle.cu_customize.specs.declared.merging.WayRun.{WayRun}
+use Rattle.cu_customize.specs.Steps.Merging.{least_held}
+use Rattle.cu_customize.proofs.ReadLaws.{SaysWay}
+use Rattle.cu_customize.proofs.TravelLaws.{begin_of}
+use Rattle.cu_customize.proofs.merging.runs_of_ways.Given as goal
+
+abbrev pub invariant-runs : goal.invariant-runs
+invariant-runs l = record {
+  inside : l.index < length l.least.words.items;
+  grown : IsGrown (λ (r : WayRun). r.from) (λ (r : WayRun). r.way) (SaysWay (least_held l.least)) l.runs.items (begin_of l.least.words.items l.index);
+}

@@ -1,0 +1,5 @@
+pub mod Functions
+pub mod Settling
+pub mod Steps
+pub mod Words
+pub mod Least

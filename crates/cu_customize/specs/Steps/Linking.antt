@@ -1,0 +1,32 @@
+-- Composing two functions: the run of the second that is in force where the first arrives, and what is linked so far.
+use Rattle.std.specs.Prelude.{ℕ, List, ◌≡◌, ◌≤◌, ◌<◌, ◌+◌, ◌%◌, slice_get, Some}
+use Rattle.cu_model.specs.Days.{day}
+use Rattle.cu_arrival.specs.declared.runs.Run.{Run}
+use Rattle.cu_arrival.specs.Runs.{arrival_value}
+use Rattle.cu_arrival.proofs.Tiling.{IsTiled}
+use Rattle.cu_customize.specs.declared.linking.Place.{Place}
+use Rattle.cu_customize.specs.Words.{arrives}
+
+-- the run of this index holds from `t` or an earlier second until the place's end
+pub record IsPlace (words : List Run) (place : Place) (t : ℕ) : Type 0 where
+  pub whole : place.midnight % day ≡ 0
+  pub begun : (run : Run) × (slice_get words place.index ≡ Some run)
+      × (place.midnight + run.from ≤ t)
+  pub next : (run : Run) × (slice_get words (place.index + 1) ≡ Some run)
+      × (place.end ≡ place.midnight + run.from)
+
+-- a run that arrives when a function does, leaving at this second
+abbrev pub Says : (ℕ → ℕ) → Run → ℕ → Type 0
+Says f run s = arrives run.rule s ≡ f s
+
+-- runs that say a function at all seconds before this one
+abbrev pub IsSaid : (ℕ → ℕ) → List Run → ℕ → Type 0
+IsSaid f runs t = IsTiled (λ (run : Run). run.from) (Says f) runs t
+
+-- runs that say a function before `from` are continued by such as say it before `until`, where from
+-- `from` on it is what the second function makes of the first rule's arrivals
+abbrev pub Continues : List Run → (ℕ → ℕ) → ℕ → ℕ → List Run → List Run → Type 0
+Continues second first from until old new =
+    (f : ℕ → ℕ) → IsSaid f old from
+    → ((s : ℕ) → from ≤ s → s < until → f s ≡ arrival_value second (first s))
+    → IsSaid f new until

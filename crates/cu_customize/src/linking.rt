@@ -1,0 +1,166 @@
+//! The composition of two functions over the day: along a first one and, from where it arrives, along a second. It is the
+//! operation that time-dependent contraction hierarchies call link, here word by word into a list that is used again.
+
+ghost use Rattle.std.specs.Prelude.{◌≡◌, ◌≤◌, ◌<◌, ◌+◌, ◌-◌, ◌^◌, ◌%◌, ℕ, IfOk, Some, All, length, slice_get};
+ghost use Rattle.cu_model.specs.declared.limits.TheConstants.{DAY};
+ghost use Rattle.cu_arrival.specs.declared.runs.Run.{Run};
+ghost use Rattle.cu_arrival.specs.declared.runs.RunRule.TheVariants.{Shift};
+ghost use Rattle.cu_arrival.specs.Runs.{arrival_value, rule_number};
+ghost use Rattle.cu_customize.specs.Words.{IsDayList, IsFunctionWords, arrives, composed};
+ghost use Rattle.cu_customize.specs.Steps.Linking.{IsPlace, Continues};
+
+use crate::words::{MAX_NUMBER, Word, index_at};
+use cu_model::{DAY, NoMemory};
+
+// The seconds of a day, as a word has them.
+const END: u64 = DAY as u64;
+
+// A run of the second function, on the day that begins at `midnight`, until the absolute second `end`.
+#[derive(Clone, Copy)]
+struct Place {
+    index: usize,
+    midnight: u64,
+    end: u64,
+}
+
+/// The composition over the day, written over what `linked` holds: at each second the second function's arrival, leaving
+/// where the first one arrives. The work is linear in the words of both. After a refusal for want of memory `linked` may
+/// hold anything.
+pub fn link(first: &[Word], second: &[Word], linked: &mut Vec<Word>) -> Result<(), NoMemory>
+    requires first { IsFunctionWords first.now }
+    requires second { IsFunctionWords second.now }
+    ensures over_day { IfOk result (λ _. IsDayList linked.new.items) }
+    ensures value { IfOk result (λ _. (t : ℕ) → t < DAY →
+        arrival_value linked.new.items t ≡ composed first.now second.now t) }
+{
+    linked.clear();
+    let mut place = place_at(second, first[0].arrives(0));
+    let mut index = 0;
+    let mut at = 0;
+    'day: while at < END {
+        let run = first[index];
+        let until = first[index + 1].from();
+        place = link_run(second, place, run, at, until, linked)?;
+        at = until;
+        index += 1;
+    }
+    linked.push(Word::end())?;
+    Ok(())
+}
+
+// The place of an absolute second.
+fn place_at(second: &[Word], time: u64) -> Place
+    requires over_day { IsDayList second.now }
+    requires time { time ≤ 2 ^ 46 }
+    ensures { IsPlace second.now result time }
+{
+    let midnight = time / END * END;
+    let index = index_at(second, time - midnight);
+    Place {
+        index,
+        midnight,
+        end: midnight + second[index + 1].from(),
+    }
+}
+
+// The place that begins where one ends: the next run's, or the first one's of the next day.
+#[inline(always)]
+fn following(second: &[Word], place: Place) -> Place
+    requires over_day { IsDayList second.now }
+    requires place { IsPlace second.now place place.end }
+    requires time { place.end ≤ 2 ^ 62 }
+    ensures place { IsPlace second.now result place.end }
+    ensures later { place.end < result.end }
+{
+    let next = place.index + 1;
+    if next + 1 < second.len() {
+        Place {
+            index: next,
+            midnight: place.midnight,
+            end: place.midnight + second[next + 1].from(),
+        }
+    } else {
+        Place {
+            index: 0,
+            midnight: place.midnight + END,
+            end: place.midnight + END + second[1].from(),
+        }
+    }
+}
+
+// The place of an absolute second, from one that begins no later.
+#[inline(always)]
+fn reach(second: &[Word], from: Place, time: u64) -> Place
+    requires over_day { IsDayList second.now }
+    requires place { IsPlace second.now from time }
+    requires time { time ≤ 2 ^ 46 }
+    ensures place { IsPlace second.now result time }
+    ensures holds { time < result.end }
+{
+    let mut place = from;
+    while place.end <= time {
+        place = following(second, place);
+    }
+    place
+}
+
+// Links one run of the first function, which holds from `at` until `until`, and gives the place of its last arrival.
+#[inline(always)]
+fn link_run(
+    second: &[Word],
+    place: Place,
+    run: Word,
+    at: u64,
+    until: u64,
+    linked: &mut Vec<Word>,
+) -> Result<Place, NoMemory>
+    requires over_day { IsDayList second.now }
+    requires limits { All (λ (word : Run). rule_number word.rule ≤ MAX_NUMBER) second.now }
+    requires limit { rule_number run.rule ≤ MAX_NUMBER }
+    requires some { at < until }
+    requires in_day { until ≤ DAY }
+    requires place { IsPlace second.now place (arrives run.rule at) }
+    ensures place { IfOk result (λ last. IsPlace second.now last (arrives run.rule (until - 1))) }
+    ensures linked { IfOk result (λ _.
+        Continues second.now (arrives run.rule) at until linked.old.items linked.new.items) }
+{
+    let arrival = run.arrives(at);
+    let place = reach(second, place, arrival);
+    if run.is_fixed() {
+        let word = second[place.index].after_fixed(arrival, place.midnight, at);
+        linked.push(word)?;
+        return Ok(place);
+    }
+    link_shift(second, place, run.number(), at, until, linked)
+}
+
+// The same for a run that takes so many seconds, from the place in force at its first arrival.
+fn link_shift(
+    second: &[Word],
+    first_place: Place,
+    seconds: u64,
+    from: u64,
+    until: u64,
+    linked: &mut Vec<Word>,
+) -> Result<Place, NoMemory>
+    requires over_day { IsDayList second.now }
+    requires limits { All (λ (word : Run). rule_number word.rule ≤ MAX_NUMBER) second.now }
+    requires limit { seconds ≤ MAX_NUMBER }
+    requires some { from < until }
+    requires in_day { until ≤ DAY }
+    requires place { IsPlace second.now first_place (from + seconds) }
+    requires holds { from + seconds < first_place.end }
+    ensures place { IfOk result (λ last. IsPlace second.now last (until - 1 + seconds)) }
+    ensures linked { IfOk result (λ _.
+        Continues second.now (arrives (Shift seconds)) from until
+        linked.old.items linked.new.items) }
+{
+    let mut place = first_place;
+    linked.push(second[place.index].after(seconds, place.midnight, from))?;
+    'places: while place.end - seconds < until {
+        let at = place.end - seconds;
+        place = following(second, place);
+        linked.push(second[place.index].after(seconds, place.midnight, at))?;
+    }
+    Ok(place)
+}

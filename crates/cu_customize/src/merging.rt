@@ -1,0 +1,509 @@
+//! The least of several candidates at each second of a day, and which of them it is. It is the operation that time-dependent
+//! contraction hierarchies call merge, here of compositions, one candidate after the other.
+
+ghost use Rattle.std.specs.Prelude.{◌≡◌, ◌≢◌, ◌≤◌, ◌<◌, ◌+◌, ◌-◌, ◌^◌, ◌↔◌, ℕ, [], Some, IfOk, OnErr, IsTrue, All, min, length, slice_get};
+ghost use Rattle.std.specs.List.{AllAdjacentBelow};
+ghost use Rattle.cu_model.specs.declared.limits.TheConstants.{DAY};
+ghost use Rattle.cu_arrival.specs.declared.runs.Run.{Run};
+ghost use Rattle.cu_arrival.specs.Runs.{arrival_value, rule_number};
+ghost use Rattle.cu_arrival.specs.Steps.Pushes.{IsPushed, last_says};
+ghost use Rattle.cu_customize.specs.Words.{IsCompactDay, IsDayList, IsFunctionWords, arrives, composed, end_run, is_fixed};
+ghost use Rattle.cu_customize.specs.Least.{KeepsDayOrder, IsWayRuns, least_arrival, least_way, way_with};
+ghost use Rattle.cu_customize.specs.Steps.Merging.{IsHeld, IsLeast, IsNext, IsMerging, IsMerged, IsBefore, CopiesBehind, Merges, Puts, least_held, next_held};
+
+use crate::linking::link;
+use crate::words::{MAX_NUMBER, Word};
+use cu_model::{DAY, NoMemory};
+use std::alloc::Global;
+use std::marker::Model;
+use std::mem;
+
+/// The number of no candidate.
+pub const NOBODY: u32 = u32::MAX;
+
+/// Later than any arrival of a candidate.
+pub const MOST: u64 = 70_368_744_177_663;
+
+// The seconds of a day, as a word has them.
+const END: u64 = DAY as u64;
+
+/// The number of a candidate, and the second of the day, 0 to 86,399, from which it is the least.
+#[derive(Clone, Copy, Debug, PartialEq, Eq)]
+pub struct WayRun {
+    pub from: u32,
+    pub way: u32,
+}
+
+// The least arrivals of the candidates so far, and beside each run which of them it is: at each second the first of the
+// least. Both lists have one entry more, which ends them.
+#[derive(Debug, Drop)]
+struct Least {
+    words: Vec<Word>,
+    ways: Vec<u32>,
+}
+
+// The same with one candidate more, as far as it is known: at all seconds below `done`. The run of the old list at `index`
+// begins no later than `done`.
+#[derive(Debug, Drop)]
+struct Next {
+    words: Vec<Word>,
+    ways: Vec<u32>,
+    index: usize,
+    done: u64,
+}
+
+/// What merges candidates, with its room. Contracts see it as the runs of the least arrivals so far, each beside the number
+/// of its candidate.
+#[derive(Debug, Drop)]
+pub struct Merger {
+    least: Least,
+    next: Next,
+    linked: Vec<Word>,
+}
+
+impl Model for Merger {
+    ghost use Rattle.std.specs.Prelude.{List};
+    ghost use Rattle.cu_customize.specs.Least.{Held};
+    ghost use Rattle.cu_customize.specs.Steps.Merging.{IsLeast, least_held};
+
+    ghost Value = { List Held };
+
+    ghost view = { λ merger. least_held merger.least };
+
+    ghost invariant = { λ merger. IsLeast merger.least };
+}
+
+impl Next {
+    // Adds a run of a candidate, unless the last run says the same.
+    fn put(&mut self, word: Word, way: u32) -> Result<(), NoMemory>
+        requires even { length self.old.ways.items ≡ length self.old.words.items }
+        ensures even { IfOk result (λ _. length self.new.ways.items ≡ length self.new.words.items) }
+        ensures put { IfOk result (λ _.
+            Puts (next_held self.old) (word, way) (next_held self.new)) }
+        ensures index { self.new.index ≡ self.old.index }
+        ensures done { self.new.done ≡ self.old.done }
+    {
+        let count = self.words.len();
+        if count > 0 && self.ways[count - 1] == way && self.words[count - 1].has_rule_of(word) {
+            return Ok(());
+        }
+        self.words.push(word)?;
+        self.ways.push(way)?;
+        Ok(())
+    }
+
+    // Takes what the old list has from `done` to a second.
+    fn copy_to(&mut self, least: &Least, until: u64) -> Result<(), NoMemory>
+        requires least { IsHeld least.now }
+        requires next { IsNext least.now self.old }
+        requires order { self.old.done ≤ until }
+        requires in_day { until ≤ DAY }
+        ensures next { IfOk result (λ _. IsNext least.now self.new) }
+        ensures done { IfOk result (λ _. self.new.done ≡ until) }
+        ensures copied { IfOk result (λ _. (arrival : ℕ → ℕ) → (way : ℕ) →
+            IsMerging least.now arrival way self.old until →
+            IsMerging least.now arrival way self.new until) }
+    {
+        if self.done == until {
+            return Ok(());
+        }
+        let index = in_force(&least.words, self.index, self.done);
+        self.put(least.words[index].begun(self.done), least.ways[index])?;
+        self.index = self.copy_behind(least, index, until)?;
+        self.done = until;
+        Ok(())
+    }
+
+    // Takes the runs of the old list that begin behind that of an index and before a second, and gives the last one's index.
+    fn copy_behind(&mut self, least: &Least, first: usize, until: u64) -> Result<usize, NoMemory>
+        requires least { IsHeld least.now }
+        requires even { length self.old.ways.items ≡ length self.old.words.items }
+        requires first { IsBefore least.now.words.items first until }
+        requires in_day { until ≤ DAY }
+        ensures even { IfOk result (λ _. length self.new.ways.items ≡ length self.new.words.items) }
+        ensures last { IfOk result (λ last. IsBefore least.now.words.items last until) }
+        ensures copied { IfOk result (λ _. CopiesBehind least.now first until self.old self.new) }
+    {
+        let mut index = first;
+        'runs: while least.words[index + 1].from() < until {
+            index += 1;
+            self.put(least.words[index], least.ways[index])?;
+        }
+        Ok(index)
+    }
+
+    // Forgets what it has, to begin with another candidate.
+    fn restart(&mut self)
+        ensures empty { next_held self.new ≡ [] }
+        ensures even { length self.new.ways.items ≡ length self.new.words.items }
+        ensures index { self.new.index ≡ 0 }
+        ensures done { self.new.done ≡ 0 }
+    {
+        self.words.clear();
+        self.ways.clear();
+        self.index = 0;
+        self.done = 0;
+    }
+
+    // Takes what the old list has to the end of the day, and ends both lists.
+    fn finish(&mut self, least: &Least) -> Result<(), NoMemory>
+        requires least { IsHeld least.now }
+        requires next { IsNext least.now self.old }
+        ensures merged { IfOk result (λ _. (arrival : ℕ → ℕ) → (way : ℕ) →
+            IsMerging least.now arrival way self.old DAY →
+            IsMerged least.now arrival way self.new.words.items self.new.ways.items) }
+    {
+        self.copy_to(least, END)?;
+        self.words.push(Word::end())?;
+        self.ways.push(NOBODY)?;
+        Ok(())
+    }
+
+    // Takes what the old list has up to `from`, and the candidate from there to `until`.
+    #[inline(never)]
+    fn win(
+        &mut self,
+        least: &Least,
+        run: Word,
+        from: u64,
+        until: u64,
+        way: u32,
+    ) -> Result<(), NoMemory>
+        requires least { IsHeld least.now }
+        requires next { IsNext least.now self.old }
+        requires order { self.old.done ≤ from }
+        requires some { from < until }
+        requires in_day { until ≤ DAY }
+        requires earlier { (s : ℕ) → from ≤ s → s < until →
+            arrives run.rule s < least_arrival (least_held least.now) s }
+        ensures next { IfOk result (λ _. IsNext least.now self.new) }
+        ensures done { IfOk result (λ _. self.new.done ≡ until) }
+        ensures won { IfOk result (λ _.
+            Merges least.now from until (arrives run.rule) way self.old self.new) }
+    {
+        self.copy_to(least, from)?;
+        self.put(run.begun(from), way)?;
+        self.done = until;
+        Ok(())
+    }
+}
+
+// The index of the run in force at a second, from one whose run begins no later.
+#[inline(always)]
+fn in_force(words: &[Word], from: usize, second: u64) -> usize
+    requires over_day { IsDayList words.now }
+    requires begun { (run : Run) × (slice_get words.now from ≡ Some run) × (run.from ≤ second) }
+    requires in_day { second < DAY }
+    ensures begun { (run : Run) × (slice_get words.now result ≡ Some run) × (run.from ≤ second) }
+    ensures next { (run : Run) × (slice_get words.now (result + 1) ≡ Some run)
+        × (second < run.from) }
+{
+    let mut index = from;
+    while words[index + 1].from() <= second {
+        index += 1;
+    }
+    index
+}
+
+// The index of the run in force at the end of a stretch, from that in force before, which ends at `own_end`.
+#[inline(always)]
+fn stepped(index: usize, own_end: u64, end: u64) -> usize
+    requires { index + 1 < 2 ^ 64 }
+    ensures ended { own_end ≡ end → result ≡ index + 1 }
+    ensures lasts { own_end ≢ end → result ≡ index }
+{
+    index + usize::from(own_end == end)
+}
+
+// Takes the candidate where it is strictly the least from `at` to `end`. One of the two runs is fixed, the other isn't.
+#[inline(never)]
+fn compare_kinds(
+    least: &Least,
+    held: Word,
+    run: Word,
+    at: u64,
+    end: u64,
+    way: u32,
+    next: &mut Next,
+) -> Result<(), NoMemory>
+    requires least { IsHeld least.now }
+    requires next { IsNext least.now next.old }
+    requires order { next.old.done ≤ at }
+    requires some { at < end }
+    requires in_day { end ≤ DAY }
+    requires differ { is_fixed held.rule ≢ is_fixed run.rule }
+    requires held { (s : ℕ) → at ≤ s → s < end →
+        least_arrival (least_held least.now) s ≡ arrives held.rule s }
+    ensures next { IfOk result (λ _. IsNext least.now next.new) }
+    ensures order { IfOk result (λ _. next.new.done ≤ end) }
+    ensures merged { IfOk result (λ _.
+        Merges least.now at end (arrives run.rule) way next.old next.new) }
+{
+    if run.is_fixed() {
+        // The other arrives later where it leaves later than this.
+        let from = at.max((run.number() + 1).saturating_sub(held.number()));
+        if from < end {
+            return next.win(least, run, from, end, way);
+        }
+        return Ok(());
+    }
+    let until = end.min(held.number().saturating_sub(run.number()));
+    if at < until {
+        return next.win(least, run, at, until, way);
+    }
+    Ok(())
+}
+
+// Takes the candidate where it is strictly the least from `at` to `end`.
+#[inline(always)]
+fn compare_runs(
+    least: &Least,
+    held: Word,
+    run: Word,
+    at: u64,
+    end: u64,
+    way: u32,
+    next: &mut Next,
+) -> Result<(), NoMemory>
+    requires least { IsHeld least.now }
+    requires next { IsNext least.now next.old }
+    requires order { next.old.done ≤ at }
+    requires some { at < end }
+    requires in_day { end ≤ DAY }
+    requires held { (s : ℕ) → at ≤ s → s < end →
+        least_arrival (least_held least.now) s ≡ arrives held.rule s }
+    ensures next { IfOk result (λ _. IsNext least.now next.new) }
+    ensures order { IfOk result (λ _. next.new.done ≤ end) }
+    ensures merged { IfOk result (λ _.
+        Merges least.now at end (arrives run.rule) way next.old next.new) }
+{
+    if !run.has_kind_of(held) {
+        return compare_kinds(least, held, run, at, end, way, next);
+    }
+    if run.number() < held.number() {
+        return next.win(least, run, at, end, way);
+    }
+    Ok(())
+}
+
+// Takes the candidate where it is strictly the least, from the first second on.
+#[inline(never)]
+fn compare(least: &Least, candidate: &[Word], way: u32, next: &mut Next) -> Result<(), NoMemory>
+    requires least { IsHeld least.now }
+    requires candidate { IsDayList candidate.now }
+    requires next { IsNext least.now next.old }
+    requires none { next.old.done ≡ 0 }
+    requires empty { next_held next.old ≡ [] }
+    ensures next { IfOk result (λ _. IsNext least.now next.new) }
+    ensures merged { IfOk result (λ _.
+        IsMerging least.now (arrival_value candidate.now) way next.new DAY) }
+{
+    let mut at = 0;
+    let mut index = 0;
+    let mut other = 0;
+    'day: while at < END {
+        let run_end = candidate[index + 1].from();
+        let held_end = least.words[other + 1].from();
+        let end = run_end.min(held_end);
+        compare_runs(
+            least,
+            least.words[other],
+            candidate[index],
+            at,
+            end,
+            way,
+            next,
+        )?;
+        index = stepped(index, run_end, end);
+        other = stepped(other, held_end, end);
+        at = end;
+    }
+    Ok(())
+}
+
+impl Merger {
+    /// A merger with no candidate.
+    pub fn new(alloc: Global) -> Result<Merger, NoMemory>
+        ensures arrival { IfOk result (λ merger.
+            (t : ℕ) → t < DAY → least_arrival merger t ≡ MOST) }
+        ensures way { IfOk result (λ merger.
+            (t : ℕ) → t < DAY → least_way merger t ≡ NOBODY) }
+    {
+        let least = Least {
+            words: vec![in alloc; Word::of(0, true, MOST), Word::end()]?,
+            ways: vec![in alloc; NOBODY, NOBODY]?,
+        };
+        let next = Next {
+            words: Vec::new(alloc),
+            ways: Vec::new(alloc),
+            index: 0,
+            done: 0,
+        };
+        Ok(Merger {
+            least,
+            next,
+            linked: Vec::new(alloc),
+        })
+    }
+
+    /// Forgets all candidates: from then on the least is later than any arrival, and nobody's. Takes no memory.
+    pub fn clear(&mut self)
+        ensures arrival { (t : ℕ) → t < DAY → least_arrival self.new t ≡ MOST }
+        ensures way { (t : ℕ) → t < DAY → least_way self.new t ≡ NOBODY }
+    {
+        self.least.words.truncate(2);
+        self.least.ways.truncate(2);
+        self.least.words[0] = Word::of(0, true, MOST);
+        self.least.words[1] = Word::end();
+        self.least.ways[0] = NOBODY;
+        self.least.ways[1] = NOBODY;
+    }
+
+    /// Adds a candidate, the composition of two functions, under its number. Where it arrives as early as another, the
+    /// other stays. After a refusal for want of memory the merger is what it was.
+    pub fn add(&mut self, first: &[Word], second: &[Word], way: u32) -> Result<(), NoMemory>
+        requires first { IsFunctionWords first.now }
+        requires second { IsFunctionWords second.now }
+        ensures arrival { IfOk result (λ _. (t : ℕ) → t < DAY → least_arrival self.new t
+            ≡ min (least_arrival self.old t) (composed first.now second.now t)) }
+        ensures way { IfOk result (λ _. (t : ℕ) → t < DAY → least_way self.new t
+            ≡ way_with self.old (composed first.now second.now t) way t) }
+        ensures err { OnErr result (self.new ≡ self.old) }
+    {
+        link(first, second, &mut self.linked)?;
+        self.next.restart();
+        compare(&self.least, &self.linked, way, &mut self.next)?;
+        if self.next.words.is_empty() {
+            return Ok(());
+        }
+        self.next.finish(&self.least)?;
+        mem::swap(&mut self.least.words, &mut self.next.words);
+        mem::swap(&mut self.least.ways, &mut self.next.ways);
+        Ok(())
+    }
+
+    /// Has it no candidate at all? Each is there at every second of the day.
+    pub fn is_empty(&self) -> bool
+        ensures { IsTrue result ↔ (least_way self.now 0 ≡ NOBODY) }
+    {
+        self.least.ways[0] == NOBODY
+    }
+
+    /// The least arrivals as a function, where all are within the limit of numbers: neighbouring runs differ.
+    pub fn least_words(&self, alloc: Global) -> Result<Vec<Word>, NoMemory>
+        requires { (t : ℕ) → t < DAY → least_arrival self.now t ≤ MAX_NUMBER }
+        ensures function { IfOk result (λ words. IsFunctionWords words.items) }
+        ensures value { IfOk result (λ words. (t : ℕ) → t < DAY →
+            arrival_value words.items t ≡ least_arrival self.now t) }
+        ensures compact { IfOk result (λ words. IsCompactDay words.items) }
+    {
+        let words = compact(alloc, &self.least.words)?;
+        Ok(words)
+    }
+
+    /// The numbers of the candidates that are the least, each from the second from which it is: neighbours differ.
+    pub fn way_runs(&self, alloc: Global) -> Result<Vec<WayRun>, NoMemory>
+        ensures { IfOk result (λ runs. IsWayRuns self.now runs.items) }
+    {
+        runs_of_ways(alloc, &self.least)
+    }
+}
+
+// The numbers of the candidates that are the least, neighbours of one number as one.
+fn runs_of_ways(alloc: Global, least: &Least) -> Result<Vec<WayRun>, NoMemory>
+    requires { IsHeld least.now }
+    ensures { IfOk result (λ runs. IsWayRuns (least_held least.now) runs.items) }
+{
+    let mut runs = Vec::with_capacity(alloc, count_ways(&least.ways))?;
+    'runs: for index in 0..least.words.len() - 1 {
+        let run = WayRun {
+            from: least.words[index].from() as u32,
+            way: least.ways[index],
+        };
+        push_way(&mut runs, run)?;
+    }
+    Ok(runs)
+}
+
+// The same function with no two neighbouring runs of one rule.
+fn compact(alloc: Global, words: &[Word]) -> Result<Vec<Word>, NoMemory>
+    requires { IsDayList words.now }
+    ensures over_day { IfOk result (λ list. IsDayList list.items) }
+    ensures value { IfOk result (λ list. (t : ℕ) → t < DAY →
+        arrival_value list.items t ≡ arrival_value words.now t) }
+    ensures compact { IfOk result (λ list. IsCompactDay list.items) }
+    ensures end { IfOk result (λ list.
+        slice_get list.items (length list.items - 1) ≡ Some end_run) }
+{
+    let mut list = Vec::with_capacity(alloc, count_rules(words) + 1)?;
+    'runs: for index in 0..words.len() - 1 {
+        push_word(&mut list, words[index])?;
+    }
+    list.push(Word::end())?;
+    Ok(list)
+}
+
+// Adds a run, unless the last one's rule is the same.
+fn push_word(list: &mut Vec<Word>, word: Word) -> Result<(), NoMemory>
+    ensures { IfOk result (λ _. IsPushed (λ (r : Run). r.rule) list.old.items word list.new.items) }
+{
+    if ends_with_rule(list, word) {
+        return Ok(());
+    }
+    list.push(word)?;
+    Ok(())
+}
+
+fn ends_with_rule(list: &[Word], word: Word) -> bool
+    ensures { IsTrue result ↔ (last_says (λ (r : Run). r.rule) list.now ≡ Some word.rule) }
+{
+    match list.last() {
+        Some(last) => last.has_rule_of(word),
+        None => false,
+    }
+}
+
+// Adds the number of a candidate, unless the last one is the same.
+fn push_way(runs: &mut Vec<WayRun>, run: WayRun) -> Result<(), NoMemory>
+    ensures { IfOk result (λ _.
+        IsPushed (λ (r : WayRun). r.way) runs.old.items run runs.new.items) }
+{
+    if last_way(runs) == Some(run.way) {
+        return Ok(());
+    }
+    runs.push(run)?;
+    Ok(())
+}
+
+fn last_way(runs: &[WayRun]) -> Option<u32>
+    ensures { result ≡ last_says (λ (r : WayRun). r.way) runs.now }
+{
+    runs.last().map(|last| last.way)
+}
+
+// How many runs are left where neighbours of one rule become one, without the end.
+fn count_rules(words: &[Word]) -> usize
+    requires { 0 < length words.now }
+    ensures { result < length words.now }
+{
+    let mut count = 0;
+    for index in 0..words.len() - 1 {
+        if index == 0 || !words[index].has_rule_of(words[index - 1]) {
+            count += 1;
+        }
+    }
+    count
+}
+
+// The same of neighbours of one number.
+fn count_ways(ways: &[u32]) -> usize
+    requires { 0 < length ways.now }
+{
+    let mut count = 0;
+    for index in 0..ways.len() - 1 {
+        if index == 0 || ways[index] != ways[index - 1] {
+            count += 1;
+        }
+    }
+    count
+}

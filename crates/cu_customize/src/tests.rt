@@ -1,0 +1,96 @@
+//! What no clause says: that calls succeed, and values worked by hand from a road and a ferry.
+
+ghost use Rattle.std.specs.Prelude.{◌≡◌, ◌≤◌, ◌^◌, IfOk};
+ghost use Rattle.cu_arrival.specs.Runs.{rule_number};
+ghost use Rattle.cu_customize.specs.Words.{IsFunctionWords};
+
+use super::*;
+use cu_model::NoMemory;
+use std::alloc::Global;
+use std::test::Fail;
+
+// Adds the function of one run, from which nobody goes anywhere else first, and gives the least.
+fn least_with(
+    alloc: Global,
+    merger: &mut Merger,
+    word: Word,
+    way: u32,
+) -> Result<Vec<Word>, NoMemory>
+    requires from { word.from ≡ 0 }
+    requires number { rule_number word.rule ≤ 2 ^ 40 }
+    ensures { IfOk result (λ words. IsFunctionWords words.items) }
+{
+    let stay = function_of_run(alloc, Word::of(0, false, 0))?;
+    let function = function_of_run(alloc, word)?;
+    merger.add(&stay, &function, way)?;
+    let words = merger.least_words(alloc)?;
+    Ok(words)
+}
+
+// A road that takes 50,000 seconds, or a ferry that arrives at second 100,000.
+fn road_or_ferry(alloc: Global) -> Result<Vec<Word>, NoMemory>
+    ensures { IfOk result (λ words. IsFunctionWords words.items) }
+{
+    let mut merger = Merger::new(alloc)?;
+    least_with(alloc, &mut merger, Word::of(0, false, 50_000), 0)?;
+    let words = least_with(alloc, &mut merger, Word::of(0, true, 100_000), 1)?;
+    Ok(words)
+}
+
+#[test]
+fn composition_passes_midnight(rt: HostRuntime) -> Result<(), Fail> {
+    let alloc = rt.alloc();
+    let way = function_of_run(alloc, Word::of(0, false, 100))?;
+    let mut linked = Vec::new(alloc);
+    link(&way, &road_or_ferry(alloc)?, &mut linked)?;
+    let wanted = [
+        Word::of(0, false, 50_100),
+        Word::of(49_901, true, 100_000),
+        Word::of(86_300, false, 50_100),
+        Word::end(),
+    ];
+    assert_eq!(rt; linked.len(), 4);
+    for (word, expected) in linked.iter().zip(wanted) {
+        assert_eq!(rt; *word, expected);
+    }
+    Ok(())
+}
+
+#[test]
+fn three_candidates_are_merged(rt: HostRuntime) -> Result<(), Fail> {
+    let alloc = rt.alloc();
+    let both = road_or_ferry(alloc)?;
+    let way = function_of_run(alloc, Word::of(0, false, 100))?;
+    let mut merger = Merger::new(alloc)?;
+    assert!(rt; merger.is_empty());
+    merger.add(&both, &way, 0)?;
+    merger.add(&way, &both, 1)?;
+    let words = least_with(alloc, &mut merger, Word::of(0, true, 100_000), 2)?;
+    let wanted = [
+        Word::of(0, false, 50_100),
+        Word::of(49_901, true, 100_000),
+        Word::end(),
+    ];
+    assert_eq!(rt; (words.len(), words.capacity()), (3, 3));
+    for (word, expected) in words.iter().zip(wanted) {
+        assert_eq!(rt; *word, expected);
+    }
+    let runs = merger.way_runs(alloc)?;
+    assert_eq!(rt; (runs.len(), runs.capacity()), (3, 3));
+    for (run, expected) in runs.iter().zip([(0, 0), (49_901, 1), (86_300, 2)]) {
+        assert_eq!(rt; (run.from, run.way), expected);
+    }
+    merger.clear();
+    assert!(rt; merger.is_empty());
+    Ok(())
+}
+
+#[test]
+fn travel_times_of_a_ferry(rt: HostRuntime) -> Result<(), Fail> {
+    let words = function_of_run(rt.alloc(), Word::of(0, true, 100_000))?;
+    assert_eq!(rt;
+        (least_travel(&words), most_travel(&words)),
+        (13_601, 100_000)
+    );
+    Ok(())
+}

@@ -1,0 +1,227 @@
+//! Runs of arrival functions in one word each. A function over the day is a list of words: runs from second 0 on, and then a
+//! word from second 86,400 that only ends it, so that no loop asks for the end of the list.
+
+ghost use Rattle.std.specs.Prelude.{◌≡◌, ◌≤◌, ◌<◌, ◌+◌, ◌^◌, ◌↔◌, ℕ, Some, IfOk, IsTrue, length, nat_le, true, false, slice_get, if◌then◌else◌};
+ghost use Rattle.std.specs.List.Sorted.{IsNonDecreasingBy, IsPartitionPoint};
+ghost use Rattle.cu_model.specs.declared.limits.TheConstants.{DAY};
+ghost use Rattle.cu_arrival.specs.declared.runs.Run.{Run};
+ghost use Rattle.cu_arrival.specs.declared.runs.RunRule.TheVariants.{Shift, Fixed};
+ghost use Rattle.cu_model.specs.Days.{IsOnward};
+ghost use Rattle.cu_arrival.specs.Runs.{arrival_value, rule_number, run_at};
+ghost use Rattle.cu_customize.specs.Words.{IsDayList, IsFunctionWords, after_arrival, after_shift, arrives, end_run, is_fixed};
+
+use cu_model::{DAY, NoMemory};
+use std::alloc::Global;
+use std::marker::Model;
+
+// What a word's second is multiplied by, 2^47, and what a fixed run has beside its number, 2^46.
+const SECOND: u64 = 140_737_488_355_328;
+
+const FIXED: u64 = 70_368_744_177_664;
+
+/// The greatest number of a run of a function that is linked, 2^44: some 557,000 years.
+pub const MAX_NUMBER: u64 = 17_592_186_044_416;
+
+/// A run in one word: the second of the day from which it holds (0 to 86,400), whether it is fixed, and its number
+/// (below 2^46): the seconds it takes, or where it is fixed the second at which it arrives. Contracts see it as a `Run`.
+#[derive(Clone, Copy, Debug, PartialEq, Eq)]
+pub struct Word {
+    bits: u64,
+}
+
+impl Model for Word {
+    ghost use Rattle.std.specs.Prelude.{◌≤◌, ◌/◌, ◌^◌, ℕ};
+    ghost use Rattle.std.proofs.Common.{ap};
+    ghost use Rattle.cu_arrival.specs.declared.runs.Run.{Run};
+    ghost use Rattle.cu_customize.specs.Words.{run_of_bits, bits_of_run, bits_back};
+
+    ghost Value = { Run };
+
+    ghost view = { λ word. run_of_bits word.bits };
+
+    ghost invariant = { λ word. word.bits / 2 ^ 47 ≤ 86400 };
+
+    ghost inverse = { λ run. record { bits = bits_of_run run } };
+
+    ghost inverse_ok = { λ word h. ap (λ (bits : ℕ). record word { bits = bits }) (bits_back word.bits) };
+}
+
+impl Word {
+    /// The run from this second of the day, 0 to 86,400, with this number, below 2^46.
+    pub fn of(from: u64, is_fixed: bool, number: u64) -> Word
+        requires from { from ≤ DAY }
+        requires number { number < 2 ^ 46 }
+        ensures from { result.from ≡ from }
+        ensures rule { result.rule ≡ (if is_fixed then Fixed number else Shift number) }
+    {
+        let kind = if is_fixed { FIXED } else { 0 };
+        Word {
+            bits: from * SECOND + (kind + number),
+        }
+    }
+
+    /// The second of the day from which it holds.
+    #[inline(always)]
+    pub fn from(self) -> u64
+        ensures from { result ≡ self.from }
+        ensures in_day { result ≤ DAY }
+    {
+        self.bits / SECOND
+    }
+
+    #[inline(always)]
+    pub fn is_fixed(self) -> bool
+        ensures { result ≡ is_fixed self.rule }
+    {
+        self.bits / FIXED % 2 == 1
+    }
+
+    /// The seconds it takes, or where it is fixed the second at which it arrives.
+    #[inline(always)]
+    pub fn number(self) -> u64
+        ensures number { result ≡ rule_number self.rule }
+        ensures small { result < 2 ^ 46 }
+    {
+        self.bits % FIXED
+    }
+
+    /// Do two runs have the same rule?
+    #[inline(always)]
+    pub fn has_rule_of(self, other: Word) -> bool
+        ensures { IsTrue result ↔ (self.rule ≡ other.rule) }
+    {
+        self.bits % SECOND == other.bits % SECOND
+    }
+
+    /// Are both fixed, or neither?
+    #[inline(always)]
+    pub fn has_kind_of(self, other: Word) -> bool
+        ensures { IsTrue result ↔ (is_fixed self.rule ≡ is_fixed other.rule) }
+    {
+        self.is_fixed() == other.is_fixed()
+    }
+
+    /// The same rule from another second of the day, 0 to 86,400.
+    #[inline(always)]
+    pub fn begun(self, from: u64) -> Word
+        requires { from ≤ DAY }
+        ensures from { result.from ≡ from }
+        ensures rule { result.rule ≡ self.rule }
+    {
+        Word {
+            bits: from * SECOND + self.bits % SECOND,
+        }
+    }
+
+    /// The run from this second of the day, 0 to 86,400, that takes so many seconds first: what is fixed arrives on the
+    /// day that begins at `midnight`.
+    #[inline(always)]
+    pub fn after(self, seconds: u64, midnight: u64, from: u64) -> Word
+        requires from { from ≤ DAY }
+        requires seconds { rule_number self.rule + seconds < 2 ^ 46 }
+        requires midnight { rule_number self.rule + midnight < 2 ^ 46 }
+        ensures from { result.from ≡ from }
+        ensures rule { result.rule ≡ after_shift self.rule seconds midnight }
+    {
+        let more = if self.is_fixed() { midnight } else { seconds };
+        Word {
+            bits: from * SECOND + (self.bits % SECOND + more),
+        }
+    }
+
+    /// The same after an arrival at this second, whenever it leaves.
+    #[inline(always)]
+    pub fn after_fixed(self, arrival: u64, midnight: u64, from: u64) -> Word
+        requires from { from ≤ DAY }
+        requires arrival { rule_number self.rule + arrival < 2 ^ 46 }
+        requires midnight { rule_number self.rule + midnight < 2 ^ 46 }
+        ensures from { result.from ≡ from }
+        ensures rule { result.rule ≡ after_arrival self.rule arrival midnight }
+    {
+        let second = if self.is_fixed() { midnight } else { arrival };
+        Word::of(from, true, self.number() + second)
+    }
+
+    /// The word that ends a function.
+    pub fn end() -> Word
+        ensures { result ≡ end_run }
+    {
+        Word::of(u64::from(DAY), false, 0)
+    }
+
+    /// When it arrives, leaving on day 0 at this second.
+    #[inline(always)]
+    pub fn arrives(self, second: u64) -> u64
+        requires { second ≤ 2 ^ 62 }
+        ensures { result ≡ arrives self.rule second }
+    {
+        if self.is_fixed() {
+            self.number()
+        } else {
+            self.number() + second
+        }
+    }
+}
+
+/// The function of one run, which is from second 0: staying is that of a run that takes no seconds.
+pub fn function_of_run(alloc: Global, word: Word) -> Result<Vec<Word>, NoMemory>
+    requires from { word.from ≡ 0 }
+    requires number { rule_number word.rule ≤ MAX_NUMBER }
+    ensures function { IfOk result (λ words. IsFunctionWords words.items) }
+    ensures value { IfOk result (λ words. (t : ℕ) → t < DAY →
+        arrival_value words.items t ≡ arrives word.rule t) }
+{
+    let words = vec![in alloc; word, Word::end()]?;
+    Ok(words)
+}
+
+/// The index of the run in force at a second of the day, 0 to 86,399.
+pub fn index_at(words: &[Word], second: u64) -> usize
+    requires day { IsDayList words.now }
+    requires second { second < DAY }
+    ensures within { result + 1 < length words.now }
+    ensures last { run_at words.now second ≡ slice_get words.now result }
+    ensures begun { (run : Run) × (slice_get words.now result ≡ Some run) × (run.from ≤ second) }
+{
+    begun(words, second) - 1
+}
+
+// How many runs are from this second of the day or before it.
+fn begun(words: &[Word], second: u64) -> usize
+    requires { IsNonDecreasingBy (λ (run : Run). run.from) words.now }
+    ensures bound { result ≤ length words.now }
+    ensures point { IsPartitionPoint (λ (run : Run). nat_le run.from second ≡ true)
+        (λ (run : Run). nat_le run.from second ≡ false) words.now result }
+{
+    words.partition_point(|word| word.from() <= second)
+}
+
+/// The least travel time of a function that never arrives before it leaves, over the day.
+pub fn least_travel(words: &[Word]) -> u64
+    requires over_day { IsDayList words.now }
+    requires onward { IsOnward (arrival_value words.now) }
+    ensures least { (t : ℕ) → t < DAY → t + result ≤ arrival_value words.now t }
+    ensures taken { (t : ℕ) × (t < DAY) × (arrival_value words.now t ≡ t + result) }
+{
+    let mut least = words[0].arrives(0);
+    'runs: for index in 0..words.len() - 1 {
+        let last = words[index + 1].from() - 1;
+        least = least.min(words[index].arrives(last) - last);
+    }
+    least
+}
+
+/// The greatest travel time of a function that never arrives before it leaves, over the day.
+pub fn most_travel(words: &[Word]) -> u64
+    requires over_day { IsDayList words.now }
+    requires onward { IsOnward (arrival_value words.now) }
+    ensures most { (t : ℕ) → t < DAY → arrival_value words.now t ≤ t + result }
+    ensures taken { (t : ℕ) × (t < DAY) × (arrival_value words.now t ≡ t + result) }
+{
+    let mut most = words[0].arrives(0);
+    'runs: for index in 0..words.len() - 1 {
+        let from = words[index].from();
+        most = most.max(words[index].arrives(from) - from);
+    }
+    most
+}
