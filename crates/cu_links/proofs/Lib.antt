@@ -1,0 +1,4 @@
+pub mod Links
+pub mod Depths
+pub mod Turning
+pub mod Setting
