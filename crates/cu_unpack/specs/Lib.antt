@@ -1,0 +1,5 @@
+pub mod Answers
+pub mod Counts
+pub mod Texts
+pub mod Told
+pub mod Steps

@@ -1,0 +1,89 @@
+//! What no clause says: that calls succeed, over lists without ways. Hierarchies that are customized are unpacked in the crates
+//! above.
+
+ghost use Rattle.std.specs.Prelude.{◌≡◌, [], IfOk, length};
+ghost use Rattle.cu_chordal.specs.Edges.{IsClosureOf};
+
+use crate::{Counted, CountedWays, Listed, Relaxed, Relaxer, Unpacker, Work, relax_counted};
+use cu_chordal::{Chordal, close};
+use cu_interval::{Call, Dir, Hierarchy, WayList, Ways};
+use cu_model::{Network, Order, Piece, Profile, RoadArc, Roads, Rule};
+use std::alloc::Global;
+use std::test::Fail;
+
+fn road(tail: u32, head: u32) -> RoadArc
+    ensures { result ≡ record { tail = tail; head = head; profile = 0 } }
+{
+    RoadArc {
+        tail,
+        head,
+        profile: 0,
+    }
+}
+
+// Three nodes with the roads 0 -> 1, 1 -> 2 and 0 -> 2, each of a minute.
+fn triangle(alloc: Global) -> Result<Network, Fail>
+    ensures { IfOk result (λ network. network.nodes ≡ 3) }
+{
+    let minute = Piece {
+        from: 0,
+        rule: Rule::Travel(60),
+    };
+    let profile = Profile::of(vec![in alloc; minute]?)?;
+    let arcs = vec![in alloc; road(0, 1), road(1, 2), road(0, 2)]?;
+    Ok(Network::of(3, arcs, vec![in alloc; profile]?))
+}
+
+// A list without ways.
+fn empty(alloc: Global) -> WayList
+    ensures { result ≡ [] }
+{
+    let Some(list) = WayList::of(Vec::new(alloc)) else {
+        unreachable!()
+    };
+    list
+}
+
+// The hierarchy of these, whose lists are without ways.
+fn hollow(alloc: Global, network: Network, order: Order, graph: Chordal) -> Result<Hierarchy, Fail>
+    requires same { length order.node_at ≡ network.nodes }
+    requires closed { IsClosureOf network order graph }
+    ensures network { IfOk result (λ hierarchy. hierarchy.network ≡ network) }
+{
+    prove_eq!(network.nodes(), order.nodes());
+    prove_eq!(order.nodes(), graph.ranks());
+    let mut lists = Vec::new(alloc);
+    'lists: for _number in 0..2 * graph.edges() {
+        lists.push(empty(alloc))?;
+    }
+    Ok(Hierarchy::of(network, order, graph, lists))
+}
+
+#[test]
+fn asks_lists_without_ways(rt: HostRuntime) -> Result<(), Fail> {
+    let alloc = rt.alloc();
+    let network = triangle(alloc)?;
+    let order = Order::identity(alloc, 3)?;
+    let graph = close(alloc, &network, &order)?;
+    let hierarchy = hollow(alloc, network, order, graph)?;
+    assert!(rt; hierarchy.edges() == 3);
+    let mut work = Work::new(alloc, 3)?;
+    let mut counted = Counted::of(&hierarchy);
+    assert_eq!(rt;
+        relax_counted(&mut counted, &mut work, 0, Dir::Up, 0),
+        Relaxed::NoWay
+    );
+    assert_eq!(rt; counted.steps(), 1);
+    let unpacker = Unpacker::new(&hierarchy, &mut work);
+    let mut listed = Listed::new(alloc, unpacker, 1)?;
+    assert_eq!(rt; listed.relax(0, Dir::Up, 5), Relaxed::NoWay);
+    let call = Call {
+        edge: 0,
+        dir: Dir::Up,
+        second: 5,
+    };
+    assert_eq!(rt; listed.calls(), Some([call].as_slice()));
+    assert_eq!(rt; listed.relax(2, Dir::Down, 7), Relaxed::NoWay);
+    assert_eq!(rt; listed.calls(), None);
+    Ok(())
+}

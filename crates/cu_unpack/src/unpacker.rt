@@ -1,0 +1,128 @@
+//! Relaxations over borrowed ways.
+
+ghost use Rattle.std.specs.Prelude.{◌≡◌, ◌≤◌, ◌<◌, ◌+◌, ◌^◌, ℕ, None, IfOk, length};
+ghost use Rattle.cu_io.specs.Sinks.{Wrote};
+ghost use Rattle.cu_interval.specs.declared.relaxing.Relaxed.TheVariants.{At};
+ghost use Rattle.cu_interval.specs.Calls.{Adds, IfAt};
+ghost use Rattle.cu_interval.specs.Hierarchies.{IsHierarchy};
+ghost use Rattle.cu_interval.specs.Unpacking.{relaxed};
+ghost use Rattle.cu_unpack.specs.Answers.{IsArriving, IsLowWhereBuilt, walk_over};
+ghost use Rattle.cu_unpack.specs.Texts.{walk_text};
+
+use crate::counted::Counted;
+use crate::unpacking::{relax_counted, write_walk};
+use crate::work::Work;
+use cu_interval::{Dir, Relaxed, Relaxer, Ways};
+use cu_io::{Sink, SinkFailed};
+use std::marker::Model;
+
+/// Relaxes the shortcuts of borrowed ways, with borrowed room. Contracts see the hierarchy. It doesn't tell its calls.
+#[derive(Drop)]
+pub struct Unpacker<'a, W: Ways> {
+    ways: &'a W,
+    work: &'a mut Work,
+}
+
+impl<'a, W: Ways> Model for Unpacker<'a, W> {
+    ghost use Rattle.std.specs.Prelude.{◌≡◌};
+    ghost use Rattle.cu_interval.specs.Hierarchies.{HierarchyValue};
+
+    ghost Value = { HierarchyValue };
+
+    ghost view = { λ unpacker. W.hierarchy unpacker.ways.now };
+
+    ghost invariant = { λ unpacker. unpacker.work.now ≡ (W.hierarchy unpacker.ways.now).network.nodes };
+}
+
+impl<'a, W: Ways> Unpacker<'a, W> {
+    /// An unpacker over these ways, with room that was made for as many nodes. Takes no memory.
+    pub fn new(ways: &'a W, work: &'a mut Work) -> Unpacker<'a, W>
+        requires { work.old ≡ (W.hierarchy ways.now).network.nodes }
+        ensures { result ≡ W.hierarchy ways.now }
+    {
+        Unpacker { ways, work }
+    }
+
+    /// Writes the roads of the walk of a relaxation that arrives, in plain decimal, a blank before each, but not before the
+    /// first where that is the first of all; and answers when the walk arrives. The edge's number is below the number of
+    /// edges, and the second below 2^61. Takes no memory.
+    ///
+    /// Refused only where a write is: the sink's count of faults rose, and some first bytes were written.
+    pub fn walk<K: Sink>(
+        &mut self,
+        edge: u32,
+        dir: Dir,
+        at: u64,
+        first: bool,
+        sink: &mut K,
+    ) -> Result<u64, SinkFailed>
+        requires edge { edge < length self.old.edges }
+        requires time { at < 2 ^ 61 }
+        requires answers { IsArriving self.old edge dir at }
+        ensures wrote { Wrote (K.state sink.old) (K.state sink.new) result
+            (walk_text first (walk_over self.old edge dir at)) }
+        ensures arrival { IfOk result (λ arrival. relaxed self.old edge dir at ≡ At arrival) }
+        ensures stays { self.new ≡ self.old }
+    {
+        let ways = self.ways;
+        let work = &mut *self.work;
+        walk_over_ways(ways, work, edge, dir, at, first, sink)
+    }
+}
+
+impl<'a, W: Ways> Relaxer for Unpacker<'a, W> {
+    ghost hierarchy = { λ unpacker. unpacker };
+
+    ghost calls = { λ unpacker. None };
+
+    fn relax(&mut self, edge: u32, dir: Dir, at: u64) -> Relaxed
+        requires edge { edge < length self.old.edges }
+        requires time { at < 2 ^ 61 }
+        ensures answer { result ≡ relaxed self.old edge dir at }
+        ensures near { IfAt result (λ (arrival : ℕ). (at ≤ arrival) × (arrival ≤ at + 2 ^ 38)) }
+        ensures sound { IsHierarchy self.old }
+        ensures stays { self.new ≡ self.old }
+        ensures told { Adds None None (record { edge = edge; dir = dir; second = at }) }
+        ensures built { IsLowWhereBuilt self.old edge dir at result }
+    {
+        let ways = self.ways;
+        let work = &mut *self.work;
+        relax_over(ways, work, edge, dir, at)
+    }
+}
+
+// The answer of a relaxation over these ways.
+fn relax_over<W: Ways>(ways: &W, work: &mut Work, edge: u32, dir: Dir, at: u64) -> Relaxed
+    requires edge { edge < length (W.hierarchy ways.now).edges }
+    requires time { at < 2 ^ 61 }
+    requires room { work.old ≡ (W.hierarchy ways.now).network.nodes }
+    ensures answer { result ≡ relaxed (W.hierarchy ways.now) edge dir at }
+    ensures near { IfAt result (λ (arrival : ℕ). (at ≤ arrival) × (arrival ≤ at + 2 ^ 38)) }
+    ensures sound { IsHierarchy (W.hierarchy ways.now) }
+    ensures work { work.new ≡ work.old }
+{
+    relax_counted(&mut Counted::of(ways), work, edge, dir, at)
+}
+
+// Writes the walk of a relaxation over these ways.
+fn walk_over_ways<W: Ways, K: Sink>(
+    ways: &W,
+    work: &mut Work,
+    edge: u32,
+    dir: Dir,
+    at: u64,
+    first: bool,
+    sink: &mut K,
+) -> Result<u64, SinkFailed>
+    requires edge { edge < length (W.hierarchy ways.now).edges }
+    requires time { at < 2 ^ 61 }
+    requires room { work.old ≡ (W.hierarchy ways.now).network.nodes }
+    requires answers { IsArriving (W.hierarchy ways.now) edge dir at }
+    ensures wrote { Wrote (K.state sink.old) (K.state sink.new) result
+        (walk_text first (walk_over (W.hierarchy ways.now) edge dir at)) }
+    ensures arrival { IfOk result
+        (λ arrival. relaxed (W.hierarchy ways.now) edge dir at ≡ At arrival) }
+    ensures work { work.new ≡ work.old }
+{
+    write_walk(&mut Counted::of(ways), work, edge, dir, at, first, sink)
+}
