@@ -1,8 +1,8 @@
-mod Texts
-mod LineLaws
-mod TakingLaws
 mod Outputs
-mod RunLaws
+mod SessionLaws
+pub mod StopLaws
+mod LoadLaws
+mod WorkLaws
 mod Completeness
 mod RoundsSearch
 mod RoundsLeast

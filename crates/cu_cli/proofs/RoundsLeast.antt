@@ -6,7 +6,7 @@ use Rattle.cu_model.specs.Roads.{Leads, IsWalk, arc_value, drive, HasNoWalk}
 use Rattle.cu_model.specs.Answers.{IsArrival}
 use Rattle.cu_model.proofs.RoadLaws.{arc_value-fifo, leads_within}
 use Rattle.cu_cli.specs.declared.rounds.Label.{Label}
-use Rattle.cu_cli.specs.RoundsLabels.{label_at, IsNoLater, IsSettledAt, IsSettled, IsSearch}
+use Rattle.cu_cli.specs.Steps.RoundsLabels.{label_at, IsNoLater, IsSettledAt, IsSettled, IsSearch}
 
 no_later : (value : ℕ → ℕ) (tail head : Option Label) (x : Label) → tail ≡ Some x → IsNoLater value tail head → (y : Label) × (head ≡ Some y) × (y.arrival ≤ value x.arrival)
 no_later value None head x e h = absurd (cc e)
@@ -19,8 +19,8 @@ no_later value (Some z) (Some y) x e h =
 pub settled-head : (g : NetworkValue) (labels : List (Option Label)) (a u v : ℕ) (x : Label) → IsSettledAt g labels a → Leads g a u v → label_at labels u ≡ Some x
     → (y : Label) × (label_at labels v ≡ Some y) × (y.arrival ≤ arc_value g a x.arrival)
 settled-head g labels a u v x h l e =
-    let (road, at, late) = h in
-    let (arc, found, t, i) = l in
+    let (road, at, late) = h l.1 in
+    let (arc, found, t, i) = l.0 in
     let same : road ≡ arc = cc (at, found) in
     let tail : road.tail ≡ u = cc (same, t) in
     let head : road.head ≡ v = cc (same, i) in

@@ -5,11 +5,13 @@ use Rattle.std.proofs.Math.ListN.{set}
 use Rattle.std.proofs.lemmas.Bool.{cases_eq, cases_lt, eq-eqb, ne_eqb}
 use Rattle.std.proofs.lemmas.List.{get_or-set_same, get_or-set_other, get_or-replicate, get_or_past, length-set, length-replicate}
 use Rattle.std.proofs.lemmas.List.Sums.{sum_by-set, get_or-le-sum_by, count_by-le-length}
+use Rattle.cu_model.specs.declared.limits.TheConstants.{MAX_UNTIL}
+use Rattle.cu_model.specs.Days.{day}
 use Rattle.cu_model.specs.Networks.{NetworkValue, IsNetwork}
 use Rattle.cu_model.specs.Roads.{Leads, arc_value}
-use Rattle.cu_model.proofs.RoadLaws.{arc_value-onward, arc_value-fifo, arc_value-near, leads_within, leads-tail, head_below}
+use Rattle.cu_model.proofs.RoadLaws.{arc_value-onward, arc_value-fifo, arc_value-near, leads_within, links-tail, head_below}
 use Rattle.cu_cli.specs.declared.rounds.Label.{Label}
-use Rattle.cu_cli.specs.RoundsLabels.{label_at, IsEarlier, IsSettledAt, Improves, Relaxes, CameOver, IsStamped, reached, IsSearch, KeepsSearch, AreNear, arrival_or_more, total}
+use Rattle.cu_cli.specs.Steps.RoundsLabels.{label_at, IsEarlier, IsSettledAt, Improves, Relaxes, CameOver, IsStamped, reached, IsSearch, KeepsSearch, AreNear, arrival_or_more, total}
 
 abbrev one_if : Option Label → ℕ
 one_if o = cond (is_some o) 1 0
@@ -22,7 +24,7 @@ record Better (g : NetworkValue) (a : ℕ) (old new : List (Option Label)) : Typ
   leads : Leads g a u h
   at_tail : label_at old u ≡ Some y
   onward : y.arrival ≤ arc_value g a y.arrival
-  near : arc_value g a y.arrival ≤ y.arrival + 691200
+  near : arc_value g a y.arrival ≤ y.arrival + MAX_UNTIL
   earlier : IsEarlier (arc_value g a y.arrival) (label_at old h)
   apart : u ≡ h → ⊥
   here : label_at new h ≡ Some (record { arrival = arc_value g a y.arrival; came = Some a })
@@ -37,8 +39,8 @@ earlier_than t (Some x) z e h = let f : x ≡ z = cc e in subst (λ (w : Label).
 
 better : (g : NetworkValue) → IsNetwork g → (a : ℕ) (old new : List (Option Label)) → length old ≡ g.nodes → Improves g a old new → Better g a old new
 better g n a old new size i =
-    let (road, y, e, at, early, written) = i in
-    let leads : Leads g a road.tail road.head = (road, e, refl, refl) in
+    let (open_, road, y, e, at, early, written) = i in
+    let leads : Leads g a road.tail road.head = ((road, e, refl, refl), open_) in
     let inside = leads_within g a road.tail road.head leads in
     let within : road.head < length old = rw size (head_below g n a road e) in
     let on = arc_value-onward g n a inside y.arrival in
@@ -95,8 +97,8 @@ keeps_start g a from second old new b s =
     omega (arith, lt, p, q)) ∙ s.start
 
 -- a node that gets its first label is one more, a better label is below the one before
-near_head : (o : Option Label) (t y old new second : ℕ) → IsEarlier t o → t ≤ y + 691200 → new + one_if o ≡ old + 1 → y + 691200 ≤ second + 691200 * old
-    → ((z : Label) → o ≡ Some z → z.arrival + 691200 ≤ second + 691200 * old) → t + 691200 ≤ second + 691200 * new
+near_head : (o : Option Label) (t y old new second : ℕ) → IsEarlier t o → t ≤ y + MAX_UNTIL → new + one_if o ≡ old + 1 → y + MAX_UNTIL ≤ second + MAX_UNTIL * old
+    → ((z : Label) → o ≡ Some z → z.arrival + MAX_UNTIL ≤ second + MAX_UNTIL * old) → t + MAX_UNTIL ≤ second + MAX_UNTIL * new
 near_head None t y old new second early step count at all = omega (arith, step, count, at)
 near_head (Some z) t y old new second early step count at all = let here = all z refl in omega (arith, early, count, here)
 
@@ -105,7 +107,7 @@ more_reached None old new e = omega (arith, e)
 more_reached (Some z) old new e = omega (arith, e)
 
 keeps_near : (g : NetworkValue) (a from second : ℕ) (old new : List (Option Label)) → Better g a old new → IsSearch g from second old
-    → (v : ℕ) (x : Label) → label_at new v ≡ Some x → x.arrival + 691200 ≤ second + 691200 * reached new
+    → (v : ℕ) (x : Label) → label_at new v ≡ Some x → x.arrival + MAX_UNTIL ≤ second + MAX_UNTIL * reached new
 keeps_near g a from second old new b s v x e =
     elim (either g a old new b v x e) [
       | inl k ↦
@@ -167,7 +169,7 @@ keeps_stamps g n a from second old new b s stamp is v c x e came w z leads at sa
           let p = k.2 in
           let road : a ≡ c = cc (p, came) in
           let mine : Leads g c b.u v = subst (λ (d : ℕ). Leads g d b.u v) road (subst (λ (i : ℕ). Leads g a b.u i) (sym k.0) b.leads) in
-          let tail : b.u ≡ w = leads-tail g c b.u v w v mine leads in
+          let tail : b.u ≡ w = links-tail g c b.u v w v mine.0 leads.0 in
           let at_tail = stamped-there stamp b.h (stamp b.u + 1) w (λ f. b.apart (tail ∙ f)) in
           let at_head = stamped-here stamp b.h (stamp b.u + 1) v k.0 in
           let moved : stamp b.u ≡ stamp w = ap stamp tail in
@@ -177,7 +179,7 @@ keeps_stamps g n a from second old new b s stamp is v c x e came w z leads at sa
           elim (either g a old new b w z at) [
             | inl j ↦
                 let (w2, z2, leads2, at2, le2) = s.over v c x k.1 came in
-                let tail : w2 ≡ w = leads-tail g c w2 v w v leads2 leads in
+                let tail : w2 ≡ w = links-tail g c w2 v w v leads2.0 leads.0 in
                 let at_head : label_at old b.h ≡ Some z2 = subst (λ (i : ℕ). label_at old i ≡ Some z2) (tail ∙ j.0) at2 in
                 let lt = earlier_than (arc_value g a b.y.arrival) (label_at old b.h) z2 at_head b.earlier in
                 let on = arc_value-onward g n c (leads_within g c w v leads) z2.arrival in
@@ -296,7 +298,7 @@ first_label-reached n from second lt =
     omega (arith, counted, one)
 
 -- a search begins with the first node's label
-pub first_label-search : (g : NetworkValue) (from second : ℕ) → from < g.nodes → second < 86400 → IsSearch g from second (first_label g.nodes from second)
+pub first_label-search : (g : NetworkValue) (from second : ℕ) → from < g.nodes → second < day → IsSearch g from second (first_label g.nodes from second)
 first_label-search g from second lt day =
     let labels = first_label g.nodes from second in
     let none : (v a : ℕ) (x : Label) → label_at labels v ≡ Some x → x.came ≡ Some a → ⊥ = λ v a x e came. let k = (first_label-is g.nodes from second v x lt e).2 in cc (k, came) in

@@ -10,9 +10,9 @@ use Rattle.std.proofs.lemmas.Map.Steps.{length-le_from_distinct_below}
 use Rattle.cu_model.specs.declared.roads.RoadArc.{RoadArc}
 use Rattle.cu_model.specs.Networks.{NetworkValue, IsNetwork}
 use Rattle.cu_model.specs.Roads.{Leads, IsWalk, arc_value, drive}
-use Rattle.cu_model.proofs.RoadLaws.{arc_value-onward, leads_within, leads-head_below}
+use Rattle.cu_model.proofs.RoadLaws.{arc_value-onward, leads_within, links-head_below}
 use Rattle.cu_cli.specs.declared.rounds.Label.{Label}
-use Rattle.cu_cli.specs.RoundsLabels.{label_at, IsSettled, IsStamped, IsSearch}
+use Rattle.cu_cli.specs.Steps.RoundsLabels.{label_at, IsSettled, IsStamped, IsSearch}
 use Rattle.cu_cli.proofs.RoundsLeast.{settled-head}
 
 -- a node that the walk has passed: its label is later than this arrival, or equal with a higher stamp
@@ -64,7 +64,7 @@ passes : (g : NetworkValue) → IsNetwork g → (from second : ℕ) (labels : Li
 passes g n from second labels s node a u count label y at came leads at_tail value passed =
     let (stamp, is, nodes, size, apart, behind) = passed in
     let on = arc_value-onward g n a (leads_within g a u node leads) y.arrival in
-    let here : IsBehind g labels stamp u y.arrival node = (leads-head_below g n a u node leads, label, at, step stamp is on) in
+    let here : IsBehind g labels stamp u y.arrival node = (links-head_below g n a u node leads.0, label, at, step stamp is on) in
     let far = every (λ v. IsBehind g labels stamp node label.arrival v) (λ v. IsBehind g labels stamp u y.arrival v) (λ v b. further stamp is on v b) nodes behind in
     let fresh = every (λ v. IsBehind g labels stamp node label.arrival v) (λ v. eqb node v ≡ false) (λ v b. not_behind g labels stamp node label at v b) nodes behind in
     (stamp, is, node ∷ nodes, ap suc size, IsDistinct-cons eqb node nodes fresh apart, (here, far))
@@ -112,7 +112,7 @@ pub came-exactly : (g : NetworkValue) (from second : ℕ) (labels : List (Option
     → (y : Label) × (label_at labels road.tail ≡ Some y) × Leads g a road.tail node × (arc_value g a y.arrival ≡ label.arrival)
 came-exactly g from second labels s settled node a label road at came found =
     let (u, y, leads, at_tail, le) = s.over node a label at came in
-    let tail : u ≡ road.tail = let (arc, f, t, h) = leads in cc (f, found, t) in
+    let tail : u ≡ road.tail = let (arc, f, t, h) = leads.0 in cc (f, found, t) in
     let (z, at_head, ge) = settled-head g labels a u node y (settled a (leads_within g a u node leads)) leads at_tail in
     let same : z ≡ label = cc (at, at_head) in
     let arrival : z.arrival ≡ label.arrival = ap (λ (l : Label). l.arrival) same in
@@ -141,7 +141,7 @@ pub traced-room :
 traced-room g n from second labels s settled to arrival node a label route first traced came places =
     let (u, y, leads, at, le) = s.over node a label traced.at came in
     let inside = leads_within g a u node leads in
-    let (arc, found, t, h) = leads in
+    let (arc, found, t, h) = leads.0 in
     let (z, at2, leads2, value) = came-exactly g from second labels s settled node a label arc traced.at came found in
     let passed = passes g n from second labels s node a arc.tail (length (drop first route)) label z traced.at came leads2 at2 value traced.passed in
     let most = below_all g labels arc.tail z.arrival (suc (length (drop first route))) passed in

@@ -1,11 +1,6 @@
-pub mod Statuses
 pub mod Words
-pub mod Asks
-pub mod Lines
+pub mod Stops
+pub mod Preparing
 pub mod Replies
-pub mod Taking
-pub mod Faults
-pub mod Roles
 pub mod Runs
-pub mod RoundsValue
-pub mod RoundsLabels
+pub mod Steps

@@ -7,7 +7,7 @@ use Rattle.cu_model.specs.declared.queries.QueryRefusal.TheVariants.{Line, Node,
 use Rattle.cu_model.specs.Networks.{NetworkValue}
 use Rattle.cu_model.specs.Queries.{query_of}
 use Rattle.cu_model.specs.Answers.{IsAnswer}
-use Rattle.cu_cli.specs.Lines.{without_return}
+use Rattle.cu_io.specs.Lines.{without_return}
 
 -- the most bytes of a line before its end
 abbrev pub line_limit : ℕ

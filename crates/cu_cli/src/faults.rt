@@ -1,33 +1,26 @@
 //! The lines that say why a run ended before its script was answered.
 
-ghost use Rattle.std.specs.Prelude.{◌≡◌, ◌≤◌, ◌∷◌, ◌++◌, [], OnOk, OnErr, codes, decimal};
-ghost use Rattle.cu_io.specs.Counts.{Rose};
-ghost use Rattle.cu_io.specs.Transfers.{Appends, AppendsSome};
-ghost use Rattle.cu_cli.specs.Faults.{file_word, network_fault, piece_fault_words, piece_refusal_words, profile_fault, road_fault, row_fault, order_fault, order_fault_words};
+ghost use Rattle.std.specs.Prelude.{◌≡◌, ◌++◌, decimal};
+ghost use Rattle.cu_io.specs.Sinks.{Wrote, WroteLine};
+ghost use Rattle.cu_cli.specs.Stops.{file_word, network_fault, order_fault, order_fault_words, piece_refusal_words, profile_fault, road_fault, row_fault};
 
-use crate::text::put_number;
-use cu_io::{Sink, SinkFailed, put_all};
+use cu_io::{Sink, SinkFailed, end_line, put_all, put_number};
 use cu_model::{PieceFault, PieceRefusal};
 use cu_order::OrderRefusal;
 use cu_profile::ProfileRefusal;
 use cu_roads::{File, RoadRefusal};
 
-/// Writes the line, but for its end, of a refused network.
-pub fn put_network_fault<K: Sink>(sink: &mut K, refusal: RoadRefusal) -> Result<(), SinkFailed>
-    ensures ok { OnOk result (Appends (K.written sink.old) (K.written sink.new) (network_fault refusal)) }
-    ensures err { OnErr result (AppendsSome (K.written sink.old) (K.written sink.new) (network_fault refusal)) }
-    ensures later { K.faults sink.old ≤ K.faults sink.new }
-    ensures cause { OnErr result (Rose (K.faults sink.old) (K.faults sink.new)) }
+/// Writes and ends the line of a refused network.
+pub fn put_network_line<K: Sink>(sink: &mut K, refusal: RoadRefusal) -> Result<(), SinkFailed>
+    ensures wrote { WroteLine (K.state sink.old) (K.state sink.new) result (network_fault refusal) }
 {
     put_all(sink, b"network: ")?;
-    put_road_fault(sink, refusal)
+    put_road_fault(sink, refusal)?;
+    end_line(sink)
 }
 
 fn put_road_fault<K: Sink>(sink: &mut K, refusal: RoadRefusal) -> Result<(), SinkFailed>
-    ensures ok { OnOk result (Appends (K.written sink.old) (K.written sink.new) (road_fault refusal)) }
-    ensures err { OnErr result (AppendsSome (K.written sink.old) (K.written sink.new) (road_fault refusal)) }
-    ensures later { K.faults sink.old ≤ K.faults sink.new }
-    ensures cause { OnErr result (Rose (K.faults sink.old) (K.faults sink.new)) }
+    ensures wrote { Wrote (K.state sink.old) (K.state sink.new) result (road_fault refusal) }
 {
     match refusal {
         RoadRefusal::Header { file } => {
@@ -52,10 +45,7 @@ fn put_road_fault<K: Sink>(sink: &mut K, refusal: RoadRefusal) -> Result<(), Sin
 }
 
 fn put_profile_fault<K: Sink>(sink: &mut K, refusal: ProfileRefusal) -> Result<(), SinkFailed>
-    ensures ok { OnOk result (Appends (K.written sink.old) (K.written sink.new) (profile_fault refusal)) }
-    ensures err { OnErr result (AppendsSome (K.written sink.old) (K.written sink.new) (profile_fault refusal)) }
-    ensures later { K.faults sink.old ≤ K.faults sink.new }
-    ensures cause { OnErr result (Rose (K.faults sink.old) (K.faults sink.new)) }
+    ensures wrote { Wrote (K.state sink.old) (K.state sink.new) result (profile_fault refusal) }
 {
     match refusal {
         ProfileRefusal::Header => put_all(sink, b"profiles header"),
@@ -73,16 +63,15 @@ fn put_profile_fault<K: Sink>(sink: &mut K, refusal: ProfileRefusal) -> Result<(
 
 // Writes why the pieces of a profile are refused.
 fn put_piece_refusal<K: Sink>(sink: &mut K, refusal: PieceRefusal) -> Result<(), SinkFailed>
-    ensures ok { OnOk result (Appends (K.written sink.old) (K.written sink.new) (piece_refusal_words refusal)) }
-    ensures err { OnErr result (AppendsSome (K.written sink.old) (K.written sink.new) (piece_refusal_words refusal)) }
-    ensures later { K.faults sink.old ≤ K.faults sink.new }
-    ensures cause { OnErr result (Rose (K.faults sink.old) (K.faults sink.new)) }
+    ensures wrote { Wrote (K.state sink.old) (K.state sink.new) result
+        (piece_refusal_words refusal) }
 {
     match refusal {
         PieceRefusal::Kind => put_all(sink, b"kind"),
         PieceRefusal::Fault(PieceFault::Limit { .. }) => put_all(sink, b"limit"),
         PieceRefusal::Fault(PieceFault::Start) => put_all(sink, b"start"),
         PieceRefusal::Fault(PieceFault::Rising { .. }) => put_all(sink, b"rising"),
+        PieceRefusal::Fault(PieceFault::Closed { .. }) => put_all(sink, b"closed"),
         PieceRefusal::Fault(PieceFault::Early { second }) => put_word_and_number(
             sink, b"early ", second,
         ),
@@ -93,10 +82,8 @@ fn put_piece_refusal<K: Sink>(sink: &mut K, refusal: PieceRefusal) -> Result<(),
 }
 
 fn put_word_and_number<K: Sink>(sink: &mut K, word: &[u8], number: u32) -> Result<(), SinkFailed>
-    ensures ok { OnOk result (Appends (K.written sink.old) (K.written sink.new) (word.now ++ decimal number)) }
-    ensures err { OnErr result (AppendsSome (K.written sink.old) (K.written sink.new) (word.now ++ decimal number)) }
-    ensures later { K.faults sink.old ≤ K.faults sink.new }
-    ensures cause { OnErr result (Rose (K.faults sink.old) (K.faults sink.new)) }
+    ensures wrote { Wrote (K.state sink.old) (K.state sink.new) result
+        (word.now ++ decimal number) }
 {
     put_all(sink, word)?;
     put_number(sink, u64::from(number))
@@ -109,10 +96,8 @@ fn put_row_fault<K: Sink>(
     row: u32,
     word: &[u8],
 ) -> Result<(), SinkFailed>
-    ensures ok { OnOk result (Appends (K.written sink.old) (K.written sink.new) (row_fault file.now row word.now)) }
-    ensures err { OnErr result (AppendsSome (K.written sink.old) (K.written sink.new) (row_fault file.now row word.now)) }
-    ensures later { K.faults sink.old ≤ K.faults sink.new }
-    ensures cause { OnErr result (Rose (K.faults sink.old) (K.faults sink.new)) }
+    ensures wrote { Wrote (K.state sink.old) (K.state sink.new) result
+        (row_fault file.now row word.now) }
 {
     put_all(sink, file)?;
     put_all(sink, b" ")?;
@@ -130,22 +115,17 @@ fn file_text(file: File) -> &'static [u8]
     }
 }
 
-/// Writes the line, but for its end, of a refused order.
-pub fn put_order_fault<K: Sink>(sink: &mut K, refusal: OrderRefusal) -> Result<(), SinkFailed>
-    ensures ok { OnOk result (Appends (K.written sink.old) (K.written sink.new) (order_fault refusal)) }
-    ensures err { OnErr result (AppendsSome (K.written sink.old) (K.written sink.new) (order_fault refusal)) }
-    ensures later { K.faults sink.old ≤ K.faults sink.new }
-    ensures cause { OnErr result (Rose (K.faults sink.old) (K.faults sink.new)) }
+/// Writes and ends the line of a refused order.
+pub fn put_order_line<K: Sink>(sink: &mut K, refusal: OrderRefusal) -> Result<(), SinkFailed>
+    ensures wrote { WroteLine (K.state sink.old) (K.state sink.new) result (order_fault refusal) }
 {
     put_all(sink, b"order: ")?;
-    put_order_words(sink, refusal)
+    put_order_words(sink, refusal)?;
+    end_line(sink)
 }
 
 fn put_order_words<K: Sink>(sink: &mut K, refusal: OrderRefusal) -> Result<(), SinkFailed>
-    ensures ok { OnOk result (Appends (K.written sink.old) (K.written sink.new) (order_fault_words refusal)) }
-    ensures err { OnErr result (AppendsSome (K.written sink.old) (K.written sink.new) (order_fault_words refusal)) }
-    ensures later { K.faults sink.old ≤ K.faults sink.new }
-    ensures cause { OnErr result (Rose (K.faults sink.old) (K.faults sink.new)) }
+    ensures wrote { Wrote (K.state sink.old) (K.state sink.new) result (order_fault_words refusal) }
 {
     match refusal {
         OrderRefusal::Number { row } => put_number_and_word(sink, row, b" number"),
@@ -157,10 +137,8 @@ fn put_order_words<K: Sink>(sink: &mut K, refusal: OrderRefusal) -> Result<(), S
 }
 
 fn put_number_and_word<K: Sink>(sink: &mut K, number: u32, word: &[u8]) -> Result<(), SinkFailed>
-    ensures ok { OnOk result (Appends (K.written sink.old) (K.written sink.new) (decimal number ++ word.now)) }
-    ensures err { OnErr result (AppendsSome (K.written sink.old) (K.written sink.new) (decimal number ++ word.now)) }
-    ensures later { K.faults sink.old ≤ K.faults sink.new }
-    ensures cause { OnErr result (Rose (K.faults sink.old) (K.faults sink.new)) }
+    ensures wrote { Wrote (K.state sink.old) (K.state sink.new) result
+        (decimal number ++ word.now) }
 {
     put_number(sink, u64::from(number))?;
     put_all(sink, word)

@@ -4,13 +4,16 @@ ghost use Rattle.std.specs.Prelude.{◌≡◌, ◌≤◌, ◌<◌, ◌+◌, ◌^
 ghost use Rattle.std.specs.Option.{IfNone, IfSome, MatchOption};
 ghost use Rattle.std.specs.Result.{IfOk};
 ghost use Rattle.cu_model.specs.Networks.{IsNetwork};
+ghost use Rattle.cu_model.specs.declared.limits.TheConstants.{DAY, MAX_NODES};
 ghost use Rattle.cu_model.specs.Roads.{IsWalk, drive, HasNoWalk};
 ghost use Rattle.cu_model.specs.Answers.{IsArrival};
-ghost use Rattle.cu_cli.specs.RoundsLabels.{label_at, IsSettled, Relaxes, IsSearch, IsSearched, KeepsSearch, AreNear, total};
+ghost use Rattle.cu_cli.specs.Steps.RoundsLabels.{label_at, IsSettled, Relaxes, IsSearch, IsSearched, KeepsSearch, AreNear, total};
 
 #[cfg(test)]
 mod tests;
 
+use crate::engine::Engine;
+use cu_io::{Sink, SinkFailed, put_numbers};
 use cu_model::{NoMemory, Query, Roads};
 use std::alloc::Global;
 use std::marker::Model;
@@ -35,7 +38,7 @@ pub struct Rounds {
 
 impl Model for Rounds {
     ghost use Rattle.std.specs.Prelude.{◌≡◌, ◌≤◌, drop, length};
-    ghost use Rattle.cu_cli.specs.RoundsValue.{RoundsValue};
+    ghost use Rattle.cu_cli.specs.Steps.RoundsValue.{RoundsValue};
 
     ghost Value = { RoundsValue };
 
@@ -45,9 +48,9 @@ impl Model for Rounds {
 }
 
 impl Rounds {
-    /// Room for queries over a network of so many nodes, at most 262,144.
+    /// Room for queries over a network of so many nodes, at most [`MAX_NODES`](cu_model::MAX_NODES).
     pub fn new(alloc: Global, nodes: u32) -> Result<Rounds, NoMemory>
-        requires { nodes ≤ 262144 }
+        requires { nodes ≤ MAX_NODES }
         ensures room { IfOk result (λ rounds. rounds.nodes ≡ nodes) }
         ensures empty { IfOk result (λ rounds. rounds.route ≡ []) }
     {
@@ -61,11 +64,11 @@ impl Rounds {
 
     /// The least arrival, an absolute second, and from then on `route` is a walk that arrives then. None exactly where no walk leads
     /// from one node to the other, and `route` is empty then. Takes no memory.
-    pub fn query<N: Roads>(&mut self, roads: &N, query: Query) -> Option<u64>
+    pub fn find<N: Roads>(&mut self, roads: &N, query: Query) -> Option<u64>
         requires room { self.old.nodes ≡ (N.network roads.now).nodes }
         requires from { query.from < (N.network roads.now).nodes }
         requires to { query.to < (N.network roads.now).nodes }
-        requires second { query.second < 86400 }
+        requires second { query.second < DAY }
         ensures found { MatchOption
             result
             (HasNoWalk (N.network roads.now) query.from query.to)
@@ -91,11 +94,25 @@ impl Rounds {
     }
 }
 
+impl Engine for Rounds {
+    ghost is_ready = { λ rounds g. rounds.nodes ≡ g.nodes };
+
+    ghost walk = { λ rounds. rounds.route };
+
+    fn query<N: Roads>(&mut self, roads: &N, query: Query) -> Option<u64> {
+        self.find(roads, query)
+    }
+
+    fn put_route<K: Sink>(&self, sink: &mut K) -> Result<(), SinkFailed> {
+        put_numbers(sink, self.route())
+    }
+}
+
 // Labels all nodes that a walk leads to with their least arrivals.
 fn settle<N: Roads>(roads: &N, query: Query, labels: &mut [Option<Label>])
     requires size { length labels.old ≡ (N.network roads.now).nodes }
     requires from { query.from < (N.network roads.now).nodes }
-    requires second { query.second < 86400 }
+    requires second { query.second < DAY }
     ensures sound { IsNetwork (N.network roads.now) }
     ensures search { IsSearch (N.network roads.now) query.from query.second labels.new }
     ensures settled { IsSettled (N.network roads.now) labels.new }
@@ -110,7 +127,8 @@ fn settle<N: Roads>(roads: &N, query: Query, labels: &mut [Option<Label>])
 // Labels the first node alone.
 fn begin(query: Query, labels: &mut [Option<Label>])
     requires { query.from < length labels.old }
-    ensures { labels.new ≡ slice_set (replicate (length labels.old) None) query.from (Some (record { arrival = query.second; came = None })) }
+    ensures { labels.new ≡ slice_set (replicate (length labels.old) None) query.from
+        (Some (record { arrival = query.second; came = None })) }
 {
     labels.fill(None);
     labels[query.from as usize] = Some(Label {
@@ -142,6 +160,9 @@ fn relax<N: Roads>(roads: &N, arc: u32, labels: &mut [Option<Label>]) -> bool
     requires near { AreNear labels.old }
     ensures { Relaxes (N.network roads.now) arc labels.old labels.new result }
 {
+    if roads.closed(arc) {
+        return false;
+    }
     let road = roads.arc(arc);
     let Some(tail) = labels[road.tail as usize] else {
         return false;
@@ -174,8 +195,10 @@ fn trace<N: Roads>(
     requires last { label_at labels.now to ≡ Some last }
     requires room { length route.old ≡ length labels.now }
     ensures within { result ≤ length route.new }
-    ensures joined { (from second : ℕ) → IsSearch (N.network roads.now) from second labels.now → IsWalk (N.network roads.now) from (drop result route.new) to }
-    ensures driven { (from second : ℕ) → IsSearch (N.network roads.now) from second labels.now → drive (N.network roads.now) (drop result route.new) second ≡ last.arrival }
+    ensures joined { (from second : ℕ) → IsSearch (N.network roads.now) from second labels.now
+        → IsWalk (N.network roads.now) from (drop result route.new) to }
+    ensures driven { (from second : ℕ) → IsSearch (N.network roads.now) from second labels.now
+        → drive (N.network roads.now) (drop result route.new) second ≡ last.arrival }
 {
     let mut label = last;
     let mut first = route.len();

@@ -5,6 +5,8 @@ use cu_io::{MemoryShelf, MemorySink, MemorySource, Shelf};
 use std::alloc::Global;
 use std::test::Fail;
 
+mod talk;
+
 const NODES: &str = "node,x,y\n0,0,0\n1,50,10\n2,100,0\n";
 
 const ROADS: &str = "arc,tail,head,profile\n0,0,1,0\n1,1,2,1\n2,0,2,2\n";
@@ -12,11 +14,13 @@ const ROADS: &str = "arc,tail,head,profile\n0,0,1,0\n1,1,2,1\n2,0,2,2\n";
 const RUSH: &str =
     "profile,from,kind,value\n0,0,travel,60\n1,0,travel,100\n1,28800,travel,300\n1,35800,until,36100\n1,36000,travel,100\n2,0,travel,250\n";
 
-// Of a run: the text of its order, none where each node is its own rank, and the calls that fail, by number: of the shelf
-// behind its four stores, of the source and of the sink.
+// Of a run: the text of its order, none where each node is its own rank; the most bytes of a file, and of a read; and the calls that
+// fail, by number: of the shelf behind its four stores, of the source and of the sink.
 #[derive(Clone, Copy)]
 struct Setting<'a> {
     order: Option<&'a str>,
+    limit: u64,
+    most: usize,
     shelf: &'a [u64],
     source: &'a [u64],
     sink: &'a [u64],
@@ -24,6 +28,8 @@ struct Setting<'a> {
 
 const PLAIN: Setting<'static> = Setting {
     order: None,
+    limit: 1 << 20,
+    most: 1 << 20,
     shelf: &[],
     source: &[],
     sink: &[],
@@ -36,7 +42,7 @@ fn serve(
     script: &str,
     setting: Setting<'_>,
 ) -> Result<(u8, Vec<u8>), Fail> {
-    let mut shelf = MemoryShelf::new(alloc, 1 << 20, Vec::from_slice(alloc, setting.shelf)?);
+    let mut shelf = MemoryShelf::new(alloc, setting.limit, Vec::from_slice(alloc, setting.shelf)?);
     shelf.store(alloc, "nodes", tables[0].as_bytes())?;
     shelf.store(alloc, "roads", tables[1].as_bytes())?;
     shelf.store(alloc, "profiles", tables[2].as_bytes())?;
@@ -49,7 +55,8 @@ fn serve(
     let mut source = MemorySource::of(
         Vec::from_slice(alloc, script.as_bytes())?,
         Vec::from_slice(alloc, setting.source)?,
-    );
+    )
+    .cut(setting.most.max(1));
     let mut sink = MemorySink::new(alloc, 4096, Vec::from_slice(alloc, setting.sink)?)?;
     let mut words = Vec::new(alloc);
     for word in ["serve", "nodes", "roads", "profiles", order] {
@@ -70,6 +77,41 @@ fn queries_are_answered(rt: HostRuntime) -> Result<(), Fail> {
     assert_eq!(rt;
         replies.as_slice(),
         b"arrive=160 arcs=0 1\narrive=29050 arcs=2\narrive=5 arcs=\narrive=36100 arcs=0 1\narrive=86559 arcs=0 1\nunreachable\nrefused: node\nrefused: second\nrefused: line\nrefused: line\nrefused: line\narrive=160 arcs=0 1\n".as_slice()
+    );
+    assert_eq!(rt; status, 0);
+    Ok(())
+}
+
+#[test]
+fn replies_do_not_depend_on_how_the_input_is_cut(rt: HostRuntime) -> Result<(), Fail> {
+    for most in [1, 2, 7] {
+        let setting = Setting { most, ..PLAIN };
+        let (status, replies) = serve(
+            rt.alloc(),
+            [NODES, ROADS, RUSH],
+            "q,0,2,0\n\nq,0,2,28800\r\nq,0,2,0",
+            setting,
+        )?;
+        assert_eq!(rt;
+            replies.as_slice(),
+            b"arrive=160 arcs=0 1\nrefused: line\narrive=29050 arcs=2\narrive=160 arcs=0 1\n".as_slice()
+        );
+        assert_eq!(rt; status, 0);
+    }
+    Ok(())
+}
+
+#[test]
+fn closed_roads_are_not_driven(rt: HostRuntime) -> Result<(), Fail> {
+    let tables = [
+        "node,x,y\n0,0,0\n1,0,0\n",
+        "arc,tail,head,profile\n0,0,1,1\n1,0,1,0\n2,1,0,1\n",
+        "profile,from,kind,value\n0,0,travel,50\n1,0,closed,0\n",
+    ];
+    let (status, replies) = serve(rt.alloc(), tables, "q,0,1,7\nq,1,0,7\n", PLAIN)?;
+    assert_eq!(rt;
+        replies.as_slice(),
+        b"arrive=57 arcs=1\nunreachable\n".as_slice()
     );
     assert_eq!(rt; status, 0);
     Ok(())
@@ -106,6 +148,10 @@ fn refused_tables_are_named(rt: HostRuntime) -> Result<(), Fail> {
         ("0,0,travel,604801\n", "network: profiles 0 limit\n"),
         ("0,5,travel,1\n", "network: profiles 0 start\n"),
         (
+            "0,0,travel,60\n0,100,closed,0\n",
+            "network: profiles 1 closed\n",
+        ),
+        (
             "0,0,travel,60\n1,0,travel,100\n1,35800,until,36100\n1,36000,travel,50\n",
             "network: profiles 1 fifo 35999\n",
         ),
@@ -134,6 +180,10 @@ fn faults_end_the_run(rt: HostRuntime) -> Result<(), Fail> {
     };
     let (status, said) = serve(rt.alloc(), tables, "q,0,2,0\n", no_roads)?;
     assert_eq!(rt; said.as_slice(), b"shelf: fault roads\n".as_slice());
+    assert_eq!(rt; status, 3);
+    let small = Setting { limit: 30, ..PLAIN };
+    let (status, said) = serve(rt.alloc(), tables, "q,0,2,0\n", small)?;
+    assert_eq!(rt; said.as_slice(), b"shelf: long nodes\n".as_slice());
     assert_eq!(rt; status, 3);
     let no_sink = Setting {
         sink: &[0],

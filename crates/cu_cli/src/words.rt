@@ -1,7 +1,7 @@
 //! The words of each command, by position.
 
 ghost use Rattle.std.specs.Prelude.{map, string_bytes};
-ghost use Rattle.cu_cli.specs.Asks.{AsksFor, AsksForOrder};
+ghost use Rattle.cu_cli.specs.Steps.Asks.{AsksFor, AsksForOrder};
 
 /// The order that a word asks for.
 #[derive(Clone, Copy)]
@@ -12,9 +12,9 @@ pub enum OrderWord<'a> {
     Named(&'a str),
 }
 
-/// The files that `serve` names: the tables of a network, and its order.
+/// The files that three words name, the tables of a network, and the order that a fourth asks for.
 #[derive(Clone, Copy)]
-pub struct Tables<'a> {
+pub struct TableWords<'a> {
     pub nodes: &'a str,
     pub roads: &'a str,
     pub profiles: &'a str,
@@ -22,21 +22,20 @@ pub struct Tables<'a> {
 }
 
 /// The tables and the order that the words `serve NODES ROADS PROFILES ORDER` name; none where the words are others.
-pub fn parse_words(words: &Vec<String>) -> Option<Tables<'_>>
+pub fn parse_words(words: &Vec<String>) -> Option<TableWords<'_>>
     ensures { AsksFor (map string_bytes words.now.items) result }
 {
-    if words.len() != 5 {
+    let [command, nodes, roads, profiles, order] = words.as_slice() else {
+        return None;
+    };
+    if command.as_str() != "serve" {
         return None;
     }
-    if words[0].as_str() != "serve" {
-        return None;
-    }
-    let order = parse_order(words[4].as_str())?;
-    Some(Tables {
-        nodes: words[1].as_str(),
-        roads: words[2].as_str(),
-        profiles: words[3].as_str(),
-        order,
+    Some(TableWords {
+        nodes: nodes.as_str(),
+        roads: roads.as_str(),
+        profiles: profiles.as_str(),
+        order: parse_order(order.as_str())?,
     })
 }
 
@@ -44,11 +43,9 @@ pub fn parse_words(words: &Vec<String>) -> Option<Tables<'_>>
 fn parse_order(word: &str) -> Option<OrderWord<'_>>
     ensures { AsksForOrder word.now result }
 {
-    if word == "identity" {
-        return Some(OrderWord::Identity);
+    match word {
+        "identity" => Some(OrderWord::Identity),
+        "dissect" => None,
+        name => Some(OrderWord::Named(name)),
     }
-    if word == "dissect" {
-        return None;
-    }
-    Some(OrderWord::Named(word))
 }

@@ -1,5 +1,5 @@
 //! What no clause says: that calls succeed, and what small networks answer, worked out by hand.
-ghost use Rattle.std.specs.Prelude.{◌≡◌, ◌≤◌, ◌<◌, All, length};
+ghost use Rattle.std.specs.Prelude.{◌≡◌, ◌<◌, All, length};
 ghost use Rattle.std.specs.Bool.{OnTrue};
 ghost use Rattle.std.specs.Result.{IfOk};
 ghost use Rattle.cu_model.specs.declared.roads.RoadArc.{RoadArc};
@@ -100,8 +100,8 @@ fn finds_least_arrivals(rt: HostRuntime) -> Result<(), Fail> {
         let network = five_nodes(alloc, roads)?;
         let mut rounds = Rounds::new(alloc, 5)?;
         // the way back first, of which nothing is to be left
-        rounds.query(&network, ask(query.to, query.from, 0));
-        assert_eq!(rt; rounds.query(&network, query), arrival, "{query:?}");
+        rounds.find(&network, ask(query.to, query.from, 0));
+        assert_eq!(rt; rounds.find(&network, query), arrival, "{query:?}");
         assert_eq!(rt; rounds.route(), route, "{query:?}");
     }
     Ok(())

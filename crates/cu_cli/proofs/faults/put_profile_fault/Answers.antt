@@ -1,10 +1,10 @@
-use Rattle.cu_io.proofs.Appending.{on_err, appends_some_more}
-use Rattle.cu_cli.proofs.Texts.{err_then}
+use Rattle.cu_io.proofs.Appending.{wrote_then, wrote_stops}
 use Rattle.cu_cli.proofs.faults.put_profile_fault.Goals as goal
 
-pub returns-in_err-put_row_fault-in-Row-clause-err : goal.returns-in_err-put_row_fault-in-Row-clause-err
-returns-in_err-put_row_fault-in-Row-clause-err g c = rw c.in-Row.is (on_err _ (appends_some_more _ _ _ _ c.in_err-put_row_fault-in-Row.ensures.err))
+pub returns-in_err-put_row_fault-in-Row : goal.returns-in_err-put_row_fault-in-Row
+returns-in_err-put_row_fault-in-Row g c =
+    record { wrote = rw c.in-Row.is (wrote_stops _ c.from_residual.ensures.0 c.in_err-put_row_fault-in-Row.ensures.wrote) }
 
-pub returns-in_ok-put_row_fault-in-Row-clause-err : goal.returns-in_ok-put_row_fault-in-Row-clause-err
-returns-in_ok-put_row_fault-in-Row-clause-err g c =
-    rw c.in-Row.is (err_then c.put_piece_refusal.result _ _ _ _ _ c.in_ok-put_row_fault-in-Row.ensures.ok c.put_piece_refusal.ensures.err)
+pub returns-in_ok-put_row_fault-in-Row : goal.returns-in_ok-put_row_fault-in-Row
+returns-in_ok-put_row_fault-in-Row g c =
+    record { wrote = rw c.in-Row.is (wrote_then c.in_ok-put_row_fault-in-Row.ensures.wrote c.put_piece_refusal.ensures.wrote) }

@@ -1,7 +1,5 @@
-use Rattle.cu_cli.proofs.Texts.{err_then}
+use Rattle.cu_io.proofs.Appending.{wrote_then}
 use Rattle.cu_cli.proofs.faults.put_word_and_number.Goals as goal
 
-pub returns-clause-err : goal.returns-clause-err
-returns-clause-err g c =
-    let number = rw c.from.ensures at c.put_number.ensures.err in
-    err_then c.put_number.result _ _ _ _ _ c.in_ok-put_all.ensures.ok number
+pub returns : goal.returns
+returns g c = record { wrote = wrote_then c.in_ok-put_all.ensures.wrote (rw c.from.ensures at c.put_number.ensures.wrote) }

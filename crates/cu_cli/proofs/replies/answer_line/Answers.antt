@@ -1,7 +1,13 @@
-use Rattle.cu_cli.proofs.Texts.{ok_then, err_then}
+use Rattle.std.proofs.lemmas.List.{append-nil}
+use Rattle.cu_io.proofs.Appending.{line_then, line_stops, line_same}
 use Rattle.cu_cli.proofs.replies.answer_line.Goals as goal
+
+pub returns-in_err-put_reply-clause-reply : goal.returns-in_err-put_reply-clause-reply
+returns-in_err-put_reply-clause-reply g c =
+    let reply = c.in_err-put_reply.ensures.reply in
+    (reply.0, reply.1, line_stops c.from_residual.ensures.0 reply.2)
 
 pub returns-clause-reply : goal.returns-clause-reply
 returns-clause-reply g c =
     let reply = c.in_ok-put_reply.ensures.reply in
-    (reply.0, reply.1, ok_then c.end_line.result _ _ _ _ _ reply.2 c.end_line.ensures.ok, err_then c.end_line.result _ _ _ _ _ reply.2 c.end_line.ensures.err)
+    (reply.0, reply.1, line_same (append-nil reply.0) (line_then reply.2 c.end_line.ensures.wrote))

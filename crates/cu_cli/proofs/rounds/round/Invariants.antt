@@ -1,5 +1,5 @@
 use Rattle.std.proofs.Common.{◌≡◌, ◌≤◌, ◌<◌, ◌+◌, ℕ, false, cond}
-use Rattle.cu_cli.specs.RoundsLabels.{IsSettledAt, KeepsSearch, total}
+use Rattle.cu_cli.specs.Steps.RoundsLabels.{IsSettledAt, KeepsSearch, total}
 use Rattle.cu_cli.proofs.rounds.round.Given as goal
 
 abbrev pub invariant-loop-arc : goal.invariant-loop-arc

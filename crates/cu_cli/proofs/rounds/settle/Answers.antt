@@ -1,7 +1,7 @@
 use Rattle.std.proofs.Common.{subst, sym}
 use Rattle.std.specs.Prelude.{List, Option}
 use Rattle.cu_cli.specs.declared.rounds.Label.{Label}
-use Rattle.cu_cli.specs.RoundsLabels.{IsSearch}
+use Rattle.cu_cli.specs.Steps.RoundsLabels.{IsSearch}
 use Rattle.cu_cli.proofs.RoundsSearch.{first_label-search}
 use Rattle.cu_cli.proofs.rounds.settle.Goals as goal
 

@@ -1,4 +1,4 @@
-use Rattle.cu_cli.specs.RoundsLabels.{IsSearch, total}
+use Rattle.cu_cli.specs.Steps.RoundsLabels.{IsSearch, total}
 use Rattle.cu_cli.proofs.rounds.settle.Given as goal
 
 abbrev pub invariant-loop : goal.invariant-loop

@@ -40,7 +40,7 @@ pub bounds-labels-arc : goal.bounds-labels-arc
 bounds-labels-arc g c =
     let net = g.N.Roads.network c.args.roads.now in
     let (from, second, s) = c.requires.search in
-    let below = tail_below net c.requires.sound c.in-Some.arc c.arc.result c.arc.ensures in
+    let below = tail_below net c.requires.sound c.in-Some.arc c.arc.result c.arc.ensures.there in
     let size = s.size in
     omega (arith, below, size)
 
@@ -49,7 +49,7 @@ unwrap-label-requires g c =
     let net = g.N.Roads.network c.args.roads.now in
     let (from, second, s) = c.requires.search in
     let (node, traced) = c.back.invariant.traced in
-    let (y, at, leads, value) = came-exactly net from second c.args.labels.now s c.requires.settled node c.in-Some.arc c.back.label c.arc.result traced.at c.in-Some.is c.arc.ensures in
+    let (y, at, leads, value) = came-exactly net from second c.args.labels.now s c.requires.settled node c.in-Some.arc c.back.label c.arc.result traced.at c.in-Some.is c.arc.ensures.there in
     subst (λ (label : Option Label). IsSome label) (sym at) refl
 
 pub back-smaller : goal.back-smaller
@@ -76,7 +76,7 @@ back-preserved g c =
     let within = c.back.invariant.within in
     let step =
     traced-step net c.requires.sound from second labels s c.requires.settled c.args.to c.args.last.arrival node c.in-Some.arc c.back.label c.unwrap-label.result c.arc.result (drop c.back.first c.back.route)
-    _ traced c.in-Some.is c.arc.ensures c.unwrap-label.ensures (drop-before c.back.route c.back.first c.in-Some.arc room within)
+    _ traced c.in-Some.is c.arc.ensures.there c.unwrap-label.ensures (drop-before c.back.route c.back.first c.in-Some.arc room within)
     in
     record {
       within = omega (arith, within, length-set {A = ℕ});

@@ -1,0 +1,36 @@
+-- Loads one after another.
+use Rattle.std.proofs.Common.{ℕ, List, [], ◌∷◌, ◌∙◌, refl, arith, inl, inr}
+use Rattle.cu_io.specs.Shelves.{ShelfState}
+use Rattle.cu_cli.specs.declared.stops.Stop.{Stop}
+use Rattle.cu_cli.specs.declared.stops.Stop.TheVariants as stop
+use Rattle.cu_cli.specs.Preparing.{IsLoaded, StopsLoad, AreLoaded, StopsLoading}
+use Rattle.cu_cli.specs.Steps.Loading.{OnlyLoads}
+use Rattle.cu_cli.specs.Words.{FileAsked}
+
+pub only_nothing : (a : ShelfState) → OnlyLoads a a
+only_nothing a = record { held = refl; most = refl; later = λ name. omega arith }
+
+pub only_then : {a b c : ShelfState} → OnlyLoads a b → OnlyLoads b c → OnlyLoads a c
+only_then h k = record { held = k.held ∙ h.held; most = k.most ∙ h.most; later = λ name. omega (arith, h.later name, k.later name) }
+
+-- a file that is loaded behind others could be loaded before them
+pub loaded_behind : {a b : ShelfState} (file : FileAsked) (bytes : List ℕ) → OnlyLoads a b → IsLoaded b file bytes → IsLoaded a file bytes
+loaded_behind file bytes h (holds, short) = (rw h.held at holds, rw h.most at short)
+
+pub all_loaded_behind : {a b : ShelfState} (files : List FileAsked) (texts : List (List ℕ)) → OnlyLoads a b → AreLoaded b files texts → AreLoaded a files texts
+all_loaded_behind [] [] h k = tt
+all_loaded_behind [] (text ∷ texts) h k = absurd k
+all_loaded_behind (file ∷ files) [] h k = absurd k
+all_loaded_behind (file ∷ files) (text ∷ texts) h (loaded, more) = (loaded_behind file text h loaded, all_loaded_behind files texts h more)
+
+-- a load that stops the run behind others
+pub stops_behind : {a b : ShelfState} (c : ShelfState) (file : FileAsked) (why : Stop) → OnlyLoads a b → StopsLoad b c file why → StopsLoad a c file why
+stops_behind c file (stop.Fault whose) h (same, rose) = (same, omega (arith, h.later file.name, rose))
+stops_behind c file (stop.TooLong whose) h (same, more) = (same, rw (h.held, h.most) at more)
+stops_behind c file stop.NoMemory h k = tt
+stops_behind c file _ h k = absurd k
+
+pub stops_all_behind : {a b : ShelfState} (c : ShelfState) (files : List FileAsked) (why : Stop) → OnlyLoads a b → StopsLoading b c files why → StopsLoading a c files why
+stops_all_behind c [] why h k = absurd k
+stops_all_behind c (file ∷ files) why h (inl stops) = inl (stops_behind c file why h stops)
+stops_all_behind c (file ∷ files) why h (inr (text, loaded, more)) = inr (text, loaded_behind file text h loaded, stops_all_behind c files why h more)

@@ -1,0 +1,20 @@
+use Rattle.cu_cli.specs.declared.stops.Stop.TheVariants as stop
+use Rattle.cu_cli.specs.Steps.Asks.{tables_asked}
+use Rattle.cu_cli.proofs.SessionLaws.{nothing_done}
+use Rattle.cu_cli.proofs.StopLaws.{err_is}
+use Rattle.cu_cli.proofs.WorkLaws.{served, stopped}
+use Rattle.cu_cli.proofs.commands.serve.serve.Goals as goal
+
+pub returns-in_err-prepared : goal.returns-in_err-prepared
+returns-in_err-prepared g c =
+    rw (err_is c.from_residual.result c.in_err-prepared.field-0.0 c.from_residual.ensures.1)
+    (record { works = stopped _ _ _ _ (tables_asked c.args.tables) _ c.in_err-prepared.ensures.loads c.in_err-prepared.ensures.err c.in_err-prepared.ensures.before })
+
+pub returns-in_err-engine : goal.returns-in_err-engine
+returns-in_err-engine g c =
+    let none = nothing_done c.in_ok-prepared.prepared.network (g.S.Source.state c.args.source.now) (g.K.Sink.state c.args.sink.now) in
+    rw (err_is c.from_residual-in_err-engine.result stop.NoMemory c.from_residual-in_err-engine.ensures.1)
+    (record { works = served _ _ _ _ _ _ (tables_asked c.args.tables) _ _ _ c.in_ok-prepared.ensures.loads c.in_ok-prepared.ensures.ok none })
+
+pub returns : goal.returns
+returns g c = record { works = served _ _ _ _ _ _ (tables_asked c.args.tables) _ _ _ c.in_ok-prepared.ensures.loads c.in_ok-prepared.ensures.ok c.answer_script.ensures.ended }

@@ -1,0 +1,6 @@
+pub mod Asks
+pub mod Loading
+pub mod Outcomes
+pub mod Sessions
+pub mod RoundsValue
+pub mod RoundsLabels

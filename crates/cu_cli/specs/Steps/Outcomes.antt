@@ -1,0 +1,71 @@
+-- What a refused call makes of a run.
+use Rattle.std.specs.Prelude.{◌≡◌, ◌≢◌, ◌≤◌, ◌⊎◌, ℕ, List, [], Option, Some, None, Result, Ok, Err, OnOk, OnErr}
+use Rattle.cu_io.specs.Counts.{Rose}
+use Rattle.cu_io.specs.Sinks.{SinkState, Wrote}
+use Rattle.cu_io.specs.Shelves.{ShelfState}
+use Rattle.cu_io.specs.Sources.{SourceState}
+use Rattle.cu_io.specs.Transfers.{Appends, AppendsSome}
+use Rattle.cu_chordal.specs.declared.closure.CloseRefusal.{CloseRefusal}
+use Rattle.cu_chordal.specs.declared.closure.CloseRefusal.TheVariants as closing
+use Rattle.cu_order.specs.declared.refusals.OrderRefusal.{OrderRefusal}
+use Rattle.cu_order.specs.declared.refusals.OrderRefusal.TheVariants as order
+use Rattle.cu_roads.specs.declared.refusals.RoadRefusal.{RoadRefusal}
+use Rattle.cu_roads.specs.declared.refusals.RoadRefusal.TheVariants as road
+use Rattle.cu_cli.specs.declared.stops.Stop.{Stop}
+use Rattle.cu_cli.specs.declared.stops.Stop.TheVariants as stop
+use Rattle.cu_cli.specs.Runs.{Ending, IsFlushed, Leaves, Moves, Stores}
+use Rattle.cu_cli.specs.Stops.{said_of, status_at, status_of}
+
+-- the stop of a refused network; want of memory has its own
+abbrev pub stop_of_network : RoadRefusal → Stop
+stop_of_network road.NoMemory = stop.NoMemory
+stop_of_network other = stop.Network other
+
+-- the stop of a refused order
+abbrev pub stop_of_order : OrderRefusal → Stop
+stop_of_order order.NoMemory = stop.NoMemory
+stop_of_order other = stop.Order other
+
+-- the stop of a graph that wasn't closed
+abbrev pub stop_of_close : CloseRefusal → Stop
+stop_of_close closing.NoMemory = stop.NoMemory
+stop_of_close closing.TooManyEdges = stop.TooManyEdges
+
+-- a stop before the script is read
+abbrev pub IsBeforeScript : Stop → Type 0
+IsBeforeScript stop.Source = ⊥
+IsBeforeScript stop.Sink = ⊥
+IsBeforeScript stop.TakeLimit = ⊥
+IsBeforeScript _ = Unit {0}
+
+-- why the work stopped, if it did
+abbrev pub stop_of : {T : Type 0} → Result T Stop → Option Stop
+stop_of (Ok value) = None
+stop_of (Err why) = Some why
+
+-- a text that is empty, or ends with a line feed, was written and flushed; or, after a fault that the count shows, some first bytes of it
+-- written, and then it isn't empty
+pub record Said {T E : Type 0} (before now : SinkState) (result : Result T E) (text : List ℕ) : Type 0 where
+  pub wrote : Wrote before now result text
+  pub flushed : OnOk result (IsFlushed before now)
+  pub some : OnErr result (text ≢ [])
+
+-- a stop was said, and its status answered; or the sink failed in its line
+abbrev pub SaysStop : Stop → SinkState → SinkState → ℕ → Type 0
+SaysStop why before now status =
+    ((status ≡ status_of why) × Appends before.written now.written (said_of why) × IsFlushed before now)
+    ⊎ ((status ≡ 8) × (said_of why ≢ []) × AppendsSome before.written now.written (said_of why) × Rose before.faults now.faults)
+
+pub record Refuses (why : Stop) (before now : SinkState) (status : ℕ) : Type 0 where
+  pub said : SaysStop why before now status
+  pub later : before.faults ≤ now.faults
+  pub rises : before.flushed ≤ now.flushed
+
+-- The work of a command ended as `Ends` says, and moved, stored and left so much.
+pub record Works (why : Option Stop) (Ends : Ending → Type 0) (shelf_before shelf_now : ShelfState) (source_before source_now : SourceState) (sink_before sink_now : SinkState) : Type 0 where
+  pub work : Ending
+  pub stop : work.stop ≡ why
+  pub ended : Ends work
+  pub moves : Moves source_before source_now sink_before sink_now work
+  pub stores : Stores shelf_before.held work.stored shelf_now.held
+  pub leaves : Leaves (status_at why) source_before source_now sink_before sink_now

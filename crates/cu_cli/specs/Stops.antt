@@ -1,0 +1,119 @@
+-- Why a run stops before all is done: the one line that says it, and the status that goes with it.
+use Rattle.std.specs.Prelude.{ℕ, List, [], ◌∷◌, ◌++◌, Option, Some, None, codes, decimal}
+use Rattle.cu_cli.specs.declared.stops.Role.{Role}
+use Rattle.cu_cli.specs.declared.stops.Role.TheVariants as role
+use Rattle.cu_cli.specs.declared.stops.Stop.{Stop}
+use Rattle.cu_cli.specs.declared.stops.Stop.TheVariants as stop
+use Rattle.cu_model.specs.declared.profiles.PieceFault.{PieceFault}
+use Rattle.cu_model.specs.declared.profiles.PieceFault.TheVariants.{Limit, Start, Rising, Closed, Early, Fifo}
+use Rattle.cu_model.specs.declared.profiles.PieceRefusal.{PieceRefusal}
+use Rattle.cu_model.specs.declared.profiles.PieceRefusal.TheVariants as piece
+use Rattle.cu_order.specs.declared.refusals.OrderRefusal.{OrderRefusal}
+use Rattle.cu_order.specs.declared.refusals.OrderRefusal.TheVariants as order
+use Rattle.cu_profile.specs.declared.refusals.ProfileRefusal.{ProfileRefusal}
+use Rattle.cu_profile.specs.declared.refusals.ProfileRefusal.TheVariants as profile
+use Rattle.cu_roads.specs.declared.refusals.File.{File}
+use Rattle.cu_roads.specs.declared.refusals.File.TheVariants.{Nodes, Roads}
+use Rattle.cu_roads.specs.declared.refusals.RoadRefusal.{RoadRefusal}
+use Rattle.cu_roads.specs.declared.refusals.RoadRefusal.TheVariants as road
+
+abbrev pub file_word : File → List ℕ
+file_word Nodes = codes "nodes"
+file_word Roads = codes "roads"
+
+-- a table, a row of it, and a word
+abbrev pub row_fault : List ℕ → ℕ → List ℕ → List ℕ
+row_fault file row word = file ++ codes " " ++ decimal row ++ codes " " ++ word
+
+abbrev pub piece_fault_words : PieceFault → List ℕ
+piece_fault_words (Limit piece) = codes "limit"
+piece_fault_words Start = codes "start"
+piece_fault_words (Rising piece) = codes "rising"
+piece_fault_words (Closed piece) = codes "closed"
+piece_fault_words (Early second) = codes "early " ++ decimal second
+piece_fault_words (Fifo second) = codes "fifo " ++ decimal second
+
+abbrev pub piece_refusal_words : PieceRefusal → List ℕ
+piece_refusal_words piece.Kind = codes "kind"
+piece_refusal_words (piece.Fault fault) = piece_fault_words fault
+
+abbrev pub profile_fault : ProfileRefusal → List ℕ
+profile_fault profile.Header = codes "profiles header"
+profile_fault (profile.Fields row) = row_fault (codes "profiles") row (codes "fields")
+profile_fault (profile.Number row) = row_fault (codes "profiles") row (codes "number")
+profile_fault (profile.Sequence row) = row_fault (codes "profiles") row (codes "sequence")
+profile_fault (profile.TooMany row) = row_fault (codes "profiles") row (codes "count")
+profile_fault (profile.Row row refusal) = row_fault (codes "profiles") row [] ++ piece_refusal_words refusal
+profile_fault profile.NoMemory = []
+
+abbrev pub road_fault : RoadRefusal → List ℕ
+road_fault (road.Header file) = file_word file ++ codes " header"
+road_fault (road.Fields file row) = row_fault (file_word file) row (codes "fields")
+road_fault (road.Number file row) = row_fault (file_word file) row (codes "number")
+road_fault (road.Sequence file row) = row_fault (file_word file) row (codes "sequence")
+road_fault (road.TooManyNodes row) = row_fault (codes "nodes") row (codes "count")
+road_fault (road.TooManyArcs row) = row_fault (codes "roads") row (codes "count")
+road_fault (road.NodeRange row) = row_fault (codes "roads") row (codes "node")
+road_fault (road.ProfileRange row) = row_fault (codes "roads") row (codes "profile")
+road_fault (road.Profiles refusal) = profile_fault refusal
+road_fault road.NoMemory = []
+
+-- the line of a refusal
+abbrev pub network_fault : RoadRefusal → List ℕ
+network_fault refusal = codes "network: " ++ road_fault refusal
+
+abbrev pub order_fault_words : OrderRefusal → List ℕ
+order_fault_words (order.Number row) = decimal row ++ codes " number"
+order_fault_words (order.Range row) = decimal row ++ codes " range"
+order_fault_words (order.Twice row) = decimal row ++ codes " twice"
+order_fault_words (order.Count rows) = decimal rows ++ codes " count"
+order_fault_words order.NoMemory = []
+
+-- the line of a refused order
+abbrev pub order_fault : OrderRefusal → List ℕ
+order_fault refusal = codes "order: " ++ order_fault_words refusal
+
+abbrev pub role_word : Role → List ℕ
+role_word role.Nodes = codes "nodes"
+role_word role.Roads = codes "roads"
+role_word role.Profiles = codes "profiles"
+role_word role.Order = codes "order"
+
+abbrev pub line_of : List ℕ → List ℕ
+line_of text = text ++ 10 ∷ []
+
+-- what is said of a stop: its one line, or nothing
+abbrev pub said_of : Stop → List ℕ
+said_of stop.Words = line_of (codes "words")
+said_of (stop.Fault whose) = line_of (codes "shelf: fault " ++ role_word whose)
+said_of (stop.TooLong whose) = line_of (codes "shelf: long " ++ role_word whose)
+said_of (stop.Network refusal) = line_of (network_fault refusal)
+said_of (stop.Order refusal) = line_of (order_fault refusal)
+said_of stop.TooManyEdges = line_of (codes "too many shortcuts")
+said_of stop.Source = []
+said_of stop.Sink = []
+said_of stop.NoMemory = []
+said_of stop.TakeLimit = []
+
+-- the status of a stop, by number
+abbrev pub status_of : Stop → ℕ
+status_of stop.Words = 2
+status_of (stop.Fault whose) = 3
+status_of (stop.TooLong whose) = 3
+status_of (stop.Network refusal) = 4
+status_of (stop.Order refusal) = 5
+status_of stop.Source = 7
+status_of stop.Sink = 8
+status_of stop.NoMemory = 9
+status_of stop.TooManyEdges = 11
+status_of stop.TakeLimit = 12
+
+-- what is said where a run stopped, if it did
+abbrev pub said_at : Option Stop → List ℕ
+said_at None = []
+said_at (Some why) = said_of why
+
+-- the status of a run: 0 where all was done
+abbrev pub status_at : Option Stop → ℕ
+status_at None = 0
+status_at (Some why) = status_of why

@@ -1,0 +1,3 @@
+//! The commands, each with what it loads and what it does.
+
+pub mod serve;

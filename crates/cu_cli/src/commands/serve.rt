@@ -1,0 +1,38 @@
+//! `serve`: the queries of the source answered over a network.
+
+ghost use Rattle.cu_cli.specs.Runs.{EndsServe};
+ghost use Rattle.cu_cli.specs.Steps.Asks.{tables_asked};
+ghost use Rattle.cu_cli.specs.Steps.Outcomes.{Works, stop_of};
+
+use crate::preparing::prepare;
+use crate::rounds::Rounds;
+use crate::session::answer_script;
+use crate::stops::Stop;
+use crate::words::TableWords;
+use cu_io::{Shelf, Sink, Source};
+use cu_model::Roads;
+use std::alloc::Global;
+
+/// Prepares the network of the tables, and answers the script of the source over it. All that a query needs is made before the first
+/// reply.
+pub fn serve<H: Shelf, S: Source, K: Sink>(
+    alloc: Global,
+    tables: TableWords<'_>,
+    shelf: &mut H,
+    source: &mut S,
+    sink: &mut K,
+) -> Result<(), Stop>
+    ensures works { Works
+        (stop_of result)
+        (EndsServe (H.state shelf.old) (H.state shelf.new) (tables_asked tables.entry))
+        (H.state shelf.old)
+        (H.state shelf.new)
+        (S.state source.old)
+        (S.state source.new)
+        (K.state sink.old)
+        (K.state sink.new) }
+{
+    let prepared = prepare(alloc, tables, shelf)?;
+    let mut engine = Rounds::new(alloc, prepared.network.nodes())?;
+    answer_script(alloc, &prepared.network, &mut engine, source, sink)
+}
