@@ -1,5 +1,5 @@
 -- The first number of a range that passes a test, and ranges one after another.
-use Rattle.std.proofs.Common.{◌≡◌, ◌≤◌, ◌<◌, ℕ, zero, suc, Option, Some, None, Bool, true, false, refl, ◌∙◌, ap, subst, arith, inl, inr, cond, ◌+◌}
+use Rattle.std.proofs.Common.{◌≡◌, ◌≤◌, ◌<◌, ℕ, zero, suc, Option, Some, None, Bool, true, false, refl, ap, subst, arith, inl, inr, cond, ◌+◌}
 use Rattle.std.specs.Option.{option_or}
 use Rattle.std.proofs.lemmas.Bool.{cases_lt, cases_order}
 use Rattle.cu_model.specs.Faults.{least}

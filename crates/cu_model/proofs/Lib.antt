@@ -2,6 +2,8 @@ pub mod DayLaws
 pub mod ProfileLaws
 pub mod RoadLaws
 pub mod Begun
+pub mod Tiling
+pub mod Growing
 pub mod Firsts
 pub mod FaultLaws
 pub mod Pushes
@@ -11,3 +13,4 @@ pub mod NumberWords
 pub mod LineCuts
 pub mod FourFields
 pub mod OrderLaws
+pub mod WrittenOut

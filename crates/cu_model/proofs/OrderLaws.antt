@@ -12,6 +12,7 @@ use Rattle.std.proofs.lemmas.List.Elements.{recursion_from_All}
 use Rattle.std.proofs.lemmas.Map.Keys.{IsDistinct-cons}
 use Rattle.std.proofs.lemmas.Map.Made.{AllPairs-from_IsDistinct, IsDistinct-from_AllPairs}
 use Rattle.std.proofs.lemmas.Map.Steps.{length-le_from_distinct_below}
+use Rattle.cu_model.specs.declared.limits.TheConstants.{MAX_NODES}
 use Rattle.cu_model.specs.Orders.{OrderValue, IsOrder, ListsEachNodeOnce}
 
 -- a rank that was read is below the number of ranks
@@ -114,7 +115,7 @@ order_from_places nodes places f long all = record {
 }
 
 -- counting up from 0 gives each node once
-pub each_once : (n : ℕ) → n ≤ 262144 → ListsEachNodeOnce (range_with_len 0 n)
+pub each_once : (n : ℕ) → n ≤ MAX_NODES → ListsEachNodeOnce (range_with_len 0 n)
 each_once n few =
     let long = length-range_with_len 0 n in
     record {

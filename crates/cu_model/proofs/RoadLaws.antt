@@ -31,7 +31,8 @@ road_at g a h =
       | inr k ↦ absurd (let p = k.0 in omega (arith, h, p))
     ]
 
-pub profile_of_road : (g : NetworkValue) → IsNetwork g → (a : ℕ) (arc : RoadArc) → slice_get g.arcs a ≡ Some arc → (pieces : List Piece) × (slice_get g.profiles arc.profile ≡ Some pieces) × IsProfile pieces
+pub profile_of_road : (g : NetworkValue) → IsNetwork g → (a : ℕ) (arc : RoadArc) → slice_get g.arcs a ≡ Some arc
+    → (pieces : List Piece) × (slice_get g.profiles arc.profile ≡ Some pieces) × IsProfile pieces
 profile_of_road g n a arc e =
     let range : IsArcInRange g arc = all_at (IsArcInRange g) g.arcs a arc n.in_range e in
     elim (slice_get_cases g.profiles arc.profile).1 [

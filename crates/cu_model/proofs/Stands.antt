@@ -4,13 +4,12 @@ use Rattle.std.specs.Option.{option_or, option_map}
 use Rattle.std.specs.List.{position}
 use Rattle.std.proofs.lemmas.Bool.{eqb-true, ltb-true, not-false}
 use Rattle.cu_model.specs.declared.profiles.Piece.{Piece}
-use Rattle.cu_model.specs.declared.profiles.PieceFault.{PieceFault}
-use Rattle.cu_model.specs.declared.profiles.PieceFault.TheVariants.{Limit, Rising, Closed, Early, Fifo}
+use Rattle.cu_model.specs.declared.profiles.PieceFault.TheVariants.{Limit, Rising, Early, Fifo}
 use Rattle.cu_model.specs.declared.checker.PieceChecker.{PieceChecker}
 use Rattle.cu_model.specs.Days.{day}
-use Rattle.cu_model.specs.Profiles.{piece_at, is_closed_piece, is_in_limit}
+use Rattle.cu_model.specs.Profiles.{piece_at, is_in_limit}
 use Rattle.cu_model.specs.Faults.{least, first_fallen, limit_fault, start_fault, rising_fault, closed_fault, early_fault, piece_fault}
-use Rattle.cu_model.specs.Checker.{last_from, ends_of, first_between, early_until, overtaken_by, overtaken_at_midnight, kept_fault, Checks}
+use Rattle.cu_model.specs.Checker.{last_from, first_between, early_until, overtaken_by, overtaken_at_midnight, kept_fault, Checks}
 use Rattle.cu_model.proofs.Firsts.{IsFirst, least_is}
 use Rattle.cu_model.proofs.FaultLaws.{map-none, start-none, cond-some, position-none, piece_begins}
 use Rattle.cu_model.proofs.Gaps.{Follow, is_early, is_overtaken, begins, early_gaps, fifo_gaps}

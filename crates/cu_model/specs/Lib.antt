@@ -1,5 +1,6 @@
 pub mod Numbers
 pub mod Begun
+pub mod Growing
 pub mod Days
 pub mod Profiles
 pub mod Faults

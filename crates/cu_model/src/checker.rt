@@ -240,7 +240,8 @@ fn overtaken(rule: Rule, second: u32, next: u64) -> Option<u32>
     }
 }
 
-// When a rule arrives, leaving at a second of the first day. A closed one hinders nobody here: it is another fault where it isn't alone.
+// When a rule arrives, leaving at a second of the first day. A closed one hinders nobody here: it is another fault where it
+// isn't alone.
 fn arrival_of(rule: Rule, second: u32) -> u64
     ensures value { result ≡ rule_value rule 0 second }
     ensures bound { result < 2 ^ 33 }

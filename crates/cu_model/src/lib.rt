@@ -1,4 +1,5 @@
-//! Road networks whose travel times depend on the hour: profiles, roads, walks, orders and queries, and what each of them means.
+//! Road networks whose travel times depend on the hour: profiles, roads, walks, orders and queries, and what each of them
+//! means.
 //!
 //! Its promise to the crates above: the arrival of a road that isn't closed is its profile value at every second, is never
 //! before the departure, and leaving later never arrives earlier. It stands on no other crate of the product. What only its

@@ -22,9 +22,15 @@ impl Model for Order {
 
     ghost Value = { OrderValue };
 
-    ghost view = { λ order. record { node_at = order.node_at.items; rank_of = order.rank_of.items } };
+    ghost view = { λ order. record {
+      node_at = order.node_at.items;
+      rank_of = order.rank_of.items;
+    } };
 
-    ghost invariant = { λ order. IsOrder (record { node_at = order.node_at.items; rank_of = order.rank_of.items }) };
+    ghost invariant = { λ order. IsOrder (record {
+      node_at = order.node_at.items;
+      rank_of = order.rank_of.items;
+    }) };
 }
 
 impl Order {
@@ -83,7 +89,8 @@ impl Order {
 // The place of each node in a list that has each node once.
 fn places(alloc: Global, nodes: &[u32]) -> Result<Vec<u32>, NoMemory>
     requires { ListsEachNodeOnce nodes.now }
-    ensures { IfOk result (λ places. IsOrder (record { node_at = nodes.now; rank_of = places.items })) }
+    ensures { IfOk result
+        (λ places. IsOrder (record { node_at = nodes.now; rank_of = places.items })) }
 {
     let mut places = vec![in alloc; 0u32; nodes.len()]?;
     for (place, node) in nodes.iter().enumerate() {

@@ -70,7 +70,7 @@ pub enum PieceRefusal {
 }
 
 /// A day profile. Contracts see it as its list of pieces.
-#[derive(Debug, Drop)]
+#[derive(Clone, Debug, Drop)]
 pub struct Profile {
     pieces: Vec<Piece>,
 }

@@ -69,7 +69,8 @@ pub trait Roads {
         requires open { is_closed_arc (network self.now) arc ≡ false }
         ensures value { result ≡ arc_value (network self.now) arc second }
         ensures onward { second ≤ result }
-        ensures fifo { (later : ℕ) → second ≤ later → result ≤ arc_value (network self.now) arc later }
+        ensures fifo { (later : ℕ) → second ≤ later
+            → result ≤ arc_value (network self.now) arc later }
         ensures sound { IsNetwork (network self.now) };
 
     /// How many pieces the profile with this number has, 1 to 86,400.
@@ -86,7 +87,7 @@ pub trait Roads {
 }
 
 /// A road network in memory. Contracts see its number of nodes, its roads and its profiles.
-#[derive(Debug, Drop)]
+#[derive(Clone, Debug, Drop)]
 pub struct Network {
     nodes: u32,
     arcs: Vec<RoadArc>,
@@ -98,9 +99,17 @@ impl Model for Network {
 
     ghost Value = { NetworkValue };
 
-    ghost view = { λ network. record { nodes = network.nodes; arcs = network.arcs.items; profiles = network.profiles.items } };
+    ghost view = { λ network. record {
+      nodes = network.nodes;
+      arcs = network.arcs.items;
+      profiles = network.profiles.items;
+    } };
 
-    ghost invariant = { λ network. IsNetwork (record { nodes = network.nodes; arcs = network.arcs.items; profiles = network.profiles.items }) };
+    ghost invariant = { λ network. IsNetwork (record {
+      nodes = network.nodes;
+      arcs = network.arcs.items;
+      profiles = network.profiles.items;
+    }) };
 }
 
 impl Network {

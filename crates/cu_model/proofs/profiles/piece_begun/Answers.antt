@@ -1,4 +1,4 @@
-use Rattle.std.proofs.Common.{◌∙◌, ◌<◌, ◌-◌, get_or, length, arith}
+use Rattle.std.proofs.Common.{◌∙◌, ◌<◌, ◌-◌, length, arith}
 use Rattle.std.proofs.lemmas.Option.{slice_get-get_or}
 use Rattle.cu_model.specs.declared.profiles.Piece.{Piece}
 use Rattle.cu_model.specs.declared.profiles.Rule.TheVariants.{Travel}

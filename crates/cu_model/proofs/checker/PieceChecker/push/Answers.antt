@@ -1,7 +1,5 @@
-use Rattle.std.proofs.Common.{◌≡◌, Option, Some, None, ℕ, ap, ◌∙◌, cond}
-use Rattle.std.specs.Option.{option_or}
+use Rattle.std.proofs.Common.{◌≡◌, Some, ap, ◌∙◌}
 use Rattle.cu_model.specs.declared.checker.PieceChecker.{PieceChecker}
-use Rattle.cu_model.specs.Profiles.{is_closed_piece, is_in_limit}
 use Rattle.cu_model.specs.Checker.{behind}
 use Rattle.cu_model.proofs.Pushes.{checks_alone, checks_behind, taken}
 use Rattle.cu_model.proofs.checker.PieceChecker.push.Goals as goal
