@@ -43,7 +43,12 @@ impl<R: Files + Drop> DiskShelf<R> {
 }
 
 impl<R: Files + Drop> Shelf for DiskShelf<R> {
-    ghost state = { λ s. record { held = None; most = 2 ^ 32; load_faults = λ name. s.load_faults; store_faults = λ name. s.store_faults } };
+    ghost state = { λ s. record {
+      held = None;
+      most = 2 ^ 32;
+      load_faults = λ name. s.load_faults;
+      store_faults = λ name. s.store_faults;
+    } };
 
     fn limit(&self) -> u64 {
         LIMIT
@@ -60,14 +65,16 @@ impl<R: Files + Drop> Shelf for DiskShelf<R> {
         loaded
     }
 
-    /// Where the name is a regular file, a link to one, or nothing is there, the bytes are written to a new file in the
-    /// same folder, which then takes the place of the old one and its mode: a crash leaves the old file whole or the
-    /// new one, and maybe a file `.stored-N` beside it, which no store reads or minds. The folder is told to keep the
-    /// new name before the call answers. The new file belongs to who runs the program; other hard links to the old
-    /// file keep the old bytes; and an old file that may not be written is replaced too, where its folder may be
-    /// written. A link stays as it is.
+    /// Where the name is a regular file, a link to one, or nothing is there, a fresh file is made in the same folder,
+    /// under a name `.stored-N` that is free: it is given the old file's mode, written, synced and renamed over the old
+    /// file, and then the folder is synced, where its file system can do so. Where the fresh file can't be filled or
+    /// renamed, it is removed. A link stays as it is, and what it leads to is replaced. Anything else, as a device, a
+    /// pipe or a link to nothing, is written in place.
     ///
-    /// Anything else, as a device, a pipe or a link to nothing, is written in place.
+    /// No clause says any of this. The order of these steps, that mode and links stay, and what a name holds after a
+    /// store that met no fault are tested. What each step does is trusted to the system: so the fresh file belongs to
+    /// who runs the program, other hard links to the old file keep the old bytes, and an old file that may not be
+    /// written is replaced too, where its folder may be written.
     fn store(&mut self, alloc: Global, name: &str, bytes: &[u8]) -> Result<(), StoreFailed> {
         let stored = store_file(alloc, &self.files, name, bytes);
         if stored == Err(StoreFailed::Fault) {
@@ -234,7 +241,7 @@ fn create_new<R: Files>(files: &R, name: &str) -> io::Result<R::File> {
         .open(files, name)
 }
 
-// Gives a new file its permissions and bytes, and waits until they are on the disk.
+// Gives a new file its permissions and bytes, and syncs it.
 fn fill<F: Write + OpenFile>(
     file: &mut F,
     permissions: Option<Permissions>,
@@ -249,7 +256,7 @@ fn fill<F: Write + OpenFile>(
     file.sync_all()
 }
 
-// Waits until the names in a folder are on the disk, where its file system can do so.
+// Syncs a folder, where its file system can do so.
 fn sync_folder<R: Files>(files: &R, folder: &str) -> io::Result<()> {
     let folder = if folder.is_empty() { "." } else { folder };
     let opened = fs::open(files, folder)?;

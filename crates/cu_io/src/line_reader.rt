@@ -82,8 +82,9 @@ impl Model for LineReader {
       take_limit = r.take_limit;
     } };
 
-    ghost invariant = { λ r. (r.line_start ≤ r.line_end) × (r.line_end ≤ r.start) × (r.start ≤ vec_len r.bytes)
-        × (vec_len r.bytes ≤ r.line_limit + 1) × (r.line_limit + 1 ≤ vec_capacity r.bytes) × (r.taken ≤ r.take_limit) };
+    ghost invariant = { λ r. (r.line_start ≤ r.line_end) × (r.line_end ≤ r.start)
+        × (r.start ≤ vec_len r.bytes) × (vec_len r.bytes ≤ r.line_limit + 1)
+        × (r.line_limit + 1 ≤ vec_capacity r.bytes) × (r.taken ≤ r.take_limit) };
 }
 
 impl LineReader {
@@ -216,7 +217,8 @@ impl LineReader {
         requires room { length self.old.held ≤ self.old.line_limit }
         requires below { self.old.taken < self.old.take_limit }
         ensures ok { IfOk result (λ count. (chunk : List ℕ) × (length chunk ≡ count)
-            × (self.new ≡ holding_more self.old chunk) × (count + self.old.taken ≤ self.old.take_limit)
+            × (self.new ≡ holding_more self.old chunk)
+            × (count + self.old.taken ≤ self.old.take_limit)
             × GivesChunk (S.state source.old).left (S.state source.new).left chunk) }
         ensures tells { is_some (S.state source.new).left ≡ is_some (S.state source.old).left }
         ensures err { OnErr result ((self.new ≡ self.old)

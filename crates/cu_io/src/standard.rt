@@ -109,7 +109,8 @@ impl<W: Write + Drop> Sink for StdSink<W> {
         ensures within { IfOk result (λ n. n ≤ length piece.now) }
         ensures appends { IfOk result (λ n. Appends (sink_state self.old).written
             (sink_state self.new).written (take n piece.now)) }
-        ensures err { OnErr result ((sink_state self.new).written ≡ (sink_state self.old).written) }
+        ensures err { OnErr result ((sink_state self.new).written
+            ≡ (sink_state self.old).written) }
         ensures tells { is_some (sink_state self.new).written
             ≡ is_some (sink_state self.old).written }
         ensures rises { (sink_state self.old).flushed ≤ (sink_state self.new).flushed }
@@ -120,7 +121,8 @@ impl<W: Write + Drop> Sink for StdSink<W> {
             (sink_state self.new).faults) }
         ensures bytes { WriteAppends (sink_contents W.contents self.old)
             (sink_contents W.contents self.new) result piece.now }
-        ensures same { OnOk result ((sink_state self.new).faults ≡ (sink_state self.old).faults) }
+        ensures same { OnOk result ((sink_state self.new).faults
+            ≡ (sink_state self.old).faults) }
     {
         if piece.is_empty() {
             return Ok(0);
@@ -145,7 +147,8 @@ impl<W: Write + Drop> Sink for StdSink<W> {
             (sink_state self.new).faults) }
         ensures bytes { Keeps (sink_contents W.contents self.old)
             (sink_contents W.contents self.new) }
-        ensures faults { OnOk result ((sink_state self.new).faults ≡ (sink_state self.old).faults) }
+        ensures faults { OnOk result ((sink_state self.new).faults
+            ≡ (sink_state self.old).faults) }
     {
         match flush_all(&mut self.writer) {
             Ok(()) => Ok(()),

@@ -58,7 +58,12 @@ fn note(alloc: Global, names: &mut Vec<String>, name: &str) -> Result<(), AllocE
 }
 
 impl Shelf for MemoryShelf {
-    ghost state = { λ s. record { held = Some (file_under s); most = shelf_limit s; load_faults = failed_loads_of s; store_faults = failed_stores_of s } };
+    ghost state = { λ s. record {
+      held = Some (file_under s);
+      most = shelf_limit s;
+      load_faults = failed_loads_of s;
+      store_faults = failed_stores_of s;
+    } };
 
     fn limit(&self) -> u64
         ensures { result ≡ shelf_limit self.now }

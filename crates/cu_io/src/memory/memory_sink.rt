@@ -27,9 +27,16 @@ impl Model for MemorySink {
 
     ghost Value = { MemorySinkState };
 
-    ghost view = { λ s. record { written = s.bytes.items; flushed = s.flushed; room = s.room; faults = s.faults; calls = s.calls } };
+    ghost view = { λ s. record {
+      written = s.bytes.items;
+      flushed = s.flushed;
+      room = s.room;
+      faults = s.faults;
+      calls = s.calls;
+    } };
 
-    ghost invariant = { λ s. (vec_len s.bytes ≤ s.room) × (s.room ≤ vec_capacity s.bytes) × (s.flushed ≤ vec_len s.bytes) };
+    ghost invariant = { λ s. (vec_len s.bytes ≤ s.room) × (s.room ≤ vec_capacity s.bytes)
+        × (s.flushed ≤ vec_len s.bytes) };
 }
 
 impl MemorySink {
@@ -61,7 +68,11 @@ impl MemorySink {
 }
 
 impl Sink for MemorySink {
-    ghost state = { λ s. record { written = Some s.written; flushed = s.flushed; faults = s.faults } };
+    ghost state = { λ s. record {
+      written = Some s.written;
+      flushed = s.flushed;
+      faults = s.faults;
+    } };
 
     fn write(&mut self, piece: &[u8]) -> Result<usize, SinkFailed>
         ensures some { IfOk result (λ n. 0 < length piece.now → 0 < n) }

@@ -24,7 +24,12 @@ impl Model for MemorySource {
 
     ghost Value = { MemorySourceState };
 
-    ghost view = { λ s. record { left = drop s.taken s.bytes.items; most = s.most; faults = s.faults; calls = s.calls } };
+    ghost view = { λ s. record {
+      left = drop s.taken s.bytes.items;
+      most = s.most;
+      faults = s.faults;
+      calls = s.calls;
+    } };
 
     ghost invariant = { λ s. (s.taken ≤ length s.bytes.items) × (0 < s.most) };
 }

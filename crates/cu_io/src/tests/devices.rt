@@ -1,7 +1,8 @@
 //! Sources and sinks over devices that are interrupted, give and take few bytes, and fail.
 ghost use Rattle.std.specs.Prelude.{◌≤◌, IfOk};
 
-use crate::{Sink, SinkFailed, Source, SourceFailed, StdSink, StdSource, put_all};
+use super::{gives, takes_once};
+use crate::{SourceFailed, StdSink, StdSource};
 use std::io;
 use std::io::{Error, ErrorKind, Read, Write};
 use std::test::Fail;
@@ -23,6 +24,14 @@ struct Device {
 }
 
 impl Device {
+    fn new(turns: Vec<Turn>, written: Vec<u8>) -> Device {
+        Device {
+            turns,
+            next: 0,
+            written,
+        }
+    }
+
     fn turn(&mut self, room: usize) -> io::Result<usize>
         ensures { IfOk result (λ count. count ≤ room) }
     {
@@ -61,30 +70,26 @@ impl Write for Device {
 
 #[test]
 fn source_reads_again_after_interrupts(rt: HostRuntime) -> Result<(), Fail> {
-    let alloc = rt.alloc();
-    let turns = vec![in alloc;
+    let turns = vec![in rt.alloc();
         Turn::Interrupts,
-        Turn::Moves(2),
+        Turn::Moves(1),
         Turn::Fails,
         Turn::Moves(9),
     ]?;
-    let mut source = StdSource::new(Device {
-        turns,
-        next: 0,
-        written: Vec::new(alloc),
-    });
-    let mut part = [0; 3];
-    for answer in [Ok(2), Err(SourceFailed), Ok(3), Ok(0)] {
-        assert_eq!(rt; source.read(&mut part), answer);
-    }
-    assert_eq!(rt; part, [97; 3]);
+    let mut source = StdSource::new(Device::new(turns, Vec::new(rt.alloc())));
+    let wanted = [
+        (Ok(1), *b"a\0"),
+        (Err(SourceFailed), *b"a\0"),
+        (Ok(2), *b"aa"),
+        (Ok(0), *b"aa"),
+    ];
+    assert!(rt; gives(&mut source, &wanted));
     Ok(())
 }
 
 #[test]
 fn sink_writes_on_after_interrupts_and_short_writes(rt: HostRuntime) -> Result<(), Fail> {
-    let alloc = rt.alloc();
-    let turns = vec![in alloc;
+    let turns = vec![in rt.alloc();
         Turn::Moves(3),
         Turn::Interrupts,
         Turn::Moves(2),
@@ -94,16 +99,8 @@ fn sink_writes_on_after_interrupts_and_short_writes(rt: HostRuntime) -> Result<(
         Turn::Fails,
         Turn::Moves(1),
     ]?;
-    let mut device = Device {
-        turns,
-        next: 0,
-        written: Vec::new(alloc),
-    };
-    let mut sink = StdSink::new(&mut device);
-    assert_eq!(rt; put_all(&mut sink, b"catchup"), Ok(()));
-    assert_eq!(rt; sink.flush(), Ok(()));
-    assert_eq!(rt; sink.flush(), Err(SinkFailed));
-    assert_eq!(rt; put_all(&mut sink, b"!?"), Err(SinkFailed));
+    let mut device = Device::new(turns, Vec::new(rt.alloc()));
+    assert!(rt; takes_once(&mut StdSink::new(&mut device), b"catchup", b"!?"));
     assert_eq!(rt; device.written.as_slice(), b"catchup!".as_slice());
     Ok(())
 }

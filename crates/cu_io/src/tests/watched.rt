@@ -1,8 +1,9 @@
 //! Files under a shelf, and what the shelf asks of them, in order.
+use super::loads;
 use crate::{DiskShelf, LoadFailed, Shelf, StoreFailed};
 use std::alloc::Allocator;
 use std::cell::Cell;
-use std::fs::{Files, Metadata, OpenFile, OpenOptions, Permissions};
+use std::fs::{File, Files, Metadata, OpenFile, OpenOptions, Permissions};
 use std::io::{Error, ErrorKind, Read, Seek, SeekFrom, Write};
 use std::os::unix::fs::PermissionsExt;
 use std::path::PathBuf;
@@ -40,25 +41,25 @@ impl Log {
     }
 }
 
-// The files of a file system, which write down what is asked of them.
+// The files of the file system, which write down what is asked of them.
 #[derive(Drop)]
-struct Watched<'a, R> {
-    files: &'a R,
+struct Watched<'a> {
+    files: &'a HostRuntime,
     log: &'a Log,
 }
 
 #[derive(Drop)]
-struct WatchedFile<'a, F> {
-    file: F,
+struct WatchedFile<'a> {
+    file: File,
     log: &'a Log,
 }
 
-impl<'a, R: Files> Files for Watched<'a, R> {
-    type File = WatchedFile<'a, R::File>;
+impl<'a> Files for Watched<'a> {
+    type File = WatchedFile<'a>;
 
-    type Dir = R::Dir;
+    type Dir = <HostRuntime as Files>::Dir;
 
-    fn open_file(&self, how: &OpenOptions, path: &str) -> io::Result<WatchedFile<'a, R::File>> {
+    fn open_file(&self, how: &OpenOptions, path: &str) -> io::Result<WatchedFile<'a>> {
         self.log.note(OPEN)?;
         let file = self.files.open_file(how, path)?;
         Ok(WatchedFile {
@@ -67,7 +68,7 @@ impl<'a, R: Files> Files for Watched<'a, R> {
         })
     }
 
-    fn open_dir(&self, path: &str) -> io::Result<R::Dir> {
+    fn open_dir(&self, path: &str) -> io::Result<<HostRuntime as Files>::Dir> {
         self.files.open_dir(path)
     }
 
@@ -110,13 +111,13 @@ impl<'a, R: Files> Files for Watched<'a, R> {
     }
 }
 
-impl<F: Read> Read for WatchedFile<'_, F> {
+impl Read for WatchedFile<'_> {
     fn read(&mut self, into: &mut [u8]) -> io::Result<usize> {
         self.file.read(into)
     }
 }
 
-impl<F: Write> Write for WatchedFile<'_, F> {
+impl Write for WatchedFile<'_> {
     fn write(&mut self, piece: &[u8]) -> io::Result<usize> {
         self.log.note(WRITE)?;
         self.file.write(piece)
@@ -127,13 +128,13 @@ impl<F: Write> Write for WatchedFile<'_, F> {
     }
 }
 
-impl<F: Seek> Seek for WatchedFile<'_, F> {
+impl Seek for WatchedFile<'_> {
     fn seek(&mut self, to: SeekFrom) -> io::Result<u64> {
         self.file.seek(to)
     }
 }
 
-impl<F: OpenFile> OpenFile for WatchedFile<'_, F> {
+impl OpenFile for WatchedFile<'_> {
     fn metadata(&self) -> io::Result<Metadata> {
         self.file.metadata()
     }
@@ -157,55 +158,84 @@ impl<F: OpenFile> OpenFile for WatchedFile<'_, F> {
     }
 }
 
-// Whether the shelf's file has these bytes, and nothing that a store begins with stands beside it.
-fn holds(rt: &HostRuntime, name: &str, wanted: &[u8]) -> Result<bool, Fail> {
-    let bytes = fs::read(rt, name)?;
-    Ok(bytes.as_slice() == wanted && !fs::exists(rt, ".stored-1")?)
+// Whether a store under a name and a load of it then answer so.
+fn answers(
+    rt: &HostRuntime,
+    name: &str,
+    text: &[u8],
+    stored: Result<(), StoreFailed>,
+    loaded: Result<&[u8], LoadFailed>,
+) -> bool {
+    let mut shelf = DiskShelf::new(rt);
+    shelf.store(rt.alloc(), name, text) == stored && loads(&mut shelf, rt.alloc(), name, loaded)
+}
+
+fn keeps(rt: &HostRuntime, name: &str, text: &[u8]) -> bool {
+    answers(rt, name, text, Ok(()), Ok(text))
+}
+
+fn refuses(rt: &HostRuntime, name: &str) -> bool {
+    answers(
+        rt,
+        name,
+        b"x",
+        Err(StoreFailed::Fault),
+        Err(LoadFailed::Fault),
+    )
+}
+
+fn holds(rt: &HostRuntime, name: &str, bytes: &[u8]) -> bool {
+    let mut shelf = DiskShelf::new(rt);
+    loads(&mut shelf, rt.alloc(), name, Ok(bytes))
+}
+
+// Whether a store of a text answers so and asks for this, where what `fails` names fails.
+fn asks(
+    rt: &HostRuntime,
+    fails: u64,
+    text: &[u8],
+    asked: u64,
+    answer: Result<(), StoreFailed>,
+) -> bool {
+    let log = Log {
+        digits: Cell::new(0),
+        fails: Cell::new(fails),
+    };
+    let watched = Watched {
+        files: rt,
+        log: &log,
+    };
+    let mut shelf = DiskShelf::new(watched);
+    let stored = shelf.store(rt.alloc(), "file", text);
+    stored == answer && log.digits.get() == asked
+}
+
+// Whether these files are there to be removed, and are then.
+fn removes(rt: &HostRuntime, names: &[&str]) -> bool {
+    for name in names {
+        if fs::remove_file(rt, *name).is_err() {
+            return false;
+        }
+    }
+    true
 }
 
 #[test]
-fn store_asks_in_this_order(rt: HostRuntime) -> Result<(), Fail> {
-    let alloc = rt.alloc();
-    fs::write(&rt, ".stored-0", "left by a crash")?;
+fn store_asks_in_this_order(rt: HostRuntime) {
+    assert!(rt; fs::write(&rt, ".stored-0", "a name that is taken").is_ok());
     let rows = [
-        (0, "file", 1134514, Ok(())),
-        (0, "file", 11234514, Ok(())),
-        (RENAME, "file", 1123456, Err(StoreFailed::Fault)),
-        (WRITE, "file", 11236, Err(StoreFailed::Fault)),
-        (OPEN, "file", 1, Err(StoreFailed::Fault)),
+        (0, b"old".as_slice(), 1134514, Ok(())),
+        (0, b"new", 11234514, Ok(())),
+        (RENAME, b"lost", 1123456, Err(StoreFailed::Fault)),
+        (WRITE, b"lost", 11236, Err(StoreFailed::Fault)),
+        (OPEN, b"lost", 1, Err(StoreFailed::Fault)),
     ];
-    for (fails, name, asked, answer) in rows {
-        let log = Log {
-            digits: Cell::new(0),
-            fails: Cell::new(fails),
-        };
-        let files = &rt;
-        let mut shelf = DiskShelf::new(Watched { files, log: &log });
-        assert_eq!(rt; shelf.store(alloc, name, b"bytes"), answer);
-        assert_eq!(rt; log.digits.get(), asked);
-        assert_eq!(rt; holds(&rt, name, b"bytes")?, true);
+    for (fails, text, asked, answer) in rows {
+        assert!(rt; asks(&rt, fails, text, asked, answer));
     }
-    fs::remove_file(&rt, ".stored-0")?;
-    fs::remove_file(&rt, "file")?;
-    Ok(())
-}
-
-// Whether a shelf of the file system keeps a text under a name.
-fn keeps(rt: &HostRuntime, name: &str, text: &[u8]) -> bool {
-    let mut shelf = DiskShelf::new(rt);
-    let mut bytes = Vec::new(rt.alloc());
-    let stored = shelf.store(rt.alloc(), name, text);
-    let loaded = shelf.load(rt.alloc(), name, &mut bytes);
-    stored == Ok(()) && loaded == Ok(()) && bytes.as_slice() == text
-}
-
-// Whether it can neither store nor load under a name.
-fn refuses(rt: &HostRuntime, name: &str) -> bool {
-    let mut shelf = DiskShelf::new(rt);
-    let mut bytes = Vec::new(rt.alloc());
-    let stored = shelf.store(rt.alloc(), name, b"x");
-    let loaded = shelf.load(rt.alloc(), name, &mut bytes);
-    stored == Err(StoreFailed::Fault) && loaded == Err(LoadFailed::Fault) && bytes.is_empty()
+    assert!(rt; holds(&rt, "file", b"new"));
+    assert!(rt; matches!(fs::exists(&rt, ".stored-1"), Ok(false)));
+    assert!(rt; removes(&rt, &[".stored-0", "file"]));
 }
 
 #[test]
@@ -218,33 +248,27 @@ fn disk_keeps_whole_files(rt: HostRuntime) -> Result<(), Fail> {
     }
     assert!(rt; refuses(&rt, "absent/disk"));
     assert!(rt; refuses(&rt, "folder"));
-    fs::remove_file(&rt, "disk")?;
-    fs::remove_file(&rt, long.as_str())?;
-    fs::remove_dir_all(&rt, "folder")?;
+    assert!(rt; removes(&rt, &["disk", "folder/disk", long.as_str()]));
+    fs::remove_dir(&rt, "folder")?;
     Ok(())
 }
 
-// The mode of the file under a name, or of the file that a link leads to.
-fn mode_of(rt: &HostRuntime, name: &str) -> Result<u32, Fail> {
-    Ok(fs::metadata(rt, name)?.permissions().mode() & 0o777)
-}
-
-fn is_link(rt: &HostRuntime, name: &str) -> Result<bool, Fail> {
-    Ok(fs::symlink_metadata(rt, name)?.is_symlink())
+// Whether a store under a link leaves the link, and replaces what it leads to, which keeps its mode.
+fn follows_link(rt: &HostRuntime) -> io::Result<bool> {
+    fs::write(rt, "target", "old")?;
+    fs::set_permissions(rt, "target", Permissions::from_mode(0o100640))?;
+    rt.symlink("target", "link")?;
+    if !keeps(rt, "link", b"new") || !holds(rt, "target", b"new") {
+        return Ok(false);
+    }
+    let mode = fs::metadata(rt, "target")?.permissions().mode() & 0o777;
+    Ok(mode == 0o640 && fs::symlink_metadata(rt, "link")?.is_symlink())
 }
 
 #[test]
-fn store_follows_links_and_keeps_modes(rt: HostRuntime) -> Result<(), Fail> {
-    fs::write(&rt, "target", "old")?;
-    fs::set_permissions(&rt, "target", Permissions::from_mode(0o100640))?;
-    rt.symlink("target", "link")?;
-    assert!(rt; keeps(&rt, "link", b"new"));
-    assert!(rt; is_link(&rt, "link")?);
-    assert!(rt; holds(&rt, "target", b"new")?);
-    assert_eq!(rt; mode_of(&rt, "target")?, 0o640);
-    fs::remove_file(&rt, "target")?;
+fn store_follows_links_and_keeps_modes(rt: HostRuntime) {
+    assert!(rt; matches!(follows_link(&rt), Ok(true)));
+    assert!(rt; removes(&rt, &["target"]));
     assert!(rt; keeps(&rt, "link", b"made"));
-    fs::remove_file(&rt, "link")?;
-    fs::remove_file(&rt, "target")?;
-    Ok(())
+    assert!(rt; removes(&rt, &["link", "target"]));
 }
