@@ -1,12 +1,12 @@
 -- One step of a composition, and that a composition is an arrival function.
-use Rattle.std.proofs.Common.{◌≡◌, ◌≤◌, ◌<◌, ◌+◌, ◌^◌, ◌∙◌, ℕ, List, sym, ap, subst, arith, min}
+use Rattle.std.proofs.Common.{◌≡◌, ◌≤◌, ◌<◌, ◌+◌, ◌-◌, ◌^◌, ◌∙◌, ℕ, List, sym, ap, subst, arith, min}
 use Rattle.cu_model.specs.Days.{day}
 use Rattle.cu_arrival.specs.declared.runs.Run.{Run}
 use Rattle.cu_arrival.specs.declared.runs.RunRule.{RunRule}
 use Rattle.cu_arrival.specs.declared.stretches.Stretch.{Stretch}
 use Rattle.cu_arrival.specs.declared.composition.Linked.{Linked}
 use Rattle.cu_arrival.specs.Runs.{rule_number, arrival_value, IsArrivalFunction}
-use Rattle.cu_arrival.specs.Steps.Pushes.{IsPushed}
+use Rattle.cu_model.specs.Growing.{IsPushed}
 use Rattle.cu_arrival.specs.Steps.Stretches.{arrives, IsStretch}
 use Rattle.cu_arrival.specs.Steps.TwoRules.{IsLinked}
 use Rattle.cu_arrival.proofs.RunLaws.{arrival_value-onward, arrival_value-fifo, arrival_value-next_day}
@@ -34,9 +34,9 @@ composed_day first second f g = record {
       let b = arrival_value-fifo second g (arrival_value first s) (arrival_value first (s + 1)) a in
       omega (arith, b);
   midnight =
-      let a = arrival_value-fifo first f 86399 (day + 0) (omega arith) in
-      let b = arrival_value-fifo second g (arrival_value first 86399) (arrival_value first (day + 0)) a in
-      let c = subst (λ (x : ℕ). arrival_value second (arrival_value first 86399) ≤ arrival_value second x) (arrival_value-next_day first f 0) b in
+      let a = arrival_value-fifo first f (day - 1) (day + 0) (omega arith) in
+      let b = arrival_value-fifo second g (arrival_value first (day - 1)) (arrival_value first (day + 0)) a in
+      let c = subst (λ (x : ℕ). arrival_value second (arrival_value first (day - 1)) ≤ arrival_value second x) (arrival_value-next_day first f 0) b in
       let d = arrival_value-next_day second g (arrival_value first 0) in
       omega (arith, c, d);
   bounded = λ s h. omega arith;
@@ -54,7 +54,8 @@ composing_step first second old new x y at step run f g is in_day u v on_first m
     let at_first : arrival_value first s ≡ arrives u.rule s = stretch_value first u at f on_first s low (omega (arith, high, within)) in
     let rises = arrival_value-fifo first f at s low in
     let onwards : arrives u.rule at ≤ arrives u.rule s = omega (arith, here, at_first, rises) in
-    let at_second : arrival_value second (arrives u.rule s) ≡ arrives v.rule (arrives u.rule s) = stretch_value second v (arrives u.rule at) g on_second (arrives u.rule s) onwards (reached s low high) in
+    let at_second : arrival_value second (arrives u.rule s) ≡ arrives v.rule (arrives u.rule s) =
+    stretch_value second v (arrives u.rule at) g on_second (arrives u.rule s) onwards (reached s low high) in
     let both : arrival_value second (arrival_value first s) ≡ arrives v.rule (arrives u.rule s) = ap (λ (t : ℕ). arrival_value second t) at_first ∙ at_second in
     ap (λ (r : RunRule). arrives r s) rule ∙ linked.arrival s low high ∙ ap (λ (t : ℕ). min t (2 ^ 62)) (sym both) in
     let limit : rule_number run.rule ≤ 2 ^ 62 = subst (λ (r : RunRule). rule_number r ≤ 2 ^ 62) (sym rule) linked.limit in

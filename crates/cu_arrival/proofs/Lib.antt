@@ -1,6 +1,5 @@
 pub mod Mapped
 pub mod RunLaws
-pub mod Tiling
 pub mod StretchLaws
 pub mod Built
 pub mod ComposeLaws

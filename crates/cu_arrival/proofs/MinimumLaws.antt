@@ -1,5 +1,5 @@
 -- One step of a minimum, that a minimum is an arrival function, and what the choices come to.
-use Rattle.std.proofs.Common.{◌≡◌, ◌≤◌, ◌<◌, ◌+◌, ◌^◌, ◌∙◌, ℕ, List, Bool, Some, sym, ap, subst, arith, min}
+use Rattle.std.proofs.Common.{◌≡◌, ◌≤◌, ◌<◌, ◌+◌, ◌-◌, ◌^◌, ◌∙◌, ℕ, List, Bool, Some, sym, ap, subst, arith, min}
 use Rattle.std.specs.Prelude.{nat_lt}
 use Rattle.cu_model.specs.Days.{day}
 use Rattle.cu_arrival.specs.declared.runs.Run.{Run}
@@ -9,12 +9,13 @@ use Rattle.cu_arrival.specs.declared.stretches.Stretch.{Stretch}
 use Rattle.cu_arrival.specs.declared.minimum.Earlier.{Earlier}
 use Rattle.cu_arrival.specs.Runs.{rule_number, arrival_value, IsArrivalFunction}
 use Rattle.cu_arrival.specs.Choices.{is_second, IsChoices}
-use Rattle.cu_arrival.specs.Steps.Pushes.{IsPushed}
+use Rattle.cu_model.specs.Growing.{IsPushed}
 use Rattle.cu_arrival.specs.Steps.Stretches.{arrives, IsStretch}
 use Rattle.cu_arrival.specs.Steps.TwoRules.{IsEarlier}
 use Rattle.cu_arrival.proofs.RunLaws.{arrival_value-onward, arrival_value-fifo, arrival_value-next_day}
 use Rattle.cu_arrival.proofs.StretchLaws.{stretch_later, stretch_value}
-use Rattle.cu_arrival.proofs.Built.{IsBuilt, IsDayFunction, IsGrown, built_push, grown_push}
+use Rattle.cu_model.proofs.Growing.{IsGrown, grown_push}
+use Rattle.cu_arrival.proofs.Built.{IsBuilt, IsDayFunction, built_push}
 
 abbrev pub least_of : List Run → List Run → ℕ → ℕ
 least_of first second t = min (arrival_value first t) (arrival_value second t)
@@ -42,8 +43,8 @@ least_day first second f g = record {
       let b = arrival_value-fifo second g s (s + 1) (omega arith) in
       omega (arith, a, b);
   midnight =
-      let a = arrival_value-fifo first f 86399 (day + 0) (omega arith) in
-      let b = arrival_value-fifo second g 86399 (day + 0) (omega arith) in
+      let a = arrival_value-fifo first f (day - 1) (day + 0) (omega arith) in
+      let b = arrival_value-fifo second g (day - 1) (day + 0) (omega arith) in
       let c = arrival_value-next_day first f 0 in
       let d = arrival_value-next_day second g 0 in
       omega (arith, a, b, c, d);

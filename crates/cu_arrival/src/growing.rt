@@ -4,7 +4,7 @@ ghost use Rattle.std.specs.Prelude.{◌≡◌, ◌≤◌, ◌^◌, IfOk};
 ghost use Rattle.cu_arrival.specs.declared.runs.Choice.{Choice};
 ghost use Rattle.cu_arrival.specs.declared.runs.Run.{Run};
 ghost use Rattle.cu_arrival.specs.Runs.{rule_number};
-ghost use Rattle.cu_arrival.specs.Steps.Pushes.{IsPushed, last_says};
+ghost use Rattle.cu_model.specs.Growing.{IsPushed, last_says};
 
 use crate::packing::RunList;
 use crate::runs::{Choice, Run, RunRule};

@@ -59,7 +59,8 @@ listed_more seen nodes node f below unseen =
     let long : length (set seen node true) ≡ length seen = length-set _ _ _ in
     let new : list_any (eqb node) nodes ≡ false = sym (f.told node) ∙ unseen in
     let once : IsDistinct eqb (nodes ++ (node ∷ [])) = IsDistinct-push nat_eq_equiv nodes node (IsDistinct-from_AllPairs Decides-eqb nodes f.once) new in
-    let in_range : All (λ x. x < length seen) (nodes ++ (node ∷ [])) = All-append (λ x. x < length seen) nodes (node ∷ []) f.in_range (All-cons (λ x. x < length seen) node [] below (All-nil (λ x. x < length seen))) in
+    let in_range : All (λ x. x < length seen) (nodes ++ (node ∷ [])) = All-append (λ x. x < length seen) nodes (node ∷ []) f.in_range
+    (All-cons (λ x. x < length seen) node [] below (All-nil (λ x. x < length seen))) in
     let few : length (nodes ++ (node ∷ [])) ≤ length seen = length-le_from_distinct_below (nodes ++ (node ∷ [])) (length seen) once (within (length seen) (nodes ++ (node ∷ [])) in_range) in
     record {
       told = λ q. elim (cases_eq q node) [

@@ -25,7 +25,8 @@ fn number_of_row(row: &ByteRecord) -> Option<u32>
     number_at(row, 0)
 }
 
-// The node of the row with this number, or the first check that the row fails. The flags tell the nodes of the rows before it.
+// The node of the row with this number, or the first check that the row fails. The flags tell the nodes of the rows before
+// it.
 fn check_row(row: &ByteRecord, number: u32, seen: &[bool]) -> Result<u32, OrderRefusal>
     requires { length seen.now ≤ MAX_NODES }
     ensures checked { (before : List ℕ) → IsListed seen.now before → number ≡ length before

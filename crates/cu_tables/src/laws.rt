@@ -8,5 +8,6 @@ ghost use Rattle.cu_tables.specs.Tables.{table};
 pub fn reads_back()
     ensures none { table (rows_text []) ≡ [] }
     ensures some { (rows : List (List (List ℕ))) → (first : ℕ) → (rest : List ℕ)
-        → rows_text rows ≡ first ∷ rest → first < 128 → table (rows_text rows) ≡ map read_back rows }
+        → rows_text rows ≡ first ∷ rest → first < 128
+        → table (rows_text rows) ≡ map read_back rows }
 {}

@@ -110,8 +110,8 @@ fn take_header(
 }
 
 /// Hands each row below the header to the taker in turn, until it refuses one, and answers that refusal. Where the first row
-/// isn't the header, or there is none, the answer is `no_header`, and nothing was taken. An error of csv is answered as want of
-/// memory.
+/// isn't the header, or there is none, the answer is `no_header`, and nothing was taken. An error of csv is answered as want
+/// of memory.
 pub fn each_row_below<T: TakesRows>(
     alloc: Global,
     header: &[&[u8]],

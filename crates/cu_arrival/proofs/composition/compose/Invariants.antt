@@ -1,4 +1,5 @@
 use Rattle.std.proofs.Common.{◌-◌}
+use Rattle.cu_model.specs.Days.{day}
 use Rattle.cu_arrival.proofs.ComposeLaws.{IsComposing}
 use Rattle.cu_arrival.proofs.composition.compose.Given as goal
 
@@ -6,4 +7,4 @@ abbrev pub invariant-day : goal.invariant-day
 invariant-day l = IsComposing l.first_runs l.second_runs l.runs l.first_stretch l.second_stretch l.at
 
 abbrev pub decreases-day : goal.decreases-day
-decreases-day l = 86400 - l.at
+decreases-day l = day - l.at

@@ -12,9 +12,12 @@ use Rattle.cu_arrival.proofs.minimum.lesser.Goals as goal
 
 pub day-preserved : goal.day-preserved
 day-preserved c =
+    let first = c.reach-first_stretch.result in
+    let second = c.reach-second_stretch.result in
+    let earlier = subst (λ (end : ℕ). IsEarlier first.rule second.rule c.day.at end c.earlier_rule-step.result) c.min-end.ensures c.earlier_rule-step.ensures in
     merging_step c.runs-first_runs.result.now c.runs-second_runs.result.now c.day.runs c.push_run.new.runs c.day.choices.items c.push_choice.new.choices.items
     c.day.first_stretch c.day.second_stretch c.day.at c.earlier_rule-step.result _ _ (search rules) (search rules) c.day.invariant (omega arith)
-    c.reach-first_stretch.result c.reach-second_stretch.result c.reach-first_stretch.ensures.stretch (search rules) c.reach-second_stretch.ensures.stretch (subst (λ (end : ℕ). IsEarlier c.reach-first_stretch.result.rule c.reach-second_stretch.result.rule c.day.at end c.earlier_rule-step.result) c.min-end.ensures c.earlier_rule-step.ensures)
+    first second c.reach-first_stretch.ensures.stretch (search rules) c.reach-second_stretch.ensures.stretch earlier
     refl refl c.in_ok-push_run.ensures refl refl c.in_ok-push_choice.ensures
 
 whole_day : (first second runs : List Run) (choices : List Choice) (x y : Stretch) (at : ℕ) → IsMerging first second runs choices x y at → day ≤ at

@@ -1,4 +1,5 @@
 use Rattle.std.proofs.Common.{◌-◌}
+use Rattle.cu_model.specs.Days.{day}
 use Rattle.cu_arrival.proofs.MinimumLaws.{IsMerging}
 use Rattle.cu_arrival.proofs.minimum.lesser.Given as goal
 
@@ -6,4 +7,4 @@ abbrev pub invariant-day : goal.invariant-day
 invariant-day l = IsMerging l.first_runs l.second_runs l.runs l.choices.items l.first_stretch l.second_stretch l.at
 
 abbrev pub decreases-day : goal.decreases-day
-decreases-day l = 86400 - l.at
+decreases-day l = day - l.at
