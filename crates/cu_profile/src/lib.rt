@@ -13,6 +13,7 @@ mod writer;
 
 pub use reader::read_profiles;
 pub use refusals::ProfileRefusal;
+pub use rows::piece_of;
 pub use writer::write_profiles;
 
 #[cfg(test)]

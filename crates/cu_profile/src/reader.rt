@@ -117,9 +117,9 @@ impl TakesRows for ProfileRows {
 }
 
 /// Reads the profiles of a table text: the header `profile,from,kind,value`, then one row for each piece, with the number
-/// of its profile, the second of the day from which it holds, `travel`, `until` or `closed`, and its value. Profiles stand in
-/// the order of their numbers, from 0. Numbers are ASCII digits, leading zeros allowed; what quotes, line ends, blank lines
-/// and a byte-order mark mean is csv's.
+/// of its profile, the second of the day from which it holds, `travel`, `until` or `closed`, and its value. Profiles stand
+/// in the order of their numbers, from 0. Numbers are ASCII digits, leading zeros allowed; what quotes, line ends, blank
+/// lines and a byte-order mark mean is csv's.
 ///
 /// A refused text is refused for the first check that fails: first each row is checked by itself, `Fields`, `Number`,
 /// `Sequence`, `TooMany`, row by row, and then each profile, `Row`: a kind, and then the faults of its pieces in the order

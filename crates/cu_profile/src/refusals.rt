@@ -22,8 +22,8 @@ pub enum ProfileRefusal {
     /// The row of profile 1,048,576, or row 4,294,967,295, which has no other check.
     #[error("row {row} is one too many")]
     TooMany { row: u32 },
-    /// A row whose kind is none of `travel`, `until` and `closed`, or a fault of the pieces of a profile: `Limit`, `Rising` and
-    /// `Closed` name the row of the piece, the others the first row of the profile.
+    /// A row whose kind is none of `travel`, `until` and `closed`, or a fault of the pieces of a profile: `Limit`, `Rising`
+    /// and `Closed` name the row of the piece, the others the first row of the profile.
     #[error("row {row}: {refusal}")]
     Row { row: u32, refusal: PieceRefusal },
     /// Memory ran out. Nothing is known of the text.

@@ -91,7 +91,9 @@ fn may_follow(last: Option<u32>, profile: u32) -> bool
     }
 }
 
-fn piece_of(kind: &[u8], from: u32, value: u32) -> Option<Piece>
+/// The piece that is from this second on and has this value, where the kind is the word `travel`, `until` or `closed`; none
+/// where it is any other word. Neither number is checked, so the piece may be past a limit.
+pub fn piece_of(kind: &[u8], from: u32, value: u32) -> Option<Piece>
     ensures { result ≡ piece_of_fields kind.now from value }
 {
     let rule = if kind == b"travel".as_slice() {

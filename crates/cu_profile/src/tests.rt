@@ -48,7 +48,9 @@ fn refuses_rows(rt: HostRuntime) {
             Some(ProfileRefusal::Sequence { row: 0 }),
         ),
         (
-            b"profile,from,kind,value\n0,0,travel,1\n100000000000000000000000000000,0,travel,1\n".as_slice(),
+            b"profile,from,kind,value\n0,0,travel,1\n\
+            100000000000000000000000000000,0,travel,1\n"
+                .as_slice(),
             Some(ProfileRefusal::Sequence { row: 1 }),
         ),
     ];
@@ -65,7 +67,9 @@ fn refuses_profiles(rt: HostRuntime) {
             kind(1),
         ),
         (
-            b"profile,from,kind,value\n0,0,travel,1\n0,1,travel,100000000000000000000000000000\n".as_slice(),
+            b"profile,from,kind,value\n0,0,travel,1\n\
+            0,1,travel,100000000000000000000000000000\n"
+                .as_slice(),
             fault(1, PieceFault::Limit { piece: 1 }),
         ),
         (
@@ -112,7 +116,9 @@ fn takes_other_spellings(rt: HostRuntime) {
             None,
         ),
         (
-            b"\xef\xbb\xbfprofile,\"from\",kind,value\r\n\r\n0,0,\"travel\",60\r\n\n0,\"60\",travel,60".as_slice(),
+            b"\xef\xbb\xbfprofile,\"from\",kind,value\r\n\r\n\
+            0,0,\"travel\",60\r\n\n0,\"60\",travel,60"
+                .as_slice(),
             None,
         ),
     ];
@@ -123,8 +129,9 @@ fn takes_other_spellings(rt: HostRuntime) {
 
 #[test]
 fn reads_and_writes(rt: HostRuntime) -> Result<(), ProfileRefusal> {
-    let text =
-        b"profile,from,kind,value\n0,0,travel,60\n1,0,travel,100\n1,28800,travel,300\n1,35800,until,36100\n1,36000,travel,100\n2,0,closed,0\n".as_slice();
+    let text = b"profile,from,kind,value\n0,0,travel,60\n1,0,travel,100\n1,28800,travel,300\n\
+        1,35800,until,36100\n1,36000,travel,100\n2,0,closed,0\n"
+        .as_slice();
     let profiles = read_profiles(rt.alloc(), text)?;
     assert_eq!(rt; profiles.len(), 3);
     let until = Piece {
