@@ -42,7 +42,8 @@ flips x y =
     ]
 
 pub sorted_part : (gathered part : List ℕ) → IsDistinct eqb gathered → IsPermutation gathered part → IsSorted nat_cmp part → IsStrictlyIncreasing part
-sorted_part gathered part once moved sorted = IsStrictlyIncreasing-from_distinct part (IsNonDecreasingBy-from_sort (λ (x : ℕ). x) part sorted) (IsDistinct-IsPermutation eqb flips gathered part moved once)
+sorted_part gathered part once moved sorted = IsStrictlyIncreasing-from_distinct part (IsNonDecreasingBy-from_sort (λ (x : ℕ). x) part sorted)
+    (IsDistinct-IsPermutation eqb flips gathered part moved once)
 
 source_range : (edges : List Ends) (links : List ℕ) (ranks rank y : ℕ) → AreClosed edges ranks rank → All (λ z. (rank ≤ z) × (z < ranks)) links → IsSource edges links rank y → (rank < y) × (y < ranks)
 source_range edges links ranks rank y f linked (ne, inl c) = let both = All-contains (λ z. (rank ≤ z) × (z < ranks)) links y linked c in (omega (arith, both.0, ne), both.1)
@@ -60,7 +61,8 @@ pub record IsPart (edges : List Ends) (links : List ℕ) (ranks rank : ℕ) (par
   pub few : length edges + length part ≤ MAX_EDGES
 
 pub part_sorted : (ranks rank : ℕ) (closing : Closing) (links gathered part : List ℕ) → IsReady ranks rank closing → All (λ z. (rank ≤ z) × (z < ranks)) links
-    → ListsSources (edges_in closing.table) links rank gathered → IsDistinct eqb gathered → length closing.table.lows.items + length gathered ≤ MAX_EDGES → IsPermutation gathered part → IsSorted nat_cmp part
+    → ListsSources (edges_in closing.table) links rank gathered → IsDistinct eqb gathered
+    → length closing.table.lows.items + length gathered ≤ MAX_EDGES → IsPermutation gathered part → IsSorted nat_cmp part
     → IsPart (edges_in closing.table) links ranks rank part
 part_sorted ranks rank closing links gathered part f linked exact once few moved sorted =
     let back = IsPermutation-sym gathered part moved in
@@ -78,11 +80,13 @@ part_in_range edges links ranks rank n part given f same at =
     subst (All (λ y. y < n)) (sym same) (all_from_members (λ y. y < n) part (λ y c. let r = f.range y c in omega (arith, r.1, at)))
 
 -- one more rank
-grown_table : (rank ranks : ℕ) (table table_new : EdgeTable) (part appended : List ℕ) → IsTable rank table → AreClosed (edges_in table) ranks rank → appended ≡ part → Appends rank appended table table_new
+grown_table : (rank ranks : ℕ) (table table_new : EdgeTable) (part appended : List ℕ) → IsTable rank table → AreClosed (edges_in table) ranks rank
+    → appended ≡ part → Appends rank appended table table_new
     → IsTable (rank + 1) table_new × (edges_in table_new ≡ edges_in table ++ edges_to rank part)
 grown_table rank ranks table table_new part appended layout edges same adds = table_more ranks rank table table_new part layout edges (subst (λ xs. Appends rank xs table table_new) same adds)
 
-pub part_added : (links : List ℕ) (rank ranks : ℕ) (table table_new : EdgeTable) (part appended : List ℕ) → IsTable rank table → AreClosed (edges_in table) ranks rank → IsPart (edges_in table) links ranks rank part → appended ≡ part
+pub part_added : (links : List ℕ) (rank ranks : ℕ) (table table_new : EdgeTable) (part appended : List ℕ) → IsTable rank table
+    → AreClosed (edges_in table) ranks rank → IsPart (edges_in table) links ranks rank part → appended ≡ part
     → Appends rank appended table table_new → AddsRank links rank (edges_in table) (edges_in table_new)
 part_added links rank ranks table table_new part appended layout edges p same adds = (part, (grown_table rank ranks table table_new part appended layout edges same adds).1, p.exact)
 
@@ -157,7 +161,8 @@ pub record IsClosing (g : NetworkValue) (o : OrderValue) (ranks rank : ℕ) (clo
 pub closing_none : (g : NetworkValue) (o : OrderValue) (ranks : ℕ) (closing : Closing) → IsReady ranks 0 closing → IsClosing g o ranks 0 closing
 closing_none g o ranks closing f = record { ready = f; ups = λ x y lt. absurd (omega (arith, lt)) }
 
-pub closing_more : (g : NetworkValue) (o : OrderValue) (ranks rank : ℕ) (old new : Closing) (links : List ℕ) → IsClosing g o ranks rank old → AreLinks g o rank links → IsReady (length old.stamps.items) (rank + 1) new
+pub closing_more : (g : NetworkValue) (o : OrderValue) (ranks rank : ℕ) (old new : Closing) (links : List ℕ) → IsClosing g o ranks rank old
+    → AreLinks g o rank links → IsReady (length old.stamps.items) (rank + 1) new
     → AddsRank links rank (edges_in old.table) (edges_in new.table) → IsClosing g o ranks (rank + 1) new
 closing_more g o ranks rank old new links f linked ready added = record {
   ready = subst (λ n. IsReady n (rank + 1) new) f.ready.marks ready;
@@ -165,7 +170,8 @@ closing_more g o ranks rank old new links f linked ready added = record {
 }
 
 -- what is asked of a rank's links
-pub links_asked : (g : NetworkValue) (o : OrderValue) (ranks rank : ℕ) (closing : Closing) (links : List ℕ) → ranks ≡ g.nodes → IsClosing g o ranks rank closing → AreLinks g o rank links → All (λ y. (rank ≤ y) × (y < length closing.stamps.items)) links
+pub links_asked : (g : NetworkValue) (o : OrderValue) (ranks rank : ℕ) (closing : Closing) (links : List ℕ) → ranks ≡ g.nodes
+    → IsClosing g o ranks rank closing → AreLinks g o rank links → All (λ y. (rank ≤ y) × (y < length closing.stamps.items)) links
 links_asked g o ranks rank closing links at f linked k d h = let r = linked.in_range k d h in (r.0, omega (arith, r.1, at, f.ready.marks))
 
 joined_in_range : (g : NetworkValue) (o : OrderValue) → IsOrder o → length o.node_at ≡ g.nodes → (m x : ℕ) (zs : List ℕ) (y : ℕ) → PathBelow g o m x zs y → x < g.nodes

@@ -48,7 +48,8 @@ parent_least edges k rank y rising p c =
     let read = get_or_from_slice_get (up_of edges k) 0 rank 0 p in
     omega (arith, least, read)
 
-source_is_up : (g : NetworkValue) (o : OrderValue) (edges : List Ends) (links : List ℕ) (rank y : ℕ) → IsRising edges → AreUps g o rank edges → ((z : ℕ) → Contains links z ↔ ((rank ≤ z) × Adjacent g o rank z))
+source_is_up : (g : NetworkValue) (o : OrderValue) (edges : List Ends) (links : List ℕ) (rank y : ℕ) → IsRising edges → AreUps g o rank edges
+    → ((z : ℕ) → Contains links z ↔ ((rank ≤ z) × Adjacent g o rank z))
     → IsSource edges links rank y → IsUp g o rank y
 source_is_up g o edges links rank y rising f linked (ne, inl c) = let both = (linked y).0 c in (omega (arith, both.0, ne), ([], both.1))
 source_is_up g o edges links rank y rising f linked (ne, inr child) =
@@ -57,7 +58,8 @@ source_is_up g o edges links rank y rising f linked (ne, inr child) =
     let least : rank ≤ y = parent_least edges child.0 rank y rising child.2 child.3 in
     up_from_child g o child.0 rank y up_rank up_y (omega (arith, least, ne))
 
-up_is_source : (g : NetworkValue) (o : OrderValue) (edges : List Ends) (links : List ℕ) (rank y : ℕ) → IsRising edges → AreUps g o rank edges → ((z : ℕ) → Contains links z ↔ ((rank ≤ z) × Adjacent g o rank z))
+up_is_source : (g : NetworkValue) (o : OrderValue) (edges : List Ends) (links : List ℕ) (rank y : ℕ) → IsRising edges → AreUps g o rank edges
+    → ((z : ℕ) → Contains links z ↔ ((rank ≤ z) × Adjacent g o rank z))
     → IsUp g o rank y → IsSource edges links rank y
 up_is_source g o edges links rank y rising f linked up =
     elim (from_link_or_child g o (parent_of edges) rank y (parents_least g o edges rank rising f) up.0 up.1) [
@@ -66,7 +68,8 @@ up_is_source g o edges links rank y rising f linked up =
     ]
 
 -- what a rank's higher neighbours are gathered from is what they are
-pub source_up : (g : NetworkValue) (o : OrderValue) (edges : List Ends) (links : List ℕ) (rank y : ℕ) → IsRising edges → AreUps g o rank edges → ((z : ℕ) → Contains links z ↔ ((rank ≤ z) × Adjacent g o rank z))
+pub source_up : (g : NetworkValue) (o : OrderValue) (edges : List Ends) (links : List ℕ) (rank y : ℕ) → IsRising edges → AreUps g o rank edges
+    → ((z : ℕ) → Contains links z ↔ ((rank ≤ z) × Adjacent g o rank z))
     → IsSource edges links rank y ↔ IsUp g o rank y
 source_up g o edges links rank y rising f linked = (source_is_up g o edges links rank y rising f linked, up_is_source g o edges links rank y rising f linked)
 
@@ -77,7 +80,8 @@ not_before edges ranks rank y f c =
     omega (arith, low)
 
 -- one more rank
-pub ups_more : (g : NetworkValue) (o : OrderValue) (edges edges_new : List Ends) (links : List ℕ) (ranks rank : ℕ) → AreClosed edges ranks rank → AreUps g o rank edges → ((z : ℕ) → Contains links z ↔ ((rank ≤ z) × Adjacent g o rank z))
+pub ups_more : (g : NetworkValue) (o : OrderValue) (edges edges_new : List Ends) (links : List ℕ) (ranks rank : ℕ) → AreClosed edges ranks rank
+    → AreUps g o rank edges → ((z : ℕ) → Contains links z ↔ ((rank ≤ z) × Adjacent g o rank z))
     → AddsRank links rank edges edges_new → AreUps g o (rank + 1) edges_new
 ups_more g o edges edges_new links ranks rank closed f linked added x y lt =
     subst (λ es. HasEdge es x y ↔ IsUp g o x y) (sym added.1)
@@ -106,7 +110,8 @@ low_in_range edges ranks x y f c =
     (subst (λ (e : Ends). (e.low < ranks) × (e.low < e.high) × (e.high < ranks)) c.2 range).0
 
 -- at the end they are the chordal edges
-pub closure_all : (g : NetworkValue) (o : OrderValue) (edges : List Ends) → AreClosed edges g.nodes g.nodes → AreUps g o g.nodes edges → ((x y : ℕ) → IsEdge g o x y → x < g.nodes) → ListsEdges g o edges
+pub closure_all : (g : NetworkValue) (o : OrderValue) (edges : List Ends) → AreClosed edges g.nodes g.nodes → AreUps g o g.nodes edges
+    → ((x y : ℕ) → IsEdge g o x y → x < g.nodes) → ListsEdges g o edges
 closure_all g o edges closed f in_range = record {
   sorted = closed.rising;
   exact = λ x y. (
@@ -115,7 +120,8 @@ closure_all g o edges closed f in_range = record {
   );
 }
 
-pub chordal_all : (g : NetworkValue) (o : OrderValue) (edges : List Ends) (ranks : ℕ) → ranks ≤ MAX_NODES → AreClosed edges ranks ranks → AreUps g o ranks edges → IsChordal (record { ranks = ranks; edges = edges })
+pub chordal_all : (g : NetworkValue) (o : OrderValue) (edges : List Ends) (ranks : ℕ) → ranks ≤ MAX_NODES → AreClosed edges ranks ranks
+    → AreUps g o ranks edges → IsChordal (record { ranks = ranks; edges = edges })
 chordal_all g o edges ranks few f ups = record {
   few_ranks = few;
   few_edges = f.few;

@@ -94,7 +94,8 @@ in_list g o edges x y f up = (f.exact x y).1 (up.0, edge_from_up g o x y up)
 member_range : (edges : List Ends) (ranks rank : ℕ) (e : Ends) → AreClosed edges ranks rank → Contains edges e → (e.low < rank) × (e.low < e.high) × (e.high < ranks)
 member_range edges ranks rank e f c = subst (λ (x : Ends). (x.low < rank) × (x.low < x.high) × (x.high < ranks)) c.2 (f.in_range c.0 e c.1)
 
-pub too_many_edges : (g : NetworkValue) (o : OrderValue) (ranks rank : ℕ) (closing : Closing) (links : List ℕ) → IsReady ranks rank closing → AreUps g o rank (edges_in closing.table) → AreLinks g o rank links
+pub too_many_edges : (g : NetworkValue) (o : OrderValue) (ranks rank : ℕ) (closing : Closing) (links : List ℕ) → IsReady ranks rank closing
+    → AreUps g o rank (edges_in closing.table) → AreLinks g o rank links
     → IsCrowded closing.table links rank → HasTooManyEdges g o
 too_many_edges g o ranks rank closing links ready ups linked more all lists =
     let edges : List Ends = edges_in closing.table in

@@ -111,7 +111,8 @@ latest_less edges rank lower (Some k) f = omega (arith, f.0)
 pub handing_falls : (edges : List Ends) (ranks rank lower : ℕ) (children : Children) (child : Option ℕ) → rank < ranks → lower < rank → parent_of edges lower ≡ Some rank
     → AreChildren edges ranks rank children → child ≡ get_or children.before.items lower child → latest_size child < latest_size (Some lower)
 handing_falls edges ranks rank lower children child below lower_low is_child f read =
-    latest_less edges rank lower child (f.onward lower rank child lower_low is_child (slice_get_read children.before.items (length children.before.items) lower child refl (omega (arith, lower_low, below, f.before_long)) read))
+    latest_less edges rank lower child (f.onward lower rank child lower_low is_child
+    (slice_get_read children.before.items (length children.before.items) lower child refl (omega (arith, lower_low, below, f.before_long)) read))
 
 whole : (edges : List Ends) (links : List ℕ) (rank room : ℕ) (stamps part : List ℕ) → IsHanding edges links rank room stamps part None
     → (y : ℕ) → IsSource edges links rank y → Contains part y
@@ -150,10 +151,12 @@ is_none None f = refl
 is_none (Some x) f = absurd (f x refl)
 
 -- more than fit from the links, or from a child
-crowded : (table : EdgeTable) (links : List ℕ) (rank room : ℕ) (P : ℕ → Type 0) → room ≡ MAX_EDGES - length table.lows.items → ((y : ℕ) → P y → IsSource (edges_in table) links rank y) → HasMoreThan room P → IsCrowded table links rank
+crowded : (table : EdgeTable) (links : List ℕ) (rank room : ℕ) (P : ℕ → Type 0) → room ≡ MAX_EDGES - length table.lows.items
+    → ((y : ℕ) → P y → IsSource (edges_in table) links rank y) → HasMoreThan room P → IsCrowded table links rank
 crowded table links rank room P same f h = subst (λ n. HasMoreThan n (IsSource (edges_in table) links rank)) same (more_weaker room P (IsSource (edges_in table) links rank) f h)
 
-pub crowded_by_links : (table : EdgeTable) (links old : List ℕ) (rank room : ℕ) → old ≡ [] → room ≡ MAX_EDGES - length table.lows.items → HasMoreThan room (IsGathered rank old links) → IsCrowded table links rank
+pub crowded_by_links : (table : EdgeTable) (links old : List ℕ) (rank room : ℕ) → old ≡ [] → room ≡ MAX_EDGES - length table.lows.items
+    → HasMoreThan room (IsGathered rank old links) → IsCrowded table links rank
 crowded_by_links table links old rank room none same h =
     crowded table links rank room (IsGathered rank old links) same
     (λ y s. elim s [
@@ -162,7 +165,8 @@ crowded_by_links table links old rank room none same h =
     ])
     h
 
-pub crowded_by_child : (table : EdgeTable) (links : List ℕ) (rank room lower : ℕ) (stamps part group : List ℕ) → IsHanding (edges_in table) links rank room stamps part (Some lower) → group ≡ up_of (edges_in table) lower
+pub crowded_by_child : (table : EdgeTable) (links : List ℕ) (rank room lower : ℕ) (stamps part group : List ℕ)
+    → IsHanding (edges_in table) links rank room stamps part (Some lower) → group ≡ up_of (edges_in table) lower
     → room ≡ MAX_EDGES - length table.lows.items → HasMoreThan room (IsGathered rank part group) → IsCrowded table links rank
 crowded_by_child table links rank room lower stamps part group f group_is same h =
     crowded table links rank room (IsGathered rank part group) same
@@ -176,7 +180,8 @@ same_err : {U E : Type 0} (r : Result U E) (x y : E) → r ≡ Err x → r ≡ E
 same_err r x y e f = cc
 
 -- an error passed on by `?` is the callee's
-pub passed_on : {T U E : Type 0} (inner : Result T E) (outer : Result U E) (mine wanted : E) → inner ≡ Err mine → IsErrAnd outer (λ (theirs : E). theirs ≡ mine) → outer ≡ Err wanted → inner ≡ Err wanted
+pub passed_on : {T U E : Type 0} (inner : Result T E) (outer : Result U E) (mine wanted : E) → inner ≡ Err mine
+    → IsErrAnd outer (λ (theirs : E). theirs ≡ mine) → outer ≡ Err wanted → inner ≡ Err wanted
 passed_on inner outer mine wanted was gives is =
     let p = err_from_is_err_and outer gives in
     let same : p.0 ≡ wanted = same_err outer p.0 wanted p.1 is in

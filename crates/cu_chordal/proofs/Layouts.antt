@@ -26,7 +26,8 @@ edges_read ranks table lower graph f shown =
     (sym same, sym f.upper.pairs ∙ sym same, f.sound.few_edges)
 
 pub ends_read : (ranks : ℕ) (table : EdgeTable) (lower : List (List ℕ)) (graph : ChordalValue) → IsLaidOut ranks table lower → graph_in ranks table ≡ graph
-    → (edge low high : ℕ) → edge < length graph.edges → low ≡ get_or table.lows.items edge low → high ≡ get_or table.highs.items edge high → slice_get graph.edges edge ≡ Some (record { low = low; high = high })
+    → (edge low high : ℕ) → edge < length graph.edges → low ≡ get_or table.lows.items edge low → high ≡ get_or table.highs.items edge high
+    → slice_get graph.edges edge ≡ Some (record { low = low; high = high })
 ends_read ranks table lower graph f shown edge low high below low_read high_read =
     let long = edges_read ranks table lower graph f shown in
     let in_lows : edge < length table.lows.items = omega (arith, long.0, below) in
@@ -83,7 +84,8 @@ pub finds_index : (xs : List ℕ) (x : ℕ) (r : Result ℕ ℕ) (o : Option ℕ
 finds_index xs x r o f found e = subst (FindsIndex xs x) (sym e) (finds xs x r f (searched xs x r found (λ i j le h. up_to xs f i j le h)))
 
 -- an index among the higher neighbours gives the edge
-pub edge_found : (graph : ChordalValue) (low high first index : ℕ) → NumbersEdges graph.edges low first → (up : List ℕ) → up ≡ up_of graph.edges low → FindsIndex up high (Some index) → FindsEdge graph.edges low high (Some (first + index))
+pub edge_found : (graph : ChordalValue) (low high first index : ℕ) → NumbersEdges graph.edges low first → (up : List ℕ) → up ≡ up_of graph.edges low
+    → FindsIndex up high (Some index) → FindsEdge graph.edges low high (Some (first + index))
 edge_found graph low high first index numbers up same found = numbers index high (subst (λ xs. slice_get xs index ≡ Some high) same found)
 
 pub edge_missed : (graph : ChordalValue) (low high : ℕ) (up : List ℕ) → up ≡ up_of graph.edges low → FindsIndex up high None → FindsEdge graph.edges low high None
@@ -117,22 +119,26 @@ up_read ranks table lower graph f shown rank part e = e ∙ ap (λ (v : ChordalV
 pub sound_read : (ranks : ℕ) (table : EdgeTable) (lower : List (List ℕ)) (graph : ChordalValue) → IsLaidOut ranks table lower → graph_in ranks table ≡ graph → IsChordal graph
 sound_read ranks table lower graph f shown = subst IsChordal shown f.sound
 
-pub rank_there : (ranks : ℕ) (table : EdgeTable) (lower : List (List ℕ)) (graph : ChordalValue) → IsLaidOut ranks table lower → graph_in ranks table ≡ graph → (rank : ℕ) → rank < graph.ranks → (rank + 1 < length table.starts.items) × (rank < length lower)
+pub rank_there : (ranks : ℕ) (table : EdgeTable) (lower : List (List ℕ)) (graph : ChordalValue) → IsLaidOut ranks table lower
+    → graph_in ranks table ≡ graph → (rank : ℕ) → rank < graph.ranks → (rank + 1 < length table.starts.items) × (rank < length lower)
 rank_there ranks table lower graph f shown rank below =
     let lt : rank < ranks = subst (λ (v : ChordalValue). rank < v.ranks) (sym shown) below in
     (omega (arith, lt, f.upper.groups.long), omega (arith, lt, f.down.long))
 
 -- what is asked where the lower neighbours are grouped
-pub lower_asks : (ranks : ℕ) (table : EdgeTable) (keys : List ℕ) → keys ≡ table.highs.items → IsTable ranks table → IsChordal (graph_in ranks table) → (length keys ≤ MAX_EDGES) × All (λ key. key < ranks) keys
+pub lower_asks : (ranks : ℕ) (table : EdgeTable) (keys : List ℕ) → keys ≡ table.highs.items → IsTable ranks table → IsChordal (graph_in ranks table)
+    → (length keys ≤ MAX_EDGES) × All (λ key. key < ranks) keys
 lower_asks ranks table keys same f sound =
     let long : length (edges_in table) ≡ length table.lows.items = length_paired table.lows.items table.highs.items f.pairs in
     (omega (arith, ap length same, f.pairs, long, sound.few_edges), subst (All (λ key. key < ranks)) (sym same) (highs_below ranks table f.pairs sound))
 
-pub lower_listed : (ranks : ℕ) (table : EdgeTable) (keys values : List ℕ) (groups : List (List ℕ)) → keys ≡ table.highs.items → values ≡ table.lows.items → AreGroups keys values ranks groups → AreLower ranks (edges_in table) groups
+pub lower_listed : (ranks : ℕ) (table : EdgeTable) (keys values : List ℕ) (groups : List (List ℕ)) → keys ≡ table.highs.items
+    → values ≡ table.lows.items → AreGroups keys values ranks groups → AreLower ranks (edges_in table) groups
 lower_listed ranks table keys values groups at_keys at_values f = record {
   long = f.long;
   each = λ rank lt.
-      f.each rank lt ∙ ap (λ xs. Some (group_of xs values rank)) at_keys ∙ ap (λ xs. Some (group_of table.highs.items xs rank)) at_values ∙ ap Some (down_grouped table.lows.items table.highs.items rank);
+      f.each rank lt ∙ ap (λ xs. Some (group_of xs values rank)) at_keys ∙ ap (λ xs. Some (group_of table.highs.items xs rank)) at_values
+      ∙ ap Some (down_grouped table.lows.items table.highs.items rank);
 }
 
 -- the neighbours of a rank

@@ -34,7 +34,8 @@ pub in_group : (keys values : List ℕ) (key y i : ℕ) → i < length keys → 
 in_group [] values key y i h w e f = absurd (omega (arith, h))
 in_group (k ∷ keys) [] key y i h w e f = absurd (omega (arith, w))
 in_group (k ∷ keys) (v ∷ values) key y zero h w e f =
-    subst (λ b. Contains (cond b (v ∷ group_of keys values key) (group_of keys values key)) y) (sym (eq-eqb k key e)) (subst (λ z. Contains (z ∷ group_of keys values key) y) (sym f) (here y (group_of keys values key)))
+    subst (λ b. Contains (cond b (v ∷ group_of keys values key) (group_of keys values key)) y) (sym (eq-eqb k key e))
+    (subst (λ z. Contains (z ∷ group_of keys values key) y) (sym f) (here y (group_of keys values key)))
 in_group (k ∷ keys) (v ∷ values) key y (suc i) h w e f =
     let rest = in_group keys values key y i (omega (arith, h)) (omega (arith, w)) e f in
     elim (eqb_tells k key) [
@@ -61,18 +62,22 @@ one_high g o a x y v w p q =
 road_within : (g : NetworkValue) (o : OrderValue) (a x y : ℕ) → LinksRanks g o a x y → a < length g.arcs
 road_within g o a x y p = slice_get_within g.arcs a p.2.0 p.2.1
 
-link_at : (g : NetworkValue) (o : OrderValue) (lows highs : List ℕ) (rank y a u v : ℕ) → AreRankEnds g o (length g.arcs) lows highs → a < length g.arcs → LinksRanks g o a u v → min u v ≡ rank → max u v ≡ y → Contains (group_of lows highs rank) y
+link_at : (g : NetworkValue) (o : OrderValue) (lows highs : List ℕ) (rank y a u v : ℕ) → AreRankEnds g o (length g.arcs) lows highs
+    → a < length g.arcs → LinksRanks g o a u v → min u v ≡ rank → max u v ≡ y → Contains (group_of lows highs rank) y
 link_at g o lows highs rank y a u v f below p low high =
     let e = f.each a below in
     let at_u : e.0 ≡ u = one_low g o a e.0 e.1 u v e.2 p in
     let at_v : e.1 ≡ v = one_high g o a e.0 e.1 u v e.2 p in
-    in_group lows highs rank y a (omega (arith, below, f.lows_long)) (omega (arith, below, f.highs_long)) (e.3 ∙ ap (λ k. min k e.1) at_u ∙ ap (min u) at_v ∙ low) (e.4 ∙ ap (λ k. max k e.1) at_u ∙ ap (max u) at_v ∙ high)
+    in_group lows highs rank y a (omega (arith, below, f.lows_long)) (omega (arith, below, f.highs_long))
+    (e.3 ∙ ap (λ k. min k e.1) at_u ∙ ap (min u) at_v ∙ low) (e.4 ∙ ap (λ k. max k e.1) at_u ∙ ap (max u) at_v ∙ high)
 
-link_there : (g : NetworkValue) (o : OrderValue) (lows highs : List ℕ) (rank y : ℕ) → AreRankEnds g o (length g.arcs) lows highs → rank ≤ y → Adjacent g o rank y → Contains (group_of lows highs rank) y
+link_there : (g : NetworkValue) (o : OrderValue) (lows highs : List ℕ) (rank y : ℕ) → AreRankEnds g o (length g.arcs) lows highs → rank ≤ y
+    → Adjacent g o rank y → Contains (group_of lows highs rank) y
 link_there g o lows highs rank y f le (a, inl p) = link_at g o lows highs rank y a rank y f (road_within g o a rank y p) p (omega (arith, le)) (omega (arith, le))
 link_there g o lows highs rank y f le (a, inr p) = link_at g o lows highs rank y a y rank f (road_within g o a y rank p) p (omega (arith, le)) (omega (arith, le))
 
-link_sound : (g : NetworkValue) (o : OrderValue) (lows highs : List ℕ) (rank y : ℕ) → AreRankEnds g o (length g.arcs) lows highs → Contains (group_of lows highs rank) y → (rank ≤ y) × Adjacent g o rank y
+link_sound : (g : NetworkValue) (o : OrderValue) (lows highs : List ℕ) (rank y : ℕ) → AreRankEnds g o (length g.arcs) lows highs
+    → Contains (group_of lows highs rank) y → (rank ≤ y) × Adjacent g o rank y
 link_sound g o lows highs rank y f c =
     let m = group_member lows highs rank y c in
     let e = f.each m.0 (omega (arith, m.1, f.lows_long)) in
@@ -102,7 +107,8 @@ group_links g o lows highs rank f = record {
   in_range = all_from_members (λ y. (rank ≤ y) × (y < g.nodes)) (group_of lows highs rank) (λ y c. ((link_sound g o lows highs rank y f c).0, link_below g o lows highs rank y f c));
 }
 
-pub links_from_ends : (g : NetworkValue) (o : OrderValue) (lows highs : List ℕ) (groups : List (List ℕ)) → AreRankEnds g o (length g.arcs) lows highs → AreGroups lows highs g.nodes groups → HoldsLinks g o groups
+pub links_from_ends : (g : NetworkValue) (o : OrderValue) (lows highs : List ℕ) (groups : List (List ℕ)) → AreRankEnds g o (length g.arcs) lows highs
+    → AreGroups lows highs g.nodes groups → HoldsLinks g o groups
 links_from_ends g o lows highs groups f h = record {
   long = h.long;
   each = λ rank part at.
@@ -112,7 +118,8 @@ links_from_ends g o lows highs groups f h = record {
 }
 
 -- the same with what is handed over
-pub ends_given : (g : NetworkValue) (o : OrderValue) (lows highs given_lows given_highs : List ℕ) → given_lows ≡ lows → given_highs ≡ highs → AreRankEnds g o (length g.arcs) lows highs → AreRankEnds g o (length g.arcs) given_lows given_highs
+pub ends_given : (g : NetworkValue) (o : OrderValue) (lows highs given_lows given_highs : List ℕ) → given_lows ≡ lows → given_highs ≡ highs
+    → AreRankEnds g o (length g.arcs) lows highs → AreRankEnds g o (length g.arcs) given_lows given_highs
 ends_given g o lows highs given_lows given_highs lows_same highs_same f =
     subst (λ xs. AreRankEnds g o (length g.arcs) xs given_highs) (sym lows_same) (subst (AreRankEnds g o (length g.arcs) lows) (sym highs_same) f)
 

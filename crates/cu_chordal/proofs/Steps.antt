@@ -54,15 +54,18 @@ table_more ranks rank table table_new part f g appended =
     let lows_is : lows_new ≡ lows ++ replicate (length part) rank = appended.lows in
     let highs_is : highs_new ≡ highs ++ part = appended.highs in
     let starts_is : starts_new ≡ starts ++ ((length lows + length part) ∷ []) = appended.starts in
-    let same : paired lows_new highs_new ≡ edges ++ edges_to rank part = ap (λ xs. paired xs highs_new) lows_is ∙ ap (paired (lows ++ replicate (length part) rank)) highs_is ∙ paired_append lows highs rank part f.pairs in
+    let same : paired lows_new highs_new ≡ edges ++ edges_to rank part = ap (λ xs. paired xs highs_new) lows_is
+    ∙ ap (paired (lows ++ replicate (length part) rank)) highs_is ∙ paired_append lows highs rank part f.pairs in
     let low : All (λ (e : Ends). e.low < rank) edges = lows_below edges ranks rank g in
     let edges_long : length edges ≡ length lows = length_paired lows highs f.pairs in
-    let lows_long : length lows_new ≡ length lows + length part = ap length lows_is ∙ length-append lows (replicate (length part) rank) ∙ ap (λ n. length lows + n) (length-replicate (length part) rank) in
+    let lows_long : length lows_new ≡ length lows + length part = ap length lows_is ∙ length-append lows (replicate (length part) rank)
+    ∙ ap (λ n. length lows + n) (length-replicate (length part) rank) in
     let highs_long : length highs_new ≡ length highs + length part = ap length highs_is ∙ length-append highs part in
     let starts_long : length starts_new ≡ rank + 2 = ap length starts_is ∙ length_push starts (length lows + length part) ∙ omega (arith, f.groups.long) in
     let start_before : (k : ℕ) → k ≤ rank → get_or starts_new k 0 ≡ get_or starts k 0 =
     λ k le. ap (λ xs. get_or xs k 0) starts_is ∙ get_or_append_left starts ((length lows + length part) ∷ []) 0 k (omega (arith, le, f.groups.long)) in
-    let start_last : get_or starts_new (rank + 1) 0 ≡ length lows + length part = ap (λ xs. get_or xs (rank + 1) 0) starts_is ∙ get_or_push starts (length lows + length part) 0 (rank + 1) f.groups.long in
+    let start_last : get_or starts_new (rank + 1) 0 ≡ length lows + length part = ap (λ xs. get_or xs (rank + 1) 0) starts_is
+    ∙ get_or_push starts (length lows + length part) 0 (rank + 1) f.groups.long in
     let start_here : get_or starts rank 0 ≡ length lows = f.first rank (omega arith) ∙ first_all edges rank low ∙ edges_long in (
       record {
         pairs = omega (arith, lows_long, highs_long, f.pairs);
@@ -100,7 +103,8 @@ table_more ranks rank table table_new part f g appended =
                 | inl last ↦
                     let here_part : slice_range highs_new (get_or starts_new rank 0) (get_or starts_new (rank + 1) 0) ≡ part =
                     ap (λ xs. slice_range xs (get_or starts_new rank 0) (get_or starts_new (rank + 1) 0)) highs_is
-                    ∙ part_added highs part (get_or starts_new rank 0) (get_or starts_new (rank + 1) 0) (start_before rank (omega arith) ∙ start_here ∙ f.pairs) (start_last ∙ ap (λ n. n + length part) f.pairs) in
+                    ∙ part_added highs part (get_or starts_new rank 0) (get_or starts_new (rank + 1) 0)
+                    (start_before rank (omega arith) ∙ start_here ∙ f.pairs) (start_last ∙ ap (λ n. n + length part) f.pairs) in
                     subst (λ j. slice_range highs_new (get_or starts_new j 0) (get_or starts_new (j + 1) 0) ≡ up_of (paired lows_new highs_new) j) (sym last)
                     (here_part ∙ sym (up_at edges ranks rank part g) ∙ ap (λ es. up_of es rank) (sym same))
                 | inr other ↦
@@ -118,7 +122,8 @@ table_more ranks rank table table_new part f g appended =
     )
 
 -- what the closure keeps of its edges
-pub closed_more : (edges : List Ends) (ranks rank : ℕ) (part : List ℕ) → AreClosed edges ranks rank → AllPairs (λ x y. x < y) part → ((y : ℕ) → Contains part y → (rank < y) × (y < ranks)) → length edges + length part ≤ MAX_EDGES
+pub closed_more : (edges : List Ends) (ranks rank : ℕ) (part : List ℕ) → AreClosed edges ranks rank → AllPairs (λ x y. x < y) part
+    → ((y : ℕ) → Contains part y → (rank < y) × (y < ranks)) → length edges + length part ≤ MAX_EDGES
     → AreClosed (edges ++ edges_to rank part) ranks (rank + 1)
 closed_more edges ranks rank part f rising range few =
     let long = length-append edges (edges_to rank part) in
@@ -127,7 +132,8 @@ closed_more edges ranks rank part f rising range few =
       few = omega (arith, long, more, few);
       rising = rising_append edges rank part f.rising (lows_below edges ranks rank f) rising;
       in_range = All-append (λ (e : Ends). (e.low < rank + 1) × (e.low < e.high) × (e.high < ranks)) edges (edges_to rank part)
-          (All-weaker (λ (e : Ends). (e.low < rank) × (e.low < e.high) × (e.high < ranks)) (λ (e : Ends). (e.low < rank + 1) × (e.low < e.high) × (e.high < ranks)) (λ e h. (omega (arith, h.0), h.1, h.2)) edges f.in_range)
+          (All-weaker (λ (e : Ends). (e.low < rank) × (e.low < e.high) × (e.high < ranks))
+          (λ (e : Ends). (e.low < rank + 1) × (e.low < e.high) × (e.high < ranks)) (λ e h. (omega (arith, h.0), h.1, h.2)) edges f.in_range)
           (lows_of_edges_to rank part (λ (e : Ends). (e.low < rank + 1) × (e.low < e.high) × (e.high < ranks)) (λ y c. let r = range y c in (omega arith, r.0, r.1)));
     }
 
@@ -135,7 +141,8 @@ closed_more edges ranks rank part f rising range few =
 parent_before : (edges : List Ends) (rank k : ℕ) (part : List ℕ) → k < rank → parent_of (edges ++ edges_to rank part) k ≡ parent_of edges k
 parent_before edges rank k part lt = ap (λ xs. slice_get xs 0) (up_before edges rank k part lt)
 
-latest_stays : (edges : List Ends) (rank parent bound : ℕ) (part : List ℕ) (o : Option ℕ) → bound ≤ rank → IsLatestChild edges parent bound o → IsLatestChild (edges ++ edges_to rank part) parent bound o
+latest_stays : (edges : List Ends) (rank parent bound : ℕ) (part : List ℕ) (o : Option ℕ) → bound ≤ rank → IsLatestChild edges parent bound o
+    → IsLatestChild (edges ++ edges_to rank part) parent bound o
 latest_stays edges rank parent bound part None le f = λ k lt e. f k lt (sym (parent_before edges rank k part (omega (arith, lt, le))) ∙ e)
 latest_stays edges rank parent bound part (Some child) le f =
     (f.0, parent_before edges rank child part (omega (arith, f.0, le)) ∙ f.1, λ k above lt e. f.2 k above lt (sym (parent_before edges rank k part (omega (arith, lt, le))) ∙ e))
@@ -179,7 +186,8 @@ set_read_other xs i j x o other e =
     slice_get-get_or xs j None (omega (arith, within, length-set xs i x)) ∙ ap Some (sym (get_or-set_other xs i j x None other) ∙ read)
 
 -- the children with one more rank
-children_step : (edges : List Ends) (ranks rank : ℕ) (part : List ℕ) (o : Option ℕ) (children children_new : Children) → rank < ranks → ((first : ℕ) → o ≡ Some first → (rank ≤ first) × (first < ranks)) → parent_of (edges ++ edges_to rank part) rank ≡ o
+children_step : (edges : List Ends) (ranks rank : ℕ) (part : List ℕ) (o : Option ℕ) (children children_new : Children) → rank < ranks
+    → ((first : ℕ) → o ≡ Some first → (rank ≤ first) × (first < ranks)) → parent_of (edges ++ edges_to rank part) rank ≡ o
     → AreChildren edges ranks rank children → HandsOn rank o children children_new
     → AreChildren (edges ++ edges_to rank part) ranks (rank + 1) children_new
 children_step edges ranks rank part None children children_new below range own f h = record {
@@ -187,7 +195,8 @@ children_step edges ranks rank part None children children_new below range own f
   before_long = ap length h.1 ∙ f.before_long;
   begin = λ parent o le e.
       let old : slice_get children.latest.items parent ≡ Some o = ap (λ xs. slice_get xs parent) (sym h.0) ∙ e in
-      latest_skips (edges ++ edges_to rank part) parent rank o (λ p. none_is_some parent (sym own ∙ p)) (latest_stays edges rank parent rank part o (omega arith) (f.begin parent o (omega (arith, le)) old));
+      latest_skips (edges ++ edges_to rank part) parent rank o (λ p. none_is_some parent (sym own ∙ p))
+      (latest_stays edges rank parent rank part o (omega arith) (f.begin parent o (omega (arith, le)) old));
   onward = λ k parent o lt p e.
       let old : slice_get children.before.items k ≡ Some o = ap (λ xs. slice_get xs k) (sym h.1) ∙ e in
       elim (cases_eq k rank) [
@@ -209,15 +218,19 @@ children_step edges ranks rank part (Some first) children children_new below ran
             (omega arith, own ∙ ap Some (sym same), λ k above lt. absurd (omega (arith, above, lt)))
         | inr other ↦
             let old : slice_get children.latest.items parent ≡ Some o = set_read_other children.latest.items first parent (Some rank) o other now in
-            latest_skips (edges ++ edges_to rank part) parent rank o (λ p. other (sym (same_some first parent (sym own ∙ p)))) (latest_stays edges rank parent rank part o (omega arith) (f.begin parent o (omega (arith, le)) old))
+            latest_skips (edges ++ edges_to rank part) parent rank o (λ p. other (sym (same_some first parent (sym own ∙ p))))
+            (latest_stays edges rank parent rank part o (omega arith) (f.begin parent o (omega (arith, le)) old))
       ];
   onward = λ k parent o lt p e.
       let now : slice_get (set children.before.items rank (slice_index_or children.latest.items first None)) k ≡ Some o = ap (λ xs. slice_get xs k) (sym h.1) ∙ e in
       elim (cases_eq k rank) [
         | inl same ↦
             let at_parent : parent ≡ first = same_some parent first (sym p ∙ ap (parent_of (edges ++ edges_to rank part)) same ∙ own) in
-            let found : o ≡ slice_index_or children.latest.items first None = set_read_same children.before.items rank (slice_index_or children.latest.items first None) o (subst (λ j. slice_get (set children.before.items rank (slice_index_or children.latest.items first None)) j ≡ Some o) same now) in
-            let latest_read : slice_get children.latest.items first ≡ Some o = slice_get-get_or children.latest.items first None (omega (arith, (range first refl).1, f.latest_long)) ∙ ap Some (sym found) in
+            let found : o ≡ slice_index_or children.latest.items first None =
+            set_read_same children.before.items rank (slice_index_or children.latest.items first None) o
+            (subst (λ j. slice_get (set children.before.items rank (slice_index_or children.latest.items first None)) j ≡ Some o) same now) in
+            let latest_read : slice_get children.latest.items first ≡ Some o =
+            slice_get-get_or children.latest.items first None (omega (arith, (range first refl).1, f.latest_long)) ∙ ap Some (sym found) in
             let was : IsLatestChild edges first rank o = f.begin first o (range first refl).0 latest_read in
             subst (λ j. IsLatestChild (edges ++ edges_to rank part) parent j o) (sym same)
             (subst (λ j. IsLatestChild (edges ++ edges_to rank part) j rank o) (sym at_parent) (latest_stays edges rank first rank part o (omega arith) was))
@@ -228,8 +241,10 @@ children_step edges ranks rank part (Some first) children children_new below ran
       ];
 }
 
-pub children_more : (edges : List Ends) (ranks rank : ℕ) (part : List ℕ) (children children_new : Children) → rank < ranks → ((y : ℕ) → Contains part y → (rank < y) × (y < ranks)) → AreClosed edges ranks rank
+pub children_more : (edges : List Ends) (ranks rank : ℕ) (part : List ℕ) (children children_new : Children) → rank < ranks
+    → ((y : ℕ) → Contains part y → (rank < y) × (y < ranks)) → AreClosed edges ranks rank
     → AreChildren edges ranks rank children → HandsOn rank (slice_get part 0) children children_new
     → AreChildren (edges ++ edges_to rank part) ranks (rank + 1) children_new
 children_more edges ranks rank part children children_new below range g f h =
-    children_step edges ranks rank part (slice_get part 0) children children_new below (λ first e. let r = range first (member_at part first 0 e) in (omega (arith, r.0), r.1)) (ap (λ xs. slice_get xs 0) (up_at edges ranks rank part g)) f h
+    children_step edges ranks rank part (slice_get part 0) children children_new below
+    (λ first e. let r = range first (member_at part first 0 e) in (omega (arith, r.0), r.1)) (ap (λ xs. slice_get xs 0) (up_at edges ranks rank part g)) f h

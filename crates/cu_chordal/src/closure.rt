@@ -123,7 +123,8 @@ fn gather_all(
     ensures exact { IfOk result
         (λ part. ListsSources (edges_in table.now) links.now rank part.items) }
     ensures once { IfOk result (λ part. IsDistinct eqb part.items) }
-    ensures room { IfOk result (λ part. length table.now.lows.items + length part.items ≤ MAX_EDGES) }
+    ensures room { IfOk result
+        (λ part. length table.now.lows.items + length part.items ≤ MAX_EDGES) }
     ensures stamps { OnOk result (All (λ stamp. stamp ≤ rank + 1) stamps.new) }
     ensures too_many { result ≡ Err CloseRefusal.TooManyEdges → IsCrowded table.now links.now rank }
 {

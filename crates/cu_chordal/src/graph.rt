@@ -46,7 +46,7 @@ impl Model for Chordal {
 
 impl Chordal {
     // The graph of these edges.
-    pub fn of_table(alloc: Global, ranks: u32, table: EdgeTable) -> Result<Chordal, NoMemory>
+    pub(crate) fn of_table(alloc: Global, ranks: u32, table: EdgeTable) -> Result<Chordal, NoMemory>
         requires table { IsTable ranks table }
         requires sound { IsChordal (graph_in ranks table) }
         ensures { IfOk result (λ graph. graph ≡ graph_in ranks table) }

@@ -92,4 +92,5 @@ AddsRank links rank old new = (part : List ℕ) × (new ≡ old ++ edges_to rank
 -- the latest child of each rank and the one before it, once a rank has its parent
 abbrev pub HandsOn : ℕ → Option ℕ → Children → Children → Type 0
 HandsOn rank None old new = (new.latest.items ≡ old.latest.items) × (new.before.items ≡ old.before.items)
-HandsOn rank (Some parent) old new = (new.latest.items ≡ slice_set old.latest.items parent (Some rank)) × (new.before.items ≡ slice_set old.before.items rank (slice_index_or old.latest.items parent None))
+HandsOn rank (Some parent) old new = (new.latest.items ≡ slice_set old.latest.items parent (Some rank))
+    × (new.before.items ≡ slice_set old.before.items rank (slice_index_or old.latest.items parent None))

@@ -21,7 +21,8 @@ pub returns-in_err-add_rank-clause-too_many : goal.returns-in_err-add_rank-claus
 returns-in_err-add_rank-clause-too_many g c = λ h.
     let e : c.add_rank.result ≡ Err TooManyEdges =
     passed_on c.add_rank.result c.from_residual-in_err-add_rank.result c.in_err-add_rank.field-0.0 TooManyEdges c.in_err-add_rank.was c.from_residual-in_err-add_rank.ensures.1 h in
-    too_many_edges (g.N.Roads.network c.args.roads.now) c.args.order.now c.nodes-ranks.result c.loop-rank.rank c.loop-rank.closing c.group.result.now c.loop-rank.invariant.ready c.loop-rank.invariant.ups
+    too_many_edges (g.N.Roads.network c.args.roads.now) c.args.order.now c.nodes-ranks.result c.loop-rank.rank c.loop-rank.closing c.group.result.now
+    c.loop-rank.invariant.ready c.loop-rank.invariant.ups
     (c.in_ok-links.ensures.each c.loop-rank.rank c.group.result.now c.group.ensures) (c.add_rank.ensures.too_many e)
 
 pub loop-rank-preserved : goal.loop-rank-preserved
@@ -40,11 +41,13 @@ returns-clause-closed g c =
     let net : NetworkValue = (g.N.Roads.network c.args.roads.now) in
     let at : c.nodes-ranks.result ≡ net.nodes = c.nodes-ranks.ensures.count ∙ c.requires in
     let last : c.loop-rank.rank ≡ c.nodes-ranks.result = omega (arith, c.loop-rank-test.false, c.loop-rank.auto.rank-end) in
-    subst (IsClosureOf net c.args.order.now) (sym c.in_ok-of_table.ensures) (closing_all net c.args.order.now c.nodes-ranks.result c.loop-rank.rank c.loop-rank.closing c.nodes-ranks.ensures.sound c.requires at last c.loop-rank.invariant).2
+    subst (IsClosureOf net c.args.order.now) (sym c.in_ok-of_table.ensures)
+    (closing_all net c.args.order.now c.nodes-ranks.result c.loop-rank.rank c.loop-rank.closing c.nodes-ranks.ensures.sound c.requires at last c.loop-rank.invariant).2
 
 pub returns-clause-sound : goal.returns-clause-sound
 returns-clause-sound g c =
     let net : NetworkValue = (g.N.Roads.network c.args.roads.now) in
     let at : c.nodes-ranks.result ≡ net.nodes = c.nodes-ranks.ensures.count ∙ c.requires in
     let last : c.loop-rank.rank ≡ c.nodes-ranks.result = omega (arith, c.loop-rank-test.false, c.loop-rank.auto.rank-end) in
-    subst IsChordal (sym c.in_ok-of_table.ensures) (closing_all net c.args.order.now c.nodes-ranks.result c.loop-rank.rank c.loop-rank.closing c.nodes-ranks.ensures.sound c.requires at last c.loop-rank.invariant).1
+    subst IsChordal (sym c.in_ok-of_table.ensures) (closing_all net c.args.order.now c.nodes-ranks.result c.loop-rank.rank c.loop-rank.closing
+    c.nodes-ranks.ensures.sound c.requires at last c.loop-rank.invariant).1

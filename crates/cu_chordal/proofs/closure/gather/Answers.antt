@@ -16,9 +16,12 @@ loop-candidate-preserved c =
           let same : c.loop-candidate.part.items ≡ c.loop-candidate.part.items = refl in
           let grown : w.push.new.self.items ≡ c.loop-candidate.part.items ++ (get_or c.args.candidates.now c.loop-candidate.candidate-index 0 ∷ []) =
           pushed (get_or c.args.candidates.now c.loop-candidate.candidate-index 0 ∷ []) same w.in_ok-push.was w.push.ensures.items in
-          gathering_added c.args.rank c.args.room c.loop-candidate.candidate-index c.args.candidates.now c.loop-candidate.stamps c.if-stamps-candidate.stamps c.args.part.now.items c.loop-candidate.part.items c.if-stamps-candidate.part.items
-          c.loop-candidate-test.true (λ k d h. omega (arith, c.requires.in_range k d h, c.loop-candidate.auto.stamps)) w.if-stamps-candidate.true c.loop-candidate.invariant (omega (arith, w.if-len-room.false, c.loop-candidate.part.ok.0)) (cc) w.stamps-is
+          gathering_added c.args.rank c.args.room c.loop-candidate.candidate-index c.args.candidates.now c.loop-candidate.stamps
+          c.if-stamps-candidate.stamps c.args.part.now.items c.loop-candidate.part.items c.if-stamps-candidate.part.items
+          c.loop-candidate-test.true (λ k d h. omega (arith, c.requires.in_range k d h, c.loop-candidate.auto.stamps)) w.if-stamps-candidate.true
+          c.loop-candidate.invariant (omega (arith, w.if-len-room.false, c.loop-candidate.part.ok.0)) (cc) w.stamps-is
       | else-stamps-candidate w ↦
-          gathering_seen c.args.rank c.args.room c.loop-candidate.candidate-index c.args.candidates.now c.loop-candidate.stamps c.if-stamps-candidate.stamps c.args.part.now.items c.loop-candidate.part.items c.if-stamps-candidate.part.items
+          gathering_seen c.args.rank c.args.room c.loop-candidate.candidate-index c.args.candidates.now c.loop-candidate.stamps
+          c.if-stamps-candidate.stamps c.args.part.now.items c.loop-candidate.part.items c.if-stamps-candidate.part.items
           c.loop-candidate-test.true w.if-stamps-candidate.false c.loop-candidate.invariant (cc) w.stamps-is
     ]

@@ -14,8 +14,10 @@ loop-arc-preserved g c =
     let highs_grown : c.push-in-loop-arc.new.self.items ≡ c.loop-arc.highs.items ++ (c.max.result ∷ []) = pushed (c.max.result ∷ []) high_same c.in_ok-push-2.was c.push-in-loop-arc.ensures.items in
     let x_in : c.rank-tail.result < net.nodes = omega (arith, c.rank-tail.ensures.range, c.requires.same) in
     let y_in : c.rank-head.result < net.nodes = omega (arith, c.rank-head.ensures.range, c.requires.same) in
-    ends_more net c.args.order.now c.loop-arc.arc c.rank-tail.result c.rank-head.result c.arc-road.result c.loop-arc.lows.items c.loop-arc.highs.items c.push.new.self.items c.push-in-loop-arc.new.self.items c.loop-arc.invariant
-    c.arc-road.ensures.there c.rank-tail.ensures.there c.rank-head.ensures.there x_in y_in (lows_grown ∙ ap (λ x. c.loop-arc.lows.items ++ (x ∷ [])) c.min.ensures) (highs_grown ∙ ap (λ x. c.loop-arc.highs.items ++ (x ∷ [])) c.max.ensures)
+    ends_more net c.args.order.now c.loop-arc.arc c.rank-tail.result c.rank-head.result c.arc-road.result c.loop-arc.lows.items c.loop-arc.highs.items
+    c.push.new.self.items c.push-in-loop-arc.new.self.items c.loop-arc.invariant
+    c.arc-road.ensures.there c.rank-tail.ensures.there c.rank-head.ensures.there x_in y_in
+    (lows_grown ∙ ap (λ x. c.loop-arc.lows.items ++ (x ∷ [])) c.min.ensures) (highs_grown ∙ ap (λ x. c.loop-arc.highs.items ++ (x ∷ [])) c.max.ensures)
 
 pub returns : goal.returns
 returns g c =

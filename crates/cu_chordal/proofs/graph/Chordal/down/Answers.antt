@@ -11,9 +11,14 @@ pub returns-clause-exact : goal.returns-clause-exact
 returns-clause-exact c = down_read c.self.inside.ranks c.self.inside.table c.self.inside.lower c.args.self.now c.self.invariant c.self.view_is c.args.rank c.group.result.now c.requires c.group.ensures
 
 pub returns-clause-members : goal.returns-clause-members
-returns-clause-members c = down_members c.args.self.now.edges c.args.rank c.group.result.now (down_read c.self.inside.ranks c.self.inside.table c.self.inside.lower c.args.self.now c.self.invariant c.self.view_is c.args.rank c.group.result.now c.requires c.group.ensures)
+returns-clause-members c = down_members c.args.self.now.edges c.args.rank c.group.result.now
+    (down_read c.self.inside.ranks c.self.inside.table c.self.inside.lower c.args.self.now c.self.invariant c.self.view_is c.args.rank
+    c.group.result.now c.requires c.group.ensures)
 
 pub returns-clause-rising : goal.returns-clause-rising
 returns-clause-rising c =
-    let same : c.group.result.now ≡ down_of c.args.self.now.edges c.args.rank = down_read c.self.inside.ranks c.self.inside.table c.self.inside.lower c.args.self.now c.self.invariant c.self.view_is c.args.rank c.group.result.now c.requires c.group.ensures in
-    subst IsStrictlyIncreasing (sym same) (down_increasing c.args.self.now (sound_read c.self.inside.ranks c.self.inside.table c.self.inside.lower c.args.self.now c.self.invariant c.self.view_is) c.args.rank)
+    let same : c.group.result.now ≡ down_of c.args.self.now.edges c.args.rank =
+    down_read c.self.inside.ranks c.self.inside.table c.self.inside.lower c.args.self.now c.self.invariant c.self.view_is c.args.rank
+    c.group.result.now c.requires c.group.ensures in
+    subst IsStrictlyIncreasing (sym same) (down_increasing c.args.self.now
+    (sound_read c.self.inside.ranks c.self.inside.table c.self.inside.lower c.args.self.now c.self.invariant c.self.view_is) c.args.rank)

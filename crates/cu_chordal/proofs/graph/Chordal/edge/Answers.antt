@@ -13,11 +13,13 @@ returns-in_err-index-clause-found c =
 
 pub overflow_cast-result : goal.overflow_cast-result
 overflow_cast-result c =
-    let small = index_small (up_of c.args.self.now.edges c.args.low) c.up.result.now c.first_edge.result c.args.high c.in_ok-index.index c.up.ensures.exact c.first_edge.ensures.few c.in_ok-index.ensures in omega (arith, small)
+    let small = index_small (up_of c.args.self.now.edges c.args.low) c.up.result.now c.first_edge.result c.args.high c.in_ok-index.index
+    c.up.ensures.exact c.first_edge.ensures.few c.in_ok-index.ensures in omega (arith, small)
 
 pub overflow_add-result : goal.overflow_add-result
 overflow_add-result c =
-    let small = index_small (up_of c.args.self.now.edges c.args.low) c.up.result.now c.first_edge.result c.args.high c.in_ok-index.index c.up.ensures.exact c.first_edge.ensures.few c.in_ok-index.ensures in omega (arith, small)
+    let small = index_small (up_of c.args.self.now.edges c.args.low) c.up.result.now c.first_edge.result c.args.high c.in_ok-index.index
+    c.up.ensures.exact c.first_edge.ensures.few c.in_ok-index.ensures in omega (arith, small)
 
 pub returns-clause-found : goal.returns-clause-found
 returns-clause-found c = edge_found c.args.self.now c.args.low c.args.high c.first_edge.result c.in_ok-index.index c.first_edge.ensures.numbers c.up.result.now c.up.ensures.exact c.in_ok-index.ensures

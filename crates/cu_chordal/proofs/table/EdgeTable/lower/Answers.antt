@@ -10,4 +10,5 @@ pub of-requires-clause-in_range : goal.of-requires-clause-in_range
 of-requires-clause-in_range c = (lower_asks c.args.ranks c.args.self.now c.deref.result.now c.deref.ensures.value c.requires.table c.requires.sound).1
 
 pub returns : goal.returns
-returns c = IfOk-weaker c.of.result _ _ (λ groups f. lower_listed c.args.ranks c.args.self.now c.deref.result.now c.deref-2.result.now groups c.deref.ensures.value c.deref-2.ensures.value f) c.of.ensures
+returns c = IfOk-weaker c.of.result _ _ (λ groups f. lower_listed c.args.ranks c.args.self.now c.deref.result.now c.deref-2.result.now groups
+    c.deref.ensures.value c.deref-2.ensures.value f) c.of.ensures
