@@ -1,5 +1,5 @@
 -- Climbing from a rank to its parent and on.
-use Rattle.std.proofs.Common.{◌≡◌, ◌≤◌, ◌<◌, ◌+◌, ℕ, zero, suc, List, [], ◌∷◌, ◌++◌, Option, Some, None, eqb, length, get_or, refl, sym, ◌∙◌, ap, subst, arith, inl, inr, ◌⊎◌}
+use Rattle.std.proofs.Common.{◌≡◌, ◌≤◌, ◌<◌, ◌+◌, ◌-◌, ℕ, zero, suc, List, [], ◌∷◌, ◌++◌, Option, Some, None, eqb, length, get_or, refl, sym, ◌∙◌, ap, subst, arith, inl, inr, ◌⊎◌}
 use Rattle.std.specs.Prelude.{◌↔◌, All, IsTrue, slice_get}
 use Rattle.std.specs.Iterator.{Yields, YieldsFirst}
 use Rattle.std.specs.List.{Contains, AllPairs}
@@ -17,6 +17,12 @@ use Rattle.cu_chordal.proofs.Closed.{parent_least}
 use Rattle.cu_elimtree.specs.Trees.{HoldsAncestorNeighbours, HoldsHigherNeighbours, IsTree, IsTreeOf, Rises, ancestors_of, climb, flat}
 
 -- the parents so far
+-- a step up: the rank itself, and then its parent and on
+pub climb_step : (fuel : ℕ) (parents : List (Option ℕ)) (from parent : Option ℕ) (rank : ℕ) → 0 < fuel → from ≡ Some rank → parent ≡ flat (slice_get parents rank)
+    → climb fuel parents from ≡ rank ∷ climb (fuel - 1) parents parent
+climb_step zero parents from parent rank some is up = absurd (omega (arith, some))
+climb_step (suc fuel) parents from parent rank some is up = let left : suc fuel - 1 ≡ fuel = omega arith in rw (is, up, left) refl
+
 pub record AreParents (graph : ChordalValue) (rank : ℕ) (parents : List (Option ℕ)) : Type 0 where
   pub long : length parents ≡ rank
   pub each : (k : ℕ) → k < rank → slice_get parents k ≡ Some (parent_of graph.edges k)
@@ -24,7 +30,8 @@ pub record AreParents (graph : ChordalValue) (rank : ℕ) (parents : List (Optio
 pub parents_none : (graph : ChordalValue) (parents : List (Option ℕ)) → parents ≡ [] → AreParents graph 0 parents
 parents_none graph parents e = record { long = ap length e; each = λ k lt. absurd (omega (arith, lt)) }
 
-pub parents_more : (graph : ChordalValue) (rank : ℕ) (parents grown : List (Option ℕ)) (parent : Option ℕ) → AreParents graph rank parents → parent ≡ parent_of graph.edges rank → grown ≡ parents ++ (parent ∷ []) → AreParents graph (rank + 1) grown
+pub parents_more : (graph : ChordalValue) (rank : ℕ) (parents grown : List (Option ℕ)) (parent : Option ℕ) → AreParents graph rank parents
+    → parent ≡ parent_of graph.edges rank → grown ≡ parents ++ (parent ∷ []) → AreParents graph (rank + 1) grown
 parents_more graph rank parents grown parent f is e =
     let long : length grown ≡ rank + 1 = ap length e ∙ length_push parents parent ∙ ap (λ n. n + 1) f.long in
     record {
@@ -89,10 +96,12 @@ next_up graph parents rank high sound f edge =
       ],
     )
 
-climbs : (graph : ChordalValue) (parents : List (Option ℕ)) (fuel rank high : ℕ) → IsChordal graph → IsTreeOf graph parents → rank < graph.ranks → graph.ranks ≤ rank + fuel → (high ≡ rank) ⊎ HasEdge graph.edges rank high
+climbs : (graph : ChordalValue) (parents : List (Option ℕ)) (fuel rank high : ℕ) → IsChordal graph → IsTreeOf graph parents → rank < graph.ranks
+    → graph.ranks ≤ rank + fuel → (high ≡ rank) ⊎ HasEdge graph.edges rank high
     → Contains (climb fuel parents (Some rank)) high
 climbs graph parents zero rank high sound f below enough at = absurd (omega (arith, below, enough))
-climbs graph parents (suc fuel) rank high sound f below enough (inl same) = subst (Contains (rank ∷ climb fuel parents (flat (slice_get parents rank)))) (sym same) (here rank (climb fuel parents (flat (slice_get parents rank))))
+climbs graph parents (suc fuel) rank high sound f below enough (inl same) =
+    subst (Contains (rank ∷ climb fuel parents (flat (slice_get parents rank)))) (sym same) (here rank (climb fuel parents (flat (slice_get parents rank))))
 climbs graph parents (suc fuel) rank high sound f below enough (inr edge) =
     let up = next_up graph parents rank high sound f edge in
     let deeper = climbs graph parents fuel up.0 high sound f up.3 (omega (arith, enough, up.2)) up.4 in
@@ -178,7 +187,8 @@ after_head : (x : ℕ) (xs : List ℕ) (y : ℕ) → AllPairs (λ a b. a < b) (x
 after_head x xs y f c = subst (λ z. x < z) c.2 (pairs_head (λ a b. a < b) x xs f c.0 y c.1)
 
 -- in a list that rises, the first number that isn't below a rank tells whether the rank is there
-first_tells : (before behind : List ℕ) (first rank : ℕ) → AllPairs (λ x y. x < y) (before ++ (first ∷ behind)) → All (λ x. x < rank) before → rank ≤ first → Contains (before ++ (first ∷ behind)) rank → first ≡ rank
+first_tells : (before behind : List ℕ) (first rank : ℕ) → AllPairs (λ x y. x < y) (before ++ (first ∷ behind)) → All (λ x. x < rank) before
+    → rank ≤ first → Contains (before ++ (first ∷ behind)) rank → first ≡ rank
 first_tells before behind first rank rising low le c =
     elim (Contains-append_cases before (first ∷ behind) rank c) [
       | inl there ↦ let less = All-contains (λ x. x < rank) before rank low there in absurd (omega (arith, less))
@@ -190,7 +200,8 @@ first_tells before behind first rank rising low le c =
       ]
     ]
 
-pub tells : (all before behind : List ℕ) (first rank : ℕ) → IsStrictlyIncreasing all → all ≡ before ++ (first ∷ behind) → All (λ x. x < rank) before → rank ≤ first → IsTrue (eqb first rank) ↔ Contains all rank
+pub tells : (all before behind : List ℕ) (first rank : ℕ) → IsStrictlyIncreasing all → all ≡ before ++ (first ∷ behind) → All (λ x. x < rank) before
+    → rank ≤ first → IsTrue (eqb first rank) ↔ Contains all rank
 tells all before behind first rank rising whole low le =
     let pairs : AllPairs (λ x y. x < y) (before ++ (first ∷ behind)) = subst (AllPairs (λ x y. x < y)) whole (AllPairs-from_increasing all rising) in (
       (λ t. subst (λ xs. Contains xs rank) (sym whole) (Contains-append_right before (first ∷ behind) rank (subst (Contains (first ∷ behind)) (eqb-true first rank t) (here first behind)))),

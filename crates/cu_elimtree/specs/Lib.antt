@@ -1,3 +1,2 @@
 pub mod Trees
-pub mod Ancestors
 pub mod SweepArcs

@@ -3,9 +3,8 @@
 ghost use Rattle.std.specs.Prelude.{◌≡◌, ◌<◌, ◌↔◌, Some, IsTrue, IfOk, All, length, slice_get};
 ghost use Rattle.std.specs.List.{Contains};
 ghost use Rattle.std.specs.List.Sorted.{IsStrictlyIncreasing};
-ghost use Rattle.cu_elimtree.specs.Ancestors.{ancestors_left};
 ghost use Rattle.cu_elimtree.specs.SweepArcs.{parents_in};
-ghost use Rattle.cu_elimtree.specs.Trees.{HoldsAncestorNeighbours, HoldsHigherNeighbours, IsTree, IsTreeOf, ancestors_of};
+ghost use Rattle.cu_elimtree.specs.Trees.{HoldsAncestorNeighbours, HoldsHigherNeighbours, IsTree, IsTreeOf, ancestors_of, flat};
 
 use cu_chordal::Chordal;
 use cu_model::NoMemory;
@@ -66,7 +65,7 @@ impl Tree {
     /// the rank is.
     pub fn ancestors(&self, rank: u32) -> Ancestors<'_>
         requires { rank < length self.now }
-        ensures left { ancestors_left result ≡ ancestors_of self.now rank }
+        ensures left { result ≡ ancestors_of self.now rank }
         ensures rising { IsStrictlyIncreasing (ancestors_of self.now rank) }
         ensures below { All (λ ancestor. ancestor < length self.now) (ancestors_of self.now rank) }
         ensures sound { IsTree self.now }
@@ -88,7 +87,7 @@ impl Tree {
     }
 }
 
-/// The ancestors of a rank, from itself upwards.
+/// The ancestors of a rank, from itself upwards. Contracts see the list of those that are left.
 #[derive(Debug, Drop)]
 pub struct Ancestors<'a> {
     parents: &'a [Option<u32>],
@@ -96,15 +95,23 @@ pub struct Ancestors<'a> {
     next: Option<u32>,
 }
 
+impl<'a> Model for Ancestors<'a> {
+    ghost use Rattle.std.specs.Prelude.{ℕ, List};
+    ghost use Rattle.cu_elimtree.specs.Trees.{climb};
+
+    ghost Value = { List ℕ };
+
+    ghost view = { λ ancestors. climb ancestors.fuel ancestors.parents.now ancestors.next };
+}
+
 impl Iterator for Ancestors<'_> {
     type Item = u32;
 
     ghost use Rattle.std.specs.Iterator.{YieldsFirst, item_count};
-    ghost use Rattle.cu_elimtree.specs.Ancestors.{ancestors_left};
 
-    ghost next_gives = { YieldsFirst ancestors_left };
+    ghost next_gives = { YieldsFirst (λ left. left) };
 
-    ghost remaining = { item_count ancestors_left };
+    ghost remaining = { item_count (λ left. left) };
 
     fn next(&mut self) -> Option<u32> {
         if self.fuel == 0 {
@@ -112,12 +119,16 @@ impl Iterator for Ancestors<'_> {
         }
         let rank = self.next?;
         self.fuel -= 1;
-        self.next = match self.parents.get(rank as usize) {
-            Some(parent) => *parent,
-            None => None,
-        };
+        self.next = parent_at(self.parents, rank);
         Some(rank)
     }
+}
+
+// The parent that a list has for a rank; none past its end.
+fn parent_at(parents: &[Option<u32>], rank: u32) -> Option<u32>
+    ensures { result ≡ flat (slice_get parents.now rank) }
+{
+    *parents.get(rank as usize)?
 }
 
 // The parent of each rank of a graph.
@@ -137,8 +148,8 @@ fn parents_of(alloc: Global, graph: &Chordal) -> Result<Vec<Option<u32>>, NoMemo
 
 // Whether a rank is among these, which rise: the first that isn't below the rank tells.
 fn has(ancestors: Ancestors<'_>, rank: u32) -> bool
-    requires { IsStrictlyIncreasing (ancestors_left ancestors) }
-    ensures { IsTrue result ↔ Contains (ancestors_left ancestors.entry) rank }
+    requires { IsStrictlyIncreasing ancestors }
+    ensures { IsTrue result ↔ Contains ancestors.entry rank }
 {
     for ancestor in ancestors {
         if ancestor >= rank {

@@ -13,7 +13,8 @@ loop-rank-preserved c =
     let graph = c.args.graph.now in
     let parent : c.copied.result ≡ parent_of graph.edges c.loop-rank.rank = c.copied.ensures ∙ c.first.ensures.value ∙ ap (λ xs. slice_get xs 0) c.up.ensures.exact in
     let same : c.loop-rank.parents.items ≡ c.loop-rank.parents.items = refl in
-    parents_more graph c.loop-rank.rank c.loop-rank.parents.items c.push.new.self.items c.copied.result c.loop-rank.invariant parent (pushed (c.copied.result ∷ []) same c.in_ok-push.was c.push.ensures.items)
+    parents_more graph c.loop-rank.rank c.loop-rank.parents.items c.push.new.self.items c.copied.result c.loop-rank.invariant parent
+    (pushed (c.copied.result ∷ []) same c.in_ok-push.was c.push.ensures.items)
 
 pub returns-clause-parents : goal.returns-clause-parents
 returns-clause-parents c =
