@@ -109,6 +109,17 @@ impl Hierarchy {
         }
     }
 
+    /// Gives it another network and other lists, which fit its order and its graph. Takes no memory.
+    pub fn replace(&mut self, network: Network, lists: Vec<WayList>)
+        requires fits { IsHierarchyOf (graph_of self.old)
+            (record self.old { network = network; lists = lists.items }) }
+        ensures replaced { self.new
+            ≡ record self.old { network = network; lists = lists.items } }
+    {
+        self.network = network;
+        self.lists = lists;
+    }
+
     /// Its network.
     pub fn network(&self) -> &Network
         ensures { result.now ≡ self.now.network }
