@@ -14,7 +14,7 @@ use Rattle.cu_arrival.specs.declared.runs.Run.{Run}
 use Rattle.cu_arrival.specs.declared.runs.RunRule.{RunRule}
 use Rattle.cu_arrival.specs.declared.runs.RunRule.TheVariants.{Fixed}
 use Rattle.cu_arrival.specs.Runs.{arrival_value}
-use Rattle.cu_arrival.proofs.Tiling.{IsTiled}
+use Rattle.cu_model.proofs.Tiling.{IsTiled}
 use Rattle.cu_customize.specs.declared.merging.Least.{Least}
 use Rattle.cu_customize.specs.declared.merging.Next.{Next}
 use Rattle.cu_customize.specs.Words.{arrives, IsDayList, IsFunctionWords, composed, end_run}

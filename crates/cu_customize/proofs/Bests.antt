@@ -29,13 +29,14 @@ pub arrives_once : (edges : List Ends) (f : FunctionsState) (u v t : ℕ) (way :
 arrives_once edges f u v t (Road r) a b p q = cc (p, q)
 arrives_once edges f u v t (Via m) a b p q = cc (p, q)
 
-among_more : (edges : List Ends) (f : FunctionsState) (u v : ℕ) (ways : List Way) (way other : Way) → IsOpenAmong edges f u v ways other → IsOpenAmong edges f u v (ways ++ way ∷ []) other
+pub among_more : (edges : List Ends) (f : FunctionsState) (u v : ℕ) (ways : List Way) (way other : Way) → IsOpenAmong edges f u v ways other → IsOpenAmong edges f u v (ways ++ way ∷ []) other
 among_more edges f u v ways way other (held, free) = (Contains-append_left ways (way ∷ []) other held, free)
 
-among_last : (edges : List Ends) (f : FunctionsState) (u v : ℕ) (ways : List Way) (way : Way) → IsOpenWay edges f u v way → IsOpenAmong edges f u v (ways ++ way ∷ []) way
+pub among_last : (edges : List Ends) (f : FunctionsState) (u v : ℕ) (ways : List Way) (way : Way) → IsOpenWay edges f u v way → IsOpenAmong edges f u v (ways ++ way ∷ []) way
 among_last edges f u v ways way free = (Contains-append_right ways (way ∷ []) way (here way []), free)
 
-among_cases : (edges : List Ends) (f : FunctionsState) (u v : ℕ) (ways : List Way) (way other : Way) → IsOpenAmong edges f u v (ways ++ way ∷ []) other → IsOpenAmong edges f u v ways other ⊎ (way ≡ other)
+pub among_cases : (edges : List Ends) (f : FunctionsState) (u v : ℕ) (ways : List Way) (way other : Way) → IsOpenAmong edges f u v (ways ++ way ∷ []) other
+    → IsOpenAmong edges f u v ways other ⊎ (way ≡ other)
 among_cases edges f u v ways way other (held, free) =
     elim (Contains-append_cases ways (way ∷ []) other held) [
       | inl before ↦ inl (before, free)

@@ -6,6 +6,7 @@ use Rattle.cu_model.specs.Networks.{NetworkValue, IsNetwork}
 use Rattle.cu_model.specs.Orders.{OrderValue, IsOrder}
 use Rattle.cu_interval.specs.Low.{IsLeastLowDrive, LeadsRanks, WalkBelow}
 use Rattle.cu_interval.proofs.Near.{least_near}
+use Rattle.cu_interval.proofs.Walks.{below-onward}
 
 -- a rank from which a road leads is one of the order
 leads_few : (g : NetworkValue) (o : OrderValue) → IsOrder o → (a u v : ℕ) → LeadsRanks g o a u v → u < MAX_NODES
@@ -27,3 +28,10 @@ least-near g o n k u v t a f =
     let near = least_near g o n u v t a f in
     let start = start_few g o k (min u v) u w v l.1 in
     omega (arith, near, start)
+
+-- and none arrives before it leaves
+pub least-onward : (g : NetworkValue) (o : OrderValue) → IsNetwork g → (u v t a : ℕ) → IsLeastLowDrive g o u v t a → t ≤ a
+least-onward g o n u v t a f =
+    let (w, l, e) = f.reached in
+    let on = below-onward g o n (min u v) u w v t l.1 in
+    omega (arith, on, e)

@@ -6,7 +6,7 @@ use Rattle.std.proofs.lemmas.Option.{get_or_from_slice_get, slice_get_within}
 use Rattle.cu_model.specs.Days.{day}
 use Rattle.cu_arrival.specs.declared.runs.Run.{Run}
 use Rattle.cu_arrival.specs.Runs.{arrival_value}
-use Rattle.cu_arrival.proofs.Tiling.{IsTiled, tiled_none}
+use Rattle.cu_model.proofs.Tiling.{IsTiled, tiled_none}
 use Rattle.cu_customize.specs.declared.merging.Least.{Least}
 use Rattle.cu_customize.specs.declared.merging.Next.{Next}
 use Rattle.cu_customize.specs.Words.{arrives, IsDayList}

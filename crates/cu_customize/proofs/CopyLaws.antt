@@ -4,7 +4,7 @@ use Rattle.std.specs.Prelude.{slice_get}
 use Rattle.std.proofs.lemmas.Option.{get_or_from_slice_get, slice_get_within, slice_get-get_or}
 use Rattle.cu_model.specs.Days.{day}
 use Rattle.cu_arrival.specs.declared.runs.Run.{Run}
-use Rattle.cu_arrival.proofs.Tiling.{IsTiled}
+use Rattle.cu_model.proofs.Tiling.{IsTiled}
 use Rattle.cu_customize.specs.declared.merging.Least.{Least}
 use Rattle.cu_customize.specs.declared.merging.Next.{Next}
 use Rattle.cu_customize.specs.Words.{IsDayList}

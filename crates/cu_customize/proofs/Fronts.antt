@@ -9,8 +9,8 @@ use Rattle.cu_model.proofs.Begun.{begun_until}
 use Rattle.cu_model.proofs.RoadLaws.{all_at}
 use Rattle.cu_arrival.specs.declared.runs.Choice.{Choice}
 use Rattle.cu_arrival.specs.Choices.{choice_at}
-use Rattle.cu_arrival.specs.Steps.Pushes.{IsPushed}
-use Rattle.cu_arrival.proofs.Built.{IsGrown, grown_none, grown_push}
+use Rattle.cu_model.specs.Growing.{IsPushed}
+use Rattle.cu_model.proofs.Growing.{IsGrown, grown_none, grown_push}
 use Rattle.cu_interval.specs.declared.ways.Way.{Way}
 use Rattle.cu_interval.specs.declared.ways.Entry.{Entry}
 use Rattle.cu_interval.specs.WayLists.{BeginsAtZero, IsWayList, entry_in, way_in}

@@ -8,13 +8,10 @@ use Rattle.std.proofs.Math.Seq.{get_or-append_seam}
 use Rattle.std.proofs.lemmas.Option.{slice_get-get_or, get_or_from_slice_get, slice_get_within, slice_get_cases}
 use Rattle.cu_model.specs.Networks.{NetworkValue, IsNetwork}
 use Rattle.cu_model.specs.Orders.{OrderValue, IsOrder}
-use Rattle.cu_model.specs.Days.{day}
 use Rattle.cu_model.specs.Roads.{is_closed_arc}
-use Rattle.cu_model.proofs.DayLaws.{day_parts}
 use Rattle.cu_model.proofs.RoadLaws.{all_at, links_within}
 use Rattle.cu_arrival.specs.declared.runs.Run.{Run}
-use Rattle.cu_arrival.specs.Runs.{IsArrivalFunction, arrival_value}
-use Rattle.cu_arrival.proofs.RunLaws.{arrival_value-repeats}
+use Rattle.cu_arrival.specs.Runs.{arrival_value}
 use Rattle.cu_chordal.specs.declared.graph.Ends.{Ends}
 use Rattle.cu_chordal.specs.Edges.{IsClosureOf, ListsEdges}
 use Rattle.cu_chordal.specs.Graphs.{ChordalValue, ComesBefore, IsChordal, IsRising}
@@ -28,20 +25,11 @@ use Rattle.cu_interval.specs.Hierarchies.{end_of, list_number, number_from, star
 use Rattle.cu_interval.specs.Low.{IsLeastLowDrive}
 use Rattle.cu_interval.proofs.Lookups.{number_found}
 use Rattle.cu_customize.specs.Functions.{AreFunctionsOf, IsLowFunction, IsRoadFunction}
-use Rattle.cu_customize.specs.Settling.{IsSettledList, IsValueOf, KnowsHalves}
+use Rattle.cu_customize.specs.Settling.{IsSettledList, KnowsHalves}
 use Rattle.cu_customize.specs.Steps.Kept.{IsBuiltTo, kept_state, road_if, value_kept}
-use Rattle.cu_customize.proofs.Lows.{HasLeastBelow, settled_low}
+use Rattle.cu_customize.proofs.Lows.{HasLeastBelow, IsDailyValueOf, settled_low}
 use Rattle.cu_customize.proofs.LowFunctions.{low_edge, low_edge_back, settled_built}
 use Rattle.cu_customize.proofs.Settles.{setting_at}
-
--- arrival functions that are the same over the day are the same
-pub same_over_day : (a b : List Run) → IsArrivalFunction a → IsArrivalFunction b → ((t : ℕ) → t < day → arrival_value a t ≡ arrival_value b t) → (t : ℕ) → arrival_value a t ≡ arrival_value b t
-same_over_day a b f g same t =
-    let (k, s, lt, e) = day_parts t in
-    let one = arrival_value-repeats a f k s lt in
-    let two = arrival_value-repeats b g k s lt in
-    let day_same = same s lt in
-    subst (λ (x : ℕ). arrival_value a x ≡ arrival_value b x) (sym e) (omega (arith, one, two, day_same))
 
 road_is : (g : NetworkValue) (a : ℕ) (b : Bool) → is_closed_arc g a ≡ b → IsRoadFunction g a (road_if b g a)
 road_is g a true e = e
@@ -142,13 +130,13 @@ arcs_in g o edges lists f k d h =
     let from = f.each edge dir ends (get_or lists k d) at there in
     all_from_members (λ (a : ℕ). a < length g.arcs) (get_or lists k d) (λ a held. let l = (from.exact a).0 held in links_within g a l.0 l.1 l.2)
 
-push_last : {A : Type 0} (xs : List A) (x : A) (n : ℕ) → n ≡ length xs → slice_get (xs ++ x ∷ []) n ≡ Some x
+pub push_last : {A : Type 0} (xs : List A) (x : A) (n : ℕ) → n ≡ length xs → slice_get (xs ++ x ∷ []) n ≡ Some x
 push_last {A} xs x n is =
     let size = length_push xs x in
     let inside : n < length (xs ++ x ∷ []) = omega (arith, size, is) in
     slice_get-get_or (xs ++ x ∷ []) n x inside ∙ ap Some (subst (λ (i : ℕ). get_or (xs ++ x ∷ []) i x ≡ x) (sym is) (get_or-append_seam xs x [] x))
 
-push_before : {A : Type 0} (xs : List A) (x : A) (n : ℕ) → n < length xs → slice_get (xs ++ x ∷ []) n ≡ slice_get xs n
+pub push_before : {A : Type 0} (xs : List A) (x : A) (n : ℕ) → n < length xs → slice_get (xs ++ x ∷ []) n ≡ slice_get xs n
 push_before {A} xs x n lt =
     let size = length_push xs x in
     let inside : n < length (xs ++ x ∷ []) = omega (arith, size, lt) in
@@ -216,7 +204,7 @@ pub next_built : (g : NetworkValue) (o : OrderValue) (graph : ChordalValue) (arc
     (function : Option (List Run)) (ways : List Entry) → IsChordal graph → IsNetwork g → IsOrder o → IsClosureOf g o graph → AreEdgeArcs g o graph.edges arcs
     → slice_get graph.edges edge ≡ Some ends → slice_get arcs (list_number edge dir) ≡ Some list → IsBuiltTo g o graph.edges (list_number edge dir) functions lists
     → IsSettledList graph.edges list (kept_state g functions) (start_of ends dir) (end_of ends dir) ways
-    → IsValueOf graph.edges (kept_state g functions) (start_of ends dir) (end_of ends dir) ways function
+    → IsDailyValueOf graph.edges (kept_state g functions) (start_of ends dir) (end_of ends dir) ways function
     → IsBuiltTo g o graph.edges (list_number edge dir + 1) (functions ++ function ∷ []) (lists ++ ways ∷ [])
 next_built g o graph arcs list functions lists edge dir ends function ways chordal n k closed are at listed is settled value =
     let state = kept_state g functions in
@@ -241,7 +229,8 @@ pub number_within : (edge count : ℕ) (dir : Dir) → edge < count → list_num
 number_within edge count Up lt = omega (arith, lt)
 number_within edge count Down lt = omega (arith, lt)
 
-pub list_there : {A : Type 0} (edges : List Ends) (lists : List A) (edge : ℕ) (dir : Dir) → edge < length edges → length lists ≡ 2 * length edges → (list : A) × (slice_get lists (list_number edge dir) ≡ Some list)
+pub list_there : {A : Type 0} (edges : List Ends) (lists : List A) (edge : ℕ) (dir : Dir) → edge < length edges → length lists ≡ 2 * length edges
+    → (list : A) × (slice_get lists (list_number edge dir) ≡ Some list)
 list_there edges lists edge dir lt long =
     let inside = number_within edge (length edges) dir lt in
     elim (slice_get_cases lists (list_number edge dir)).1 [

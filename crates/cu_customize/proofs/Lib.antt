@@ -17,3 +17,9 @@ pub mod AddLaws
 pub mod TravelLaws
 pub mod ReadLaws
 pub mod OneRun
+pub mod RoadWords
+pub mod Gathers
+pub mod Middles
+pub mod LeftOut
+pub mod Pulls
+pub mod Nexts

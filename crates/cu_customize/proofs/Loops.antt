@@ -13,11 +13,11 @@ use Rattle.cu_chordal.proofs.Members.{all_from_members, here, member_cases, none
 use Rattle.cu_model.proofs.RoadLaws.{all_at}
 use Rattle.cu_interval.specs.declared.ways.Way.{Way}
 use Rattle.cu_interval.specs.declared.ways.Way.TheVariants.{Road, Via}
-use Rattle.cu_interval.specs.WayLists.{GoesFirst}
-use Rattle.cu_customize.specs.declared.settling.Settled.{Settled}
+use Rattle.cu_interval.specs.declared.ways.Entry.{Entry}
+use Rattle.cu_interval.specs.WayLists.{GoesFirst, IsRunsOf}
 use Rattle.cu_customize.specs.Functions.{FunctionsState}
 use Rattle.cu_customize.specs.Settling.{ArrivesBy, IsCandidateBy, IsSettledList}
-use Rattle.cu_customize.specs.Steps.Best.{IsBestOf, IsOpenAmong}
+use Rattle.cu_customize.specs.Steps.Best.{IsOpenAmong}
 use Rattle.cu_customize.proofs.LowFunctions.{down_edge, runs_by, up_edge}
 
 pub map_member : (f : ℕ → Way) (xs : List ℕ) (w : Way) → Contains (map f xs) w → (x : ℕ) × Contains xs x × (f x ≡ w)
@@ -115,7 +115,8 @@ module _ (graph : ChordalValue) (is : IsChordal graph) (f : FunctionsState) (u v
       ] in
       (Contains-append_right (map Road arcs) (map Via middles) (Via m) (member_map Via middles m ((members m).1 edge)), (one, two))
 
-  pub taken_settled : (best : Settled) → IsBestOf graph.edges f u v (map Road arcs ++ map Via middles) best → IsSettledList graph.edges arcs f u v best.ways
-  taken_settled best of_ways =
-      runs_by (IsOpenAmong graph.edges f u v (map Road arcs ++ map Via middles)) (IsCandidateBy graph.edges arcs f u v) (ArrivesBy graph.edges f u v) (ArrivesBy graph.edges f u v) best.ways taken_to taken_back
-      (λ s a way lt d e. e) (λ s a way lt d e. e) of_ways.runs
+  pub taken_settled : (entries : List Entry) → IsRunsOf (IsOpenAmong graph.edges f u v (map Road arcs ++ map Via middles)) (ArrivesBy graph.edges f u v) entries
+      → IsSettledList graph.edges arcs f u v entries
+  taken_settled entries runs =
+      runs_by (IsOpenAmong graph.edges f u v (map Road arcs ++ map Via middles)) (IsCandidateBy graph.edges arcs f u v) (ArrivesBy graph.edges f u v) (ArrivesBy graph.edges f u v) entries taken_to taken_back
+      (λ s a way lt d e. e) (λ s a way lt d e. e) runs

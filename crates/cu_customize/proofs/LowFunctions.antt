@@ -120,11 +120,11 @@ some_low g o u v None h walk = absurd (h walk)
 some_low g o u v (Some f) h walk = refl
 
 -- both halves of a triangle
-record AreHalves (g : NetworkValue) (o : OrderValue) (edges : List Ends) (f : FunctionsState) (u m v : ℕ) : Type 0 where
-  first : IsLowFunction g o u m (function_from edges f u m)
-  second : IsLowFunction g o m v (function_from edges f m v)
+pub record AreHalves (g : NetworkValue) (o : OrderValue) (edges : List Ends) (f : FunctionsState) (u m v : ℕ) : Type 0 where
+  pub first : IsLowFunction g o u m (function_from edges f u m)
+  pub second : IsLowFunction g o m v (function_from edges f m v)
 
-halves_at : (g : NetworkValue) (o : OrderValue) (edges : List Ends) (arcs : List ℕ) (f : FunctionsState) (u v : ℕ) → IsSetting g o edges arcs f u v
+pub halves_at : (g : NetworkValue) (o : OrderValue) (edges : List Ends) (arcs : List ℕ) (f : FunctionsState) (u v : ℕ) → IsSetting g o edges arcs f u v
     → (m : ℕ) → m < u → m < v → HasEdge edges m u → HasEdge edges m v → AreHalves g o edges f u m v
 halves_at g o edges arcs f u v s m mu mv one two =
     let known = s.halves m mu mv one two in

@@ -4,13 +4,12 @@ use Rattle.std.specs.Option.{option_map}
 use Rattle.std.proofs.Math.Nat.{min-eq_left, min-eq_right}
 use Rattle.cu_model.specs.Networks.{NetworkValue, IsNetwork}
 use Rattle.cu_model.specs.Orders.{OrderValue}
-use Rattle.cu_model.specs.Days.{day}
+use Rattle.cu_model.specs.Days.{day, RepeatsDaily}
 use Rattle.cu_model.specs.Roads.{drive}
 use Rattle.cu_model.proofs.DayLaws.{day_parts}
 use Rattle.cu_model.proofs.RoadLaws.{drive-append}
 use Rattle.cu_arrival.specs.declared.runs.Run.{Run}
 use Rattle.cu_arrival.specs.Runs.{arrival_value}
-use Rattle.cu_arrival.proofs.RunLaws.{arrival_value-repeats}
 use Rattle.cu_chordal.specs.declared.graph.Ends.{Ends}
 use Rattle.cu_interval.specs.declared.ways.Entry.{Entry}
 use Rattle.cu_interval.specs.declared.ways.Way.{Way}
@@ -25,8 +24,14 @@ use Rattle.cu_interval.proofs.Middles.{first_least}
 use Rattle.cu_interval.proofs.Unpacked.{way_there}
 use Rattle.cu_interval.proofs.Walks.{below-append, below-more}
 use Rattle.cu_customize.specs.Functions.{FunctionsState, IsLowFunction}
-use Rattle.cu_customize.specs.Settling.{ArrivesBy, IsSettledList, IsValueOf}
+use Rattle.cu_customize.specs.Settling.{ArrivesBy, IsSettledList}
 use Rattle.cu_customize.proofs.LowFunctions.{IsSetting, settled_built, value_there}
+
+-- the value of the ways of a list at each second of the day, of a function that repeats by whole days; none where the list is empty
+abbrev pub IsDailyValueOf : List Ends → FunctionsState → ℕ → ℕ → List Entry → Option (List Run) → Type 0
+IsDailyValueOf edges f u v entries None = entries ≡ []
+IsDailyValueOf edges f u v entries (Some runs) = (entries ≢ []) × RepeatsDaily (arrival_value runs)
+    × ((t : ℕ) (way : Way) → t < day → way_in entries t ≡ Some way → ArrivesBy edges f u v t way (arrival_value runs t))
 
 -- wherever a low walk joins two ranks of which one is below this, there is a least one
 abbrev pub HasLeastBelow : NetworkValue → OrderValue → ℕ → Type 0
@@ -40,7 +45,8 @@ arrives_once g o u v t (Via m) a b p q =
     least_unique g o m v q.0 a b (subst (λ (x : ℕ). IsLeastLowDrive g o m v x a) one p.2) q.2
 
 -- a candidate's arrival is that of a low walk
-candidate_walk : (g : NetworkValue) (o : OrderValue) (u v t : ℕ) (way : Way) (a : ℕ) → u ≢ v → IsCandidate g o u v way → Arrives g o u v t way a → (w : List ℕ) × IsLowWalk g o u w v × (drive g w t ≡ a)
+candidate_walk : (g : NetworkValue) (o : OrderValue) (u v t : ℕ) (way : Way) (a : ℕ) → u ≢ v → IsCandidate g o u v way → Arrives g o u v t way a
+    → (w : List ℕ) × IsLowWalk g o u w v × (drive g w t ≡ a)
 candidate_walk g o u v t (Road r) a apart leads arrives = (r ∷ [], (apart, leads), arrives)
 candidate_walk g o u v t (Via m) a apart (mu, mv, one, two) (between, first, second) =
     let (w1, l1, e1) = first.reached in
@@ -78,7 +84,7 @@ module _ (g : NetworkValue) (o : OrderValue) (edges : List Ends) (arcs : List �
       }
 
   -- at every second
-  pub settled_low : u ≢ v → HasLeastBelow g o (min u v) → (entries : List Entry) (function : Option (List Run)) → IsSettledList edges arcs f u v entries → IsValueOf edges f u v entries function
+  pub settled_low : u ≢ v → HasLeastBelow g o (min u v) → (entries : List Entry) (function : Option (List Run)) → IsSettledList edges arcs f u v entries → IsDailyValueOf edges f u v entries function
       → IsLowFunction g o u v (option_map arrival_value function)
   settled_low apart has entries None settled value =
       λ walk. built_some g o s.network u v has entries (settled_built g o edges arcs f u v s entries settled) walk value
@@ -87,5 +93,5 @@ module _ (g : NetworkValue) (o : OrderValue) (edges : List Ends) (arcs : List �
       let (k, r, lt, e) = day_parts t in
       let here = settled_in_day apart has entries runs settled value.0 value.2 r lt in
       let later = least-days g o s.network u v k r (arrival_value runs r) here in
-      let same = arrival_value-repeats runs value.1 k r lt in
+      let same = value.1 k r lt in
       subst (λ (x : ℕ). IsLeastLowDrive g o u v x (arrival_value runs x)) (sym e) (subst (λ (a : ℕ). IsLeastLowDrive g o u v (k * day + r) a) (sym same) later)

@@ -13,9 +13,9 @@ use Rattle.cu_arrival.specs.declared.runs.Run.{Run}
 use Rattle.cu_arrival.specs.declared.runs.RunRule.{RunRule}
 use Rattle.cu_arrival.specs.declared.runs.RunRule.TheVariants.{Shift, Fixed}
 use Rattle.cu_arrival.specs.Runs.{run_at, run_value, rule_number, arrival_value}
-use Rattle.cu_arrival.specs.Steps.Pushes.{IsPushed}
+use Rattle.cu_model.specs.Growing.{IsPushed}
 use Rattle.cu_arrival.proofs.RunLaws.{value_in_day}
-use Rattle.cu_arrival.proofs.Built.{IsGrown, grown_none, grown_push}
+use Rattle.cu_model.proofs.Growing.{IsGrown, grown_none, grown_push}
 use Rattle.cu_customize.specs.declared.merging.Least.{Least}
 use Rattle.cu_customize.specs.declared.merging.WayRun.{WayRun}
 use Rattle.cu_customize.specs.Words.{arrives, IsDayList, IsFunctionWords, IsCompactDay, end_run}
@@ -195,6 +195,7 @@ ways_all l xs i is last grown =
     let whole = subst (λ (t : ℕ). IsGrown (λ (r : WayRun). r.from) (λ (r : WayRun). r.way) (SaysWay (least_held l)) xs t) at_end grown in
     record {
       starts = whole.tiled.starts (omega arith);
+      limits = whole.tiled.below;
       rises = whole.tiled.rises;
       differs = whole.differs;
       ways = λ t h. let (run, there, said) = whole.tiled.holds t h in rw there (ap Some said);

@@ -46,7 +46,7 @@ pub settled_at : (graph : ChordalValue) → IsChordal graph → (edge : ℕ) (en
     → IsSettledList graph.edges arcs f (start_of ends dir) (end_of ends dir) best.ways × IsValueOf graph.edges f (start_of ends dir) (end_of ends dir) best.ways best.function
 settled_at graph is edge ends dir u v arcs middles f best at from to members of_ways =
     let over = leads_over graph is edge ends dir u v at from to in
-    let list = taken_settled graph is f u v ends.low arcs middles over.from over.to over.end members best of_ways in
+    let list = taken_settled graph is f u v ends.low arcs middles over.from over.to over.end members best.ways of_ways.runs in
     subst (λ (x : ℕ). IsSettledList graph.edges arcs f x (end_of ends dir) best.ways × IsValueOf graph.edges f x (end_of ends dir) best.ways best.function) from
     (subst (λ (y : ℕ). IsSettledList graph.edges arcs f u y best.ways × IsValueOf graph.edges f u y best.ways best.function) to (list, of_ways.value))
 

@@ -25,7 +25,8 @@ unanswered None h some = absurd (cc some)
 unanswered (Some g) h some = absurd h
 
 through_both : (first second : Option (ℕ → ℕ)) (a b runs : List Run) → IsFunction (Some a) first → IsFunction (Some b) second
-    → ((t : ℕ) → t < day → arrival_value runs t ≡ min (arrival_value b (arrival_value a t)) (2 ^ 62)) → IsSome first × IsSome second × ((t : ℕ) → t < day → through first second t ≡ Some (arrival_value runs t))
+    → ((t : ℕ) → t < day → arrival_value runs t ≡ min (arrival_value b (arrival_value a t)) (2 ^ 62))
+    → IsSome first × IsSome second × ((t : ℕ) → t < day → through first second t ≡ Some (arrival_value runs t))
 through_both None second a b runs h i value = absurd h
 through_both (Some f) None a b runs h i value = absurd i
 through_both (Some f) (Some g) a b runs h i value = (
@@ -43,10 +44,10 @@ module _ (edges : List Ends) (f : FunctionsState) (u v m : ℕ) (rising : IsRisi
   pub no_second : FindsEdge edges m v None → IsOpenWay edges f u v (Via m) → ⊥
   no_second none free = none (up_edge edges f m v below.1 free.1)
 
-  first_is : (e : ℕ) → FindsEdge edges m u (Some e) → function_from edges f u m ≡ f.shortcut e Down
+  pub first_is : (e : ℕ) → FindsEdge edges m u (Some e) → function_from edges f u m ≡ f.shortcut e Down
   first_is e at = down_function edges f u m below.0 ∙ ap (λ (x : Option ℕ). shortcut_of f x Down) (number_finds edges rising m u (Some e) at)
 
-  second_is : (e : ℕ) → FindsEdge edges m v (Some e) → function_from edges f m v ≡ f.shortcut e Up
+  pub second_is : (e : ℕ) → FindsEdge edges m v (Some e) → function_from edges f m v ≡ f.shortcut e Up
   second_is e at = up_function edges f m v below.1 ∙ ap (λ (x : Option ℕ). shortcut_of f x Up) (number_finds edges rising m v (Some e) at)
 
   pub knows_first : KnowsHalves edges f u v → (e d : ℕ) → FindsEdge edges m u (Some e) → FindsEdge edges m v (Some d) → f.knows e Down ≡ true

@@ -1,5 +1,5 @@
 -- The least of several candidates at each second of a day, and which of them it is.
-use Rattle.std.specs.Prelude.{ℕ, List, Option, Some, None, ◌≡◌, ◌≢◌, ◌≤◌, ◌<◌, ◌+◌, ◌-◌, slice_get, length, if◌then◌else◌, nat_lt}
+use Rattle.std.specs.Prelude.{ℕ, List, Option, Some, None, ◌≡◌, ◌≢◌, ◌≤◌, ◌<◌, ◌+◌, ◌-◌, slice_get, length, if◌then◌else◌, nat_lt, All}
 use Rattle.std.specs.Option.{option_map}
 use Rattle.std.specs.List.{AllAdjacentBelow}
 use Rattle.cu_model.specs.Begun.{last_begun, Rises}
@@ -52,10 +52,11 @@ abbrev pub way_in_force : List WayRun → ℕ → Option ℕ
 way_in_force runs second =
     option_map (λ (run : WayRun). run.way) (last_begun (λ (run : WayRun). run.from) runs second)
 
--- The runs of the candidates' numbers: from second 0 on, each from a later second than the one before
+-- The runs of the candidates' numbers: from second 0 of the day on, each from a later one than the one before
 -- and differing from it, and at each second of the day the number of the candidate that is the least.
 pub record IsWayRuns (held : List Held) (runs : List WayRun) : Type 0 where
   pub starts : option_map (λ (run : WayRun). run.from) (slice_get runs 0) ≡ Some 0
+  pub limits : All (λ (run : WayRun). run.from < day) runs
   pub rises : Rises (λ (run : WayRun). run.from) runs
   pub differs : AllAdjacentBelow (λ (run next : WayRun). run.way ≢ next.way) runs (length runs)
   pub ways : (t : ℕ) → t < day → way_in_force runs t ≡ Some (least_way held t)

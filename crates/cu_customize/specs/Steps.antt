@@ -2,5 +2,8 @@
 pub mod Choosing
 pub mod Best
 pub mod Kept
+pub mod Travels
+pub mod Gathering
+pub mod Building
 pub mod Linking
 pub mod Merging

@@ -4,7 +4,7 @@ ghost use Rattle.std.specs.Prelude.{◌≡◌, ◌≢◌, ◌<◌, ◌+◌, ◌^
 ghost use Rattle.std.specs.Option.{option_map};
 ghost use Rattle.cu_model.specs.declared.limits.TheConstants.{DAY};
 ghost use Rattle.cu_arrival.specs.declared.runs.Choice.{Choice};
-ghost use Rattle.cu_arrival.specs.Steps.Pushes.{IsPushed, last_says};
+ghost use Rattle.cu_model.specs.Growing.{IsPushed, last_says};
 ghost use Rattle.cu_interval.specs.declared.ways.Entry.{Entry};
 ghost use Rattle.cu_interval.specs.WayLists.{IsWayList, way_in};
 ghost use Rattle.cu_customize.specs.Steps.Choosing.{AreTurns, IsFront, IsMoved, IsNextFront, begin_or_day, chosen, chosen_by};

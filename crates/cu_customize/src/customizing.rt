@@ -1,94 +1,129 @@
 //! Customization: the built way lists of all shortcuts.
 
-ghost use Rattle.std.specs.Prelude.{◌≡◌, ◌<◌, ◌+◌, ◌*◌, IfOk, OnOk, All, length, slice_get};
-ghost use Rattle.cu_model.specs.Networks.{IsNetwork};
-ghost use Rattle.cu_model.specs.Orders.{OrderValue, IsOrder};
+ghost use Rattle.std.specs.Prelude.{◌≡◌, ◌<◌, ◌+◌, ◌*◌, IfOk, OnOk, length};
 ghost use Rattle.cu_chordal.specs.Edges.{IsClosureOf};
-ghost use Rattle.cu_chordal.specs.Graphs.{IsChordal};
-ghost use Rattle.cu_interval.specs.EdgeArcs.{AreEdgeArcs};
 ghost use Rattle.cu_interval.specs.Hierarchies.{IsBuilt, list_number};
+ghost use Rattle.cu_customize.specs.Steps.Building.{AreParts};
 ghost use Rattle.cu_customize.specs.Steps.Kept.{IsBuiltTo};
 
-use crate::kept::Kept;
-use crate::settling::settle;
-use cu_arrival::Arrival;
+use crate::day_function::DayFunction;
+use crate::gathering::Gatherer;
+use crate::pulling::pull;
+use crate::settling::leg_of;
+use crate::task::Task;
+use crate::words::{Word, function_of_run};
 use cu_chordal::Chordal;
 use cu_interval::{Dir, EdgeArcs, Hierarchy, WayList};
 use cu_model::{Network, NoMemory, Order, Roads};
 use std::alloc::Global;
 
+// What is customized, with the function of a road that takes no time. What the edges of the graph are is said by the order.
+#[derive(Clone, Copy)]
+struct Parts<'a> {
+    network: &'a Network,
+    order: &'a Order,
+    graph: &'a Chordal,
+    arcs: &'a EdgeArcs,
+    stay: &'a [Word],
+}
+
 // The functions and the lists of the first shortcuts, by list number.
 #[derive(Debug, Drop)]
 struct Building {
-    functions: Vec<Option<Arrival>>,
+    functions: Vec<Option<DayFunction>>,
     lists: Vec<WayList>,
 }
 
 // Settles the next list.
 fn settle_next(
     alloc: Global,
-    network: &Network,
-    graph: &Chordal,
-    arcs: &EdgeArcs,
+    parts: &Parts<'_>,
     edge: u32,
     dir: Dir,
+    gatherer: &mut Gatherer,
     building: &mut Building,
 ) -> Result<(), NoMemory>
-    requires edge { edge < length graph.now.edges }
-    requires lists { length arcs.now ≡ 2 * length graph.now.edges }
-    requires arcs { All (λ list. All (λ a. a < length network.now.arcs) list) arcs.now }
-    requires chordal { IsChordal graph.now }
-    requires next { length building.old.functions.items ≡ list_number edge dir }
-    ensures next { OnOk result
-        (length building.new.functions.items ≡ list_number edge dir + 1) }
-    ensures built { (o : OrderValue) → IsNetwork network.now → IsOrder o
-        → IsClosureOf network.now o graph.now
-        → AreEdgeArcs network.now o graph.now.edges arcs.now
-        → IsBuiltTo network.now o graph.now.edges (list_number edge dir)
-        building.old.functions.items building.old.lists.items
-        → OnOk result (IsBuiltTo network.now o graph.now.edges
-        (list_number edge dir + 1) building.new.functions.items building.new.lists.items) }
+    requires parts { AreParts parts.now }
+    requires edge { edge < length parts.now.graph.now.edges }
+    requires built { IsBuiltTo parts.now.network.now parts.now.order.now
+        parts.now.graph.now.edges (list_number edge dir)
+        building.old.functions.items building.old.lists.items }
+    ensures { OnOk result (IsBuiltTo parts.now.network.now parts.now.order.now
+        parts.now.graph.now.edges (list_number edge dir + 1)
+        building.new.functions.items building.new.lists.items) }
 {
-    let mut kept = Kept {
-        network: network,
+    let ends = parts.graph.ends(edge);
+    let task = Task {
+        network: parts.network,
+        graph: parts.graph,
         functions: &building.functions,
+        stay: parts.stay,
+        leg: leg_of(ends, dir),
+        arcs: parts.arcs.arcs(edge, dir),
+        middles: parts.graph.down(ends.low),
     };
-    let settled = settle(alloc, graph, arcs, edge, dir, &mut kept)?;
-    building.functions.push(settled.function)?;
-    building.lists.push(settled.ways)?;
+    gatherer.gather(&task)?;
+    let pulled = pull(alloc, &task, &gatherer.merger)?;
+    building.functions.push(pulled.function)?;
+    building.lists.push(pulled.ways)?;
     Ok(())
 }
 
 // Settles all lists, by rising number.
-fn build_lists(
-    alloc: Global,
-    network: &Network,
-    graph: &Chordal,
-    arcs: &EdgeArcs,
-) -> Result<Building, NoMemory>
-    requires lists { length arcs.now ≡ 2 * length graph.now.edges }
-    requires arcs { All (λ list. All (λ a. a < length network.now.arcs) list) arcs.now }
-    requires chordal { IsChordal graph.now }
-    ensures { (o : OrderValue) → IsNetwork network.now → IsOrder o
-        → IsClosureOf network.now o graph.now
-        → AreEdgeArcs network.now o graph.now.edges arcs.now
-        → IfOk result (λ building. IsBuiltTo network.now o graph.now.edges
-        (2 * length graph.now.edges) building.functions.items building.lists.items) }
+fn build_lists(alloc: Global, parts: &Parts<'_>) -> Result<Building, NoMemory>
+    requires { AreParts parts.now }
+    ensures { IfOk result (λ building. IsBuiltTo parts.now.network.now parts.now.order.now
+        parts.now.graph.now.edges (2 * length parts.now.graph.now.edges)
+        building.functions.items building.lists.items) }
 {
-    let lists = 2 * graph.edges() as usize;
+    let lists = 2 * parts.graph.edges() as usize;
+    let mut gatherer = Gatherer::new(alloc)?;
     let mut building = Building {
         functions: Vec::with_capacity(alloc, lists)?,
         lists: Vec::with_capacity(alloc, lists)?,
     };
-    for edge in 0..graph.edges() {
-        settle_next(alloc, network, graph, arcs, edge, Dir::Up, &mut building)?;
-        settle_next(alloc, network, graph, arcs, edge, Dir::Down, &mut building)?;
+    for edge in 0..parts.graph.edges() {
+        settle_next(alloc, parts, edge, Dir::Up, &mut gatherer, &mut building)?;
+        settle_next(alloc, parts, edge, Dir::Down, &mut gatherer, &mut building)?;
     }
     Ok(building)
 }
 
-/// The built hierarchy of a network and an order, whose chordal graph this is: its lists are the maximal runs of first
-/// ways. The network, the order and the graph are dropped where memory runs out.
+/// The lists of the hierarchy that is built of a network and an order, whose chordal graph this is, by list number: the
+/// maximal runs of first ways.
+pub fn built_lists(
+    alloc: Global,
+    network: &Network,
+    order: &Order,
+    graph: &Chordal,
+) -> Result<Vec<WayList>, NoMemory>
+    requires same { length order.now.node_at ≡ network.now.nodes }
+    requires closed { IsClosureOf network.now order.now graph.now }
+    ensures built { IfOk result (λ lists. IsBuilt (record {
+      network = network.now;
+      order = order.now;
+      edges = graph.now.edges;
+      lists = lists.items;
+    })) }
+    ensures graph { graph.now.ranks ≡ network.now.nodes }
+{
+    prove_eq!(network.nodes(), order.nodes());
+    prove_eq!(order.nodes(), graph.ranks());
+    let arcs = EdgeArcs::of(alloc, network, order, graph)?;
+    let stay = function_of_run(alloc, Word::of(0, false, 0))?;
+    let parts = Parts {
+        network,
+        order,
+        graph,
+        arcs: &arcs,
+        stay: &stay,
+    };
+    let building = build_lists(alloc, &parts)?;
+    Ok(building.lists)
+}
+
+/// The built hierarchy of a network and an order, whose chordal graph this is. The network, the order and the graph are
+/// dropped where memory runs out.
 pub fn customize(
     alloc: Global,
     network: Network,
@@ -102,10 +137,6 @@ pub fn customize(
     ensures edges { IfOk result (λ hierarchy. hierarchy.edges ≡ graph.edges) }
     ensures built { IfOk result IsBuilt }
 {
-    let _nodes = network.nodes();
-    let _order_nodes = order.nodes();
-    let _ranks = graph.ranks();
-    let arcs = EdgeArcs::of(alloc, &network, &order, &graph)?;
-    let building = build_lists(alloc, &network, &graph, &arcs)?;
-    Ok(Hierarchy::of(network, order, graph, building.lists))
+    let lists = built_lists(alloc, &network, &order, &graph)?;
+    Ok(Hierarchy::of(network, order, graph, lists))
 }

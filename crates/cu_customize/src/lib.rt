@@ -1,29 +1,36 @@
 //! Customization of a contraction hierarchy: the ways of every shortcut of a road network under an order.
 //!
 //! [`customize`] promises that the hierarchy that it makes is the built one (`IsBuilt` of `cu_interval`): each list has the
-//! maximal runs, over the seconds of a day, of the first way that arrives earliest. [`settle`] makes one such list from
-//! whatever functions it is handed ([`Functions`]): its clauses say the list and its value by these functions
-//! (`specs/Settling.antt`), and that it is the built one where they are those of a network and order
+//! maximal runs, over the seconds of a day, of the first way that arrives earliest. It settles list after list, by rising
+//! lower rank: the roads of a list and the middles below it are gathered in a merger, but middles that are slower at each
+//! second than some candidate ever is; and from the merger the list and its function are pulled.
+//!
+//! For that stand here functions of the seconds of a day, word by word, their composition ([`link`]), and the least of
+//! several compositions at each second with the number of the first candidate that has it ([`Merger`]). Their promise: at
+//! each second of the day both are what their definitions say, exactly.
+//!
+//! [`settle`] makes one list from whatever functions it is handed ([`Functions`]): its clauses say the list and its value
+//! by these functions (`specs/Settling.antt`), and that it is the built one where they are those of a network and order
 //! (`specs/Functions.antt`).
 //!
-//! Beside it stand functions of the seconds of a day, word by word, their composition ([`link`]), and the least of several
-//! compositions at each second with the number of the first candidate that has it ([`Merger`]). Their promise: at each second
-//! of the day both are what their definitions say, exactly.
-//!
-//! It stands on `cu_interval` and `cu_chordal`, for hierarchies, and on `cu_arrival`, for what a run says. How runs are packed
-//! and how lists are stepped through is private; what only that cites is in `specs/Steps`.
+//! It stands on `cu_interval` and `cu_chordal`, for hierarchies, and on `cu_arrival`, for what a run says. How runs are
+//! packed and how lists are stepped through is private; what only that cites is in `specs/Steps`.
 #![tactic(auto)]
 
 mod choosing;
 mod customizing;
+mod day_function;
 mod functions;
-mod kept;
+mod gathering;
 mod linking;
 mod merging;
+mod pulling;
+mod roads;
 mod settling;
+mod task;
 mod words;
 
-pub use customizing::customize;
+pub use customizing::{built_lists, customize};
 pub use functions::Functions;
 pub use linking::link;
 pub use merging::{MOST, Merger, NOBODY, WayRun};

@@ -6,7 +6,7 @@ ghost use Rattle.std.specs.List.{AllAdjacentBelow};
 ghost use Rattle.cu_model.specs.declared.limits.TheConstants.{DAY};
 ghost use Rattle.cu_arrival.specs.declared.runs.Run.{Run};
 ghost use Rattle.cu_arrival.specs.Runs.{arrival_value, rule_number};
-ghost use Rattle.cu_arrival.specs.Steps.Pushes.{IsPushed, last_says};
+ghost use Rattle.cu_model.specs.Growing.{IsPushed, last_says};
 ghost use Rattle.cu_customize.specs.Words.{IsCompactDay, IsDayList, IsFunctionWords, arrives, composed, end_run, is_fixed};
 ghost use Rattle.cu_customize.specs.Least.{KeepsDayOrder, IsWayRuns, least_arrival, least_way, way_with};
 ghost use Rattle.cu_customize.specs.Steps.Merging.{IsHeld, IsLeast, IsNext, IsMerging, IsMerged, IsBefore, CopiesBehind, Merges, Puts, least_held, next_held};

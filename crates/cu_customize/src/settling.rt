@@ -32,11 +32,11 @@ pub struct Settled {
     pub function: Option<Arrival>,
 }
 
-// The ranks that a shortcut leads from and to.
+/// The ranks that a shortcut leads from and to.
 #[derive(Clone, Copy)]
-struct Leg {
-    from: u32,
-    to: u32,
+pub struct Leg {
+    pub from: u32,
+    pub to: u32,
 }
 
 // No ways.
@@ -194,8 +194,8 @@ fn best_way<F: Functions>(
     Ok(best)
 }
 
-// The ranks that an edge leads from and to in a direction.
-fn leg_of(ends: Ends, dir: Dir) -> Leg
+/// The ranks that an edge leads from and to in a direction.
+pub fn leg_of(ends: Ends, dir: Dir) -> Leg
     ensures from { result.from ≡ start_of ends dir }
     ensures to { result.to ≡ end_of ends dir }
 {

@@ -3,7 +3,7 @@ use Rattle.std.specs.Prelude.{ℕ, List, ◌≡◌, ◌≤◌, ◌<◌, ◌+◌,
 use Rattle.cu_model.specs.Days.{day}
 use Rattle.cu_arrival.specs.declared.runs.Run.{Run}
 use Rattle.cu_arrival.specs.Runs.{arrival_value}
-use Rattle.cu_arrival.proofs.Tiling.{IsTiled}
+use Rattle.cu_model.proofs.Tiling.{IsTiled}
 use Rattle.cu_customize.specs.declared.linking.Place.{Place}
 use Rattle.cu_customize.specs.Words.{arrives}
 

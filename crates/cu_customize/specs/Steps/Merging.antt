@@ -3,7 +3,7 @@ use Rattle.std.specs.Prelude.{ℕ, List, [], ◌∷◌, ◌++◌, Some, ◌≡�
 use Rattle.std.specs.List.{zip}
 use Rattle.cu_model.specs.Days.{day}
 use Rattle.cu_arrival.specs.declared.runs.Run.{Run}
-use Rattle.cu_arrival.proofs.Tiling.{IsTiled}
+use Rattle.cu_model.proofs.Tiling.{IsTiled}
 use Rattle.cu_customize.specs.declared.merging.Least.{Least}
 use Rattle.cu_customize.specs.declared.merging.Next.{Next}
 use Rattle.cu_customize.specs.Words.{arrives, IsDayList}

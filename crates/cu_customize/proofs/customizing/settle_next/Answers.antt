@@ -1,38 +1,65 @@
-use Rattle.std.proofs.Common.{◌≡◌, ◌+◌, ◌++◌, ◌∷◌, [], List, Option, refl, sym, subst}
+use Rattle.std.proofs.Common.{◌≡◌, ◌<◌, ◌+◌, ◌*◌, ◌++◌, ◌∷◌, [], List, Option, arith, refl, sym, subst}
 use Rattle.std.proofs.lemmas.Slice.{pushed}
 use Rattle.cu_arrival.specs.declared.runs.Run.{Run}
-use Rattle.cu_interval.specs.Hierarchies.{end_of, list_number, start_of}
+use Rattle.cu_interval.specs.Hierarchies.{list_number}
 use Rattle.cu_interval.specs.declared.ways.Entry.{Entry}
-use Rattle.cu_customize.specs.Settling.{IsSettledList, IsValueOf, KnowsHalves}
-use Rattle.cu_customize.specs.Steps.Kept.{IsBuiltTo, kept_state}
-use Rattle.cu_customize.proofs.Keeping.{edge_there, kept_halves, next_built, list_there}
+use Rattle.cu_customize.specs.Steps.Gathering.{ways_of}
+use Rattle.cu_customize.specs.Steps.Kept.{IsBuiltTo}
+use Rattle.cu_customize.proofs.Gathers.{gathered_within}
+use Rattle.cu_customize.proofs.Keeping.{number_within}
+use Rattle.cu_customize.proofs.Nexts.{next_step, next_task}
+use Rattle.cu_customize.proofs.Settles.{leads_over}
 use Rattle.cu_customize.proofs.customizing.settle_next.Goals as goal
 
-pub settle-requires-clause-halves : goal.settle-requires-clause-halves
-settle-requires-clause-halves c ends at =
-    subst (λ (fs : List (Option (List Run))). KnowsHalves c.args.graph.now.edges (kept_state c.args.network.now fs) (start_of ends c.args.dir) (end_of ends c.args.dir)) (sym c.deref.ensures.value)
-    (kept_halves c.args.network.now c.args.graph.now c.requires.chordal c.args.building.now.functions.items c.args.edge c.args.dir ends at c.requires.next)
+pub arcs-requires : goal.arcs-requires
+arcs-requires c =
+    let inside = number_within c.args.edge _ c.args.dir c.requires.edge in
+    let long = c.requires.parts.arcs.long in
+    omega (arith, inside, long)
 
-pub returns-clause-built : goal.returns-clause-built
-returns-clause-built c o n k closed are is =
-    let net = c.args.network.now in
-    let graph = c.args.graph.now in
-    let edge = c.args.edge in
-    let dir = c.args.dir in
+pub down-requires : goal.down-requires
+down-requires c =
+    let over = leads_over c.args.parts.now.graph.now c.requires.parts.chordal c.args.edge c.ends-ends.result c.args.dir c.leg_of.result.from c.leg_of.result.to c.ends-ends.ensures.there c.leg_of.ensures.from
+    c.leg_of.ensures.to in
+    let low = over.from in
+    let inside = over.start_in in
+    omega (arith, low, inside)
+
+pub gather-requires : goal.gather-requires
+gather-requires c =
+    let p = c.requires.parts in
+    next_task _ c.args.parts.now.order.now c.args.parts.now.arcs.now c.args.edge c.args.dir c.ends-ends.result p.network p.order p.chordal p.closed p.arcs c.ends-ends.ensures.there c.arcs.ensures.there
+    c.down.ensures.members c.args.building.now.functions.items c.args.building.now.lists.items c.requires.built c.deref.ensures.value c.leg_of.ensures.from c.leg_of.ensures.to c.arcs.ensures.rising
+    c.down.ensures.rising p.stays p.stay
+
+pub pull-requires-clause-task : goal.pull-requires-clause-task
+pull-requires-clause-task c =
+    let p = c.requires.parts in
+    next_task _ c.args.parts.now.order.now c.args.parts.now.arcs.now c.args.edge c.args.dir c.ends-ends.result p.network p.order p.chordal p.closed p.arcs c.ends-ends.ensures.there c.arcs.ensures.there
+    c.down.ensures.members c.args.building.now.functions.items c.args.building.now.lists.items c.requires.built c.deref.ensures.value c.leg_of.ensures.from c.leg_of.ensures.to c.arcs.ensures.rising
+    c.down.ensures.rising p.stays p.stay
+
+pub pull-requires-clause-held : goal.pull-requires-clause-held
+pull-requires-clause-held c = λ some. gathered_within _ _ _ c.in_ok-gather.ensures some
+
+pub returns : goal.returns
+returns c =
+    let p = c.requires.parts in
     let functions = c.args.building.now.functions.items in
     let lists = c.args.building.now.lists.items in
-    let (ends, at) = edge_there graph.edges edge c.requires.edge in
-    let (list, listed) = list_there graph.edges c.args.arcs.now edge dir c.requires.edge c.requires.lists in
-    let ways =
-    subst (λ (fs : List (Option (List Run))). IsSettledList graph.edges list (kept_state net fs) (start_of ends dir) (end_of ends dir) c.in_ok-settled.settled.ways) c.deref.ensures.value
-    (c.in_ok-settled.ensures.ways ends list at listed) in
-    let value =
-    subst (λ (fs : List (Option (List Run))). IsValueOf graph.edges (kept_state net fs) (start_of ends dir) (end_of ends dir) c.in_ok-settled.settled.ways c.in_ok-settled.settled.function) c.deref.ensures.value
-    (c.in_ok-settled.ensures.function ends at) in
-    let next = next_built net o graph c.args.arcs.now list functions lists edge dir ends c.in_ok-settled.settled.function c.in_ok-settled.settled.ways c.requires.chordal n k closed are at listed is ways value in
+    let ready =
+    next_task _ c.args.parts.now.order.now c.args.parts.now.arcs.now c.args.edge c.args.dir c.ends-ends.result p.network p.order p.chordal p.closed p.arcs c.ends-ends.ensures.there c.arcs.ensures.there
+    c.down.ensures.members c.args.building.now.functions.items c.args.building.now.lists.items c.requires.built c.deref.ensures.value c.leg_of.ensures.from c.leg_of.ensures.to c.arcs.ensures.rising
+    c.down.ensures.rising p.stays p.stay in
+    let next = next_step _ c.args.parts.now.order.now c.args.parts.now.arcs.now c.args.edge c.args.dir c.ends-ends.result p.network p.order p.chordal p.closed p.arcs c.ends-ends.ensures.there c.arcs.ensures.there
+    c.down.ensures.members functions lists c.requires.built c.deref.ensures.value c.leg_of.ensures.from c.leg_of.ensures.to c.gather.new.self.merger c.in_ok-pulled.pulled.ways c.in_ok-pulled.pulled.function ready
+    c.in_ok-gather.ensures c.in_ok-pulled.ensures in
     let same_functions : functions ≡ functions = refl in
     let same_lists : lists ≡ lists = refl in
-    let functions_is = pushed (c.in_ok-settled.settled.function ∷ []) same_functions c.in_ok-push.was c.push.ensures.items in
-    let lists_is = pushed (c.in_ok-settled.settled.ways ∷ []) same_lists c.in_ok-push-2.was c.push-2.ensures.items in
-    subst (λ (fs : List (Option (List Run))). IsBuiltTo net o graph.edges (list_number edge dir + 1) fs c.push-2.new.self.items) (sym functions_is)
-    (subst (λ (ls : List (List Entry)). IsBuiltTo net o graph.edges (list_number edge dir + 1) (functions ++ c.in_ok-settled.settled.function ∷ []) ls) (sym lists_is) next)
+    let functions_is = pushed (c.in_ok-pulled.pulled.function ∷ []) same_functions c.in_ok-push.was c.push.ensures.items in
+    let lists_is = pushed (c.in_ok-pulled.pulled.ways ∷ []) same_lists c.in_ok-push-2.was c.push-2.ensures.items in
+    subst (λ (fs : List (Option (List Run))). IsBuiltTo c.args.parts.now.network.now c.args.parts.now.order.now c.args.parts.now.graph.now.edges (list_number c.args.edge c.args.dir + 1) fs c.push-2.new.self.items) (sym functions_is)
+    (subst
+    (λ (ls : List (List Entry)).
+    IsBuiltTo c.args.parts.now.network.now c.args.parts.now.order.now c.args.parts.now.graph.now.edges (list_number c.args.edge c.args.dir + 1) (functions ++ c.in_ok-pulled.pulled.function ∷ []) ls)
+    (sym lists_is) next)

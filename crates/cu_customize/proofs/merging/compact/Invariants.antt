@@ -1,7 +1,7 @@
 use Rattle.std.proofs.Common.{◌<◌, length}
 use Rattle.cu_arrival.specs.declared.runs.Run.{Run}
 use Rattle.cu_arrival.specs.Runs.{arrival_value}
-use Rattle.cu_arrival.proofs.Built.{IsGrown}
+use Rattle.cu_model.proofs.Growing.{IsGrown}
 use Rattle.cu_customize.proofs.ReadLaws.{SaysRule}
 use Rattle.cu_customize.proofs.TravelLaws.{begin_of}
 use Rattle.cu_customize.proofs.merging.compact.Given as goal

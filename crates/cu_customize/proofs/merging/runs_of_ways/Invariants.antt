@@ -1,5 +1,5 @@
 use Rattle.std.proofs.Common.{◌<◌, length}
-use Rattle.cu_arrival.proofs.Built.{IsGrown}
+use Rattle.cu_model.proofs.Growing.{IsGrown}
 use Rattle.cu_customize.specs.declared.merging.WayRun.{WayRun}
 use Rattle.cu_customize.specs.Steps.Merging.{least_held}
 use Rattle.cu_customize.proofs.ReadLaws.{SaysWay}

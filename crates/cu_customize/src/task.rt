@@ -1,0 +1,28 @@
+//! What one list is settled from, where functions are words.
+
+use crate::day_function::DayFunction;
+use crate::settling::Leg;
+use crate::words::Word;
+use cu_chordal::Chordal;
+use cu_model::Network;
+
+/// A list to be settled: between which ranks it leads; its candidates, which are these roads, by rising number, and the
+/// middles below both ends, by rising rank; and the functions of the lists before it, by list number. Staying is the
+/// function of a road that takes no time.
+#[derive(Clone, Copy)]
+pub struct Task<'a> {
+    pub network: &'a Network,
+    pub graph: &'a Chordal,
+    pub functions: &'a [Option<DayFunction>],
+    pub stay: &'a [Word],
+    pub leg: Leg,
+    pub arcs: &'a [u32],
+    pub middles: &'a [u32],
+}
+
+/// The functions of both halves of a way by a middle: to the middle, and on from it.
+#[derive(Clone, Copy)]
+pub struct Halves<'a> {
+    pub first: &'a DayFunction,
+    pub second: &'a DayFunction,
+}
