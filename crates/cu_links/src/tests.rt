@@ -1,6 +1,6 @@
-//! What no clause says: that calls succeed, and a chain that was worked by hand.
+//! What no clause says: that calls succeed, and a chain and buckets that were worked by hand.
 
-use crate::Chain;
+use crate::{Chain, RankBuckets};
 use std::test::Fail;
 
 #[test]
@@ -15,5 +15,19 @@ fn turns_a_chain_of_three_places(rt: HostRuntime) -> Result<(), Fail> {
     chain.clear();
     assert_eq!(rt; chain.reverse_from(1), 1);
     assert_eq!(rt; chain.follow(1), None);
+    Ok(())
+}
+
+#[test]
+fn pops_the_lowest_rank_first(rt: HostRuntime) -> Result<(), Fail> {
+    let mut buckets = RankBuckets::new(rt.alloc(), 3, 3)?;
+    assert!(rt; buckets.add(2, 1));
+    assert!(rt; buckets.add(0, 0));
+    assert!(rt; !buckets.add(2, 1));
+    assert_eq!(rt; buckets.pop(), Some((0, 0)));
+    assert_eq!(rt; buckets.pop(), Some((2, 1)));
+    assert_eq!(rt; buckets.pop(), None);
+    buckets.clear();
+    assert!(rt; buckets.add(0, 0));
     Ok(())
 }
