@@ -42,6 +42,7 @@ pub relaxed_built : (h : HierarchyValue) (edge : ℕ) (dir : Dir) (t : ℕ) (ans
 relaxed_built h edge dir t answer is f ends at =
     let range = ends_range h f.sound edge ends at in
     let n = h.network.nodes in
-    let low = answer_low h f (start_of ends dir) (end_of ends dir) t (ends_apart ends dir range.0) (start_below ends dir n range.0 range.1) (end_below ends dir n range.0 range.1) (list_from h (start_of ends dir) (end_of ends dir)) refl in
+    let low = answer_low h f (start_of ends dir) (end_of ends dir) t (ends_apart ends dir range.0) (start_below ends dir n range.0 range.1)
+    (end_below ends dir n range.0 range.1) (list_from h (start_of ends dir) (end_of ends dir)) refl in
     let same : answer ≡ relaxed_from h (start_of ends dir) (end_of ends dir) t = is ∙ ap (λ (o : Option Ends). relaxed_ends h o dir t) at in
     subst (λ (a : Relaxed). IsLowAnswer h.network h.order (start_of ends dir) (end_of ends dir) t a) (sym same) low

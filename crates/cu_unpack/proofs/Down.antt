@@ -30,7 +30,8 @@ pub record WentDown (h : HierarchyValue) (leg : Leg) (legs : List Leg) (t : ℕ)
   pub steps : now + length legs ≡ before + length rest
   pub ways : ((next ≡ leg) × (now ≡ before)) ⊎ (HasWay h next × HasWay h leg)
 
-pub went_nowhere : (h : HierarchyValue) (leg : Leg) (legs : List Leg) (t : ℕ) (pending : List ℕ) (spot : Spot) (before : ℕ) → IsAt h pending spot leg legs → WentDown h leg legs t pending spot before before
+pub went_nowhere : (h : HierarchyValue) (leg : Leg) (legs : List Leg) (t : ℕ) (pending : List ℕ) (spot : Spot) (before : ℕ)
+    → IsAt h pending spot leg legs → WentDown h leg legs t pending spot before before
 went_nowhere h leg legs t pending spot before is = record { next = leg; rest = legs; place = is; walk = refl; steps = refl; ways = inl (refl, refl) }
 
 some_list : (es : List Entry) (t : ℕ) (way : Way) → way_at es t ≡ Some way → es ≢ []
@@ -38,7 +39,8 @@ some_list [] t way e = absurd (cc e)
 some_list (x ∷ es) t way e = λ same. absurd (cc same)
 
 -- a leg with a way in force has a way, and so has the first
-has_way : (h : HierarchyValue) (leg next : Leg) (t now before : ℕ) (way : Way) → ((next ≡ leg) × (now ≡ before)) ⊎ (HasWay h next × HasWay h leg) → way_from h next.from next.to t ≡ Some way → HasWay h leg
+has_way : (h : HierarchyValue) (leg next : Leg) (t now before : ℕ) (way : Way) → ((next ≡ leg) × (now ≡ before)) ⊎ (HasWay h next × HasWay h leg)
+    → way_from h next.from next.to t ≡ Some way → HasWay h leg
 has_way h leg next t now before way (inl (same, count)) e = subst (λ (l : Leg). HasWay h l) same (some_list (list_from h next.from next.to) t way e)
 has_way h leg next t now before way (inr both) e = both.1
 
@@ -130,8 +132,9 @@ went_part h f leg legs t pending moved spot next before now after m long w e one
     }
 
 -- what is looked up, said of the hierarchy at the start
-pub way_here : (h k : HierarchyValue) (edge : ℕ) (dir : Dir) (s t : ℕ) (found : Option Way) → found ≡ way_at (list_of k edge dir) s → k ≡ h → s ≡ t → way_at (list_of h edge dir) t ≡ found
-way_here h k edge dir s t found e same second =
+pub way_here : {h k : HierarchyValue} (edge : ℕ) (dir : Dir) {s t : ℕ} {found : Option Way} → found ≡ way_at (list_of k edge dir) s → k ≡ h → s ≡ t
+    → way_at (list_of h edge dir) t ≡ found
+way_here {h} {k} edge dir {s} e same second =
     sym (e ∙ ap (λ (x : HierarchyValue). way_at (list_of x edge dir) s) same ∙ ap (λ (u : ℕ). way_at (list_of h edge dir) u) second)
 
 middle_below : (ends : Ends) (dir : Dir) (m : ℕ) → m < start_of ends dir → m < end_of ends dir → m < ends.low
@@ -139,7 +142,8 @@ middle_below ends Up m a b = a
 middle_below ends Down m a b = b
 
 -- the first half's lower end is below that of the whole
-pub part_lower : (h : HierarchyValue) → IsHierarchy h → (pending before now : List ℕ) (spot next : Spot) (t m : ℕ) → IsSomewhere h pending spot → way_at (list_of h spot.edge spot.dir) t ≡ Some (Via m) → Parts h spot m before now next
+pub part_lower : (h : HierarchyValue) → IsHierarchy h → (pending before now : List ℕ) (spot next : Spot) (t m : ℕ) → IsSomewhere h pending spot
+    → way_at (list_of h spot.edge spot.dir) t ≡ Some (Via m) → Parts h spot m before now next
     → low_of (slice_get h.edges next.edge) < low_of (slice_get h.edges spot.edge)
 part_lower h f pending before now spot next t m (leg, legs, is) e p =
     let (ends, at, from, to) = is.here in
@@ -150,7 +154,8 @@ part_lower h f pending before now spot next t m (leg, legs, is) e p =
     let whole : low_of (slice_get h.edges spot.edge) ≡ ends.low = ap low_of at in
     omega (arith, below, one, whole)
 
-pub part_somewhere : (h : HierarchyValue) → IsHierarchy h → (pending now : List ℕ) (spot next : Spot) (t m : ℕ) → length pending ≡ h.network.nodes → IsSomewhere h pending spot → way_at (list_of h spot.edge spot.dir) t ≡ Some (Via m) → Parts h spot m pending now next
+pub part_somewhere : (h : HierarchyValue) → IsHierarchy h → (pending now : List ℕ) (spot next : Spot) (t m : ℕ) → length pending ≡ h.network.nodes
+    → IsSomewhere h pending spot → way_at (list_of h spot.edge spot.dir) t ≡ Some (Via m) → Parts h spot m pending now next
     → IsSomewhere h now next
 part_somewhere h f pending now spot next t m long (leg, legs, is) e p =
     (record { from = leg.from; to = m }, record { from = m; to = leg.to } ∷ legs, parted h f pending now spot next leg legs t m is long p (leg_way h f spot.edge spot.dir leg t is.here ∙ e))

@@ -20,7 +20,8 @@ found_open h f leg legs t pending before now spot road (next, rest, place, has, 
     (leads_within h.network road l.0 l.1 l.2, l.2.1)
 
 -- the walk on from a leg whose way is a road
-road_walk : (h : HierarchyValue) (next : Leg) (rest : List Leg) (t road : ℕ) → way_from h next.from next.to t ≡ Some (Road road) → walk_on h (next ∷ rest) t ≡ road ∷ walk_on h rest (arc_value h.network road t)
+road_walk : (h : HierarchyValue) (next : Leg) (rest : List Leg) (t road : ℕ) → way_from h next.from next.to t ≡ Some (Road road)
+    → walk_on h (next ∷ rest) t ≡ road ∷ walk_on h rest (arc_value h.network road t)
 road_walk h next rest t road way =
     let walk : unpacked_walk h next.from next.to t ≡ road ∷ [] = ap (unpacked_way h.network (unpacked h (min next.from next.to)) next.from next.to t) way in
     ap (λ (w : List ℕ). followed w (λ first. walk_on h rest (drive h.network first t))) walk

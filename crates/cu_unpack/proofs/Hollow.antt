@@ -23,7 +23,8 @@ none_formed : (h : HierarchyValue) (u v : ℕ) (es : List Entry) → es ≡ [] �
 none_formed h u v [] e = λ k d lt. absurd (omega (arith, lt))
 none_formed h u v (x ∷ es) e = absurd (cc e)
 
-pub hollow_sound : (network : NetworkValue) (order : OrderValue) (graph : ChordalValue) (lists : List (List Entry)) → IsNetwork network → IsOrder order → IsChordal graph → length order.node_at ≡ network.nodes → IsClosureOf network order graph
+pub hollow_sound : (network : NetworkValue) (order : OrderValue) (graph : ChordalValue) (lists : List (List Entry)) → IsNetwork network
+    → IsOrder order → IsChordal graph → length order.node_at ≡ network.nodes → IsClosureOf network order graph
     → length lists ≡ 2 * length graph.edges → All (λ (es : List Entry). es ≡ []) lists
     → IsHierarchyOf graph (record { network = network; order = order; edges = graph.edges; lists = lists })
 hollow_sound network order graph lists n o c same closed long empty =

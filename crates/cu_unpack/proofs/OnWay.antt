@@ -83,22 +83,23 @@ on_way_begin h f edge dir at pending before lt =
       refl,
     )
 
-pub on_way_somewhere : (h : HierarchyValue) (edge : ℕ) (dir : Dir) (at : ℕ) (pending : List ℕ) (spot : Spot) (before now number : ℕ) → IsOnWay h edge dir at pending spot before now number → IsSomewhere h pending spot
+pub on_way_somewhere : (h : HierarchyValue) (edge : ℕ) (dir : Dir) (at : ℕ) (pending : List ℕ) (spot : Spot) (before now number : ℕ)
+    → IsOnWay h edge dir at pending spot before now number → IsSomewhere h pending spot
 on_way_somewhere h edge dir at pending spot before now number w = (w.leg, w.legs, w.place)
 
 -- no second comes near the end of what is counted
-pub on_way_time : (h : HierarchyValue) → IsHierarchy h → (edge : ℕ) (dir : Dir) (at : ℕ) (pending : List ℕ) (spot : Spot) (before now number : ℕ) → IsOnWay h edge dir at pending spot before now number → number ≤ h.network.nodes → at < 2 ^ 61
-    → spot.second ≤ 2 ^ 62
-on_way_time h f edge dir at pending spot before now number w le early =
+pub on_way_time : {h : HierarchyValue} {edge : ℕ} {dir : Dir} {at : ℕ} {pending : List ℕ} {spot : Spot} {before now number : ℕ}
+    → IsHierarchy h → IsOnWay h edge dir at pending spot before now number → number ≤ h.network.nodes → at < 2 ^ 61 → spot.second ≤ 2 ^ 62
+on_way_time f w le early =
     let near = w.under.near in
     let count = w.count in
     let few = f.graph.few_ranks in
     omega (arith, near, count, few, le, early)
 
 -- and no count
-pub on_way_few : (h : HierarchyValue) → IsHierarchy h → (edge : ℕ) (dir : Dir) (at : ℕ) (pending : List ℕ) (spot : Spot) (before now number : ℕ) → IsOnWay h edge dir at pending spot before now number → number ≤ h.network.nodes → before ≤ 2 ^ 62
-    → now + h.network.nodes < 2 ^ 63
-on_way_few h f edge dir at pending spot before now number w le early =
+pub on_way_few : {h : HierarchyValue} {edge : ℕ} {dir : Dir} {at : ℕ} {pending : List ℕ} {spot : Spot} {before now number : ℕ}
+    → IsHierarchy h → IsOnWay h edge dir at pending spot before now number → number ≤ h.network.nodes → before ≤ 2 ^ 62 → now + h.network.nodes < 2 ^ 63
+on_way_few {h} {edge} {dir} {at} {pending} {spot} f w le early =
     let count = w.count in
     let steps = w.steps in
     let few = f.graph.few_ranks in
@@ -156,12 +157,17 @@ next_by h edge dir at pending moved spot next before now after number d w left h
       refl,
     )
 
+-- what the ways, which still tell the hierarchy, say of the next road
+drives_in : {h k : HierarchyValue} (pending moved : List ℕ) (spot : Spot) (now after : ℕ) (o : Option Driven) → k ≡ h
+    → WillDrive k pending spot moved now after o → WillDrive h pending spot moved now after o
+drives_in pending moved spot now after o stays drives = subst (λ (g : HierarchyValue). WillDrive g pending spot moved now after o) stays drives
+
 -- one more road was driven, and something is left
-pub on_way_next : (h : HierarchyValue) (edge : ℕ) (dir : Dir) (at : ℕ) (pending moved : List ℕ) (spot next : Spot) (before now after number : ℕ) (d : Driven)
-    → (w : IsOnWay h edge dir at pending spot before now number) → WillDrive h pending spot moved now after (Some d) → d.rest ≡ Some next
+pub on_way_next : {h k : HierarchyValue} {edge : ℕ} {dir : Dir} {at : ℕ} {pending moved : List ℕ} {spot next : Spot} {before now after number : ℕ} {d : Driven}
+    → k ≡ h → (w : IsOnWay h edge dir at pending spot before now number) → WillDrive k pending spot moved now after (Some d) → d.rest ≡ Some next
     → (m : IsOnWay h edge dir at moved next before after (number + 1)) × (m.done ≡ w.done ++ (d.road ∷ []))
-on_way_next h edge dir at pending moved spot next before now after number d w drives is =
-    let (left, has, walk, value, onward, near, rest) = drives w.leg w.legs w.place in
+on_way_next {h} {k} {edge} {dir} {at} {pending} {moved} {spot} {next} {before} {now} {after} {number} {d} stays w drives is =
+    let (left, has, walk, value, onward, near, rest) = drives_in pending moved spot now after (Some d) stays drives w.leg w.legs w.place in
     next_by h edge dir at pending moved spot next before now after number d w left has walk value onward near
     (subst (λ (o : Option Spot). IsLeft h w.legs moved d.arrival left now after o) is rest)
 
@@ -176,11 +182,11 @@ none_by h edge dir at start leg legs done before now after first (inl (same, non
 none_by h edge dir at start leg legs done before now after first (inr both) empty one steps = absurd (both.0 empty)
 
 -- there was no way
-pub on_way_none : (h : HierarchyValue) (edge : ℕ) (dir : Dir) (at : ℕ) (pending moved : List ℕ) (spot : Spot) (before now after number : ℕ)
-    → IsOnWay h edge dir at pending spot before now number → WillDrive h pending spot moved now after None
+pub on_way_none : {h k : HierarchyValue} {edge : ℕ} {dir : Dir} {at : ℕ} {pending : List ℕ} {spot : Spot} {before now after number : ℕ} {o : Option Driven}
+    → (moved : List ℕ) → k ≡ h → IsOnWay h edge dir at pending spot before now number → WillDrive k pending spot moved now after o → o ≡ None
     → (relaxed h edge dir at ≡ NoWay) × (after ≡ before + 1)
-on_way_none h edge dir at pending moved spot before now after number w drives =
-    let (empty, one) = drives w.leg w.legs w.place in
+on_way_none {h} {k} {edge} {dir} {at} {pending} {spot} {before} {now} {after} {number} {o} moved stays w drives none =
+    let (empty, one) = subst (WillDrive h pending spot moved now after) none (drives_in pending moved spot now after o stays drives) w.leg w.legs w.place in
     none_by h edge dir at w.start w.leg w.legs w.done before now after w.first w.under.ways empty one w.steps
 
 answer_at : (h : HierarchyValue) (es : List Entry) (walk : List ℕ) (t : ℕ) → es ≢ [] → length walk < h.network.nodes → answer_by h es walk t ≡ At (drive h.network walk t)
@@ -199,15 +205,16 @@ pub record Arrives (h : HierarchyValue) (edge : ℕ) (dir : Dir) (at : ℕ) (don
   pub near : arrival ≤ at + 2 ^ 38
   pub steps : after + 1 ≡ before + 2 * length (walk_over h edge dir at)
 
-pub on_way_last : (h : HierarchyValue) → IsHierarchy h → (edge : ℕ) (dir : Dir) (at : ℕ) (pending moved : List ℕ) (spot : Spot) (before now after number : ℕ) (d : Driven)
-    → (w : IsOnWay h edge dir at pending spot before now number) → WillDrive h pending spot moved now after (Some d) → d.rest ≡ None → number < h.network.nodes
-    → Arrives h edge dir at w.done d.road d.arrival before after
-on_way_last h f edge dir at pending moved spot before now after number d w drives is short =
-    let (left, has, walk, value, onward, near, rest) = drives w.leg w.legs w.place in
+pub on_way_last : {h k : HierarchyValue} {edge : ℕ} {dir : Dir} {at : ℕ} {pending : List ℕ} {spot : Spot} {before now after number : ℕ} {d : Driven}
+    → (moved : List ℕ) → k ≡ h → IsHierarchy h → (w : IsOnWay h edge dir at pending spot before now number) → WillDrive k pending spot moved now after (Some d) → d.rest ≡ None
+    → number < h.network.nodes → Arrives h edge dir at w.done d.road d.arrival before after
+on_way_last {h} {k} {edge} {dir} {at} {pending} {spot} {before} {now} {after} {number} {d} moved stays f w drives is short =
+    let (left, has, walk, value, onward, near, rest) = drives_in pending moved spot now after (Some d) stays drives w.leg w.legs w.place in
     let (empty, steps) = subst (λ (o : Option Spot). IsLeft h w.legs moved d.arrival left now after o) is rest in
     let u = w.under in
     let done = w.done ++ (d.road ∷ []) in
-    let whole : unpacked_walk h w.start.from w.start.to at ≡ done = on_way_whole h w.start at w.leg w.legs w.done spot.second d.road left u walk ∙ ap (λ (x : List ℕ). done ++ x) empty ∙ append-nil done in
+    let whole : unpacked_walk h w.start.from w.start.to at ≡ done =
+    on_way_whole h w.start at w.leg w.legs w.done spot.second d.road left u walk ∙ ap (λ (x : List ℕ). done ++ x) empty ∙ append-nil done in
     let over : walk_over h edge dir at ≡ done = walk_by h edge dir at w.start w.first ∙ whole in
     let long : length done ≡ length w.done + 1 = length_push w.done d.road in
     let same : length (unpacked_walk h w.start.from w.start.to at) ≡ length done = ap length whole in
@@ -238,21 +245,24 @@ ends_apart ends Up lt = λ same. absurd (omega (arith, lt, same))
 ends_apart ends Down lt = λ same. absurd (omega (arith, lt, same))
 
 -- a leg with a way has a road
-leg_some : (h : HierarchyValue) → IsHierarchy h → (pending : List ℕ) (spot : Spot) (leg : Leg) (legs : List Leg) (t : ℕ) → IsAt h pending spot leg legs → HasWay h leg → 0 < length (unpacked_walk h leg.from leg.to t)
+leg_some : (h : HierarchyValue) → IsHierarchy h → (pending : List ℕ) (spot : Spot) (leg : Leg) (legs : List Leg) (t : ℕ)
+    → IsAt h pending spot leg legs → HasWay h leg → 0 < length (unpacked_walk h leg.from leg.to t)
 leg_some h f pending spot leg legs t place has =
     let (ends, at, from, to) = place.here in
     let range = ends_range h f spot.edge ends at in
     let apart : leg.from ≢ leg.to = λ same. ends_apart ends spot.dir range.0 (sym from ∙ same ∙ to) in
     low_some h.network h.order leg.from (unpacked_walk h leg.from leg.to t) leg.to (unpacked-low h f leg.from leg.to t apart has)
 
-both_have : (h : HierarchyValue) (start leg : Leg) (legs : List Leg) (done : List ℕ) → ((leg ≡ start) × (legs ≡ []) × (done ≡ [])) ⊎ (HasWay h leg × HasWay h start) → 0 < length done → HasWay h leg × HasWay h start
+both_have : (h : HierarchyValue) (start leg : Leg) (legs : List Leg) (done : List ℕ) → ((leg ≡ start) × (legs ≡ []) × (done ≡ []))
+    ⊎ (HasWay h leg × HasWay h start) → 0 < length done → HasWay h leg × HasWay h start
 both_have h start leg legs done (inl (same, none, nothing)) lt = let zero : length done ≡ 0 = ap length nothing in absurd (omega (arith, zero, lt))
 both_have h start leg legs done (inr both) lt = both
 
 -- as many roads were driven as there are nodes less one, and something is left
-pub on_way_long : (h : HierarchyValue) → IsHierarchy h → (edge : ℕ) (dir : Dir) (at : ℕ) (pending : List ℕ) (spot : Spot) (before now number : ℕ)
-    → IsOnWay h edge dir at pending spot before now number → h.network.nodes ≤ number → (relaxed h edge dir at ≡ Long) × (number ≤ h.network.nodes → now ≤ before + 3 * h.network.nodes)
-on_way_long h f edge dir at pending spot before now number w last =
+pub on_way_long : {h : HierarchyValue} {edge : ℕ} {dir : Dir} {at : ℕ} {pending : List ℕ} {spot : Spot} {before now number : ℕ}
+    → IsHierarchy h → IsOnWay h edge dir at pending spot before now number → h.network.nodes ≤ number
+    → (relaxed h edge dir at ≡ Long) × (number ≤ h.network.nodes → now ≤ before + 3 * h.network.nodes)
+on_way_long {h} {edge} {dir} {at} {pending} {spot} f w last =
     let u = w.under in
     let room = w.place.room in
     let count = w.count in
@@ -269,10 +279,11 @@ on_way_long h f edge dir at pending spot before now number w last =
     )
 
 -- the walk, cut before the road that was driven
-pub on_way_cut : (h : HierarchyValue) (edge : ℕ) (dir : Dir) (at : ℕ) (pending moved : List ℕ) (spot : Spot) (before now after number : ℕ) (d : Driven)
-    → (w : IsOnWay h edge dir at pending spot before now number) → WillDrive h pending spot moved now after (Some d) → (left : List ℕ) × (walk_over h edge dir at ≡ w.done ++ (d.road ∷ left))
-on_way_cut h edge dir at pending moved spot before now after number d w drives =
-    let (left, has, walk, value, onward, near, rest) = drives w.leg w.legs w.place in
+pub on_way_cut : {h k : HierarchyValue} {edge : ℕ} {dir : Dir} {at : ℕ} {pending : List ℕ} {spot : Spot} {before now number : ℕ}
+    → (moved : List ℕ) (after : ℕ) (d : Driven) → k ≡ h → (w : IsOnWay h edge dir at pending spot before now number) → WillDrive k pending spot moved now after (Some d)
+    → (left : List ℕ) × (walk_over h edge dir at ≡ w.done ++ (d.road ∷ left))
+on_way_cut {h} {k} {edge} {dir} {at} {pending} {spot} {before} {now} moved after d stays w drives =
+    let (left, has, walk, value, onward, near, rest) = drives_in pending moved spot now after (Some d) stays drives w.leg w.legs w.place in
     (left, walk_by h edge dir at w.start w.first ∙ w.under.whole ∙ ap (λ (x : List ℕ). w.done ++ x) walk)
 
 not_both : (r : Relaxed) (arrival : ℕ) → r ≡ At arrival → r ≡ NoWay → ⊥
@@ -285,13 +296,9 @@ pub same_arrival : (r : Relaxed) (a b : ℕ) → r ≡ At a → r ≡ At b → a
 same_arrival r a b p q = cc (p, q)
 
 -- where the relaxation arrives there is a way at each look-up
-pub arriving_some : (h : HierarchyValue) (edge : ℕ) (dir : Dir) (at : ℕ) (pending moved : List ℕ) (spot : Spot) (before now after number : ℕ)
-    → IsArriving h edge dir at → IsOnWay h edge dir at pending spot before now number → WillDrive h pending spot moved now after None → ⊥
-arriving_some h edge dir at pending moved spot before now after number answers w drives =
-    not_both (relaxed h edge dir at) answers.0 answers.1 (on_way_none h edge dir at pending moved spot before now after number w drives).0
+pub arriving_some : (h : HierarchyValue) (edge : ℕ) (dir : Dir) (at : ℕ) → IsArriving h edge dir at → relaxed h edge dir at ≡ NoWay → ⊥
+arriving_some h edge dir at answers none = not_both (relaxed h edge dir at) answers.0 answers.1 none
 
 -- and the walk ends before as many roads were driven as there are nodes
-pub arriving_short : (h : HierarchyValue) → IsHierarchy h → (edge : ℕ) (dir : Dir) (at : ℕ) (pending : List ℕ) (spot : Spot) (before now number : ℕ)
-    → IsArriving h edge dir at → IsOnWay h edge dir at pending spot before now number → h.network.nodes ≤ number → ⊥
-arriving_short h f edge dir at pending spot before now number answers w last =
-    not_long (relaxed h edge dir at) answers.0 answers.1 (on_way_long h f edge dir at pending spot before now number w last).0
+pub arriving_short : (h : HierarchyValue) (edge : ℕ) (dir : Dir) (at : ℕ) → IsArriving h edge dir at → relaxed h edge dir at ≡ Long → ⊥
+arriving_short h edge dir at answers long = not_long (relaxed h edge dir at) answers.0 answers.1 long

@@ -70,7 +70,10 @@ impl<'a, W: Ways> Model for Counted<'a, W> {
 
     ghost Value = { CountedValue };
 
-    ghost view = { λ counted. record { hierarchy = W.hierarchy counted.ways.now; steps = counted.steps } };
+    ghost view = { λ counted. record {
+      hierarchy = W.hierarchy counted.ways.now;
+      steps = counted.steps;
+    } };
 }
 
 impl<'a, W: Ways> Counted<'a, W> {

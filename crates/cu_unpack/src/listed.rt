@@ -93,9 +93,13 @@ impl Model for CallList {
 
     ghost Value = { ToldCalls };
 
-    ghost view = { λ list. record { calls = told_unless list.passed list.calls.items; room = list.room } };
+    ghost view = { λ list. record {
+      calls = told_unless list.passed list.calls.items;
+      room = list.room;
+    } };
 
-    ghost invariant = { λ list. (vec_len list.calls ≤ list.room) × (list.room ≤ vec_capacity list.calls) };
+    ghost invariant = { λ list. (vec_len list.calls ≤ list.room)
+        × (list.room ≤ vec_capacity list.calls) };
 }
 
 impl CallList {

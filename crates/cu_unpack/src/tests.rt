@@ -1,5 +1,5 @@
-//! What no clause says: that calls succeed, over lists without ways. Hierarchies that are customized are unpacked in the crates
-//! above.
+//! What no clause says: that calls succeed, over lists without ways. Hierarchies that are customized are unpacked in the
+//! crates above.
 
 ghost use Rattle.std.specs.Prelude.{◌≡◌, [], IfOk, length};
 ghost use Rattle.cu_chordal.specs.Edges.{IsClosureOf};

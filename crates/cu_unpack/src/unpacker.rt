@@ -31,7 +31,8 @@ impl<'a, W: Ways> Model for Unpacker<'a, W> {
 
     ghost view = { λ unpacker. W.hierarchy unpacker.ways.now };
 
-    ghost invariant = { λ unpacker. unpacker.work.now ≡ (W.hierarchy unpacker.ways.now).network.nodes };
+    ghost invariant = { λ unpacker. unpacker.work.now
+        ≡ (W.hierarchy unpacker.ways.now).network.nodes };
 }
 
 impl<'a, W: Ways> Unpacker<'a, W> {

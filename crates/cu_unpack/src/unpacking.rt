@@ -94,9 +94,9 @@ fn relax_in<C: CountedWays>(
     Relaxed::Long
 }
 
-/// Writes the roads of the walk of a relaxation that arrives, in plain decimal, a blank before each, but not before the first
-/// where that is the first of all; and answers when the walk arrives. The edge's number is below the number of edges, the
-/// second below 2^61, the work made for as many nodes, and at most 2^62 look-ups were counted before. Takes no memory.
+/// Writes the roads of the walk of a relaxation that arrives, in plain decimal, a blank before each, but not before the
+/// first where that is the first of all; and answers when the walk arrives. The edge's number is below the number of edges,
+/// the second below 2^61, the work made for as many nodes, and at most 2^62 look-ups were counted before. Takes no memory.
 ///
 /// Refused only where a write is: the sink's count of faults rose, and some first bytes were written.
 pub(crate) fn write_walk<C: CountedWays, K: Sink>(

@@ -14,4 +14,5 @@ lists-preserved c =
 pub of-requires : goal.of-requires
 of-requires c =
     let long : length c.lists.lists.items ≡ 2 * length c.args.graph.edges = omega (arith, c.lists.invariant.long, c.lists-test.false, c.lists.auto._number-end, c.edges-number-end.ensures) in
-    hollow_sound c.args.network c.args.order c.args.graph c.lists.lists.items c.nodes.ensures.sound c.nodes-2.ensures.sound c.ranks.ensures.sound c.requires.same c.requires.closed long c.lists.invariant.empty
+    hollow_sound c.args.network c.args.order c.args.graph c.lists.lists.items c.nodes.ensures.sound c.nodes-2.ensures.sound c.ranks.ensures.sound
+    c.requires.same c.requires.closed long c.lists.invariant.empty

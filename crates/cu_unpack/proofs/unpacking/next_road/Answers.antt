@@ -28,58 +28,87 @@ counted_way-requires-clause-edge g c =
 pub returns-in_err-road-clause-finds : goal.returns-in_err-road-clause-finds
 returns-in_err-road-clause-finds g c =
     let h = g.C.CountedWays.hierarchy c.args.ways.now in
+    let before = g.C.CountedWays.steps c.args.ways.now in
+    let now = g.C.CountedWays.steps c.parts.ways in
+    let after = g.C.CountedWays.steps c.counted_way.new.self in
+    let t = c.args.spot.second in
+    let spot = c.parts.spot in
     let i = c.parts.invariant in
-    let at : way_at (list_of h c.parts.spot.edge c.parts.spot.dir) c.args.spot.second ≡ c.counted_way.result = way_here h (g.C.CountedWays.hierarchy c.parts.ways) c.parts.spot.edge c.parts.spot.dir c.parts.spot.second c.args.spot.second c.counted_way.result c.counted_way.ensures.way i.stays i.second in
+    let at : way_at (list_of h spot.edge spot.dir) t ≡ c.counted_way.result = way_here spot.edge spot.dir c.counted_way.ensures.way i.stays i.second in
     let none : c.counted_way.result ≡ None = search rules in
     let out : c.from_residual.result ≡ None = search rules in
     λ leg legs is.
-    subst (λ (o : Option (Spot × ℕ)). FindsRoad h leg legs c.args.spot.second c.parts.pending (g.C.CountedWays.steps c.args.ways.now) (g.C.CountedWays.steps c.counted_way.new.self) o) (sym out)
-    (went_none h c.requires.sound leg legs c.args.spot.second c.parts.pending c.parts.spot (g.C.CountedWays.steps c.args.ways.now) (g.C.CountedWays.steps c.parts.ways) (g.C.CountedWays.steps c.counted_way.new.self) (i.went leg legs is) (at ∙ none) c.counted_way.ensures.counted)
+    subst (λ (o : Option (Spot × ℕ)). FindsRoad h leg legs t c.parts.pending before after o) (sym out)
+    (went_none h c.requires.sound leg legs t c.parts.pending spot before now after (i.went leg legs is) (at ∙ none) c.counted_way.ensures.counted)
 
 pub returns-in-Road-clause-finds : goal.returns-in-Road-clause-finds
 returns-in-Road-clause-finds g c =
     let h = g.C.CountedWays.hierarchy c.args.ways.now in
+    let before = g.C.CountedWays.steps c.args.ways.now in
+    let now = g.C.CountedWays.steps c.parts.ways in
+    let after = g.C.CountedWays.steps c.counted_way.new.self in
+    let t = c.args.spot.second in
+    let spot = c.parts.spot in
     let i = c.parts.invariant in
-    let at : way_at (list_of h c.parts.spot.edge c.parts.spot.dir) c.args.spot.second ≡ c.counted_way.result = way_here h (g.C.CountedWays.hierarchy c.parts.ways) c.parts.spot.edge c.parts.spot.dir c.parts.spot.second c.args.spot.second c.counted_way.result c.counted_way.ensures.way i.stays i.second in
+    let at : way_at (list_of h spot.edge spot.dir) t ≡ c.counted_way.result = way_here spot.edge spot.dir c.counted_way.ensures.way i.stays i.second in
     let is : c.counted_way.result ≡ Some (Road c.in-Road.road) = search rules in
     λ leg legs place.
-    went_road h c.requires.sound leg legs c.args.spot.second c.parts.pending c.parts.spot (g.C.CountedWays.steps c.args.ways.now) (g.C.CountedWays.steps c.parts.ways) (g.C.CountedWays.steps c.counted_way.new.self) c.in-Road.road (i.went leg legs place) (at ∙ is) c.counted_way.ensures.counted i.second
+    went_road h c.requires.sound leg legs t c.parts.pending spot before now after c.in-Road.road (i.went leg legs place) (at ∙ is)
+    c.counted_way.ensures.counted i.second
 
 pub part-spot-requires-clause-middle : goal.part-spot-requires-clause-middle
 part-spot-requires-clause-middle g c =
     let h = g.C.CountedWays.hierarchy c.args.ways.now in
+    let t = c.args.spot.second in
+    let spot = c.parts.spot in
+    let m = c.in-Via.middle in
     let i = c.parts.invariant in
-    let at : way_at (list_of h c.parts.spot.edge c.parts.spot.dir) c.args.spot.second ≡ c.counted_way.result = way_here h (g.C.CountedWays.hierarchy c.parts.ways) c.parts.spot.edge c.parts.spot.dir c.parts.spot.second c.args.spot.second c.counted_way.result c.counted_way.ensures.way i.stays i.second in
-    let is : c.counted_way.result ≡ Some (Via c.in-Via.middle) = search rules in
-    let ready = part_ready h c.requires.sound c.parts.pending c.parts.spot c.args.spot.second c.in-Via.middle i.somewhere (at ∙ is) in
-    subst (λ (k : HierarchyValue). IsMiddle k c.parts.spot.edge c.parts.spot.dir c.in-Via.middle) (sym (c.counted_way.ensures.stays ∙ i.stays)) ready.0
+    let at : way_at (list_of h spot.edge spot.dir) t ≡ c.counted_way.result = way_here spot.edge spot.dir c.counted_way.ensures.way i.stays i.second in
+    let is : c.counted_way.result ≡ Some (Via m) = search rules in
+    let ready = part_ready h c.requires.sound c.parts.pending spot t m i.somewhere (at ∙ is) in
+    subst (λ (k : HierarchyValue). IsMiddle k spot.edge spot.dir m) (sym (c.counted_way.ensures.stays ∙ i.stays)) ready.0
 
 pub parts-smaller : goal.parts-smaller
 parts-smaller g c =
     let h = g.C.CountedWays.hierarchy c.args.ways.now in
+    let t = c.args.spot.second in
+    let spot = c.parts.spot in
+    let next = c.part-spot.result in
+    let pending = c.parts.pending in
+    let moved = c.part-spot.new.pending in
+    let m = c.in-Via.middle in
     let i = c.parts.invariant in
-    let at : way_at (list_of h c.parts.spot.edge c.parts.spot.dir) c.args.spot.second ≡ c.counted_way.result = way_here h (g.C.CountedWays.hierarchy c.parts.ways) c.parts.spot.edge c.parts.spot.dir c.parts.spot.second c.args.spot.second c.counted_way.result c.counted_way.ensures.way i.stays i.second in
-    let is : c.counted_way.result ≡ Some (Via c.in-Via.middle) = search rules in
-    let parts : Parts h c.parts.spot c.in-Via.middle c.parts.pending c.part-spot.new.pending c.part-spot.result = subst (λ (k : HierarchyValue). Parts k c.parts.spot c.in-Via.middle c.parts.pending c.part-spot.new.pending c.part-spot.result) (c.counted_way.ensures.stays ∙ i.stays) c.part-spot.ensures.parts in
-    part_lower h c.requires.sound c.parts.pending c.parts.pending c.part-spot.new.pending c.parts.spot c.part-spot.result c.args.spot.second c.in-Via.middle i.somewhere (at ∙ is) parts
+    let at : way_at (list_of h spot.edge spot.dir) t ≡ c.counted_way.result = way_here spot.edge spot.dir c.counted_way.ensures.way i.stays i.second in
+    let is : c.counted_way.result ≡ Some (Via m) = search rules in
+    let parts : Parts h spot m pending moved next =
+    subst (λ (k : HierarchyValue). Parts k spot m pending moved next) (c.counted_way.ensures.stays ∙ i.stays) c.part-spot.ensures.parts in
+    part_lower h c.requires.sound pending pending moved spot next t m i.somewhere (at ∙ is) parts
 
 pub parts-preserved : goal.parts-preserved
 parts-preserved g c =
     let h = g.C.CountedWays.hierarchy c.args.ways.now in
-    let i = c.parts.invariant in
+    let before = g.C.CountedWays.steps c.args.ways.now in
+    let now = g.C.CountedWays.steps c.parts.ways in
+    let after = g.C.CountedWays.steps c.counted_way.new.self in
     let t = c.args.spot.second in
+    let spot = c.parts.spot in
+    let next = c.part-spot.result in
+    let pending = c.parts.pending in
+    let moved = c.part-spot.new.pending in
     let m = c.in-Via.middle in
-    let at : way_at (list_of h c.parts.spot.edge c.parts.spot.dir) c.args.spot.second ≡ c.counted_way.result = way_here h (g.C.CountedWays.hierarchy c.parts.ways) c.parts.spot.edge c.parts.spot.dir c.parts.spot.second c.args.spot.second c.counted_way.result c.counted_way.ensures.way i.stays i.second in
-    let is : c.counted_way.result ≡ Some (Via c.in-Via.middle) = search rules in
-    let parts : Parts h c.parts.spot c.in-Via.middle c.parts.pending c.part-spot.new.pending c.part-spot.result = subst (λ (k : HierarchyValue). Parts k c.parts.spot c.in-Via.middle c.parts.pending c.part-spot.new.pending c.part-spot.result) (c.counted_way.ensures.stays ∙ i.stays) c.part-spot.ensures.parts in
-    let lower = part_lower h c.requires.sound c.parts.pending c.parts.pending c.part-spot.new.pending c.parts.spot c.part-spot.result t m i.somewhere (at ∙ is) parts in
+    let i = c.parts.invariant in
+    let at : way_at (list_of h spot.edge spot.dir) t ≡ c.counted_way.result = way_here spot.edge spot.dir c.counted_way.ensures.way i.stays i.second in
+    let is : c.counted_way.result ≡ Some (Via m) = search rules in
+    let parts : Parts h spot m pending moved next =
+    subst (λ (k : HierarchyValue). Parts k spot m pending moved next) (c.counted_way.ensures.stays ∙ i.stays) c.part-spot.ensures.parts in
+    let lower = part_lower h c.requires.sound pending pending moved spot next t m i.somewhere (at ∙ is) parts in
     let long : length c.parts.pending ≡ h.network.nodes = omega (arith, c.parts.auto.pending, c.requires.room) in
     let few = i.few in
     let one = c.counted_way.ensures.counted in
     record {
       stays = c.counted_way.ensures.stays ∙ i.stays;
       second = parts.second ∙ i.second;
-      somewhere = part_somewhere h c.requires.sound c.parts.pending c.part-spot.new.pending c.parts.spot c.part-spot.result t m long i.somewhere (at ∙ is) parts;
+      somewhere = part_somewhere h c.requires.sound pending moved spot next t m long i.somewhere (at ∙ is) parts;
       few = omega (arith, few, one, lower);
-      went = λ leg legs place. went_part h c.requires.sound leg legs t c.parts.pending c.part-spot.new.pending c.parts.spot c.part-spot.result (g.C.CountedWays.steps c.args.ways.now) (g.C.CountedWays.steps c.parts.ways) (g.C.CountedWays.steps c.counted_way.new.self) m long (i.went leg legs place) (at ∙ is) one parts;
+      went = λ leg legs place. went_part h c.requires.sound leg legs t pending moved spot next before now after m long (i.went leg legs place) (at ∙ is) one parts;
     }

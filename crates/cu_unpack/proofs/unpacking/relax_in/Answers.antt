@@ -1,8 +1,8 @@
-use Rattle.std.proofs.Common.{◌≡◌, ◌≤◌, ◌<◌, ◌+◌, ◌^◌, ◌∙◌, Some, None, refl, sym, subst, arith, rules, length}
+use Rattle.std.proofs.Common.{◌≡◌, ◌≤◌, ◌<◌, ◌+◌, ◌^◌, ◌∙◌, None, refl, sym, subst, arith, rules, length}
 use Rattle.cu_interval.specs.Hierarchies.{HierarchyValue, IsHierarchy}
 use Rattle.cu_unpack.specs.declared.unpacking.Spot.{Spot}
 use Rattle.cu_unpack.specs.Steps.Legs.{IsSomewhere}
-use Rattle.cu_unpack.proofs.OnWay.{IsOnWay, WillDrive, on_way_begin, on_way_few, on_way_last, on_way_long, on_way_next, on_way_time}
+use Rattle.cu_unpack.proofs.OnWay.{IsOnWay, on_way_begin, on_way_few, on_way_last, on_way_long, on_way_next, on_way_time}
 use Rattle.cu_unpack.proofs.unpacking.relax_in.Goals as goal
 
 pub roads-init : goal.roads-init
@@ -19,14 +19,8 @@ roads-init g c =
 
 pub roads-preserved : goal.roads-preserved
 roads-preserved g c =
-    let h = g.C.CountedWays.hierarchy c.args.ways.now in
     let i = c.roads.invariant in
-    let before = g.C.CountedWays.steps c.args.ways.now in
-    let now = g.C.CountedWays.steps c.roads.ways in
-    let after = g.C.CountedWays.steps c.drive_on.new.ways in
-    let drives : WillDrive h c.roads.pending c.roads.spot c.drive_on.new.pending now after (Some c.in-Some.driven) =
-    subst (λ (k : HierarchyValue). WillDrive k c.roads.pending c.roads.spot c.drive_on.new.pending now after (Some c.in-Some.driven)) i.stays c.in-Some.ensures.drives in
-    let more = on_way_next h c.args.edge c.args.dir c.args.at c.roads.pending c.drive_on.new.pending c.roads.spot c.in-Some-rest.next before now after c.roads._number c.in-Some.driven i.way drives c.in-Some-rest.is in
+    let more = on_way_next i.stays i.way c.in-Some.ensures.drives c.in-Some-rest.is in
     record { stays = c.drive_on.ensures.stays ∙ i.stays; sound = i.sound; last = i.last; way = more.0 }
 
 pub drive_on-requires-clause-sound : goal.drive_on-requires-clause-sound
@@ -46,63 +40,43 @@ pub drive_on-requires-clause-time : goal.drive_on-requires-clause-time
 drive_on-requires-clause-time g c =
     let i = c.roads.invariant in
     let le : c.roads._number ≤ (g.C.CountedWays.hierarchy c.args.ways.now).network.nodes = omega (arith, c.roads-test.true, i.last) in
-    on_way_time (g.C.CountedWays.hierarchy c.args.ways.now) i.sound c.args.edge c.args.dir c.args.at c.roads.pending c.roads.spot (g.C.CountedWays.steps c.args.ways.now) (g.C.CountedWays.steps c.roads.ways) c.roads._number c.roads.invariant.way le c.requires.time
+    on_way_time i.sound i.way le c.requires.time
 
 pub drive_on-requires-clause-few : goal.drive_on-requires-clause-few
 drive_on-requires-clause-few g c =
     let i = c.roads.invariant in
     let le : c.roads._number ≤ (g.C.CountedWays.hierarchy c.args.ways.now).network.nodes = omega (arith, c.roads-test.true, i.last) in
-    let few = on_way_few (g.C.CountedWays.hierarchy c.args.ways.now) i.sound c.args.edge c.args.dir c.args.at c.roads.pending c.roads.spot (g.C.CountedWays.steps c.args.ways.now) (g.C.CountedWays.steps c.roads.ways) c.roads._number c.roads.invariant.way le c.requires.few in
-    subst (λ (k : HierarchyValue). g.C.CountedWays.steps c.roads.ways + k.network.nodes < 2 ^ 63) (sym i.stays) few
+    subst (λ (k : HierarchyValue). g.C.CountedWays.steps c.roads.ways + k.network.nodes < 2 ^ 63) (sym i.stays) (on_way_few i.sound i.way le c.requires.few)
 
 pub returns-in_default-rest-clause-answer : goal.returns-in_default-rest-clause-answer
 returns-in_default-rest-clause-answer g c =
-    let h = g.C.CountedWays.hierarchy c.args.ways.now in
     let i = c.roads.invariant in
-    let before = g.C.CountedWays.steps c.args.ways.now in
-    let now = g.C.CountedWays.steps c.roads.ways in
-    let after = g.C.CountedWays.steps c.drive_on.new.ways in
-    let drives : WillDrive h c.roads.pending c.roads.spot c.drive_on.new.pending now after (Some c.in-Some.driven) =
-    subst (λ (k : HierarchyValue). WillDrive k c.roads.pending c.roads.spot c.drive_on.new.pending now after (Some c.in-Some.driven)) i.stays c.in-Some.ensures.drives in
     let none : c.in-Some.driven.rest ≡ None = search rules in
-    let short : c.roads._number < h.network.nodes = omega (arith, c.roads-test.true, i.last) in
-    let last = on_way_last h i.sound c.args.edge c.args.dir c.args.at c.roads.pending c.drive_on.new.pending c.roads.spot before now after c.roads._number c.in-Some.driven i.way drives none short in
+    let short : c.roads._number < (g.C.CountedWays.hierarchy c.args.ways.now).network.nodes = omega (arith, c.roads-test.true, i.last) in
+    let last = on_way_last c.drive_on.new.pending i.stays i.sound i.way c.in-Some.ensures.drives none short in
     sym last.answer
 
 pub returns-in_default-rest-clause-near : goal.returns-in_default-rest-clause-near
 returns-in_default-rest-clause-near g c =
-    let h = g.C.CountedWays.hierarchy c.args.ways.now in
     let i = c.roads.invariant in
-    let before = g.C.CountedWays.steps c.args.ways.now in
-    let now = g.C.CountedWays.steps c.roads.ways in
-    let after = g.C.CountedWays.steps c.drive_on.new.ways in
-    let drives : WillDrive h c.roads.pending c.roads.spot c.drive_on.new.pending now after (Some c.in-Some.driven) =
-    subst (λ (k : HierarchyValue). WillDrive k c.roads.pending c.roads.spot c.drive_on.new.pending now after (Some c.in-Some.driven)) i.stays c.in-Some.ensures.drives in
     let none : c.in-Some.driven.rest ≡ None = search rules in
-    let short : c.roads._number < h.network.nodes = omega (arith, c.roads-test.true, i.last) in
-    let last = on_way_last h i.sound c.args.edge c.args.dir c.args.at c.roads.pending c.drive_on.new.pending c.roads.spot before now after c.roads._number c.in-Some.driven i.way drives none short in
+    let short : c.roads._number < (g.C.CountedWays.hierarchy c.args.ways.now).network.nodes = omega (arith, c.roads-test.true, i.last) in
+    let last = on_way_last c.drive_on.new.pending i.stays i.sound i.way c.in-Some.ensures.drives none short in
     (last.onward, last.near)
 
 pub returns-in_default-rest-clause-steps : goal.returns-in_default-rest-clause-steps
 returns-in_default-rest-clause-steps g c =
-    let h = g.C.CountedWays.hierarchy c.args.ways.now in
     let i = c.roads.invariant in
-    let before = g.C.CountedWays.steps c.args.ways.now in
-    let now = g.C.CountedWays.steps c.roads.ways in
-    let after = g.C.CountedWays.steps c.drive_on.new.ways in
-    let drives : WillDrive h c.roads.pending c.roads.spot c.drive_on.new.pending now after (Some c.in-Some.driven) =
-    subst (λ (k : HierarchyValue). WillDrive k c.roads.pending c.roads.spot c.drive_on.new.pending now after (Some c.in-Some.driven)) i.stays c.in-Some.ensures.drives in
     let none : c.in-Some.driven.rest ≡ None = search rules in
-    let short : c.roads._number < h.network.nodes = omega (arith, c.roads-test.true, i.last) in
-    let last = on_way_last h i.sound c.args.edge c.args.dir c.args.at c.roads.pending c.drive_on.new.pending c.roads.spot before now after c.roads._number c.in-Some.driven i.way drives none short in
+    let short : c.roads._number < (g.C.CountedWays.hierarchy c.args.ways.now).network.nodes = omega (arith, c.roads-test.true, i.last) in
+    let last = on_way_last c.drive_on.new.pending i.stays i.sound i.way c.in-Some.ensures.drives none short in
     last.steps
 
 pub returns-clause-answer : goal.returns-clause-answer
 returns-clause-answer g c =
-    let h = g.C.CountedWays.hierarchy c.args.ways.now in
     let i = c.roads.invariant in
-    let last : h.network.nodes ≤ c.roads._number = omega (arith, c.roads-test.false, i.last) in
-    sym (on_way_long h i.sound c.args.edge c.args.dir c.args.at c.roads.pending c.roads.spot (g.C.CountedWays.steps c.args.ways.now) (g.C.CountedWays.steps c.roads.ways) c.roads._number i.way last).0
+    let last : (g.C.CountedWays.hierarchy c.args.ways.now).network.nodes ≤ c.roads._number = omega (arith, c.roads-test.false, i.last) in
+    sym (on_way_long i.sound i.way last).0
 
 pub returns-clause-steps : goal.returns-clause-steps
 returns-clause-steps g c =
@@ -111,4 +85,4 @@ returns-clause-steps g c =
     let last : h.network.nodes ≤ c.roads._number = omega (arith, c.roads-test.false, i.last) in
     let room = i.way.place.room in
     let most : c.roads._number ≤ h.network.nodes = omega (arith, c.roads.auto._number-end, i.last, room) in
-    (on_way_long h i.sound c.args.edge c.args.dir c.args.at c.roads.pending c.roads.spot (g.C.CountedWays.steps c.args.ways.now) (g.C.CountedWays.steps c.roads.ways) c.roads._number i.way last).1 most
+    (on_way_long i.sound i.way last).1 most

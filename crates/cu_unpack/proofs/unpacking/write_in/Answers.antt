@@ -1,6 +1,5 @@
-use Rattle.std.proofs.Common.{◌≡◌, ◌≤◌, ◌<◌, ◌+◌, ◌^◌, ◌∙◌, ◌++◌, Option, Some, None, refl, sym, ap, subst, arith, rules, length}
+use Rattle.std.proofs.Common.{◌≡◌, ◌≤◌, ◌<◌, ◌+◌, ◌^◌, ◌∙◌, ◌++◌, None, refl, sym, ap, subst, arith, rules, length}
 use Rattle.cu_interval.specs.Hierarchies.{HierarchyValue, IsHierarchy}
-use Rattle.cu_unpack.specs.declared.unpacking.Driven.{Driven}
 use Rattle.cu_unpack.specs.declared.unpacking.Spot.{Spot}
 use Rattle.cu_unpack.specs.Steps.Legs.{IsSomewhere}
 use Rattle.std.specs.List.{flat_map}
@@ -9,7 +8,7 @@ use Rattle.cu_io.specs.Sinks.{WroteAll}
 use Rattle.cu_io.proofs.Appending.{wrote_nothing, wrote_ok, wrote_same, wrote_stops, wrote_then}
 use Rattle.cu_unpack.specs.Answers.{walk_over}
 use Rattle.cu_unpack.specs.Texts.{road_text, walk_text}
-use Rattle.cu_unpack.proofs.OnWay.{IsOnWay, WillDrive, arriving_short, arriving_some, on_way_begin, on_way_cut, on_way_few, on_way_last, on_way_next, on_way_time}
+use Rattle.cu_unpack.proofs.OnWay.{IsOnWay, arriving_short, arriving_some, on_way_begin, on_way_cut, on_way_few, on_way_last, on_way_long, on_way_next, on_way_none, on_way_time}
 use Rattle.cu_unpack.proofs.Texts.{first_after, not_first, text_cut, text_more}
 use Rattle.cu_unpack.proofs.unpacking.write_in.Goals as goal
 
@@ -29,16 +28,10 @@ roads-init g c =
 
 pub roads-preserved : goal.roads-preserved
 roads-preserved g c =
-    let h = g.C.CountedWays.hierarchy c.args.ways.now in
     let i = c.roads.invariant in
-    let before = g.C.CountedWays.steps c.args.ways.now in
-    let now = g.C.CountedWays.steps c.roads.ways in
-    let after = g.C.CountedWays.steps c.drive_on.new.ways in
-    let drives : WillDrive h c.roads.pending c.roads.spot c.drive_on.new.pending now after (Some c.in-Some.driven) =
-    subst (λ (k : HierarchyValue). WillDrive k c.roads.pending c.roads.spot c.drive_on.new.pending now after (Some c.in-Some.driven)) i.stays c.in-Some.ensures.drives in
     let (w, text, is) = i.way in
     let road = c.in-Some.driven.road in
-    let (m, same) = on_way_next h c.args.edge c.args.dir c.args.at c.roads.pending c.drive_on.new.pending c.roads.spot c.in-Some-rest.next before now after c.roads._number c.in-Some.driven w drives c.in-Some-rest.is in
+    let (m, same) = on_way_next i.stays w c.in-Some.ensures.drives c.in-Some-rest.is in
     let written : walk_text c.args.first w.done ++ road_text c.roads.first road ≡ walk_text c.args.first m.done =
     ap (λ (f : Bool). walk_text c.args.first w.done ++ road_text f road) is ∙ sym (text_more c.args.first w.done road) ∙ sym (ap (walk_text c.args.first) same) in
     record {
@@ -65,56 +58,40 @@ pub drive_on-requires-clause-time : goal.drive_on-requires-clause-time
 drive_on-requires-clause-time g c =
     let i = c.roads.invariant in
     let le : c.roads._number ≤ (g.C.CountedWays.hierarchy c.args.ways.now).network.nodes = omega (arith, c.roads-test.true, i.last) in
-    on_way_time (g.C.CountedWays.hierarchy c.args.ways.now) i.sound c.args.edge c.args.dir c.args.at c.roads.pending c.roads.spot (g.C.CountedWays.steps c.args.ways.now) (g.C.CountedWays.steps c.roads.ways) c.roads._number c.roads.invariant.way.0 le c.requires.time
+    on_way_time i.sound i.way.0 le c.requires.time
 
 pub drive_on-requires-clause-few : goal.drive_on-requires-clause-few
 drive_on-requires-clause-few g c =
     let i = c.roads.invariant in
     let le : c.roads._number ≤ (g.C.CountedWays.hierarchy c.args.ways.now).network.nodes = omega (arith, c.roads-test.true, i.last) in
-    let few = on_way_few (g.C.CountedWays.hierarchy c.args.ways.now) i.sound c.args.edge c.args.dir c.args.at c.roads.pending c.roads.spot (g.C.CountedWays.steps c.args.ways.now) (g.C.CountedWays.steps c.roads.ways) c.roads._number c.roads.invariant.way.0 le c.requires.few in
-    subst (λ (k : HierarchyValue). g.C.CountedWays.steps c.roads.ways + k.network.nodes < 2 ^ 63) (sym i.stays) few
+    subst (λ (k : HierarchyValue). g.C.CountedWays.steps c.roads.ways + k.network.nodes < 2 ^ 63) (sym i.stays) (on_way_few i.sound i.way.0 le c.requires.few)
 
 pub unreachable-requires : goal.unreachable-requires
 unreachable-requires g c =
-    let h = g.C.CountedWays.hierarchy c.args.ways.now in
     let i = c.roads.invariant in
-    let before = g.C.CountedWays.steps c.args.ways.now in
-    let now = g.C.CountedWays.steps c.roads.ways in
-    let after = g.C.CountedWays.steps c.drive_on.new.ways in
     let none : c.drive_on.result ≡ None = search rules in
-    let drives : WillDrive h c.roads.pending c.roads.spot c.drive_on.new.pending now after None =
-    subst (λ (o : Option Driven). WillDrive h c.roads.pending c.roads.spot c.drive_on.new.pending now after o) none
-    (subst (λ (k : HierarchyValue). WillDrive k c.roads.pending c.roads.spot c.drive_on.new.pending now after c.drive_on.result) i.stays c.drive_on.ensures.drives) in
-    arriving_some h c.args.edge c.args.dir c.args.at c.roads.pending c.drive_on.new.pending c.roads.spot before now after c.roads._number c.requires.answers i.way.0 drives
+    arriving_some (g.C.CountedWays.hierarchy c.args.ways.now) c.args.edge c.args.dir c.args.at c.requires.answers (on_way_none c.drive_on.new.pending i.stays i.way.0 c.drive_on.ensures.drives none).0
 
 pub returns-in_err-put_road-clause-wrote : goal.returns-in_err-put_road-clause-wrote
 returns-in_err-put_road-clause-wrote g c =
     let h = g.C.CountedWays.hierarchy c.args.ways.now in
     let i = c.roads.invariant in
-    let before = g.C.CountedWays.steps c.args.ways.now in
-    let now = g.C.CountedWays.steps c.roads.ways in
-    let after = g.C.CountedWays.steps c.drive_on.new.ways in
-    let drives : WillDrive h c.roads.pending c.roads.spot c.drive_on.new.pending now after (Some c.in-Some.driven) =
-    subst (λ (k : HierarchyValue). WillDrive k c.roads.pending c.roads.spot c.drive_on.new.pending now after (Some c.in-Some.driven)) i.stays c.in-Some.ensures.drives in
     let (w, text, is) = i.way in
     let road = c.in-Some.driven.road in
-    let (left, cut) = on_way_cut h c.args.edge c.args.dir c.args.at c.roads.pending c.drive_on.new.pending c.roads.spot before now after c.roads._number c.in-Some.driven w drives in
-    let whole : walk_text c.args.first w.done ++ (road_text c.roads.first road ++ flat_map (road_text false) left) ≡ walk_text c.args.first (walk_over h c.args.edge c.args.dir c.args.at) =
-    ap (λ (f : Bool). walk_text c.args.first w.done ++ (road_text f road ++ flat_map (road_text false) left)) is ∙ sym (text_cut c.args.first w.done road left) ∙ sym (ap (walk_text c.args.first) cut) in
+    let (left, cut) = on_way_cut c.drive_on.new.pending (g.C.CountedWays.steps c.drive_on.new.ways) c.in-Some.driven i.stays w c.in-Some.ensures.drives in
+    let all = walk_text c.args.first (walk_over h c.args.edge c.args.dir c.args.at) in
+    let whole : walk_text c.args.first w.done ++ (road_text c.roads.first road ++ flat_map (road_text false) left) ≡ all =
+    ap (λ (f : Bool). walk_text c.args.first w.done ++ (road_text f road ++ flat_map (road_text false) left)) is
+    ∙ sym (text_cut c.args.first w.done road left) ∙ sym (ap (walk_text c.args.first) cut) in
     wrote_same whole (wrote_then text (wrote_stops (flat_map (road_text false) left) c.from_residual.ensures.0 c.in_err-put_road.ensures.wrote))
 
 pub returns-in_default-rest-clause-wrote : goal.returns-in_default-rest-clause-wrote
 returns-in_default-rest-clause-wrote g c =
     let h = g.C.CountedWays.hierarchy c.args.ways.now in
     let i = c.roads.invariant in
-    let before = g.C.CountedWays.steps c.args.ways.now in
-    let now = g.C.CountedWays.steps c.roads.ways in
-    let after = g.C.CountedWays.steps c.drive_on.new.ways in
-    let drives : WillDrive h c.roads.pending c.roads.spot c.drive_on.new.pending now after (Some c.in-Some.driven) =
-    subst (λ (k : HierarchyValue). WillDrive k c.roads.pending c.roads.spot c.drive_on.new.pending now after (Some c.in-Some.driven)) i.stays c.in-Some.ensures.drives in
     let none : c.in-Some.driven.rest ≡ None = search rules in
     let short : c.roads._number < h.network.nodes = omega (arith, c.roads-test.true, i.last) in
-    let last = on_way_last h i.sound c.args.edge c.args.dir c.args.at c.roads.pending c.drive_on.new.pending c.roads.spot before now after c.roads._number c.in-Some.driven i.way.0 drives none short in
+    let last = on_way_last c.drive_on.new.pending i.stays i.sound i.way.0 c.in-Some.ensures.drives none short in
     let (w, text, is) = i.way in
     let road = c.in-Some.driven.road in
     let written : walk_text c.args.first w.done ++ road_text c.roads.first road ≡ walk_text c.args.first (walk_over h c.args.edge c.args.dir c.args.at) =
@@ -123,21 +100,13 @@ returns-in_default-rest-clause-wrote g c =
 
 pub returns-in_default-rest-clause-arrival : goal.returns-in_default-rest-clause-arrival
 returns-in_default-rest-clause-arrival g c =
-    let h = g.C.CountedWays.hierarchy c.args.ways.now in
     let i = c.roads.invariant in
-    let before = g.C.CountedWays.steps c.args.ways.now in
-    let now = g.C.CountedWays.steps c.roads.ways in
-    let after = g.C.CountedWays.steps c.drive_on.new.ways in
-    let drives : WillDrive h c.roads.pending c.roads.spot c.drive_on.new.pending now after (Some c.in-Some.driven) =
-    subst (λ (k : HierarchyValue). WillDrive k c.roads.pending c.roads.spot c.drive_on.new.pending now after (Some c.in-Some.driven)) i.stays c.in-Some.ensures.drives in
     let none : c.in-Some.driven.rest ≡ None = search rules in
-    let short : c.roads._number < h.network.nodes = omega (arith, c.roads-test.true, i.last) in
-    let last = on_way_last h i.sound c.args.edge c.args.dir c.args.at c.roads.pending c.drive_on.new.pending c.roads.spot before now after c.roads._number c.in-Some.driven i.way.0 drives none short in
-    last.answer
+    let short : c.roads._number < (g.C.CountedWays.hierarchy c.args.ways.now).network.nodes = omega (arith, c.roads-test.true, i.last) in
+    (on_way_last c.drive_on.new.pending i.stays i.sound i.way.0 c.in-Some.ensures.drives none short).answer
 
 pub unreachable-requires-2 : goal.unreachable-requires-2
 unreachable-requires-2 g c =
-    let h = g.C.CountedWays.hierarchy c.args.ways.now in
     let i = c.roads.invariant in
-    let last : h.network.nodes ≤ c.roads._number = omega (arith, c.roads-test.false, i.last) in
-    arriving_short h i.sound c.args.edge c.args.dir c.args.at c.roads.pending c.roads.spot (g.C.CountedWays.steps c.args.ways.now) (g.C.CountedWays.steps c.roads.ways) c.roads._number c.requires.answers i.way.0 last
+    let last : (g.C.CountedWays.hierarchy c.args.ways.now).network.nodes ≤ c.roads._number = omega (arith, c.roads-test.false, i.last) in
+    arriving_short (g.C.CountedWays.hierarchy c.args.ways.now) c.args.edge c.args.dir c.args.at c.requires.answers (on_way_long i.sound i.way.0 last).0
