@@ -1,0 +1,16 @@
+-- The roads of the calls before a place were written.
+use Rattle.std.proofs.Common.{◌≡◌, ◌≤◌, ◌*◌, ◌-◌}
+use Rattle.cu_sweep.specs.Steps.Places.{turn_of}
+use Rattle.cu_sweep.proofs.Turned.{IsOnRoute}
+use Rattle.cu_sweep.proofs.routing.write_chain.Given as goal
+
+abbrev pub invariant-links : goal.invariant-links
+invariant-links g l = record {
+  stays : l.unpacker ≡ l.fn.unpacker;
+  within : l.place ≤ 2 * l.fn.nodes;
+  few : turn_of l.fn.nodes l.place ≤ 2 * l.fn.nodes;
+  on : IsOnRoute l.fn.unpacker l.fn.nodes l.fn.labels l.fn.chain.links l.chain.links l.fn.end l.place l.first (g.K.Sink.state l.fn.sink) (g.K.Sink.state l.sink);
+}
+
+abbrev pub decreases-links : goal.decreases-links
+decreases-links g l = 2 * l.fn.nodes - turn_of l.fn.nodes l.place

@@ -1,0 +1,29 @@
+-- The calls from so many higher neighbours were made.
+use Rattle.std.proofs.Common.{◌≡◌, ◌≢◌, ◌+◌, ℕ, List, take, false}
+use Rattle.std.specs.List.{Contains}
+use Rattle.cu_chordal.specs.Graphs.{HasEdge, first_edge_of, up_of}
+use Rattle.cu_interval.specs.declared.ways.Dir.TheVariants.{Down}
+use Rattle.cu_interval.specs.Hierarchies.{number_from}
+use Rattle.cu_sweep.specs.Sweeps.{call_at}
+use Rattle.cu_sweep.specs.Steps.Places.{IsReady, second_at}
+use Rattle.cu_sweep.specs.Steps.Sweeping.{IsDownSwept, IsPassed, Question}
+use Rattle.cu_sweep.proofs.DownRows.{IsDownPart}
+use Rattle.cu_sweep.proofs.Rows.{IsRow}
+use Rattle.cu_sweep.proofs.sweeping.relax_down.Given as goal
+
+abbrev pub invariant-edges : goal.invariant-edges
+invariant-edges g l =
+    let h = g.R.Relaxer.hierarchy l.fn.relaxer in
+    let n = h.network.nodes in
+    record {
+      ready : IsReady n l.labels l.chain;
+      unturned : l.chain.turned ≡ false;
+      stays : g.R.Relaxer.hierarchy l.relaxer ≡ h;
+      highers : l.highers ≡ up_of h.edges l.fn.rank;
+      edge : l.edge ≡ first_edge_of h.edges l.fn.rank + l.higher-index;
+      nodes : l.nodes ≡ n;
+      source : (y : ℕ) → y ≢ l.fn.rank → second_at l.labels (n + y) ≡ second_at l.fn.labels (n + y);
+      row : IsRow h (λ y. call_at (number_from 0 h.edges l.fn.rank y) Down (second_at l.fn.labels (n + y))) (take l.higher-index l.highers) (g.R.Relaxer.calls l.fn.relaxer) (g.R.Relaxer.calls l.relaxer);
+      swept : (q : Question) (done : List ℕ) → IsDownSwept h q done l.fn.labels l.fn.chain.links → IsPassed h q l.fn.rank → ((y : ℕ) → HasEdge h.edges l.fn.rank y → Contains done y)
+          → IsDownPart h q done l.fn.rank (take l.higher-index l.highers) l.labels l.chain.links;
+    }

@@ -1,0 +1,22 @@
+//! The two sweeps of a query, up from its start and down to its end, and the route of the walk that they find.
+//!
+//! [`query`] answers the earliest arrival by labels of both sweeps (`specs/Labels.antt`, `specs/Sweeps.antt`): in a built
+//! hierarchy the least arrival over all walks, or that there is none, and in any hierarchy that of a real walk
+//! (`specs/Answers.antt`). [`SweepDesk`] holds that walk's calls (`specs/Desks.antt`), whose roads [`route`] writes.
+//!
+//! It stands on `cu_model`, `cu_io`, `cu_links`, `cu_chordal`, `cu_elimtree`, `cu_interval` and `cu_unpack`; tests alone use
+//! `cu_customize`. `specs/Steps` is cited by private functions alone.
+#![tactic(auto)]
+
+mod desk;
+mod finding;
+mod querying;
+mod routing;
+mod sweeping;
+#[cfg(test)]
+mod tests;
+
+pub use desk::SweepDesk;
+pub use finding::Found;
+pub use querying::query;
+pub use routing::route;

@@ -1,0 +1,161 @@
+//! Routes: the roads of the walk that a query found.
+
+ghost use Rattle.std.specs.Prelude.{◌≡◌, ◌≢◌, ◌≤◌, ◌<◌, ◌*◌, ◌^◌, [], true, false, IfOk, length};
+ghost use Rattle.cu_io.specs.Sinks.{Wrote};
+ghost use Rattle.cu_unpack.specs.Answers.{walk_over};
+ghost use Rattle.cu_unpack.specs.Texts.{walk_text};
+ghost use Rattle.cu_unpack.proofs.Texts.{first_after};
+ghost use Rattle.cu_sweep.specs.Desks.{AreArriving, IsArrivingCall, roads_of};
+ghost use Rattle.cu_sweep.specs.Steps.Places.{IsReady, calls_found, calls_of_some, calls_over, dir_between};
+
+use crate::desk::SweepDesk;
+use cu_interval::{Call, Dir, Relaxer, Ways};
+use cu_io::{Sink, SinkFailed};
+use cu_links::Chain;
+use cu_unpack::Unpacker;
+
+/// Writes the roads of the walk that the desk found, each after a blank but the first, in the order in which they are
+/// driven. The desk holds calls over this hierarchy that all arrive, and was not turned since its last query. Its chain is
+/// turned in place, so one route follows a query. Takes no memory; a fault of the sink is handed on, and the roads written
+/// before it stay.
+pub fn route<W: Ways, K: Sink>(
+    desk: &mut SweepDesk,
+    unpacker: &mut Unpacker<'_, W>,
+    sink: &mut K,
+) -> Result<(), SinkFailed>
+    requires unturned { desk.old.turned ≡ false }
+    requires arriving { AreArriving unpacker.old desk.old.calls }
+    ensures wrote { Wrote (K.state sink.old) (K.state sink.new) result
+        (walk_text true (roads_of unpacker.old desk.old.calls)) }
+    ensures nodes { desk.new.nodes ≡ desk.old.nodes }
+    ensures turned { desk.new.turned ≡ true }
+    ensures stays { unpacker.new ≡ unpacker.old }
+{
+    write_chain(
+        desk.nodes,
+        &desk.labels,
+        &mut desk.chain,
+        desk.end,
+        unpacker,
+        sink,
+    )
+}
+
+// Turns the chain that leads to a place, and writes the roads of its calls from its first place on.
+fn write_chain<W: Ways, K: Sink>(
+    nodes: u32,
+    labels: &[Option<u64>],
+    chain: &mut Chain,
+    end: u32,
+    unpacker: &mut Unpacker<'_, W>,
+    sink: &mut K,
+) -> Result<(), SinkFailed>
+    requires ready { IsReady nodes labels.now chain.old }
+    requires end { end ≤ 2 * nodes }
+    requires unturned { chain.old.turned ≡ false }
+    requires arriving { AreArriving unpacker.old
+        (calls_found nodes labels.now chain.old.links end) }
+    ensures wrote { Wrote (K.state sink.old) (K.state sink.new) result
+        (walk_text true
+        (roads_of unpacker.old (calls_found nodes labels.now chain.old.links end))) }
+    ensures ready { IsReady nodes labels.now chain.new }
+    ensures turned { chain.new.turned ≡ true }
+    ensures stays { unpacker.new ≡ unpacker.old }
+{
+    let mut place = chain.reverse_from(end);
+    let mut first = true;
+    'links: while let Some((next, edge)) = chain.follow(place) {
+        let call = call_of(nodes, labels, place, next, edge);
+        first = write_some(call, first, unpacker, sink)?;
+        place = next;
+    }
+    Ok(())
+}
+
+// The call of a link between two places, at the second of the place that it comes from.
+fn call_of(nodes: u32, labels: &[Option<u64>], from: u32, place: u32, edge: u64) -> Option<Call>
+    requires from { from < length labels.now }
+    requires edge { edge < 2 ^ 32 }
+    ensures { calls_of_some result ≡ calls_over nodes labels.now from place edge }
+{
+    let dir = direction(nodes, from, place)?;
+    let second = labels[from as usize]?;
+    Some(Call {
+        edge: edge as u32,
+        dir,
+        second,
+    })
+}
+
+// Which direction a link between two places leads in. None where a downward label begins as the upward one.
+fn direction(nodes: u32, from: u32, place: u32) -> Option<Dir>
+    ensures { result ≡ dir_between nodes from place }
+{
+    if place < nodes {
+        return Some(Dir::Up);
+    }
+    if from < nodes {
+        return None;
+    }
+    Some(Dir::Down)
+}
+
+// Writes the roads of a call, where there is one, and answers whether the next road is still the first of all.
+fn write_some<W: Ways, K: Sink>(
+    call: Option<Call>,
+    first: bool,
+    unpacker: &mut Unpacker<'_, W>,
+    sink: &mut K,
+) -> Result<bool, SinkFailed>
+    requires arriving { AreArriving unpacker.old (calls_of_some call) }
+    ensures wrote { Wrote (K.state sink.old) (K.state sink.new) result
+        (walk_text first (roads_of unpacker.old (calls_of_some call))) }
+    ensures first { IfOk result
+        (λ next. next ≡ first_after first (roads_of unpacker.old (calls_of_some call))) }
+    ensures stays { unpacker.new ≡ unpacker.old }
+{
+    let Some(call) = call else {
+        return Ok(first);
+    };
+    write_call(call, first, unpacker, sink)?;
+    Ok(false)
+}
+
+// Writes the roads of a call that arrives. The road behind them isn't the first of all.
+fn write_call<W: Ways, K: Sink>(
+    call: Call,
+    first: bool,
+    unpacker: &mut Unpacker<'_, W>,
+    sink: &mut K,
+) -> Result<(), SinkFailed>
+    requires arriving { IsArrivingCall unpacker.old call }
+    ensures wrote { Wrote (K.state sink.old) (K.state sink.new) result
+        (walk_text first (walk_over unpacker.old call.edge call.dir call.second)) }
+    ensures first { first_after first (walk_over unpacker.old call.edge call.dir call.second)
+        ≡ false }
+    ensures stays { unpacker.new ≡ unpacker.old }
+{
+    if first {
+        return write_first(call, unpacker, sink);
+    }
+    unpacker.walk(call.edge, call.dir, call.second, false, sink)?;
+    Ok(())
+}
+
+// Writes the first roads of all. The call is asked once more, which shows that the unpacker's ways are those of a hierarchy,
+// so that a walk that arrives has a road.
+fn write_first<W: Ways, K: Sink>(
+    call: Call,
+    unpacker: &mut Unpacker<'_, W>,
+    sink: &mut K,
+) -> Result<(), SinkFailed>
+    requires arriving { IsArrivingCall unpacker.old call }
+    ensures wrote { Wrote (K.state sink.old) (K.state sink.new) result
+        (walk_text true (walk_over unpacker.old call.edge call.dir call.second)) }
+    ensures roads { walk_over unpacker.old call.edge call.dir call.second ≢ [] }
+    ensures stays { unpacker.new ≡ unpacker.old }
+{
+    unpacker.relax(call.edge, call.dir, call.second);
+    unpacker.walk(call.edge, call.dir, call.second, true, sink)?;
+    Ok(())
+}

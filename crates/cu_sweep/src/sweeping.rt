@@ -1,0 +1,214 @@
+//! The sweeps over the ancestors of a query's start and end, in places for labels and links.
+
+ghost use Rattle.std.specs.Prelude.{◌≡◌, ◌≤◌, ◌<◌, ◌+◌, ◌*◌, ◌^◌, ◌++◌, ◌∷◌, [], ℕ, List, Some, None, false, length, slice_set};
+ghost use Rattle.cu_links.specs.Chains.{IsOnChainTo};
+ghost use Rattle.std.specs.List.{Contains};
+ghost use Rattle.cu_chordal.specs.Graphs.{HasEdge};
+ghost use Rattle.cu_interval.specs.Calls.{IfAt};
+ghost use Rattle.cu_interval.specs.Hierarchies.{IsHierarchyOf};
+ghost use Rattle.cu_sweep.specs.Labels.{up_label};
+ghost use Rattle.cu_sweep.specs.Sweeps.{AddsAll, call_at, calls_down, calls_up, first_long, until_long};
+ghost use Rattle.cu_sweep.specs.Steps.Places.{IsReady, calls_of_some, second_at};
+ghost use Rattle.cu_sweep.specs.Steps.Sweeping.{Question, IfSecond, IsDownSwept, IsPassed, IsUpSwept, answer_at, begun_links, is_earlier, links_after, long_by, seconds_after, up_after};
+
+use cu_chordal::Chordal;
+use cu_interval::{Call, Dir, Relaxed, Relaxer};
+use cu_links::Chain;
+
+// Relaxes the edges from a rank to its higher neighbours, by rising rank. Answers the first call whose walk is too long,
+// with which it ends.
+pub(crate) fn relax_up<R: Relaxer>(
+    graph: &Chordal,
+    labels: &mut [Option<u64>],
+    chain: &mut Chain,
+    relaxer: &mut R,
+    rank: u32,
+) -> Option<Call>
+    requires rank { rank < graph.now.ranks }
+    requires graph { IsHierarchyOf graph.now (R.hierarchy relaxer.old) }
+    requires ready { IsReady graph.now.ranks labels.old chain.old }
+    requires unturned { chain.old.turned ≡ false }
+    ensures ready { IsReady graph.now.ranks labels.new chain.new }
+    ensures unturned { chain.new.turned ≡ false }
+    ensures stays { R.hierarchy relaxer.new ≡ R.hierarchy relaxer.old }
+    ensures long { result ≡ first_long (R.hierarchy relaxer.old)
+        (calls_up (R.hierarchy relaxer.old) rank (second_at labels.old rank)) }
+    ensures told { AddsAll (R.calls relaxer.old) (R.calls relaxer.new)
+        (until_long (R.hierarchy relaxer.old)
+        (calls_up (R.hierarchy relaxer.old) rank (second_at labels.old rank))) }
+    ensures swept { (q : Question) (done : List ℕ)
+        → IsUpSwept (R.hierarchy relaxer.old) q done labels.old chain.old.links
+        → IsPassed (R.hierarchy relaxer.old) q rank
+        → up_after (R.hierarchy relaxer.old) q done rank
+        ≡ up_label (R.hierarchy relaxer.old) q.from q.second rank
+        → result ≡ None
+        → IsUpSwept (R.hierarchy relaxer.old) q (done ++ (rank ∷ [])) labels.new chain.new.links }
+{
+    let mut edge = graph.first_edge(rank);
+    let highers = graph.up(rank);
+    'edges: for higher in highers {
+        let long = relax_into(labels, chain, relaxer, edge, Dir::Up, rank, *higher);
+        if long.is_some() {
+            return long;
+        }
+        edge += 1;
+    }
+    None
+}
+
+// Relaxes the edges to a rank from its higher neighbours, by rising rank, after its downward label has begun as the upward
+// one. Answers the first call whose walk is too long, with which it ends.
+pub(crate) fn relax_down<R: Relaxer>(
+    graph: &Chordal,
+    labels: &mut [Option<u64>],
+    chain: &mut Chain,
+    relaxer: &mut R,
+    rank: u32,
+) -> Option<Call>
+    requires rank { rank < graph.now.ranks }
+    requires graph { IsHierarchyOf graph.now (R.hierarchy relaxer.old) }
+    requires ready { IsReady graph.now.ranks labels.old chain.old }
+    requires unturned { chain.old.turned ≡ false }
+    ensures ready { IsReady graph.now.ranks labels.new chain.new }
+    ensures unturned { chain.new.turned ≡ false }
+    ensures stays { R.hierarchy relaxer.new ≡ R.hierarchy relaxer.old }
+    ensures long { result ≡ first_long (R.hierarchy relaxer.old)
+        (calls_down (R.hierarchy relaxer.old) rank
+        (λ y. second_at labels.old (graph.now.ranks + y))) }
+    ensures told { AddsAll (R.calls relaxer.old) (R.calls relaxer.new)
+        (until_long (R.hierarchy relaxer.old)
+        (calls_down (R.hierarchy relaxer.old) rank
+        (λ y. second_at labels.old (graph.now.ranks + y)))) }
+    ensures swept { (q : Question) (done : List ℕ)
+        → IsDownSwept (R.hierarchy relaxer.old) q done labels.old chain.old.links
+        → IsPassed (R.hierarchy relaxer.old) q rank
+        → ((y : ℕ) → HasEdge graph.now.edges rank y → Contains done y)
+        → result ≡ None
+        → IsDownSwept (R.hierarchy relaxer.old) q (done ++ (rank ∷ [])) labels.new chain.new.links }
+{
+    let nodes = graph.ranks();
+    begin_down(labels, chain, nodes, rank);
+    let mut edge = graph.first_edge(rank);
+    let highers = graph.up(rank);
+    'edges: for higher in highers {
+        let long = relax_into(
+            labels,
+            chain,
+            relaxer,
+            edge,
+            Dir::Down,
+            nodes + *higher,
+            nodes + rank,
+        );
+        if long.is_some() {
+            return long;
+        }
+        edge += 1;
+    }
+    None
+}
+
+// A downward label begins as the upward one, without a call of its own.
+fn begin_down(labels: &mut [Option<u64>], chain: &mut Chain, nodes: u32, rank: u32)
+    requires rank { rank < nodes }
+    requires ready { IsReady nodes labels.old chain.old }
+    requires unturned { chain.old.turned ≡ false }
+    ensures ready { IsReady nodes labels.new chain.new }
+    ensures unturned { chain.new.turned ≡ false }
+    ensures labels { labels.new ≡ slice_set labels.old (nodes + rank) (second_at labels.old rank) }
+    ensures links { chain.new.links
+        ≡ begun_links chain.old.links rank (nodes + rank) (second_at labels.old rank) }
+{
+    labels[(nodes + rank) as usize] = labels[rank as usize];
+    if labels[rank as usize].is_some() {
+        chain.set(nodes + rank, rank, 0);
+    }
+}
+
+// Relaxes an edge from the label of one place, and gives another place the label where that is strictly earlier. Answers the
+// call where its walk is too long.
+fn relax_into<R: Relaxer>(
+    labels: &mut [Option<u64>],
+    chain: &mut Chain,
+    relaxer: &mut R,
+    edge: u32,
+    dir: Dir,
+    from: u32,
+    into: u32,
+) -> Option<Call>
+    requires edge { edge < length (R.hierarchy relaxer.old).edges }
+    requires from { from < length labels.old }
+    requires into { into < length labels.old }
+    requires places { length chain.old.links ≡ length labels.old }
+    requires time { IfSecond (second_at labels.old from) (λ at. at < 2 ^ 61) }
+    requires unturned { chain.old.turned ≡ false }
+    requires apart { IsOnChainTo chain.old.links into from → ⊥ }
+    ensures labels { labels.new ≡ seconds_after labels.old into
+        (answer_at (R.hierarchy relaxer.old) edge dir (second_at labels.old from)) }
+    ensures links { chain.new.links ≡ links_after labels.old chain.old.links from edge into
+        (answer_at (R.hierarchy relaxer.old) edge dir (second_at labels.old from)) }
+    ensures unturned { chain.new.turned ≡ false }
+    ensures long { result ≡ long_by
+        (answer_at (R.hierarchy relaxer.old) edge dir (second_at labels.old from))
+        (call_at (Some edge) dir (second_at labels.old from)) }
+    ensures near { IfSecond (second_at labels.old from)
+        (λ at. IfAt (answer_at (R.hierarchy relaxer.old) edge dir (Some at))
+        (λ (arrival : ℕ). arrival ≤ at + 2 ^ 38)) }
+    ensures stays { R.hierarchy relaxer.new ≡ R.hierarchy relaxer.old }
+    ensures told { AddsAll (R.calls relaxer.old) (R.calls relaxer.new)
+        (calls_of_some (call_at (Some edge) dir (second_at labels.old from))) }
+{
+    let Some(second) = labels[from as usize] else {
+        return None;
+    };
+    let answer = relaxer.relax(edge, dir, second);
+    give(labels, chain, from, edge, into, answer);
+    long_of(answer, Call { edge, dir, second })
+}
+
+// The call, where it is answered by a walk that is too long.
+fn long_of(answer: Relaxed, call: Call) -> Option<Call>
+    ensures { result ≡ long_by answer (Some call) }
+{
+    match answer {
+        Relaxed::At(_) => None,
+        Relaxed::NoWay => None,
+        Relaxed::Long => Some(call),
+    }
+}
+
+// Gives a place the label of a call that arrives, where that is strictly earlier than the label it has.
+fn give(
+    labels: &mut [Option<u64>],
+    chain: &mut Chain,
+    from: u32,
+    edge: u32,
+    into: u32,
+    answer: Relaxed,
+)
+    requires from { from < length labels.old }
+    requires into { into < length labels.old }
+    requires places { length chain.old.links ≡ length labels.old }
+    requires unturned { chain.old.turned ≡ false }
+    requires apart { IsOnChainTo chain.old.links into from → ⊥ }
+    ensures labels { labels.new ≡ seconds_after labels.old into answer }
+    ensures links { chain.new.links ≡ links_after labels.old chain.old.links from edge into answer }
+    ensures unturned { chain.new.turned ≡ false }
+{
+    if let Relaxed::At(arrival) = answer {
+        if is_earlier_than(arrival, labels[into as usize]) {
+            labels[into as usize] = Some(arrival);
+            chain.set(into, from, u64::from(edge));
+        }
+    }
+}
+
+// Whether an arrival is earlier than a second, or there is none.
+fn is_earlier_than(arrival: u64, second: Option<u64>) -> bool
+    ensures { result ≡ is_earlier arrival second }
+{
+    match second {
+        None => true,
+        Some(second) => arrival < second,
+    }
+}

@@ -1,0 +1,232 @@
+//! What no clause says: that calls succeed, and queries that were worked by hand.
+
+ghost use Rattle.std.specs.Prelude.{◌≡◌, ◌<◌, false, IfOk, IfSome, OnOk};
+ghost use Rattle.cu_model.specs.declared.limits.TheConstants.{DAY};
+ghost use Rattle.cu_elimtree.specs.SweepArcs.{parents_in};
+ghost use Rattle.cu_interval.specs.Hierarchies.{graph_of};
+ghost use Rattle.cu_sweep.specs.Desks.{AreArriving, HoldsFound};
+
+use crate::{Found, SweepDesk, query, route};
+use cu_chordal::close;
+use cu_customize::customize;
+use cu_elimtree::Tree;
+use cu_interval::{Call, Dir, Hierarchy, Ways};
+use cu_io::MemorySink;
+use cu_model::{DAY, Network, Order, Piece, Profile, RoadArc, Rule};
+use cu_unpack::{Listed, Unpacker, Work};
+use std::alloc::Global;
+use std::test::Fail;
+
+fn road(tail: u32, head: u32, profile: u32) -> RoadArc
+    ensures { result ≡ record { tail = tail; head = head; profile = profile } }
+{
+    RoadArc {
+        tail,
+        head,
+        profile,
+    }
+}
+
+fn piece(from: u32, rule: Rule) -> Piece {
+    Piece { from, rule }
+}
+
+// Three nodes with the roads 0 -> 1, 1 -> 2 and 0 -> 2: a minute; 100 seconds, but slow from 8:00 and closed from 9:56:40 to
+// 10:01:40; and 250 seconds.
+fn network(alloc: Global) -> Result<Network, Fail>
+    ensures { IfOk result (λ network. network.nodes ≡ 3) }
+{
+    let minute = Profile::of(vec![in alloc; piece(0, Rule::Travel(60))]?)?;
+    let slow = Profile::of(vec![in alloc;
+        piece(0, Rule::Travel(100)),
+        piece(28_800, Rule::Travel(300)),
+        piece(35_800, Rule::Until(36_100)),
+        piece(36_000, Rule::Travel(100)),
+    ]?)?;
+    let straight = Profile::of(vec![in alloc; piece(0, Rule::Travel(250))]?)?;
+    let arcs = vec![in alloc; road(0, 1, 0), road(1, 2, 1), road(0, 2, 2)]?;
+    Ok(Network::of(3, arcs, vec![in alloc; minute, slow, straight]?))
+}
+
+// Its built hierarchy with node 1 above the others: nodes 0, 2 and 1 have the ranks 0, 1 and 2. So road 2 is edge 0 upwards,
+// road 0 edge 1 upwards, and road 1 edge 2 downwards.
+fn hierarchy(alloc: Global) -> Result<Hierarchy, Fail>
+    ensures { IfOk result (λ hierarchy. hierarchy.network.nodes ≡ 3) }
+{
+    let network = network(alloc)?;
+    let order = Order::of(alloc, vec![in alloc; 0, 2, 1]?)?;
+    let graph = close(alloc, &network, &order)?;
+    Ok(customize(alloc, network, order, graph)?)
+}
+
+// A query between two ranks at a second, what it finds, the calls that it tells, and the roads of its walk.
+#[derive(Clone, Copy, Debug)]
+struct Row<'a> {
+    from: u32,
+    to: u32,
+    second: u32,
+    found: Found,
+    calls: &'a [(u32, Dir, u64)],
+    roads: &'a [u8],
+}
+
+// Are these the calls that were told?
+fn are_told(calls: Option<&[Call]>, wanted: &[(u32, Dir, u64)]) -> bool {
+    let Some(calls) = calls else {
+        return false;
+    };
+    if calls.len() != wanted.len() {
+        return false;
+    }
+    for (call, (edge, dir, second)) in calls.iter().zip(wanted) {
+        if call.edge != *edge || call.dir != *dir || call.second != *second {
+            return false;
+        }
+    }
+    true
+}
+
+// What the query finds; none where it tells other calls than these.
+fn ask(
+    alloc: Global,
+    hierarchy: &Hierarchy,
+    tree: &Tree,
+    desk: &mut SweepDesk,
+    from: u32,
+    to: u32,
+    second: u32,
+    calls: &[(u32, Dir, u64)],
+) -> Result<Option<Found>, Fail>
+    requires ranks { (from < 3) × (to < 3) }
+    requires second { second < DAY }
+    requires nodes { hierarchy.now.network.nodes ≡ 3 }
+    requires tree { tree.now ≡ parents_in (graph_of hierarchy.now) }
+    requires desk { desk.old.nodes ≡ 3 }
+    ensures desk { OnOk result (desk.new.nodes ≡ 3) }
+    ensures holds { IfOk result (λ found. IfSome found
+        (λ some. HoldsFound hierarchy.now from to second some desk.new)) }
+{
+    let graph = hierarchy.graph();
+    let _edges = hierarchy.edges();
+    let mut work = Work::new(alloc, 3)?;
+    let mut listed = Listed::new(alloc, Unpacker::new(hierarchy, &mut work), 8)?;
+    let found = query(tree, graph, desk, &mut listed, from, to, second);
+    if are_told(listed.calls(), calls) {
+        return Ok(Some(found));
+    }
+    Ok(None)
+}
+
+// Does the route write these roads?
+fn writes(
+    alloc: Global,
+    hierarchy: &Hierarchy,
+    desk: &mut SweepDesk,
+    roads: &[u8],
+) -> Result<bool, Fail>
+    requires nodes { hierarchy.now.network.nodes ≡ 3 }
+    requires unturned { desk.old.turned ≡ false }
+    requires arriving { AreArriving hierarchy.now desk.old.calls }
+    ensures desk { OnOk result (desk.new.nodes ≡ desk.old.nodes) }
+{
+    let mut work = Work::new(alloc, 3)?;
+    let mut unpacker = Unpacker::new(hierarchy, &mut work);
+    let mut sink = MemorySink::new(alloc, 8, Vec::new(alloc))?;
+    route(desk, &mut unpacker, &mut sink)?;
+    Ok(sink.bytes() == roads)
+}
+
+// Does the query find what the row says, tell its calls, and write its roads?
+fn is_right(
+    alloc: Global,
+    hierarchy: &Hierarchy,
+    tree: &Tree,
+    desk: &mut SweepDesk,
+    row: Row<'_>,
+) -> Result<bool, Fail>
+    requires nodes { hierarchy.now.network.nodes ≡ 3 }
+    requires tree { tree.now ≡ parents_in (graph_of hierarchy.now) }
+    requires desk { desk.old.nodes ≡ 3 }
+    ensures desk { OnOk result (desk.new.nodes ≡ 3) }
+{
+    if row.from >= 3 || row.to >= 3 || row.second >= DAY {
+        return Ok(false);
+    }
+    let (from, to, second) = (row.from, row.to, row.second);
+    let Some(found) = ask(alloc, hierarchy, tree, desk, from, to, second, row.calls)? else {
+        return Ok(false);
+    };
+    if found != row.found {
+        return Ok(false);
+    }
+    match found {
+        Found::Arrive(_) => writes(alloc, hierarchy, desk, row.roads),
+        _ => Ok(row.roads.is_empty()),
+    }
+}
+
+// From rank 0 the query goes up to ranks 1 and 2, and down from rank 2. Over node 1 it takes 60 and 100 seconds, which is
+// earlier than 250; at 8:00 it takes 60 and 300. No road leads back. A query to its own start arrives at once, by no road.
+const ROWS: [Row<'static>; 4] = [
+    Row {
+        from: 0,
+        to: 1,
+        second: 0,
+        found: Found::Arrive(160),
+        calls: &[
+            (0, Dir::Up, 0),
+            (1, Dir::Up, 0),
+            (2, Dir::Up, 250),
+            (2, Dir::Down, 60),
+        ],
+        roads: b"0 1",
+    },
+    Row {
+        from: 0,
+        to: 1,
+        second: 28_800,
+        found: Found::Arrive(29_050),
+        calls: &[
+            (0, Dir::Up, 28_800),
+            (1, Dir::Up, 28_800),
+            (2, Dir::Up, 29_050),
+            (2, Dir::Down, 28_860),
+        ],
+        roads: b"2",
+    },
+    Row {
+        from: 1,
+        to: 0,
+        second: 7,
+        found: Found::NoWalk,
+        calls: &[(2, Dir::Up, 7), (0, Dir::Down, 7)],
+        roads: b"",
+    },
+    Row {
+        from: 0,
+        to: 0,
+        second: 5,
+        found: Found::Arrive(5),
+        calls: &[
+            (0, Dir::Up, 5),
+            (1, Dir::Up, 5),
+            (2, Dir::Up, 255),
+            (2, Dir::Down, 65),
+            (0, Dir::Down, 165),
+            (1, Dir::Down, 65),
+        ],
+        roads: b"",
+    },
+];
+
+#[test]
+fn finds_tells_and_writes(rt: HostRuntime) -> Result<(), Fail> {
+    let alloc = rt.alloc();
+    let hierarchy = hierarchy(alloc)?;
+    let tree = Tree::of(alloc, hierarchy.graph())?;
+    let mut desk = SweepDesk::new(alloc, 3)?;
+    'rows: for row in &ROWS {
+        assert!(rt; is_right(alloc, &hierarchy, &tree, &mut desk, *row)?);
+    }
+    Ok(())
+}
