@@ -2,3 +2,8 @@ pub mod RowWalks
 pub mod TableReads
 pub mod RefusedNetworks
 pub mod NetworkReads
+pub mod DrawSteps
+pub mod DrawnGrids
+pub mod WrittenRows
+pub mod WrittenNetworks
+pub mod GridLaws

@@ -1,10 +1,10 @@
 //! The table of roads: `arc,tail,head,profile`.
 
-ghost use Rattle.std.specs.Prelude.{◌≡◌, ◌<◌, ◌≤◌, All, IfErr, IfOk, Ok, OnOk, Some, false, length};
+ghost use Rattle.std.specs.Prelude.{◌≡◌, ◌<◌, ◌≤◌, All, IfErr, IfOk, Ok, OnOk, Some, false, length, map};
 ghost use Rattle.csv.specs.Records.{fields_of};
 ghost use Rattle.cu_model.specs.declared.limits.TheConstants.{MAX_ARCS, MAX_NODES, MAX_PROFILES};
 ghost use Rattle.cu_tables.specs.Checks.{Adds, Checked, IsRefused};
-ghost use Rattle.cu_roads.specs.NetworkTexts.{arc_fault, arc_of_row, arcs_of_text};
+ghost use Rattle.cu_roads.specs.NetworkTexts.{arc_fault, arc_header, arc_of_row, arcs_of_text};
 ghost use Rattle.cu_roads.specs.Steps.TableRows.{IsBetween, arc_row_of, is_of_profiles};
 ghost use Rattle.cu_roads.specs.declared.refusals.RoadRefusal.TheVariants as refusal;
 
@@ -13,6 +13,18 @@ use csv::ByteRecord;
 use cu_model::{MAX_ARCS, NoMemory, RoadArc};
 use cu_tables::{TakesRows, each_row_below, number_at};
 use std::alloc::Global;
+
+/// The names of the four columns.
+pub(crate) fn arc_header() -> [&'static [u8]; 4]
+    ensures { map (λ f. f.now) result ≡ arc_header }
+{
+    [
+        b"arc".as_slice(),
+        b"tail".as_slice(),
+        b"head".as_slice(),
+        b"profile".as_slice(),
+    ]
+}
 
 /// The numbers of a row of the table.
 #[derive(Clone, Copy)]
@@ -131,18 +143,12 @@ pub(crate) fn read_arcs(
         (arcs_of_text nodes profiles text.now)) }
     ensures table { IfErr result (λ why. is_of_profiles why ≡ false) }
 {
-    let header = [
-        b"arc".as_slice(),
-        b"tail".as_slice(),
-        b"head".as_slice(),
-        b"profile".as_slice(),
-    ];
     let no_header = RoadRefusal::Header { file: File::Roads };
     let mut rows = ArcRows {
         nodes,
         profiles,
         arcs: Vec::new(alloc),
     };
-    each_row_below(alloc, &header, no_header, text, &mut rows)??;
+    each_row_below(alloc, &arc_header(), no_header, text, &mut rows)??;
     Ok(rows.arcs)
 }

@@ -1,16 +1,22 @@
 //! Network texts: the tables of nodes, roads and profiles that give a road network and the places of its nodes.
 //!
 //! Its promise to the crates above: [`read_network`] gives exactly the network and the places that the texts name, or the
-//! first check that they fail (`network_of` in `specs/NetworkTexts.antt`). It stands on `cu_model`, `cu_tables` and
-//! `cu_profile`. What only its own functions cite is in `specs/Steps`.
+//! first check that they fail (`network_of` in `specs/NetworkTexts.antt`); and [`grid`] writes the texts of a grid network,
+//! drawn from a state of 64 bits, which are read as exactly that network (`grid_network` in `specs/Grids.antt`). It stands
+//! on `cu_model`, `cu_tables` and `cu_profile`. What only its own functions cite is in `specs/Steps`.
 #![tactic(auto)]
 
 mod arcs;
+mod draws;
+mod grids;
 mod nodes;
 mod places;
 mod reader;
 mod refusals;
+mod writer;
 
+pub use draws::Draws;
+pub use grids::{GridTexts, MAX_SIDE, draw_day, grid, grid_by_rows};
 pub use places::{MAX_COORDINATE, Place, Places};
 pub use reader::read_network;
 pub use refusals::{File, RoadRefusal};

@@ -1,12 +1,12 @@
 //! The table of nodes: `node,x,y`.
 
-ghost use Rattle.std.specs.Prelude.{◌≡◌, ◌<◌, ◌≤◌, IfErr, IfOk, Ok, OnOk, Some, None, false, length, if◌then◌else◌};
+ghost use Rattle.std.specs.Prelude.{◌≡◌, ◌<◌, ◌≤◌, IfErr, IfOk, Ok, OnOk, Some, None, false, length, map, if◌then◌else◌};
 ghost use Rattle.csv.specs.Records.{fields_of};
 ghost use Rattle.cu_model.specs.declared.limits.TheConstants.{MAX_NODES};
 ghost use Rattle.cu_model.specs.Numbers.{number_value};
 ghost use Rattle.cu_tables.specs.Checks.{Adds, Checked, IsRefused};
 ghost use Rattle.cu_tables.specs.Tables.{field_of};
-ghost use Rattle.cu_roads.specs.NetworkTexts.{is_coordinate, node_fault, place_of_row, places_of_text};
+ghost use Rattle.cu_roads.specs.NetworkTexts.{is_coordinate, node_fault, node_header, place_of_row, places_of_text};
 ghost use Rattle.cu_roads.specs.Steps.TableRows.{is_of_profiles, node_row_of};
 ghost use Rattle.cu_roads.specs.declared.refusals.RoadRefusal.TheVariants as refusal;
 
@@ -16,6 +16,13 @@ use csv::ByteRecord;
 use cu_model::{MAX_NODES, NoMemory};
 use cu_tables::{TakesRows, each_row_below, number_at};
 use std::alloc::Global;
+
+/// The names of the three columns.
+pub(crate) fn node_header() -> [&'static [u8]; 3]
+    ensures { map (λ f. f.now) result ≡ node_header }
+{
+    [b"node".as_slice(), b"x".as_slice(), b"y".as_slice()]
+}
 
 /// The numbers of a row of the table.
 #[derive(Clone, Copy)]
@@ -113,11 +120,10 @@ pub(crate) fn read_places(alloc: Global, text: &[u8]) -> Result<Vec<Place>, Road
     ensures refused { IfErr result (IsRefused refusal.NoMemory (places_of_text text.now)) }
     ensures table { IfErr result (λ why. is_of_profiles why ≡ false) }
 {
-    let header = [b"node".as_slice(), b"x".as_slice(), b"y".as_slice()];
     let no_header = RoadRefusal::Header { file: File::Nodes };
     let mut rows = NodeRows {
         places: Vec::new(alloc),
     };
-    each_row_below(alloc, &header, no_header, text, &mut rows)??;
+    each_row_below(alloc, &node_header(), no_header, text, &mut rows)??;
     Ok(rows.places)
 }

@@ -21,10 +21,10 @@ use std::alloc::Global;
 /// `profile,from,kind,value`, each with its header first.
 ///
 /// The nodes are read first, then the profiles, then the roads, each row by row; the first check that fails is the refusal.
-/// The checks of a row, in their order: of a node `Fields`, `Number`, `TooManyNodes`, `Sequence`; of a road `Fields`, `Number`,
-/// `TooManyArcs`, `Sequence`, `NodeRange`, `ProfileRange`. A number word is one or more ASCII digits, with any leading zeros and
-/// of any length. Loops, parallel roads and profiles that no road uses are accepted. `NoMemory` may come instead of any answer, also
-/// where csv answers an error.
+/// The checks of a row, in their order: of a node `Fields`, `Number`, `TooManyNodes`, `Sequence`; of a road `Fields`,
+/// `Number`, `TooManyArcs`, `Sequence`, `NodeRange`, `ProfileRange`. A number word is one or more ASCII digits, with any
+/// leading zeros and of any length. Loops, parallel roads and profiles that no road uses are accepted. `NoMemory` may come
+/// instead of any answer, also where csv answers an error.
 pub fn read_network(
     alloc: Global,
     nodes: &[u8],
