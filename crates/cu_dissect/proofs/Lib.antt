@@ -1,0 +1,10 @@
+pub mod Counting
+pub mod Extents
+pub mod KeyOrder
+pub mod Besides
+pub mod SplitLaws
+pub mod Around
+pub mod Kept
+pub mod Permuting
+pub mod Barred
+pub mod Unrelated

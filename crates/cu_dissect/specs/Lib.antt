@@ -1,0 +1,3 @@
+pub mod Dissection
+pub mod Apart
+pub mod Steps
