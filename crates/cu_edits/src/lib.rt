@@ -1,0 +1,22 @@
+//! Edits of travel times: the lines of a script that make them, the edges that one touches, and the hierarchy after it.
+//!
+//! [`check_edit`] accepts exactly the lines that make an edit, refuses each other line for the first check that it fails, and
+//! [`EditLine::take`] gives the edit (`edit_of` in `specs/EditLines.antt`). [`touched_edges`] answers exactly the edges whose
+//! lists an edit may change (`NumbersTouched` in `specs/Touching.antt` of `cu_interval`): those of the changed roads, and those
+//! over a lower triangle with a touched side. [`rebuild`] makes the edit in a built hierarchy.
+//!
+//! It stands on `cu_model`, `cu_tables`, `cu_profile`, `cu_links`, `cu_chordal`, `cu_interval` and `cu_customize`. `specs/Steps`
+//! is cited by private functions alone.
+#![tactic(auto)]
+
+mod copying;
+mod lines;
+mod rebuilding;
+#[cfg(test)]
+mod tests;
+mod touching;
+
+pub use copying::copy_network;
+pub use lines::{EditLine, EditRefusal, MAX_EDIT_LINE, check_edit};
+pub use rebuilding::rebuild;
+pub use touching::touched_edges;

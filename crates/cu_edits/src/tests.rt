@@ -1,0 +1,122 @@
+//! What no clause says: that calls succeed, and edits whose touched edges were found by hand.
+
+ghost use Rattle.std.specs.Prelude.{◌≡◌, ◌<◌, [], IfOk, length};
+ghost use Rattle.cu_chordal.specs.Edges.{IsClosureOf};
+ghost use Rattle.cu_model.specs.Edits.{IsEditInRange};
+ghost use Rattle.cu_model.specs.Profiles.{IsProfile};
+
+use crate::touched_edges;
+use cu_chordal::{Chordal, close};
+use cu_interval::{Hierarchy, WayList, Ways};
+use cu_links::RankBuckets;
+use cu_model::{Edit, Network, Order, Piece, Profile, RoadArc, Roads, Rule};
+use std::alloc::Global;
+use std::test::Fail;
+
+fn minute(alloc: Global) -> Result<Profile, Fail>
+    ensures { IfOk result IsProfile }
+{
+    let piece = Piece {
+        from: 0,
+        rule: Rule::Travel(60),
+    };
+    Ok(Profile::of(vec![in alloc; piece]?)?)
+}
+
+fn road(tail: u32, head: u32, profile: u32) -> RoadArc
+    ensures { result ≡ record { tail = tail; head = head; profile = profile } }
+{
+    RoadArc {
+        tail,
+        head,
+        profile,
+    }
+}
+
+// Three nodes with a road from each to each later one, the first with a profile of its own, and a loop with another.
+fn network(alloc: Global) -> Result<Network, Fail>
+    ensures nodes { IfOk result (λ network. network.nodes ≡ 3) }
+    ensures roads { IfOk result (λ network. length network.arcs ≡ 4) }
+    ensures profiles { IfOk result (λ network. length network.profiles ≡ 3) }
+{
+    let profiles = vec![in alloc; minute(alloc)?, minute(alloc)?, minute(alloc)?]?;
+    let arcs = vec![in alloc; road(0, 1, 0), road(1, 2, 1), road(0, 2, 1), road(1, 1, 2)]?;
+    Ok(Network::of(3, arcs, profiles))
+}
+
+// A list without ways.
+fn empty(alloc: Global) -> WayList
+    ensures { result ≡ [] }
+{
+    let Some(list) = WayList::of(Vec::new(alloc)) else {
+        unreachable!()
+    };
+    list
+}
+
+// The hierarchy of these, whose lists are without ways.
+fn hollow(alloc: Global, network: Network, order: Order, graph: Chordal) -> Result<Hierarchy, Fail>
+    requires same { length order.node_at ≡ network.nodes }
+    requires closed { IsClosureOf network order graph }
+    ensures network { IfOk result (λ hierarchy. hierarchy.network ≡ network) }
+{
+    prove_eq!(network.nodes(), order.nodes());
+    prove_eq!(order.nodes(), graph.ranks());
+    let mut lists = Vec::new(alloc);
+    'lists: for _number in 0..2 * graph.edges() {
+        lists.push(empty(alloc))?;
+    }
+    Ok(Hierarchy::of(network, order, graph, lists))
+}
+
+// The hierarchy of the network with the nodes in their own order. Its edges are 0 of ranks 0 and 1, 1 of ranks 0 and 2, and
+// 2 of ranks 1 and 2.
+fn hierarchy(alloc: Global) -> Result<Hierarchy, Fail>
+    ensures roads { IfOk result (λ hierarchy. length hierarchy.network.arcs ≡ 4) }
+    ensures profiles { IfOk result (λ hierarchy. length hierarchy.network.profiles ≡ 3) }
+{
+    let network = network(alloc)?;
+    let order = Order::identity(alloc, 3)?;
+    let graph = close(alloc, &network, &order)?;
+    hollow(alloc, network, order, graph)
+}
+
+// Does the edit touch exactly these edges?
+fn touches(alloc: Global, hierarchy: &Hierarchy, edit: &Edit, wanted: &[u32]) -> Result<bool, Fail>
+    requires { IsEditInRange hierarchy.now.network edit.now }
+{
+    let mut buckets = RankBuckets::new(alloc, hierarchy.nodes(), hierarchy.edges())?;
+    let touched = touched_edges(alloc, hierarchy, edit, hierarchy.graph(), &mut buckets)?;
+    Ok(touched.as_slice() == wanted)
+}
+
+// Are exactly these edges touched where the profile is set?
+fn set_touches(
+    alloc: Global,
+    hierarchy: &Hierarchy,
+    profile: u32,
+    wanted: &[u32],
+) -> Result<bool, Fail>
+    requires { profile < length hierarchy.now.network.profiles }
+{
+    let pieces = minute(alloc)?;
+    touches(alloc, hierarchy, &Edit::Set { profile, pieces }, wanted)
+}
+
+#[test]
+fn assigning_touches_the_edge_of_the_road(rt: HostRuntime) -> Result<(), Fail> {
+    let hierarchy = hierarchy(rt.alloc())?;
+    let edit = Edit::Assign { arc: 1, profile: 0 };
+    assert!(rt; touches(rt.alloc(), &hierarchy, &edit, &[2])?);
+    Ok(())
+}
+
+#[test]
+fn setting_touches_the_edges_of_roads_and_those_above(rt: HostRuntime) -> Result<(), Fail> {
+    let alloc = rt.alloc();
+    let hierarchy = hierarchy(alloc)?;
+    assert!(rt; set_touches(alloc, &hierarchy, 0, &[0, 2])?);
+    assert!(rt; set_touches(alloc, &hierarchy, 1, &[1, 2])?);
+    assert!(rt; set_touches(alloc, &hierarchy, 2, &[])?);
+    Ok(())
+}
