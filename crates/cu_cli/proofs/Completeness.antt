@@ -72,12 +72,12 @@ tables_stop (Err refusal) g given why named ordered few k = absurd named
 tables_stop (Ok read) g given why named ordered few k = order_stops g given why ordered few (subst (λ (n : NetworkValue). StopsOrder n given why) named k)
 
 -- of the answers over a network only those of a fault, of the limit or of want of memory aren't done
-answers_stop : (why : Stop) (g : NetworkValue) (taken output : List ℕ) → length taken < take_limit → (why ≡ stop.Source → ⊥) → (why ≡ stop.Sink → ⊥) → Answers g (Some why) taken output → why ≡ stop.NoMemory
-answers_stop stop.Source g taken output few source sink k = absurd (source refl)
-answers_stop stop.Sink g taken output few source sink k = absurd (sink refl)
-answers_stop stop.TakeLimit g taken output few source sink k = absurd (omega (arith, few, k.0))
-answers_stop stop.NoMemory g taken output few source sink k = refl
-answers_stop _ g taken output few source sink k = absurd k
+answers_stop : (why : Stop) (g : NetworkValue) (order : OrderValue) (taken output : List ℕ) → length taken < take_limit → (why ≡ stop.Source → ⊥) → (why ≡ stop.Sink → ⊥) → Answers g order (Some why) taken output → why ≡ stop.NoMemory
+answers_stop stop.Source g order taken output few source sink k = absurd (source refl)
+answers_stop stop.Sink g order taken output few source sink k = absurd (sink refl)
+answers_stop stop.TakeLimit g order taken output few source sink k = absurd (omega (arith, few, k.0))
+answers_stop stop.NoMemory g order taken output few source sink k = refl
+answers_stop _ g order taken output few source sink k = absurd k
 
 -- fewer bytes were taken than a run takes
 few_taken : (source : SourceState) (now : Option (List ℕ)) (taken : List ℕ) → IsShort source → Takes source.left now taken → length taken < take_limit
@@ -99,8 +99,8 @@ work_stops a b s t k mid now words why can short fine later done = ends (subst (
 
     ends : EndsServe a b can.tables done.work → why ≡ stop.NoMemory
     ends (inl (g, order, prepares, answers, stored)) =
-        let stops = subst (λ (o : Option Stop). Answers g o done.work.taken done.work.output) done.stop answers in
-        answers_stop why g done.work.taken done.work.output (few_taken s t.left done.work.taken short done.moves.0) no_source no_sink stops
+        let stops = subst (λ (o : Option Stop). Answers g order o done.work.taken done.work.output) done.stop answers in
+        answers_stop why g order done.work.taken done.work.output (few_taken s t.left done.work.taken short done.moves.0) no_source no_sink stops
     ends (inr (other, inl loading, before)) =
         let same : other ≡ why = cc (before.0, done.stop) in
         sym same ∙ loads_stop a b can.files (table_files can.tables) (can.nodes ∷ can.roads ∷ can.profiles ∷ can.given) other can.told can.loaded fine.shelf loading

@@ -4,6 +4,4 @@ pub mod StopLaws
 mod LoadLaws
 mod WorkLaws
 mod Completeness
-mod RoundsSearch
-mod RoundsLeast
-mod RoundsTrace
+mod RouteLaws

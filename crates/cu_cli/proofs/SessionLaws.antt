@@ -1,6 +1,6 @@
 -- A script that is being answered, turn by turn.
-use Rattle.std.proofs.Common.{◌≡◌, ◌<◌, ◌≤◌, ◌+◌, ◌-◌, ◌++◌, ◌∙◌, ℕ, List, [], ◌∷◌, true, false, length, take, refl, sym, ap, subst, arith, inl, inr, length-append}
-use Rattle.std.specs.Prelude.{Option, Some, None, Ok, Err, IfSome, codes, nat_lt}
+use Rattle.std.proofs.Common.{◌≡◌, ◌<◌, ◌≤◌, ◌++◌, ◌∙◌, ℕ, List, [], ◌∷◌, true, false, length, take, refl, sym, ap, subst, arith, inl, inr, length-append}
+use Rattle.std.specs.Prelude.{Bool, Option, Some, None, Result, Ok, Err, IfSome, codes, nat_lt}
 use Rattle.std.proofs.lemmas.Bool.{cases_Bool, ltb-true, lt-ltb}
 use Rattle.std.proofs.lemmas.List.{append-nil}
 use Rattle.cu_io.specs.Lines.{IsFirstLine, without_return, lines_of}
@@ -13,25 +13,28 @@ use Rattle.cu_io.proofs.Appending.{appends_nothing, appends_more, appends_then}
 use Rattle.cu_io.proofs.Cutting.{cut_none, cut_line, cut_end, cut_open}
 use Rattle.cu_io.proofs.Taking.{takes_more, takes_nothing}
 use Rattle.cu_model.specs.Networks.{NetworkValue}
+use Rattle.cu_model.specs.Orders.{OrderValue}
 use Rattle.cu_model.specs.Queries.{query_of}
 use Rattle.cu_cli.specs.declared.stops.Stop.TheVariants as stop
 use Rattle.cu_cli.specs.Replies.{IsOutput, IsReply, IsReplyTo, line_limit}
 use Rattle.cu_cli.specs.Runs.{Leaves, take_limit}
-use Rattle.cu_cli.specs.Steps.Sessions.{Session, EndsSession, left_to_read}
+use Rattle.cu_interval.specs.Hierarchies.{HierarchyValue}
+use Rattle.cu_cli.specs.declared.stops.Stop.{Stop}
+use Rattle.cu_cli.specs.Steps.Sessions.{Session, EndsSession, TakesTurn, left_to_read}
 use Rattle.cu_cli.proofs.Outputs.{output_more, front_lines}
 
 -- the reply to the text of a line within the limit
-pub text_reply : (g : NetworkValue) (line text reply : List ℕ) → length line ≤ line_limit → text ≡ without_return line → IsReplyTo g (query_of g.nodes text) reply → IsReply g line reply
-text_reply g line text reply short is h =
-    let same = subst (λ (t : List ℕ). IsReplyTo g (query_of g.nodes t) reply) is h in
+pub text_reply : (g : NetworkValue) (order : OrderValue) (line text reply : List ℕ) → length line ≤ line_limit → text ≡ without_return line → IsReplyTo g order (query_of g.nodes text) reply → IsReply g order line reply
+text_reply g order line text reply short is h =
+    let same = subst (λ (t : List ℕ). IsReplyTo g order (query_of g.nodes t) reply) is h in
     elim (cases_Bool (nat_lt line_limit (length line))) [
       | inl long ↦ absurd (omega (arith, short, ltb-true line_limit (length line) long))
       | inr not_long ↦ rw not_long same
     ]
 
 -- the reply to a longer line
-pub long_reply : (g : NetworkValue) (line : List ℕ) → line_limit < length line → IsReply g line (codes "refused: long")
-long_reply g line long = rw (lt-ltb line_limit (length line) long) refl
+pub long_reply : (g : NetworkValue) (order : OrderValue) (line : List ℕ) → line_limit < length line → IsReply g order line (codes "refused: long")
+long_reply g order line long = rw (lt-ltb line_limit (length line) long) refl
 
 -- a line that is handed out leaves fewer bytes
 pub falls_by : {r after : ReaderState} {s t : SourceState} {chunk : List ℕ} (line : List ℕ) → TakesLine r after s t chunk → IsFirstLine (r.held ++ chunk) after.shown line after.held
@@ -43,6 +46,12 @@ falls_by {r = r} {after = after} {chunk = chunk} line took (none, inr (over, som
     let size = ap (λ (t : List ℕ). length t) parts in
     let empty = ap (λ (t : List ℕ). length t) nil in
     omega (arith, size, empty, some, length-append r.held chunk, took.taken, took.within, took.take_limit)
+
+-- a turn over the same hierarchy
+pub same_turn : (a b : HierarchyValue) (result : Result Bool Stop) (reader after : ReaderState) (source left : SourceState) (sink now : SinkState) → a ≡ b
+    → TakesTurn a.network a.order result reader after source left sink now → TakesTurn b.network b.order result reader after source left sink now
+same_turn a b result reader after source left sink now same turn =
+    subst (λ (h : HierarchyValue). TakesTurn h.network h.order result reader after source left sink now) same turn
 
 -- nothing was read, taken or written
 pub leaves_all : (status : ℕ) (source : SourceState) (sink : SinkState) → (status ≡ 0 → ⊥) → (status ≡ 7 → ⊥) → (status ≡ 8 → ⊥) → Leaves status source source sink sink
@@ -56,8 +65,8 @@ leaves_all status source sink some read wrote = record {
 }
 
 -- memory ran out before the script was read
-pub nothing_done : (g : NetworkValue) (source : SourceState) (sink : SinkState) → EndsSession g (Some stop.NoMemory) source source sink sink
-nothing_done g source sink = record {
+pub nothing_done : (g : NetworkValue) (order : OrderValue) (source : SourceState) (sink : SinkState) → EndsSession g order (Some stop.NoMemory) source source sink sink
+nothing_done g order source sink = record {
   taken = [];
   output = [];
   takes = takes_nothing source.left;
@@ -67,9 +76,9 @@ nothing_done g source sink = record {
 }
 
 -- nothing was read yet
-pub session_begins : (g : NetworkValue) (reader : ReaderState) (source : SourceState) (sink : SinkState)
-    → reader ≡ (record { held = []; line = []; taken = 0; shown = false; over = false; line_limit = line_limit; take_limit = take_limit }) → Session g source sink reader source sink
-session_begins g reader source sink is = rw is (record {
+pub session_begins : (g : NetworkValue) (order : OrderValue) (reader : ReaderState) (source : SourceState) (sink : SinkState)
+    → reader ≡ (record { held = []; line = []; taken = 0; shown = false; over = false; line_limit = line_limit; take_limit = take_limit }) → Session g order source sink reader source sink
+session_begins g order reader source sink is = rw is (record {
   taken = [];
   lines = [];
   output = [];
@@ -89,7 +98,7 @@ session_begins g reader source sink is = rw is (record {
   rises = omega arith;
 })
 
-module _ (g : NetworkValue) (source_before : SourceState) (sink_before : SinkState) (r after : ReaderState) (s t : SourceState) (k : SinkState) (h : Session g source_before sink_before r s k) (chunk : List ℕ)
+module _ (g : NetworkValue) (order : OrderValue) (source_before : SourceState) (sink_before : SinkState) (r after : ReaderState) (s t : SourceState) (k : SinkState) (h : Session g order source_before sink_before r s k) (chunk : List ℕ)
     (took : TakesLine r after s t chunk) where
   taken_now : List ℕ
   taken_now = h.taken ++ chunk
@@ -116,8 +125,8 @@ module _ (g : NetworkValue) (source_before : SourceState) (sink_before : SinkSta
   ]
 
   -- a line was answered
-  pub answered : {T E : Type 0} {x : T} {now : SinkState} (line reply : List ℕ) → IsFirstLine (r.held ++ chunk) after.shown line after.held → IsReply g line reply → WroteLine {T = T} {E = E} k now (Ok x) reply
-      → Session g source_before sink_before after t now
+  pub answered : {T E : Type 0} {x : T} {now : SinkState} (line reply : List ℕ) → IsFirstLine (r.held ++ chunk) after.shown line after.held → IsReply g order line reply → WroteLine {T = T} {E = E} k now (Ok x) reply
+      → Session g order source_before sink_before after t now
   answered {now = now} line reply first is wrote = record {
     taken = h.taken ++ chunk;
     lines = h.lines ++ line ∷ [];
@@ -130,7 +139,7 @@ module _ (g : NetworkValue) (source_before : SourceState) (sink_before : SinkSta
     within = within_now;
     line_limit = took.line_limit ∙ h.line_limit;
     take_limit = took.take_limit ∙ h.take_limit;
-    replies = output_more g h.lines line h.output reply h.replies is;
+    replies = output_more g order h.lines line h.output reply h.replies is;
     appends = appends_more sink_before.written k.written now.written h.output (reply ++ 10 ∷ []) h.appends wrote.wrote.ok;
     flushed = inr wrote.flushed;
     source_later = omega (arith, h.source_later, took.later);
@@ -139,8 +148,8 @@ module _ (g : NetworkValue) (source_before : SourceState) (sink_before : SinkSta
   }
 
   -- a reply broke off
-  pub broke : {T E : Type 0} {e : E} {now : SinkState} (line reply : List ℕ) → IsFirstLine (r.held ++ chunk) after.shown line after.held → IsReply g line reply → WroteLine {T = T} {E = E} k now (Err e) reply
-      → EndsSession g (Some stop.Sink) source_before t sink_before now
+  pub broke : {T E : Type 0} {e : E} {now : SinkState} (line reply : List ℕ) → IsFirstLine (r.held ++ chunk) after.shown line after.held → IsReply g order line reply → WroteLine {T = T} {E = E} k now (Err e) reply
+      → EndsSession g order (Some stop.Sink) source_before t sink_before now
   broke {now = now} line reply first is wrote =
       let text = h.output ++ (reply ++ 10 ∷ []) in
       let (count, within, app) = appends_then sink_before.written k.written now.written h.output (reply ++ 10 ∷ []) h.appends wrote.wrote.err in
@@ -149,13 +158,13 @@ module _ (g : NetworkValue) (source_before : SourceState) (sink_before : SinkSta
       let lines : lines_of (h.taken ++ chunk) ≡ (h.lines ++ line ∷ []) ++ lines_of after.held =
       ap (λ (t : List ℕ). lines_of t) (sym (append-nil (h.taken ++ chunk))) ∙ all ∙ ap (λ (t : List ℕ). (h.lines ++ line ∷ []) ++ lines_of t) (append-nil after.held) in
       let front = ap (λ (t : List (List ℕ)). take (length (h.lines ++ line ∷ [])) t) lines ∙ front_lines (h.lines ++ line ∷ []) (lines_of after.held) in
-      let output : IsOutput g (h.lines ++ line ∷ []) text = output_more g h.lines line h.output reply h.replies is in
+      let output : IsOutput g order (h.lines ++ line ∷ []) text = output_more g order h.lines line h.output reply h.replies is in
       record {
         taken = h.taken ++ chunk;
         output = take count text;
         takes = takes_now;
         appends = app;
-        answers = (length (h.lines ++ line ∷ []), text, subst (λ (t : List (List ℕ)). IsOutput g t text) (sym front) output, (count, refl));
+        answers = (length (h.lines ++ line ∷ []), text, subst (λ (t : List (List ℕ)). IsOutput g order t text) (sym front) output, (count, refl));
         leaves = record {
           whole = λ zero. absurd (cc zero);
           flushed = λ broken. absurd (broken refl);
@@ -167,7 +176,7 @@ module _ (g : NetworkValue) (source_before : SourceState) (sink_before : SinkSta
       }
 
   -- the end of input was shown
-  pub finished : Finds r after s t chunk found.End → EndsSession g None source_before t sink_before k
+  pub finished : Finds r after s t chunk found.End → EndsSession g order None source_before t sink_before k
   finished (none, nil, shown) =
       let lines = cut_end {a = r} {b = after} {s = s} {t = t} h.taken h.lines h.cut took (none, nil, shown) in
       record {
@@ -175,7 +184,7 @@ module _ (g : NetworkValue) (source_before : SourceState) (sink_before : SinkSta
         output = h.output;
         takes = takes_now;
         appends = h.appends;
-        answers = (omega (arith, unspent_now shown, count_now), subst (λ (t : List (List ℕ)). IsOutput g t h.output) (sym lines) h.replies);
+        answers = (omega (arith, unspent_now shown, count_now), subst (λ (t : List (List ℕ)). IsOutput g order t h.output) (sym lines) h.replies);
         leaves = record {
           whole = λ zero. whole_left source_before.left t.left (h.taken ++ chunk) takes_now (whole_now shown);
           flushed = λ other. h.flushed;
@@ -192,7 +201,7 @@ module _ (g : NetworkValue) (source_before : SourceState) (sink_before : SinkSta
       whole_left (Some bytes) (Some rest) taken h k = ap (λ (t : List ℕ). Some t) k
 
   -- the source failed
-  pub failed : Finds r after s t chunk found.Fault → EndsSession g (Some stop.Source) source_before t sink_before k
+  pub failed : Finds r after s t chunk found.Fault → EndsSession g order (Some stop.Source) source_before t sink_before k
   failed (none, hidden, below, rose) =
       let lines = cut_open {a = r} {b = after} {s = s} {t = t} h.taken h.lines h.cut took none hidden in
       record {
@@ -200,7 +209,7 @@ module _ (g : NetworkValue) (source_before : SourceState) (sink_before : SinkSta
         output = h.output;
         takes = takes_now;
         appends = h.appends;
-        answers = (omega (arith, below, count_now, h.take_limit), subst (λ (t : List (List ℕ)). IsOutput g t h.output) (sym lines) h.replies);
+        answers = (omega (arith, below, count_now, h.take_limit), subst (λ (t : List (List ℕ)). IsOutput g order t h.output) (sym lines) h.replies);
         leaves = record {
           whole = λ zero. absurd (cc zero);
           flushed = λ other. h.flushed;
@@ -212,7 +221,7 @@ module _ (g : NetworkValue) (source_before : SourceState) (sink_before : SinkSta
       }
 
   -- as many bytes were taken as may be
-  pub spent : Finds r after s t chunk found.Spent → EndsSession g (Some stop.TakeLimit) source_before t sink_before k
+  pub spent : Finds r after s t chunk found.Spent → EndsSession g order (Some stop.TakeLimit) source_before t sink_before k
   spent (none, hidden, all) =
       let lines = cut_open {a = r} {b = after} {s = s} {t = t} h.taken h.lines h.cut took none hidden in
       record {
@@ -220,7 +229,7 @@ module _ (g : NetworkValue) (source_before : SourceState) (sink_before : SinkSta
         output = h.output;
         takes = takes_now;
         appends = h.appends;
-        answers = (omega (arith, all, count_now, h.take_limit), subst (λ (t : List (List ℕ)). IsOutput g t h.output) (sym lines) h.replies);
+        answers = (omega (arith, all, count_now, h.take_limit), subst (λ (t : List (List ℕ)). IsOutput g order t h.output) (sym lines) h.replies);
         leaves = record {
           whole = λ zero. absurd (cc zero);
           flushed = λ other. h.flushed;

@@ -44,7 +44,7 @@ stopped a b s k tables why loads stops before = record {
 
 -- the script was answered
 pub served : (a b : ShelfState) (s t : SourceState) (k now : SinkState) (tables : TablesAsked) (why : Option Stop) (g : NetworkValue) (order : OrderValue) → OnlyLoads a b → Prepares a tables g order
-    → EndsSession g why s t k now → Works why (EndsServe a b tables) a b s t k now
+    → EndsSession g order why s t k now → Works why (EndsServe a b tables) a b s t k now
 served a b s t k now tables why g order loads prepares session = record {
   work = record { stop = why; taken = session.taken; output = session.output; stored = [] };
   stop = refl;

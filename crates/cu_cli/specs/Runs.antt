@@ -49,13 +49,13 @@ IsFrontOf bytes text = (n : ℕ) × (bytes ≡ take n text)
 
 -- the script is answered: all its lines where the source was read to its end, and else those whose end was taken; where the sink failed,
 -- some first lines, the last of them perhaps in part; none where memory ran out
-abbrev pub Answers : NetworkValue → Option Stop → List ℕ → List ℕ → Type 0
-Answers g None taken output = (length taken < take_limit) × IsOutput g (lines_of taken) output
-Answers g (Some stop.Source) taken output = (length taken < take_limit) × IsOutput g (ended_lines_of taken) output
-Answers g (Some stop.TakeLimit) taken output = (length taken ≡ take_limit) × IsOutput g (ended_lines_of taken) output
-Answers g (Some stop.Sink) taken output = (n : ℕ) × (text : List ℕ) × IsOutput g (take n (lines_of taken)) text × IsFrontOf output text
-Answers g (Some stop.NoMemory) taken output = output ≡ []
-Answers g _ taken output = ⊥
+abbrev pub Answers : NetworkValue → OrderValue → Option Stop → List ℕ → List ℕ → Type 0
+Answers g order None taken output = (length taken < take_limit) × IsOutput g order (lines_of taken) output
+Answers g order (Some stop.Source) taken output = (length taken < take_limit) × IsOutput g order (ended_lines_of taken) output
+Answers g order (Some stop.TakeLimit) taken output = (length taken ≡ take_limit) × IsOutput g order (ended_lines_of taken) output
+Answers g order (Some stop.Sink) taken output = (n : ℕ) × (text : List ℕ) × IsOutput g order (take n (lines_of taken)) text × IsFrontOf output text
+Answers g order (Some stop.NoMemory) taken output = output ≡ []
+Answers g order _ taken output = ⊥
 
 -- the work stopped before anything was taken, written or stored
 abbrev pub StopsBefore : Stop → Ending → Type 0
@@ -64,7 +64,7 @@ StopsBefore why work = (work.stop ≡ Some why) × (work.taken ≡ []) × (work.
 -- `serve`: a network and its order were prepared, and the script is answered over the network; or the first refusal stopped it
 abbrev pub EndsServe : ShelfState → ShelfState → TablesAsked → Ending → Type 0
 EndsServe before now tables work =
-    ((g : NetworkValue) × (order : OrderValue) × Prepares before tables g order × Answers g work.stop work.taken work.output × (work.stored ≡ []))
+    ((g : NetworkValue) × (order : OrderValue) × Prepares before tables g order × Answers g order work.stop work.taken work.output × (work.stored ≡ []))
     ⊎ ((why : Stop) × StopsPreparing before now tables why × StopsBefore why work)
 
 -- how the work of a command ended, before anything was said of it

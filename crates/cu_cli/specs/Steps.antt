@@ -2,5 +2,4 @@ pub mod Asks
 pub mod Loading
 pub mod Outcomes
 pub mod Sessions
-pub mod RoundsValue
-pub mod RoundsLabels
+pub mod Routing

@@ -7,12 +7,11 @@
 #![tactic(auto)]
 
 mod commands;
-mod engine;
 mod faults;
 mod preparing;
 mod program;
 mod replies;
-mod rounds;
+mod router;
 mod session;
 mod stops;
 mod words;

@@ -1,82 +1,40 @@
 //! Replies to the lines of a script.
 
-ghost use Rattle.std.specs.Prelude.{◌<◌, ◌++◌, ℕ, List, codes};
+ghost use Rattle.std.specs.Prelude.{◌≡◌, ◌++◌, ℕ, List, codes};
 ghost use Rattle.cu_io.specs.Sinks.{Wrote, WroteLine};
-ghost use Rattle.cu_model.specs.declared.limits.TheConstants.{DAY};
-ghost use Rattle.cu_model.specs.Answers.{IsAnswer, arrive_text};
 ghost use Rattle.cu_model.specs.Queries.{query_of};
 ghost use Rattle.cu_cli.specs.Replies.{IsReplyTo, check_word};
 
-use crate::engine::Engine;
-use cu_io::{Sink, SinkFailed, end_line, put_all, put_number};
-use cu_model::{Query, QueryRefusal, Roads, check_query};
+use crate::router::Router;
+use cu_io::{Sink, SinkFailed, end_line, put_all};
+use cu_model::{QueryRefusal, check_query};
 
 /// Writes the reply to the text of a line, ends it by a line feed and flushes the sink. Takes no memory.
-pub fn answer_line<N: Roads, E: Engine, K: Sink>(
-    roads: &N,
-    engine: &mut E,
+pub fn answer_line<K: Sink>(
+    router: &mut Router<'_>,
     line: &[u8],
     sink: &mut K,
 ) -> Result<(), SinkFailed>
-    requires ready { E.is_ready engine.old (N.network roads.now) }
-    ensures reply { (reply : List ℕ) × IsReplyTo (N.network roads.now)
-        (query_of (N.network roads.now).nodes line.now) reply
+    ensures reply { (reply : List ℕ) × IsReplyTo router.old.network router.old.order
+        (query_of router.old.network.nodes line.now) reply
         × WroteLine (K.state sink.old) (K.state sink.new) result reply }
-    ensures ready { E.is_ready engine.new (N.network roads.now) }
+    ensures stays { router.new ≡ router.old }
 {
-    put_reply(roads, engine, line, sink)?;
+    put_reply(router, line, sink)?;
     end_line(sink)
 }
 
 // Writes the reply to the text of a line.
-fn put_reply<N: Roads, E: Engine, K: Sink>(
-    roads: &N,
-    engine: &mut E,
-    line: &[u8],
-    sink: &mut K,
-) -> Result<(), SinkFailed>
-    requires ready { E.is_ready engine.old (N.network roads.now) }
-    ensures reply { (reply : List ℕ) × IsReplyTo (N.network roads.now)
-        (query_of (N.network roads.now).nodes line.now) reply
+fn put_reply<K: Sink>(router: &mut Router<'_>, line: &[u8], sink: &mut K) -> Result<(), SinkFailed>
+    ensures reply { (reply : List ℕ) × IsReplyTo router.old.network router.old.order
+        (query_of router.old.network.nodes line.now) reply
         × Wrote (K.state sink.old) (K.state sink.new) result reply }
-    ensures ready { E.is_ready engine.new (N.network roads.now) }
+    ensures stays { router.new ≡ router.old }
 {
-    match check_query(line, roads.nodes()) {
-        Ok(query) => put_answer(roads, engine, query, sink),
+    match check_query(line, router.nodes()) {
+        Ok(query) => router.put_answer(query, sink),
         Err(refusal) => put_refusal(refusal, sink),
     }
-}
-
-// Writes the answer to a query.
-fn put_answer<N: Roads, E: Engine, K: Sink>(
-    roads: &N,
-    engine: &mut E,
-    query: Query,
-    sink: &mut K,
-) -> Result<(), SinkFailed>
-    requires ready { E.is_ready engine.old (N.network roads.now) }
-    requires from { query.from < (N.network roads.now).nodes }
-    requires to { query.to < (N.network roads.now).nodes }
-    requires second { query.second < DAY }
-    ensures reply { (reply : List ℕ) × IsAnswer (N.network roads.now) query reply
-        × Wrote (K.state sink.old) (K.state sink.new) result reply }
-    ensures ready { E.is_ready engine.new (N.network roads.now) }
-{
-    match engine.query(roads, query) {
-        Some(arrival) => put_arrival(arrival, engine, sink),
-        None => put_all(sink, b"unreachable"),
-    }
-}
-
-// Writes an arrival and the roads that lead to it.
-fn put_arrival<E: Engine, K: Sink>(arrival: u64, engine: &E, sink: &mut K) -> Result<(), SinkFailed>
-    ensures wrote { Wrote (K.state sink.old) (K.state sink.new) result
-        (arrive_text arrival (E.walk engine.now)) }
-{
-    put_all(sink, b"arrive=")?;
-    put_number(sink, arrival)?;
-    put_all(sink, b" arcs=")?;
-    engine.put_route(sink)
 }
 
 // Writes the check that a line fails.

@@ -6,13 +6,14 @@ use Rattle.cu_io.specs.Sinks.{SinkState}
 use Rattle.cu_io.specs.Sources.{SourceState}
 use Rattle.cu_io.specs.Transfers.{Appends, Takes}
 use Rattle.cu_model.specs.Networks.{NetworkValue}
+use Rattle.cu_model.specs.Orders.{OrderValue}
 use Rattle.cu_cli.specs.declared.stops.Stop.{Stop}
 use Rattle.cu_cli.specs.Replies.{IsOutput, line_limit}
 use Rattle.cu_cli.specs.Runs.{Answers, IsFlushed, Leaves, take_limit}
 use Rattle.cu_cli.specs.Stops.{status_at}
 
 -- The bytes taken so far are the lines that were answered, and what the reader holds.
-pub record Session (g : NetworkValue) (source_before : SourceState) (sink_before : SinkState) (reader : ReaderState) (source : SourceState) (sink : SinkState) : Type 0 where
+pub record Session (g : NetworkValue) (order : OrderValue) (source_before : SourceState) (sink_before : SinkState) (reader : ReaderState) (source : SourceState) (sink : SinkState) : Type 0 where
   pub taken : List ℕ
   pub lines : List (List ℕ)
   pub output : List ℕ
@@ -24,7 +25,7 @@ pub record Session (g : NetworkValue) (source_before : SourceState) (sink_before
   pub within : reader.taken ≤ take_limit
   pub line_limit : reader.line_limit ≡ line_limit
   pub take_limit : reader.take_limit ≡ take_limit
-  pub replies : IsOutput g lines output
+  pub replies : IsOutput g order lines output
   pub appends : Appends sink_before.written sink.written output
   pub flushed : IsFlushed sink_before sink
   pub source_later : source_before.faults ≤ source.faults
@@ -32,24 +33,24 @@ pub record Session (g : NetworkValue) (source_before : SourceState) (sink_before
   pub rises : sink_before.flushed ≤ sink.flushed
 
 -- how the answering ended, and what it left
-pub record EndsSession (g : NetworkValue) (why : Option Stop) (source_before source_now : SourceState) (sink_before sink_now : SinkState) : Type 0 where
+pub record EndsSession (g : NetworkValue) (order : OrderValue) (why : Option Stop) (source_before source_now : SourceState) (sink_before sink_now : SinkState) : Type 0 where
   pub taken : List ℕ
   pub output : List ℕ
   pub takes : Takes source_before.left source_now.left taken
   pub appends : Appends sink_before.written sink_now.written output
-  pub answers : Answers g why taken output
+  pub answers : Answers g order why taken output
   pub leaves : Leaves (status_at why) source_before source_now sink_before sink_now
 
 -- what one turn makes of a script: it goes on, or the answering ended
-abbrev pub Turned : NetworkValue → Result Bool Stop → SourceState → SinkState → ReaderState → SourceState → SinkState → Type 0
-Turned g (Ok true) source_before sink_before reader source sink = Session g source_before sink_before reader source sink × (reader.over ≡ false)
-Turned g (Ok false) source_before sink_before reader source sink = EndsSession g None source_before source sink_before sink
-Turned g (Err why) source_before sink_before reader source sink = EndsSession g (Some why) source_before source sink_before sink
+abbrev pub Turned : NetworkValue → OrderValue → Result Bool Stop → SourceState → SinkState → ReaderState → SourceState → SinkState → Type 0
+Turned g order (Ok true) source_before sink_before reader source sink = Session g order source_before sink_before reader source sink × (reader.over ≡ false)
+Turned g order (Ok false) source_before sink_before reader source sink = EndsSession g order None source_before source sink_before sink
+Turned g order (Err why) source_before sink_before reader source sink = EndsSession g order (Some why) source_before source sink_before sink
 
-abbrev pub TakesTurn : NetworkValue → Result Bool Stop → ReaderState → ReaderState → SourceState → SourceState → SinkState → SinkState → Type 0
-TakesTurn g result reader after source left sink now =
-    (source_before : SourceState) (sink_before : SinkState) → Session g source_before sink_before reader source sink
-    → Turned g result source_before sink_before after left now
+abbrev pub TakesTurn : NetworkValue → OrderValue → Result Bool Stop → ReaderState → ReaderState → SourceState → SourceState → SinkState → SinkState → Type 0
+TakesTurn g order result reader after source left sink now =
+    (source_before : SourceState) (sink_before : SinkState) → Session g order source_before sink_before reader source sink
+    → Turned g order result source_before sink_before after left now
 
 -- how many bytes are left to be handed out, at most
 abbrev pub left_to_read : ReaderState → ℕ

@@ -5,16 +5,18 @@ ghost use Rattle.cu_cli.specs.Steps.Asks.{tables_asked};
 ghost use Rattle.cu_cli.specs.Steps.Outcomes.{Works, stop_of};
 
 use crate::preparing::prepare;
-use crate::rounds::Rounds;
+use crate::router::Router;
 use crate::session::answer_script;
 use crate::stops::Stop;
 use crate::words::TableWords;
+use cu_customize::customize;
+use cu_elimtree::Tree;
 use cu_io::{Shelf, Sink, Source};
 use cu_model::Roads;
+use cu_unpack::Work;
 use std::alloc::Global;
 
-/// Prepares the network of the tables, and answers the script of the source over it. All that a query needs is made before the first
-/// reply.
+/// Builds the hierarchy of the tables, and answers the script of the source from it. All that a query needs is made before the first reply.
 pub fn serve<H: Shelf, S: Source, K: Sink>(
     alloc: Global,
     tables: TableWords<'_>,
@@ -33,6 +35,9 @@ pub fn serve<H: Shelf, S: Source, K: Sink>(
         (K.state sink.new) }
 {
     let prepared = prepare(alloc, tables, shelf)?;
-    let mut engine = Rounds::new(alloc, prepared.network.nodes())?;
-    answer_script(alloc, &prepared.network, &mut engine, source, sink)
+    let hierarchy = customize(alloc, prepared.network, prepared.order, prepared.graph)?;
+    let tree = Tree::of(alloc, hierarchy.graph())?;
+    let mut work = Work::new(alloc, hierarchy.nodes())?;
+    let mut router = Router::new(alloc, &hierarchy, &tree, &mut work)?;
+    answer_script(alloc, &mut router, source, sink)
 }

@@ -4,9 +4,9 @@ use Rattle.cu_cli.proofs.session.answer_script.Given as goal
 
 abbrev pub invariant-lines : goal.invariant-lines
 invariant-lines g l = record {
-  session : Session (g.N.Roads.network l.roads) (g.S.Source.state l.fn.source) (g.K.Sink.state l.fn.sink) l.reader (g.S.Source.state l.source) (g.K.Sink.state l.sink);
+  session : Session l.fn.router.network l.fn.router.order (g.S.Source.state l.fn.source) (g.K.Sink.state l.fn.sink) l.reader (g.S.Source.state l.source) (g.K.Sink.state l.sink);
   more : l.reader.over ≡ false;
-  ready : g.E.Engine.is_ready l.engine (g.N.Roads.network l.roads);
+  stays : l.router ≡ l.fn.router;
 }
 
 abbrev pub decreases-lines : goal.decreases-lines
