@@ -1,0 +1,33 @@
+# What the scripts share. Whoever reads this has set `self`, the script's name for its messages.
+
+# Numbers are written with a point, and bytes stay bytes, whatever the language of the system.
+LC_ALL=C
+export LC_ALL
+
+fail() {
+  printf '%s: %s\n' "$self" "$*" >&2
+  exit 1
+}
+
+# Makes `room`, a folder for temporary files, which goes when the script ends, however it ends.
+make_room() {
+  room="$(mktemp -d 2>/dev/null)" || fail "no temporary folder can be made"
+  room="$(cd "$room" && pwd)" || fail "no temporary folder can be made"
+  trap 'rm -rf "$room"' EXIT
+  trap 'exit 129' HUP
+  trap 'exit 130' INT
+  trap 'exit 143' TERM
+}
+
+# take NAME FILE: copies a table into the room, each of its lines ended by a line feed.
+take() {
+  { tr '\r' '\n' <"$2" >"$room/$1"; } 2>/dev/null || fail "$2 can't be read"
+}
+
+# tables PROGRAM WORD..: runs an awk program over tables in the room. The words are awk's operands.
+tables() {
+  program="$1"
+  shift
+  (cd "$room" && awk -v self="$self" -f "$parts/refuse.awk" -f "$parts/tables.awk" \
+    -f "$parts/drawing.awk" -f "$parts/$program" "$@")
+}
