@@ -48,18 +48,18 @@ fn network(alloc: Global) -> Result<Network, Fail>
     Ok(Network::of(3, arcs, vec![in alloc; minute, slow, straight]?))
 }
 
-// Its built hierarchy with node 1 above the others: nodes 0, 2 and 1 have the ranks 0, 1 and 2. So road 2 is edge 0 upwards,
-// road 0 edge 1 upwards, and road 1 edge 2 downwards.
+// Its built hierarchy with node 1 below the others: nodes 1, 0 and 2 have the ranks 0, 1 and 2. So road 0 is edge 0 downwards,
+// road 1 edge 1 upwards, and edge 2 upwards is the better of road 2 and the way over rank 0.
 fn hierarchy(alloc: Global) -> Result<Hierarchy, Fail>
     ensures { IfOk result (λ hierarchy. hierarchy.network.nodes ≡ 3) }
 {
     let network = network(alloc)?;
-    let order = Order::of(alloc, vec![in alloc; 0, 2, 1]?)?;
+    let order = Order::of(alloc, vec![in alloc; 1, 0, 2]?)?;
     let graph = close(alloc, &network, &order)?;
     Ok(customize(alloc, network, order, graph)?)
 }
 
-// A query between two ranks at a second, what it finds, the calls that it tells, and the roads of its walk.
+// A query between two ranks at a second, what it finds, its calls, the room for telling them, and the roads of its walk.
 #[derive(Clone, Copy, Debug)]
 struct Row<'a> {
     from: u32,
@@ -67,13 +67,14 @@ struct Row<'a> {
     second: u32,
     found: Found,
     calls: &'a [(u32, Dir, u64)],
+    room: u32,
     roads: &'a [u8],
 }
 
-// Are these the calls that were told?
-fn are_told(calls: Option<&[Call]>, wanted: &[(u32, Dir, u64)]) -> bool {
+// Are these the calls that were told? None are where they find no room.
+fn are_told(calls: Option<&[Call]>, wanted: &[(u32, Dir, u64)], room: u32) -> bool {
     let Some(calls) = calls else {
-        return false;
+        return wanted.len() > room as usize;
     };
     if calls.len() != wanted.len() {
         return false;
@@ -96,6 +97,7 @@ fn ask(
     to: u32,
     second: u32,
     calls: &[(u32, Dir, u64)],
+    room: u32,
 ) -> Result<Option<Found>, Fail>
     requires ranks { (from < 3) × (to < 3) }
     requires second { second < DAY }
@@ -109,9 +111,9 @@ fn ask(
     let graph = hierarchy.graph();
     let _edges = hierarchy.edges();
     let mut work = Work::new(alloc, 3)?;
-    let mut listed = Listed::new(alloc, Unpacker::new(hierarchy, &mut work), 8)?;
+    let mut listed = Listed::new(alloc, Unpacker::new(hierarchy, &mut work), room)?;
     let found = query(tree, graph, desk, &mut listed, from, to, second);
-    if are_told(listed.calls(), calls) {
+    if are_told(listed.calls(), calls, room) {
         return Ok(Some(found));
     }
     Ok(None)
@@ -153,7 +155,10 @@ fn is_right(
         return Ok(false);
     }
     let (from, to, second) = (row.from, row.to, row.second);
-    let Some(found) = ask(alloc, hierarchy, tree, desk, from, to, second, row.calls)? else {
+    let asked = ask(
+        alloc, hierarchy, tree, desk, from, to, second, row.calls, row.room,
+    )?;
+    let Some(found) = asked else {
         return Ok(false);
     };
     if found != row.found {
@@ -165,57 +170,82 @@ fn is_right(
     }
 }
 
-// From rank 0 the query goes up to ranks 1 and 2, and down from rank 2. Over node 1 it takes 60 and 100 seconds, which is
-// earlier than 250; at 8:00 it takes 60 and 300. No road leads back. A query to its own start arrives at once, by no road.
-const ROWS: [Row<'static>; 4] = [
+// Node 0 has rank 1 and node 2 rank 2, so one call upwards is all there is between them; at 35,850 both ways arrive at 36,100,
+// and the road goes first. No road leads back. A query to its own start arrives at once, by no road. To node 1, at rank 0, the
+// calls downwards come from ranks 2 and 1; in room for three they aren't told.
+const ROWS: [Row<'static>; 7] = [
     Row {
-        from: 0,
-        to: 1,
+        from: 1,
+        to: 2,
         second: 0,
         found: Found::Arrive(160),
-        calls: &[
-            (0, Dir::Up, 0),
-            (1, Dir::Up, 0),
-            (2, Dir::Up, 250),
-            (2, Dir::Down, 60),
-        ],
+        calls: &[(2, Dir::Up, 0)],
+        room: 4,
         roads: b"0 1",
     },
     Row {
-        from: 0,
-        to: 1,
+        from: 1,
+        to: 2,
         second: 28_800,
         found: Found::Arrive(29_050),
-        calls: &[
-            (0, Dir::Up, 28_800),
-            (1, Dir::Up, 28_800),
-            (2, Dir::Up, 29_050),
-            (2, Dir::Down, 28_860),
-        ],
+        calls: &[(2, Dir::Up, 28_800)],
+        room: 4,
         roads: b"2",
     },
     Row {
         from: 1,
-        to: 0,
+        to: 2,
+        second: 35_850,
+        found: Found::Arrive(36_100),
+        calls: &[(2, Dir::Up, 35_850)],
+        room: 4,
+        roads: b"2",
+    },
+    Row {
+        from: 2,
+        to: 1,
         second: 7,
         found: Found::NoWalk,
-        calls: &[(2, Dir::Up, 7), (0, Dir::Down, 7)],
+        calls: &[(2, Dir::Down, 7)],
+        room: 4,
         roads: b"",
     },
     Row {
-        from: 0,
-        to: 0,
+        from: 1,
+        to: 1,
         second: 5,
         found: Found::Arrive(5),
-        calls: &[
-            (0, Dir::Up, 5),
-            (1, Dir::Up, 5),
-            (2, Dir::Up, 255),
-            (2, Dir::Down, 65),
-            (0, Dir::Down, 165),
-            (1, Dir::Down, 65),
-        ],
+        calls: &[(2, Dir::Up, 5), (2, Dir::Down, 165)],
+        room: 4,
         roads: b"",
+    },
+    Row {
+        from: 1,
+        to: 0,
+        second: 0,
+        found: Found::Arrive(60),
+        calls: &[
+            (2, Dir::Up, 0),
+            (2, Dir::Down, 160),
+            (0, Dir::Down, 0),
+            (1, Dir::Down, 160),
+        ],
+        room: 4,
+        roads: b"0",
+    },
+    Row {
+        from: 1,
+        to: 0,
+        second: 0,
+        found: Found::Arrive(60),
+        calls: &[
+            (2, Dir::Up, 0),
+            (2, Dir::Down, 160),
+            (0, Dir::Down, 0),
+            (1, Dir::Down, 160),
+        ],
+        room: 3,
+        roads: b"0",
     },
 ];
 
