@@ -18,7 +18,8 @@ use Rattle.cu_chordal.specs.declared.closure.Closing.{Closing}
 use Rattle.cu_chordal.specs.declared.table.EdgeTable.{EdgeTable}
 use Rattle.cu_chordal.specs.Graphs.{IsChordal, first_edge_of}
 use Rattle.cu_chordal.specs.Edges.{IsEdge, IsClosureOf, PathBelow}
-use Rattle.cu_chordal.specs.Steps.Closing.{AddsRank, Appends, AreClosed, AreChildren, HandsOn, IsBefore, IsLatestChild, IsReady, IsSource, ListsSources, edges_to}
+use Rattle.cu_chordal.specs.Steps.Closing.{AddsRank, Appends, AreClosed, AreChildren, HandsOn, IsBefore, IsLatestChild, IsReady, IsSource, ListsSources}
+use Rattle.cu_chordal.specs.Lists.{edges_to}
 use Rattle.cu_chordal.specs.Steps.Flat.{IsTable, edges_in, graph_in, paired}
 use Rattle.cu_chordal.specs.Steps.Links.{AreLinks}
 use Rattle.cu_chordal.proofs.Members.{all_from_members}
@@ -45,7 +46,7 @@ pub sorted_part : (gathered part : List ℕ) → IsDistinct eqb gathered → IsP
 sorted_part gathered part once moved sorted = IsStrictlyIncreasing-from_distinct part (IsNonDecreasingBy-from_sort (λ (x : ℕ). x) part sorted)
     (IsDistinct-IsPermutation eqb flips gathered part moved once)
 
-source_range : (edges : List Ends) (links : List ℕ) (ranks rank y : ℕ) → AreClosed edges ranks rank → All (λ z. (rank ≤ z) × (z < ranks)) links → IsSource edges links rank y → (rank < y) × (y < ranks)
+pub source_range : (edges : List Ends) (links : List ℕ) (ranks rank y : ℕ) → AreClosed edges ranks rank → All (λ z. (rank ≤ z) × (z < ranks)) links → IsSource edges links rank y → (rank < y) × (y < ranks)
 source_range edges links ranks rank y f linked (ne, inl c) = let both = All-contains (λ z. (rank ≤ z) × (z < ranks)) links y linked c in (omega (arith, both.0, ne), both.1)
 source_range edges links ranks rank y f linked (ne, inr child) =
     let least = parent_least edges child.0 rank y f.rising child.2 child.3 in
@@ -174,11 +175,11 @@ pub links_asked : (g : NetworkValue) (o : OrderValue) (ranks rank : ℕ) (closin
     → IsClosing g o ranks rank closing → AreLinks g o rank links → All (λ y. (rank ≤ y) × (y < length closing.stamps.items)) links
 links_asked g o ranks rank closing links at f linked k d h = let r = linked.in_range k d h in (r.0, omega (arith, r.1, at, f.ready.marks))
 
-joined_in_range : (g : NetworkValue) (o : OrderValue) → IsOrder o → length o.node_at ≡ g.nodes → (m x : ℕ) (zs : List ℕ) (y : ℕ) → PathBelow g o m x zs y → x < g.nodes
+pub joined_in_range : (g : NetworkValue) (o : OrderValue) → IsOrder o → length o.node_at ≡ g.nodes → (m x : ℕ) (zs : List ℕ) (y : ℕ) → PathBelow g o m x zs y → x < g.nodes
 joined_in_range g o f long m x [] y p = adjacent_in_range g o x y f long p
 joined_in_range g o f long m x (z ∷ zs) y p = adjacent_in_range g o x z f long p.0
 
-edge_in_range : (g : NetworkValue) (o : OrderValue) → IsOrder o → length o.node_at ≡ g.nodes → (x y : ℕ) → IsEdge g o x y → x < g.nodes
+pub edge_in_range : (g : NetworkValue) (o : OrderValue) → IsOrder o → length o.node_at ≡ g.nodes → (x y : ℕ) → IsEdge g o x y → x < g.nodes
 edge_in_range g o f long x y e = joined_in_range g o f long (min x y) x e.1.0 y e.1.1
 
 -- when all ranks were added

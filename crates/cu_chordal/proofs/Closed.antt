@@ -12,7 +12,8 @@ use Rattle.cu_model.specs.Orders.{OrderValue}
 use Rattle.cu_chordal.specs.declared.graph.Ends.{Ends}
 use Rattle.cu_chordal.specs.Graphs.{IsChordal, IsRising, HasEdge, parent_of, up_of}
 use Rattle.cu_chordal.specs.Edges.{Adjacent, IsEdge, ListsEdges}
-use Rattle.cu_chordal.specs.Steps.Closing.{AddsRank, AreClosed, IsSource, edges_to}
+use Rattle.cu_chordal.specs.Steps.Closing.{AddsRank, AreClosed, IsSource}
+use Rattle.cu_chordal.specs.Lists.{edges_to}
 use Rattle.cu_chordal.proofs.Members.{there, member_at, none_in_nil, place_of}
 use Rattle.cu_chordal.proofs.Tables.{member_edges_to, edge_from_up_of, up_of_from_edge, up_rising}
 use Rattle.cu_chordal.proofs.Joined.{IsUp, HasParents, edge_from_up, from_link_or_child, up_from_child, up_from_edge}

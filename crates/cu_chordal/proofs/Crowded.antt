@@ -1,25 +1,23 @@
 -- Where there are more edges than the limit.
-use Rattle.std.proofs.Common.{◌≡◌, ◌≢◌, ◌≤◌, ◌<◌, ℕ, Bool, true, false, ◌&&◌, List, [], ◌∷◌, ◌++◌, eqb, length, refl, sym, ◌∙◌, ap, subst, arith, inl, inr}
+use Rattle.std.proofs.Common.{◌≡◌, ◌≢◌, ◌<◌, ℕ, Bool, true, false, ◌&&◌, List, [], ◌∷◌, ◌++◌, eqb, length, refl, sym, ◌∙◌, ap, subst, arith, inl, inr}
 use Rattle.std.specs.Bool.{Decides}
 use Rattle.std.specs.List.{Contains, AllPairs}
 use Rattle.std.specs.Cmp.{IsEquivalence}
 use Rattle.std.proofs.lemmas.Bool.{eqb-true, eq-eqb}
 use Rattle.std.proofs.lemmas.List.{length-append}
 use Rattle.std.proofs.lemmas.List.Elements.{Contains-append_cases}
-use Rattle.std.proofs.lemmas.List.Folds.{Any-from_list_any}
 use Rattle.std.proofs.lemmas.List.Kept.{AllPairs-cons}
-use Rattle.std.proofs.lemmas.Map.Made.{IsDistinct-from_AllPairs, length-le_from_is_member}
-use Rattle.std.proofs.lemmas.Map.Views.{list_any-from_Contains}
 use Rattle.cu_model.specs.Networks.{NetworkValue}
 use Rattle.cu_model.specs.Orders.{OrderValue}
 use Rattle.cu_chordal.specs.declared.graph.Ends.{Ends}
 use Rattle.cu_chordal.specs.Graphs.{IsRising, HasEdge}
 use Rattle.cu_chordal.specs.Edges.{HasTooManyEdges, ListsEdges}
-use Rattle.cu_chordal.specs.Steps.Closing.{AreClosed, IsCrowded, IsReady, edges_to}
+use Rattle.cu_chordal.specs.Steps.Closing.{AreClosed, IsCrowded, IsReady}
+use Rattle.cu_chordal.specs.Lists.{edges_to}
 use Rattle.cu_chordal.specs.Steps.Flat.{edges_in}
 use Rattle.cu_chordal.specs.Steps.Links.{AreLinks}
 use Rattle.cu_chordal.specs.declared.closure.Closing.{Closing}
-use Rattle.cu_chordal.proofs.Members.{pairs_append, pairs_tail, pairs_head}
+use Rattle.cu_chordal.proofs.Members.{no_more, pairs_append, pairs_tail, pairs_head}
 use Rattle.cu_chordal.proofs.Tables.{length_paired, member_edges_to, length_edges_to, lows_of_edges_to}
 use Rattle.cu_chordal.proofs.Joined.{IsUp, edge_from_up}
 use Rattle.cu_chordal.proofs.Closed.{AreUps, source_up}
@@ -77,16 +75,6 @@ edges_to_differ rank (y ∷ found) f =
     (lows_of_edges_to rank found (λ (b : Ends). record { low = rank; high = y } ≢ b) (λ z c e. head_differs y found z f c (ap (λ (x : Ends). x.high) e)))
     (edges_to_differ rank found (pairs_tail (λ x y. x ≢ y) y found f))
 
--- different edges that are all in a list are no more than it has
-no_more : (some all : List Ends) → AllPairs (λ (a b : Ends). a ≢ b) some → ((e : Ends) → Contains some e → Contains all e) → length some ≤ length all
-no_more some all differ inside =
-    length-le_from_is_member same_edge_laws some all (IsDistinct-from_AllPairs same_edge_decides some differ)
-    (λ q h.
-    let found = Any-from_list_any (same_edge q) some h in
-    let same : q ≡ found.1 = same_from_test q found.1 found.4 in
-    let there_q : Contains some q = subst (Contains some) (sym same) (found.0, found.2, found.3) in
-    list_any-from_Contains same_edge_laws q all (inside q there_q))
-
 -- a closed edge is in every list of the chordal edges
 in_list : (g : NetworkValue) (o : OrderValue) (edges : List Ends) (x y : ℕ) → ListsEdges g o edges → IsUp g o x y → HasEdge edges x y
 in_list g o edges x y f up = (f.exact x y).1 (up.0, edge_from_up g o x y up)
@@ -118,7 +106,7 @@ too_many_edges g o ranks rank closing links ready ups linked more all lists =
           let up : IsUp g o rank e.high = (source_up g o edges links rank e.high closed.rising ups linked.exact).0 (more.3 e.high at.1) in
           subst (λ k. Contains all (record { low = k; high = e.high })) (sym at.0) (in_list g o all rank e.high lists up)
     ] in
-    let fits = no_more some all differ inside in
+    let fits = no_more same_edge_laws same_edge_decides some all differ inside in
     let long = length-append edges (edges_to rank found) in
     let count = length_edges_to rank found in
     omega (arith, fits, long, count, more.2, closed.few, edges_long)

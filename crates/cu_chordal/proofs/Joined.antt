@@ -28,7 +28,7 @@ joined_back g o m x (z ∷ zs) y p =
     (back.0 ++ (z ∷ []), path_append g o m y z back.0 [] x p.1 back.1 (adjacent_back g o x z p.0))
 
 -- cut at the bound
-cut_path : (g : NetworkValue) (o : OrderValue) (m x : ℕ) (zs : List ℕ) (y : ℕ) → PathBelow g o (suc m) x zs y
+pub cut_path : (g : NetworkValue) (o : OrderValue) (m x : ℕ) (zs : List ℕ) (y : ℕ) → PathBelow g o (suc m) x zs y
     → JoinedBelow g o m x y ⊎ (JoinedBelow g o m x m × JoinedBelow g o m m y)
 cut_path g o m x [] y p = inl ([], p)
 cut_path g o m x (z ∷ zs) y p =

@@ -11,3 +11,8 @@ pub mod Linked
 pub mod Adding
 pub mod Crowded
 pub mod Unique
+pub mod Listed
+pub mod Adopted
+pub mod Decided
+pub mod Claims
+pub mod Checked

@@ -1,10 +1,14 @@
 -- Members of lists, one after another.
-use Rattle.std.proofs.Common.{◌≡◌, ℕ, zero, suc, List, [], ◌∷◌, ◌++◌, Some, get_or, refl, ◌∙◌, ap, arith, inl, inr, ◌⊎◌}
+use Rattle.std.proofs.Common.{◌≡◌, ◌≢◌, ◌≤◌, ℕ, zero, suc, Bool, length, List, [], ◌∷◌, ◌++◌, Some, get_or, refl, ◌∙◌, ap, arith, inl, inr, ◌⊎◌}
 use Rattle.std.specs.Prelude.{All, slice_get}
 use Rattle.std.specs.List.{Contains, AllPairs}
+use Rattle.std.specs.Bool.{Decides}
+use Rattle.std.specs.Cmp.{IsEquivalence}
 use Rattle.std.proofs.lemmas.List.Elements.{All-append}
 use Rattle.std.proofs.lemmas.List.Kept.{AllPairs-cons}
 use Rattle.std.proofs.lemmas.List.{get_or_default}
+use Rattle.std.proofs.lemmas.Map.Made.{IsDistinct-from_AllPairs, length-le_from_is_member}
+use Rattle.std.proofs.lemmas.Map.Views.{Contains-from_any, list_any-from_Contains}
 use Rattle.std.proofs.lemmas.Option.{slice_get-get_or, get_or_from_slice_get, slice_get_within}
 
 pub here : {X : Type 0} (x : X) (xs : List X) → Contains (x ∷ xs) x
@@ -42,3 +46,10 @@ pairs_append R (x ∷ xs) ys f g between =
     AllPairs-cons R x (xs ++ ys)
     (All-append (R x) xs ys (pairs_head R x xs f) (all_from_members (R x) ys (λ y c. between x y (here x xs) c)))
     (pairs_append R xs ys (pairs_tail R x xs f) g (λ w y c e. between w y (there x xs w c) e))
+
+-- different members that are all in another list are no more than it has
+pub no_more : {X : Type 0} {same : X → X → Bool} → IsEquivalence same → ((a b : X) → Decides (same a b) (a ≡ b)) → (some all : List X)
+    → AllPairs (λ (a b : X). a ≢ b) some → ((x : X) → Contains some x → Contains all x) → length some ≤ length all
+no_more {X} {same} laws decides some all differ inside =
+    length-le_from_is_member laws some all (IsDistinct-from_AllPairs decides some differ)
+    (λ q h. list_any-from_Contains laws q all (inside q (Contains-from_any (λ x y. (decides x y).0) q some h)))

@@ -11,7 +11,8 @@ use Rattle.cu_chordal.specs.declared.graph.Ends.{Ends}
 use Rattle.cu_chordal.specs.declared.closure.Children.{Children}
 use Rattle.cu_chordal.specs.declared.table.EdgeTable.{EdgeTable}
 use Rattle.cu_chordal.specs.Graphs.{first_edge_of, parent_of, up_of}
-use Rattle.cu_chordal.specs.Steps.Closing.{Appends, AreChildren, AreClosed, HandsOn, IsLatestChild, edges_to}
+use Rattle.cu_chordal.specs.Steps.Closing.{Appends, AreChildren, AreClosed, HandsOn, IsLatestChild}
+use Rattle.cu_chordal.specs.Lists.{edges_to}
 use Rattle.cu_chordal.specs.Steps.Flat.{IsTable, edges_in, paired}
 use Rattle.cu_chordal.proofs.Members.{member_at}
 use Rattle.cu_chordal.specs.declared.graph.TheConstants.{MAX_EDGES}

@@ -10,7 +10,7 @@ use Rattle.std.proofs.lemmas.List.Kept.{AllPairs-cons}
 use Rattle.cu_chordal.specs.declared.graph.Ends.{Ends}
 use Rattle.cu_chordal.specs.Graphs.{ComesBefore, IsRising, HasEdge, one_if, up_of, down_of, first_edge_of}
 use Rattle.cu_chordal.specs.Groups.{group_of}
-use Rattle.cu_chordal.specs.Steps.Closing.{edges_to}
+use Rattle.cu_chordal.specs.Lists.{edges_to}
 use Rattle.cu_chordal.specs.Steps.Flat.{paired}
 use Rattle.cu_chordal.proofs.Members.{here, there, member_at, member_cases, none_in_nil, all_from_members, pairs_tail, pairs_head, pairs_append}
 

@@ -63,9 +63,9 @@ impl<T: Drop> From<AllocFailed<T>> for CloseRefusal {
 // The children of each rank so far, linked from the latest to the one before: a rank's parent is its lowest higher
 // neighbour.
 #[derive(Debug, Drop)]
-struct Children {
-    latest: Vec<Option<u32>>,
-    before: Vec<Option<u32>>,
+pub struct Children {
+    pub latest: Vec<Option<u32>>,
+    pub before: Vec<Option<u32>>,
 }
 
 // The edges of the ranks so far, and what the next ranks need.
@@ -141,7 +141,7 @@ fn gather_all(
 }
 
 // So many times the value.
-fn filled<T: Copy + Drop>(alloc: Global, count: u32, value: T) -> Result<Vec<T>, AllocError>
+pub fn filled<T: Copy + Drop>(alloc: Global, count: u32, value: T) -> Result<Vec<T>, AllocError>
     ensures { IfOk result (λ items. items.items ≡ replicate count value) }
 {
     let mut items = Vec::new(alloc);
@@ -194,7 +194,7 @@ impl Closing {
 
 impl Children {
     // Makes the rank a child of the lowest of its higher neighbours, if it has any.
-    fn hand_on(&mut self, rank: u32, part: &[u32])
+    pub fn hand_on(&mut self, rank: u32, part: &[u32])
         requires below { rank < length self.old.before.items }
         requires in_range { All (λ y. y < length self.old.latest.items) part.now }
         ensures { HandsOn rank (slice_get part.now 0) self.old self.new }
@@ -231,7 +231,7 @@ fn rank_ends<N: Roads>(alloc: Global, roads: &N, order: &Order) -> Result<RankEn
 }
 
 // The links of each rank to itself or a higher one.
-fn links<N: Roads>(alloc: Global, roads: &N, order: &Order) -> Result<Groups, NoMemory>
+pub fn links<N: Roads>(alloc: Global, roads: &N, order: &Order) -> Result<Groups, NoMemory>
     requires same { length order.now.node_at ≡ (N.network roads.now).nodes }
     requires ordered { IsOrder order.now }
     ensures { IfOk result (HoldsLinks (N.network roads.now) order.now) }

@@ -2,6 +2,7 @@
 use Rattle.std.specs.Prelude.{ℕ, List, [], ◌∷◌, ◌++◌, Option, Some, None, ◌≡◌, ◌≢◌, ◌≤◌, ◌<◌, ◌+◌, ◌-◌, ◌⊎◌, ◌↔◌, length, replicate, All, slice_get, slice_index, slice_index_or, slice_set}
 use Rattle.std.specs.List.{Contains, AllPairs}
 use Rattle.cu_chordal.specs.Graphs.{IsRising, parent_of, up_of}
+use Rattle.cu_chordal.specs.Lists.{edges_to}
 use Rattle.cu_chordal.specs.Steps.Flat.{IsTable, edges_in}
 use Rattle.cu_chordal.specs.declared.closure.Children.{Children}
 use Rattle.cu_chordal.specs.declared.closure.Closing.{Closing}
@@ -61,11 +62,6 @@ pub record AreClosed (edges : List Ends) (ranks rank : ℕ) : Type 0 where
   pub few : length edges ≤ MAX_EDGES
   pub rising : IsRising edges
   pub in_range : All (λ (e : Ends). (e.low < rank) × (e.low < e.high) × (e.high < ranks)) edges
-
--- an edge from the rank to each of these
-abbrev pub edges_to : ℕ → List ℕ → List Ends
-edges_to rank [] = []
-edges_to rank (y ∷ ys) = record { low = rank; high = y } ∷ edges_to rank ys
 
 -- the edges of a rank to these higher neighbours were added
 pub record Appends (rank : ℕ) (part : List ℕ) (old new : EdgeTable) : Type 0 where
