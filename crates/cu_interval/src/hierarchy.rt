@@ -82,10 +82,20 @@ impl Model for Hierarchy {
 
     ghost Value = { HierarchyValue };
 
-    ghost view = { λ h. record { network = h.network; order = h.order; edges = h.graph.edges; lists = h.lists.items } };
+    ghost view = { λ h. record {
+      network = h.network;
+      order = h.order;
+      edges = h.graph.edges;
+      lists = h.lists.items;
+    } };
 
     ghost invariant = { λ h. IsHierarchyOf h.graph
-        (record { network = h.network; order = h.order; edges = h.graph.edges; lists = h.lists.items }) };
+        (record {
+          network = h.network;
+          order = h.order;
+          edges = h.graph.edges;
+          lists = h.lists.items;
+        }) };
 }
 
 impl Hierarchy {
@@ -93,7 +103,12 @@ impl Hierarchy {
     /// 2 * edge for up and 2 * edge + 1 for down, have well-formed ways. Takes no memory.
     pub fn of(network: Network, order: Order, graph: Chordal, lists: Vec<WayList>) -> Hierarchy
         requires { IsHierarchyOf graph
-            (record { network = network; order = order; edges = graph.edges; lists = lists.items }) }
+            (record {
+              network = network;
+              order = order;
+              edges = graph.edges;
+              lists = lists.items;
+            }) }
         ensures { result ≡ record {
           network = network;
           order = order;

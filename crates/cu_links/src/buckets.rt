@@ -39,7 +39,11 @@ impl Model for RankBuckets {
 
     ghost Value = { BucketsValue };
 
-    ghost view = { λ b. record { ranks = length b.firsts.items; states = b.states.items; last = b.last } };
+    ghost view = { λ b. record {
+      ranks = length b.firsts.items;
+      states = b.states.items;
+      last = b.last;
+    } };
 
     ghost invariant = { λ b. AreBuckets b.firsts.items b.nexts.items b.states.items b.last };
 }

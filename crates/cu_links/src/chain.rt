@@ -27,7 +27,8 @@ impl Model for Chain {
 
     ghost view = { λ chain. record { links = chain.links.items; turned = chain.turned } };
 
-    ghost invariant = { λ chain. IsKept chain.links.items chain.noted.items chain.count chain.turned };
+    ghost invariant = { λ chain. IsKept chain.links.items chain.noted.items chain.count
+        chain.turned };
 }
 
 impl Chain {
