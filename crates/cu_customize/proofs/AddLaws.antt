@@ -14,10 +14,11 @@ use Rattle.cu_arrival.specs.declared.runs.Run.{Run}
 use Rattle.cu_arrival.specs.declared.runs.RunRule.{RunRule}
 use Rattle.cu_arrival.specs.declared.runs.RunRule.TheVariants.{Fixed}
 use Rattle.cu_arrival.specs.Runs.{arrival_value}
+use Rattle.cu_arrival.specs.Steps.Stretches.{arrives}
 use Rattle.cu_model.proofs.Tiling.{IsTiled}
 use Rattle.cu_customize.specs.declared.merging.Least.{Least}
 use Rattle.cu_customize.specs.declared.merging.Next.{Next}
-use Rattle.cu_customize.specs.Words.{arrives, IsDayList, IsFunctionWords, composed, end_run}
+use Rattle.cu_customize.specs.Words.{IsDayList, IsFunctionWords, composed, end_run}
 use Rattle.cu_customize.specs.Least.{Held, held_from, held_at, least_arrival, least_way, way_with, KeepsDayOrder}
 use Rattle.cu_customize.specs.declared.merging.TheConstants.{MOST, NOBODY}
 use Rattle.cu_customize.specs.Steps.Merging.{least_held, next_held, IsHeld, IsLeast, IsNext, IsMerging, IsMerged, SaysMerged}

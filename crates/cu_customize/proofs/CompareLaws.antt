@@ -6,10 +6,11 @@ use Rattle.std.proofs.lemmas.Option.{get_or_from_slice_get, slice_get_within}
 use Rattle.cu_model.specs.Days.{day}
 use Rattle.cu_arrival.specs.declared.runs.Run.{Run}
 use Rattle.cu_arrival.specs.Runs.{arrival_value}
+use Rattle.cu_arrival.specs.Steps.Stretches.{arrives}
 use Rattle.cu_model.proofs.Tiling.{IsTiled, tiled_none}
 use Rattle.cu_customize.specs.declared.merging.Least.{Least}
 use Rattle.cu_customize.specs.declared.merging.Next.{Next}
-use Rattle.cu_customize.specs.Words.{arrives, IsDayList}
+use Rattle.cu_customize.specs.Words.{IsDayList}
 use Rattle.cu_customize.specs.Least.{Held, held_from, least_arrival}
 use Rattle.cu_customize.specs.Steps.Merging.{least_held, next_held, IsHeld, IsNext, IsMerging, Merges, SaysMerged}
 use Rattle.cu_customize.proofs.DayLists.{item_from, from_in_day, value_in_force}

@@ -11,7 +11,8 @@ use Rattle.cu_arrival.specs.declared.runs.RunRule.{RunRule}
 use Rattle.cu_arrival.specs.declared.runs.RunRule.TheVariants.{Shift, Fixed}
 use Rattle.cu_arrival.specs.Runs.{run_at, run_value, rule_value, arrival_value}
 use Rattle.cu_arrival.proofs.RunLaws.{value_at, value-days}
-use Rattle.cu_customize.specs.Words.{IsDayList, arrives, after_shift}
+use Rattle.cu_arrival.specs.Steps.Stretches.{arrives}
+use Rattle.cu_customize.specs.Words.{IsDayList, after_shift}
 
 -- the item of an index, of which something is known
 pub item_from : {A B : Type 0} (f : A → B) (xs : List A) (i : ℕ) (b : B) → option_map f (slice_get xs i) ≡ Some b

@@ -1,5 +1,5 @@
 -- Candidates that are merged one after the other.
-use Rattle.std.proofs.Common.{◌≡◌, ◌≢◌, ◌≤◌, ◌<◌, ◌+◌, ◌-◌, ◌^◌, ◌∙◌, ◌++◌, ◌⊎◌, ℕ, Bool, List, [], ◌∷◌, Option, Some, None, refl, sym, ap, subst, arith, inl, inr, length, get_or, map, min, ltb, true, false}
+use Rattle.std.proofs.Common.{◌≡◌, ◌≢◌, ◌≤◌, ◌<◌, ◌+◌, ◌-◌, ◌^◌, ◌∙◌, ◌++◌, ◌⊎◌, ℕ, Bool, List, [], ◌∷◌, Option, Some, None, refl, sym, ap, subst, arith, inl, inr, length, map, min, ltb, true, false}
 use Rattle.std.specs.Prelude.{All, IsSome, slice_get}
 use Rattle.std.specs.List.{Contains}
 use Rattle.std.proofs.lemmas.Bool.{cases_lt}
@@ -16,13 +16,13 @@ use Rattle.cu_interval.specs.declared.ways.Way.TheVariants.{Road, Via}
 use Rattle.cu_interval.specs.WayLists.{GoesFirst}
 use Rattle.cu_customize.specs.declared.merging.TheConstants.{MOST, NOBODY}
 use Rattle.cu_customize.specs.declared.task.Task.{Task}
-use Rattle.cu_customize.specs.declared.words.TheConstants.{MAX_NUMBER}
 use Rattle.cu_customize.specs.Least.{Held, least_arrival, least_way, way_with}
 use Rattle.cu_customize.specs.Settling.{value_at}
 use Rattle.cu_customize.specs.Steps.Best.{IsOpenWay}
 use Rattle.cu_customize.specs.Steps.Kept.{road_function, road_if}
 use Rattle.cu_customize.specs.Words.{composed}
 use Rattle.cu_customize.specs.Steps.Gathering.{ArrivesIn, Gathers, IsBound, IsGathered, IsGatheredBut, IsInTime, IsKept, IsLeastWay, IsNear, IsNobodys, IsOpenIn, IsRival, IsTask, IsWithin, state_of}
+use Rattle.cu_customize.specs.Steps.Triangles.{middles_in}
 use Rattle.cu_customize.proofs.Bests.{among_cases, among_last, among_more, arrives_once}
 use Rattle.cu_customize.proofs.Keeping.{push_before, push_last}
 use Rattle.cu_customize.proofs.Loops.{member_map}
@@ -205,7 +205,7 @@ module _ (task : Task) (is : IsTask task) (a : ℕ) (held : Contains task.arcs.n
   pub road_bound : (most : ℕ) → ((t : ℕ) → t < day → arrival_value words t ≤ t + most) → IsBound task most
   road_bound most within = inr (
     Road a,
-    (Contains-append_left (map Road task.arcs.now) (map Via task.middles.now) (Road a) (member_map Road task.arcs.now a held), road_free),
+    (Contains-append_left (map Road task.arcs.now) (map Via (middles_in task.triangles.now)) (Road a) (member_map Road task.arcs.now a held), road_free),
     λ t lt. (arc_value task.network.now a t, road_says t, let says = value t lt in let few = within t lt in omega (arith, says, few)),
   )
 

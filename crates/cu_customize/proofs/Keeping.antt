@@ -142,7 +142,7 @@ push_before {A} xs x n lt =
     let inside : n < length (xs ++ x ∷ []) = omega (arith, size, lt) in
     slice_get-get_or (xs ++ x ∷ []) n x inside ∙ ap Some (get_or_append_left xs (x ∷ []) x n lt) ∙ sym (slice_get-get_or xs n x lt)
 
-same_number : (edge e : ℕ) (dir d : Dir) → list_number e d ≡ list_number edge dir → (edge ≡ e) × (dir ≡ d)
+pub same_number : (edge e : ℕ) (dir d : Dir) → list_number e d ≡ list_number edge dir → (edge ≡ e) × (dir ≡ d)
 same_number edge e Up Up h = (omega (arith, h), refl)
 same_number edge e Up Down h = absurd (omega (arith, h))
 same_number edge e Down Up h = absurd (omega (arith, h))

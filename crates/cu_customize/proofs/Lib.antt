@@ -2,7 +2,7 @@ pub mod Bounds
 pub mod LowFunctions
 pub mod Fronts
 pub mod Bests
-pub mod Triangles
+pub mod Halves
 pub mod Loops
 pub mod Settles
 pub mod Lows
@@ -23,3 +23,6 @@ pub mod Middles
 pub mod LeftOut
 pub mod Pulls
 pub mod Nexts
+pub mod Filing
+pub mod Ranks
+pub mod Dropped

@@ -10,9 +10,10 @@ use Rattle.cu_arrival.specs.declared.runs.RunRule.{RunRule}
 use Rattle.cu_arrival.specs.declared.runs.RunRule.TheVariants.{Shift, Fixed}
 use Rattle.cu_arrival.specs.Runs.{run_at, run_value, rule_value, rule_number, arrival_value}
 use Rattle.cu_arrival.proofs.RunLaws.{value_in_day}
+use Rattle.cu_arrival.specs.Steps.Stretches.{arrives}
 use Rattle.cu_model.proofs.Tiling.{IsTiled, tiled_push, tiled_none}
 use Rattle.cu_customize.specs.declared.linking.Place.{Place}
-use Rattle.cu_customize.specs.Words.{IsDayList, IsFunctionWords, end_run, arrives, after_shift, after_arrival, composed, is_fixed}
+use Rattle.cu_customize.specs.Words.{IsDayList, IsFunctionWords, end_run, after_shift, after_arrival, composed, is_fixed}
 use Rattle.cu_customize.specs.declared.words.TheConstants.{MAX_NUMBER}
 use Rattle.cu_customize.specs.Steps.Linking.{IsPlace, IsSaid, Says, Continues}
 use Rattle.cu_customize.proofs.DayLists.{has_next, two_words, starts_from, next_from, from_in_day, value_after, value_in_force}

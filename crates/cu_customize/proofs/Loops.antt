@@ -1,5 +1,5 @@
 -- Ways taken one after the other from a list of roads and from one of middles.
-use Rattle.std.proofs.Common.{◌≡◌, ◌≤◌, ◌<◌, ◌+◌, ◌∙◌, ◌++◌, ◌⊎◌, ◌↔◌, append_assoc, ℕ, suc, List, [], ◌∷◌, sym, ap, subst, arith, inl, inr, length, get_or, take, map}
+use Rattle.std.proofs.Common.{◌≡◌, ◌≤◌, ◌<◌, ◌+◌, ◌∙◌, ◌++◌, ◌↔◌, append_assoc, ℕ, suc, List, [], ◌∷◌, sym, ap, subst, arith, inl, inr, length, get_or, take, map}
 use Rattle.std.specs.Prelude.{All}
 use Rattle.std.specs.List.{Contains}
 use Rattle.std.specs.List.Sorted.{IsStrictlyIncreasing}
@@ -7,9 +7,12 @@ use Rattle.std.proofs.Math.Seq.{take-suc}
 use Rattle.std.proofs.lemmas.List.{get_or-take, get_or_default, length-take-le, map-append}
 use Rattle.std.proofs.lemmas.List.Kept.{AllPairs-from_increasing}
 use Rattle.std.proofs.lemmas.List.Elements.{Contains-append_cases, Contains-append_left, Contains-append_right}
+use Rattle.std.proofs.lemmas.Option.{slice_get-get_or}
+use Rattle.cu_model.specs.Begun.{Rises}
+use Rattle.cu_model.proofs.Begun.{few_items}
 use Rattle.cu_chordal.specs.declared.graph.Ends.{Ends}
 use Rattle.cu_chordal.specs.Graphs.{ChordalValue, HasEdge, IsChordal}
-use Rattle.cu_chordal.proofs.Members.{all_from_members, here, member_cases, none_in_nil, place_of, there}
+use Rattle.cu_chordal.proofs.Members.{all_from_members, here, member_at, member_cases, none_in_nil, place_of, there}
 use Rattle.cu_model.proofs.RoadLaws.{all_at}
 use Rattle.cu_interval.specs.declared.ways.Way.{Way}
 use Rattle.cu_interval.specs.declared.ways.Way.TheVariants.{Road, Via}
@@ -28,16 +31,16 @@ map_member f (x ∷ xs) w c =
       | inr more ↦ let (y, held, is) = map_member f xs w more in (y, there x xs y held, is)
     ]
 
-pub member_map : (f : ℕ → Way) (xs : List ℕ) (x : ℕ) → Contains xs x → Contains (map f xs) (f x)
+pub member_map : {A B : Type 0} (f : A → B) (xs : List A) (x : A) → Contains xs x → Contains (map f xs) (f x)
 member_map f [] x c = absurd (none_in_nil x c)
-member_map f (y ∷ xs) x c =
+member_map {A} f (y ∷ xs) x c =
     elim (member_cases y xs x c) [
-      | inl same ↦ subst (λ (z : ℕ). Contains (f y ∷ map f xs) (f z)) same (here (f y) (map f xs))
+      | inl same ↦ subst (λ (z : A). Contains (f y ∷ map f xs) (f z)) same (here (f y) (map f xs))
       | inr more ↦ there (f y) (map f xs) (f x) (member_map f xs x more)
     ]
 
 -- those taken so far are below the next
-taken_below : (xs : List ℕ) (i z d : ℕ) → IsStrictlyIncreasing xs → i < length xs → Contains (take i xs) z → z < get_or xs i d
+pub taken_below : (xs : List ℕ) (i z d : ℕ) → IsStrictlyIncreasing xs → i < length xs → Contains (take i xs) z → z < get_or xs i d
 taken_below xs i z d rising inside held =
     let (k, lt, is) = held in
     let size = length-take-le i xs (omega (arith, inside)) in
@@ -46,6 +49,28 @@ taken_below xs i z d rising inside held =
     let default : get_or xs k z ≡ get_or xs k d = get_or_default xs k z d (omega (arith, early, inside)) in
     let below = AllPairs-from_increasing xs rising k i d early inside in
     omega (arith, below, default, same, is)
+
+-- numbers that rise and stay below a limit are no more than it
+pub few_rising : (xs : List ℕ) (n : ℕ) → IsStrictlyIncreasing xs → All (λ x. x < n) xs → length xs ≤ n
+few_rising xs n rising below =
+    let rises : Rises (λ (x : ℕ). x) xs = λ k d h. AllPairs-from_increasing xs rising k (k + 1) d (omega arith) h in
+    few_items (λ (x : ℕ). x) n xs rises below
+
+pub taken_member : {A : Type 0} (xs : List A) (i : ℕ) (d : A) → i < length xs → Contains xs (get_or xs i d)
+taken_member xs i d inside = member_at xs (get_or xs i d) i (slice_get-get_or xs i d inside)
+
+-- an edge leads up
+pub edge_rises : (graph : ChordalValue) → IsChordal graph → (x y : ℕ) → HasEdge graph.edges x y → x < y
+edge_rises graph is x y edge =
+    let (k, at) = place_of graph.edges (record { low = x; high = y }) edge in
+    (all_at (λ (e : Ends). (e.low < e.high) × (e.high < graph.ranks)) graph.edges k (record { low = x; high = y }) is.in_range at).0
+
+-- a lower neighbour is below
+pub lower_below : (graph : ChordalValue) → IsChordal graph → (rank : ℕ) (downs : List ℕ) → ((x : ℕ) → Contains downs x ↔ HasEdge graph.edges x rank) → (i : ℕ) → i < length downs
+    → HasEdge graph.edges (get_or downs i 0) rank × (get_or downs i 0 < rank)
+lower_below graph is rank downs members i inside =
+    let edge = (members (get_or downs i 0)).0 (taken_member downs i 0 inside) in
+    (edge, edge_rises graph is (get_or downs i 0) rank edge)
 
 -- one more is taken
 pub map_taken : (f : ℕ → Way) (xs : List ℕ) (i d : ℕ) → i < length xs → map f (take i xs) ++ f (get_or xs i d) ∷ [] ≡ map f (take (i + 1) xs)
@@ -73,19 +98,14 @@ pub via_taken : (arcs xs : List ℕ) (i d : ℕ) → i < length xs → (map Road
 via_taken arcs xs i d inside = append_assoc (map Road arcs) (map Via (take i xs)) (Via (get_or xs i d) ∷ []) ∙ ap (λ (ways : List Way). map Road arcs ++ ways) (map_taken Via xs i d inside)
 
 -- a lower neighbour of the lower end is below both ends
-edge_rises : (graph : ChordalValue) → IsChordal graph → (x y : ℕ) → HasEdge graph.edges x y → x < y
-edge_rises graph is x y edge =
-    let (k, at) = place_of graph.edges (record { low = x; high = y }) edge in
-    (all_at (λ (e : Ends). (e.low < e.high) × (e.high < graph.ranks)) graph.edges k (record { low = x; high = y }) is.in_range at).0
-
-pub middles_below : (graph : ChordalValue) → IsChordal graph → (u v low : ℕ) (middles : List ℕ) → low ≤ u → low ≤ v → ((x : ℕ) → Contains middles x ↔ HasEdge graph.edges x low)
+pub middles_below : (graph : ChordalValue) → IsChordal graph → (u v low : ℕ) (middles : List ℕ) → low ≤ u → low ≤ v → ((x : ℕ) → Contains middles x → HasEdge graph.edges x low)
     → All (λ (m : ℕ). (m < u) × (m < v)) middles
-middles_below graph is u v low middles lu lv members =
-    all_from_members (λ (m : ℕ). (m < u) × (m < v)) middles (λ m held. let lt = edge_rises graph is m low ((members m).0 held) in (omega (arith, lt, lu), omega (arith, lt, lv)))
+middles_below graph is u v low middles lu lv joined =
+    all_from_members (λ (m : ℕ). (m < u) × (m < v)) middles (λ m held. let lt = edge_rises graph is m low (joined m held) in (omega (arith, lt, lu), omega (arith, lt, lv)))
 
--- the candidates that are taken are those of the shortcut
-module _ (graph : ChordalValue) (is : IsChordal graph) (f : FunctionsState) (u v low : ℕ) (arcs middles : List ℕ) (lu : low ≤ u) (lv : low ≤ v) (end : (low ≡ u) ⊎ (low ≡ v))
-    (members : (x : ℕ) → Contains middles x ↔ HasEdge graph.edges x low) where
+-- the candidates that are taken are those of the shortcut, where its middles have an edge to its lower end, and all that have one to both ends are there
+module _ (graph : ChordalValue) (is : IsChordal graph) (f : FunctionsState) (u v low : ℕ) (arcs middles : List ℕ) (lu : low ≤ u) (lv : low ≤ v)
+    (joined : (x : ℕ) → Contains middles x → HasEdge graph.edges x low) (whole : (x : ℕ) → HasEdge graph.edges x u → HasEdge graph.edges x v → Contains middles x) where
   taken_road : (a : ℕ) → Contains (map Road arcs ++ map Via middles) (Road a) → Contains arcs a
   taken_road a held =
       elim (Contains-append_cases (map Road arcs) (map Via middles) (Road a) held) [
@@ -103,20 +123,18 @@ module _ (graph : ChordalValue) (is : IsChordal graph) (f : FunctionsState) (u v
   taken_to : (way : Way) → IsOpenAmong graph.edges f u v (map Road arcs ++ map Via middles) way → IsCandidateBy graph.edges arcs f u v way
   taken_to (Road a) (held, free) = (taken_road a held, free)
   taken_to (Via m) (held, free) =
-      let lt = edge_rises graph is m low ((members m).0 (taken_via m held)) in
+      let lt = edge_rises graph is m low (joined m (taken_via m held)) in
       (omega (arith, lt, lu), omega (arith, lt, lv), free.0, free.1)
 
   taken_back : (way : Way) → IsCandidateBy graph.edges arcs f u v way → IsOpenAmong graph.edges f u v (map Road arcs ++ map Via middles) way
   taken_back (Road a) (held, free) = (Contains-append_left (map Road arcs) (map Via middles) (Road a) (member_map Road arcs a held), free)
   taken_back (Via m) (mu, mv, one, two) =
-      let edge : HasEdge graph.edges m low = elim end [
-        | inl e ↦ subst (λ (x : ℕ). HasEdge graph.edges m x) (sym e) (down_edge graph.edges f u m mu one)
-        | inr e ↦ subst (λ (x : ℕ). HasEdge graph.edges m x) (sym e) (up_edge graph.edges f m v mv two)
-      ] in
-      (Contains-append_right (map Road arcs) (map Via middles) (Via m) (member_map Via middles m ((members m).1 edge)), (one, two))
+      let held = whole m (down_edge graph.edges f u m mu one) (up_edge graph.edges f m v mv two) in
+      (Contains-append_right (map Road arcs) (map Via middles) (Via m) (member_map Via middles m held), (one, two))
 
   pub taken_settled : (entries : List Entry) → IsRunsOf (IsOpenAmong graph.edges f u v (map Road arcs ++ map Via middles)) (ArrivesBy graph.edges f u v) entries
       → IsSettledList graph.edges arcs f u v entries
   taken_settled entries runs =
-      runs_by (IsOpenAmong graph.edges f u v (map Road arcs ++ map Via middles)) (IsCandidateBy graph.edges arcs f u v) (ArrivesBy graph.edges f u v) (ArrivesBy graph.edges f u v) entries taken_to taken_back
+      runs_by (IsOpenAmong graph.edges f u v (map Road arcs ++ map Via middles)) (IsCandidateBy graph.edges arcs f u v) (ArrivesBy graph.edges f u v) (ArrivesBy graph.edges f u v) entries
+      taken_to taken_back
       (λ s a way lt d e. e) (λ s a way lt d e. e) runs

@@ -10,10 +10,10 @@ use Rattle.cu_model.specs.Begun.{Rises}
 use Rattle.cu_model.proofs.Begun.{begun_until}
 use Rattle.cu_arrival.specs.declared.runs.Run.{Run}
 use Rattle.cu_arrival.specs.declared.runs.RunRule.{RunRule}
+use Rattle.cu_arrival.specs.Steps.Stretches.{arrives}
 use Rattle.cu_model.proofs.Tiling.{IsTiled, tiled_push, tiled_keep}
 use Rattle.cu_customize.specs.declared.merging.Least.{Least}
 use Rattle.cu_customize.specs.declared.merging.Next.{Next}
-use Rattle.cu_customize.specs.Words.{arrives}
 use Rattle.cu_customize.specs.Least.{Held, held_from, held_at, least_arrival, least_way}
 use Rattle.cu_customize.specs.Steps.Merging.{least_held, next_held, IsHeld, IsMerging, SaysMerged, Merges, Puts}
 

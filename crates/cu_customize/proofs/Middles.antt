@@ -1,5 +1,5 @@
 -- A middle among the candidates of a list: both halves by the functions before the list.
-use Rattle.std.proofs.Common.{◌≡◌, ◌≤◌, ◌<◌, ◌+◌, ◌*◌, ◌-◌, ◌^◌, ◌∙◌, ◌++◌, ◌⊎◌, ℕ, List, Option, Some, None, refl, sym, ap, subst, arith, inl, inr, length, map, min, slice_index_or, true}
+use Rattle.std.proofs.Common.{◌≡◌, ◌≤◌, ◌<◌, ◌+◌, ◌-◌, ◌^◌, ◌∙◌, ℕ, List, Option, Some, None, refl, sym, ap, subst, arith, inl, inr, length, map, max, min, slice_index_or}
 use Rattle.std.specs.Prelude.{IsSome, slice_get}
 use Rattle.std.specs.List.{Contains}
 use Rattle.std.specs.Option.{option_map}
@@ -9,35 +9,32 @@ use Rattle.cu_model.specs.Days.{day}
 use Rattle.cu_model.proofs.DayLaws.{day_parts}
 use Rattle.cu_arrival.specs.declared.runs.Run.{Run}
 use Rattle.cu_arrival.specs.Runs.{arrival_value}
+use Rattle.cu_chordal.specs.declared.graph.Ends.{Ends}
 use Rattle.cu_chordal.specs.Graphs.{FindsEdge}
 use Rattle.cu_interval.specs.declared.ways.Dir.TheVariants.{Up, Down}
 use Rattle.cu_interval.specs.declared.ways.Way.TheVariants.{Road, Via}
 use Rattle.cu_interval.specs.Hierarchies.{list_number}
+use Rattle.cu_customize.specs.declared.settling.Leg.{Leg}
 use Rattle.cu_customize.specs.declared.task.Task.{Task}
+use Rattle.cu_customize.specs.declared.triangles.Triangle.{Triangle}
 use Rattle.cu_customize.specs.Least.{Held, least_arrival, least_way, way_with}
 use Rattle.cu_customize.specs.Settling.{function_from}
-use Rattle.cu_customize.specs.Steps.Gathering.{ArrivesIn, FindsHalves, Gathers, IsBound, IsSlow, IsTask, state_of}
+use Rattle.cu_customize.specs.Steps.Gathering.{ArrivesIn, FindsHalves, Gathers, HasHalves, IsBound, IsSlow, IsTask, state_of}
 use Rattle.cu_customize.specs.Steps.Kept.{value_kept}
+use Rattle.cu_customize.specs.Steps.Triangles.{IsTriangle, middles_in}
 use Rattle.cu_customize.specs.Words.{IsFunctionWords, composed}
 use Rattle.cu_customize.specs.Steps.Travels.{TakesAtLeast, TakesAtMost}
 use Rattle.cu_customize.proofs.DayLists.{repeats}
 use Rattle.cu_customize.proofs.Gathers.{HasFunction, at_once, gathers_none, gathers_one}
 use Rattle.cu_customize.proofs.Loops.{member_map}
 use Rattle.cu_customize.proofs.MergeLaws.{read_there}
-use Rattle.cu_customize.proofs.Triangles.{first_is, knows_first, knows_second, no_first, no_second, second_is}
+use Rattle.cu_customize.proofs.Halves.{first_is, knows_first, knows_second, second_is}
 
 none_some : (f : Option (ℕ → ℕ)) → f ≡ None → IsSome f → ⊥
 none_some None e some = absurd (cc some)
 none_some (Some g) e some = absurd (cc e)
 
 module _ (task : Task) (is : IsTask task) (m : ℕ) (below : (m < task.leg.from) × (m < task.leg.to)) where
-  -- without an edge there is no way
-  pub no_first_edge : FindsEdge task.graph.now.edges m task.leg.from None → FindsHalves task m None
-  no_first_edge none = no_first task.graph.now.edges (state_of task) task.leg.from task.leg.to m is.chordal.rising below none
-
-  pub no_second_edge : FindsEdge task.graph.now.edges m task.leg.to None → FindsHalves task m None
-  no_second_edge none = no_second task.graph.now.edges (state_of task) task.leg.from task.leg.to m is.chordal.rising below none
-
   module _ (e d : ℕ) (one : FindsEdge task.graph.now.edges m task.leg.from (Some e)) (two : FindsEdge task.graph.now.edges m task.leg.to (Some d)) where
     -- both halves are among the functions that are kept
     pub first_kept : list_number e Down < length task.functions.now
@@ -98,7 +95,8 @@ most_always words most f takes t =
 
 -- the way by a middle, of which both halves have a function
 module _ (task : Task) (is : IsTask task) (m : ℕ) (below : (m < task.leg.from) × (m < task.leg.to)) (a b : List Run)
-    (halves : (function_from task.graph.now.edges (state_of task) task.leg.from m ≡ Some (arrival_value a)) × (function_from task.graph.now.edges (state_of task) m task.leg.to ≡ Some (arrival_value b))) where
+    (halves : (function_from task.graph.now.edges (state_of task) task.leg.from m ≡ Some (arrival_value a))
+    × (function_from task.graph.now.edges (state_of task) m task.leg.to ≡ Some (arrival_value b))) where
   middle_free : HasFunction task (Via m)
   middle_free = (rw halves.0 refl, rw halves.1 refl)
 
@@ -131,10 +129,11 @@ module _ (task : Task) (is : IsTask task) (m : ℕ) (below : (m < task.leg.from)
       ]
 
   -- and it never takes longer than both halves do
-  pub middle_bound : (one two most : ℕ) → Contains task.middles.now m → IsFunctionWords b → TakesAtMost a one → TakesAtMost b two → most ≡ min (one + two) (2 ^ 64 - 1) → IsBound task most
+  pub middle_bound : (one two most : ℕ) → Contains (middles_in task.triangles.now) m → IsFunctionWords b → TakesAtMost a one → TakesAtMost b two → most ≡ min (one + two) (2 ^ 64 - 1)
+      → IsBound task most
   middle_bound one two most held good first second is_most = inr (
     Via m,
-    (Contains-append_right (map Road task.arcs.now) (map Via task.middles.now) (Via m) (member_map Via task.middles.now m held), middle_free),
+    (Contains-append_right (map Road task.arcs.now) (map Via (middles_in task.triangles.now)) (Via m) (member_map Via (middles_in task.triangles.now) m held), middle_free),
     λ t lt.
         let to = first t lt in
         let on = most_always b two good second (arrival_value a t) in
@@ -142,6 +141,37 @@ module _ (task : Task) (is : IsTask task) (m : ℕ) (below : (m < task.leg.from)
         (composed a b t, middle_arrives t lt, omega (arith, to, on, near, is_most)),
   )
 
--- the middles of a task are below both ends
-pub middle_below : (task : Task) → IsTask task → (m : ℕ) → Contains task.middles.now m → (m < task.leg.from) × (m < task.leg.to)
-middle_below task is m held = All-contains (λ (x : ℕ). (x < task.leg.from) × (x < task.leg.to)) task.middles.now m is.below held
+-- the middle of a triangle is among a task's
+pub triangle_middle : (task : Task) (triangle : Triangle) → Contains task.triangles.now triangle → Contains (middles_in task.triangles.now) triangle.middle
+triangle_middle task triangle held = member_map (λ (t : Triangle). t.middle) task.triangles.now triangle held
+
+-- and below both ends
+pub triangle_below : (task : Task) → IsTask task → (triangle : Triangle) → Contains task.triangles.now triangle → (triangle.middle < task.leg.from) × (triangle.middle < task.leg.to)
+triangle_below task is triangle held =
+    All-contains (λ (x : ℕ). (x < task.leg.from) × (x < task.leg.to)) (middles_in task.triangles.now) triangle.middle is.below (triangle_middle task triangle held)
+
+-- a triangle's edges lead to both ends
+pub triangle_there : (task : Task) → IsTask task → (triangle : Triangle) → Contains task.triangles.now triangle
+    → IsTriangle task.graph.now.edges (min task.leg.from task.leg.to) (max task.leg.from task.leg.to) triangle
+triangle_there task is triangle held =
+    All-contains (IsTriangle task.graph.now.edges (min task.leg.from task.leg.to) (max task.leg.from task.leg.to)) task.triangles.now triangle is.triangles held
+
+-- by the numbers of its edges
+module _ (edges : List Ends) (leg : Leg) (triangle : Triangle) (one : IsTriangle edges (min leg.from leg.to) (max leg.from leg.to) triangle) where
+  pub halves_up : leg.from < leg.to → HasHalves edges leg triangle.middle (record { first = triangle.to_low; second = triangle.to_high })
+  halves_up less =
+      let low : min leg.from leg.to ≡ leg.from = omega (arith, less) in
+      let high : max leg.from leg.to ≡ leg.to = omega (arith, less) in
+      record {
+        first = subst (λ (x : ℕ). FindsEdge edges triangle.middle x (Some triangle.to_low)) low one.to_low;
+        second = subst (λ (x : ℕ). FindsEdge edges triangle.middle x (Some triangle.to_high)) high one.to_high;
+      }
+
+  pub halves_down : leg.to ≤ leg.from → HasHalves edges leg triangle.middle (record { first = triangle.to_high; second = triangle.to_low })
+  halves_down more =
+      let low : min leg.from leg.to ≡ leg.to = omega (arith, more) in
+      let high : max leg.from leg.to ≡ leg.from = omega (arith, more) in
+      record {
+        first = subst (λ (x : ℕ). FindsEdge edges triangle.middle x (Some triangle.to_high)) high one.to_high;
+        second = subst (λ (x : ℕ). FindsEdge edges triangle.middle x (Some triangle.to_low)) low one.to_low;
+      }

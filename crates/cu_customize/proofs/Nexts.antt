@@ -1,41 +1,41 @@
 -- The next list: what it is settled from, and what its gathered candidates are.
-use Rattle.std.proofs.Common.{◌≡◌, ◌≢◌, ◌≤◌, ◌<◌, ◌+◌, ◌*◌, ◌^◌, ◌∙◌, ◌++◌, ◌⊎◌, ◌↔◌, ℕ, List, [], ◌∷◌, Option, Some, None, refl, sym, ap, subst, arith, inl, inr, length, get_or, map, min, take}
+use Rattle.std.proofs.Common.{◌≡◌, ◌≢◌, ◌<◌, ◌+◌, ◌^◌, ◌∙◌, ◌++◌, ℕ, List, [], ◌∷◌, Option, Some, None, refl, sym, subst, arith, inl, inr, length, map, max, min, take}
 use Rattle.std.specs.Prelude.{All, IsSome, slice_get}
 use Rattle.std.specs.List.{Contains}
 use Rattle.std.specs.List.Sorted.{IsStrictlyIncreasing}
 use Rattle.std.proofs.lemmas.List.{length-map, length-append, length-take-le}
-use Rattle.std.proofs.lemmas.List.Kept.{AllPairs-from_increasing}
-use Rattle.std.proofs.lemmas.Option.{slice_get-get_or, slice_get_within}
-use Rattle.cu_model.specs.declared.limits.TheConstants.{MAX_NODES, MAX_UNTIL}
-use Rattle.cu_model.specs.Begun.{Rises}
+use Rattle.std.proofs.lemmas.Option.{slice_get_within}
 use Rattle.cu_model.specs.Days.{day}
 use Rattle.cu_model.specs.Networks.{NetworkValue, IsNetwork}
 use Rattle.cu_model.specs.Orders.{OrderValue, IsOrder}
-use Rattle.cu_model.proofs.Begun.{few_items}
 use Rattle.cu_arrival.specs.declared.runs.Run.{Run}
 use Rattle.cu_arrival.specs.Runs.{arrival_value}
 use Rattle.cu_chordal.specs.declared.graph.Ends.{Ends}
 use Rattle.cu_chordal.specs.Edges.{IsClosureOf}
 use Rattle.cu_chordal.specs.Graphs.{HasEdge, IsChordal}
-use Rattle.cu_chordal.proofs.Members.{member_at}
 use Rattle.cu_interval.specs.declared.ways.Dir.{Dir}
+use Rattle.cu_interval.specs.declared.ways.Dir.TheVariants.{Up, Down}
 use Rattle.cu_interval.specs.EdgeArcs.{AreEdgeArcs}
 use Rattle.cu_interval.specs.Hierarchies.{end_of, list_number, start_of}
 use Rattle.cu_model.proofs.RoadLaws.{all_at}
 use Rattle.cu_interval.specs.declared.ways.Entry.{Entry}
 use Rattle.cu_interval.specs.declared.ways.Way.{Way}
 use Rattle.cu_interval.specs.declared.ways.Way.TheVariants.{Road, Via}
-use Rattle.cu_interval.specs.WayLists.{IsFirstEarliest, IsRunsOf, IsWayList, way_in}
+use Rattle.cu_interval.specs.WayLists.{IsRunsOf, way_in}
 use Rattle.cu_customize.specs.declared.merging.TheConstants.{NOBODY}
 use Rattle.cu_customize.specs.declared.task.Task.{Task}
+use Rattle.cu_customize.specs.declared.triangles.Triangle.{Triangle}
 use Rattle.cu_customize.specs.Functions.{FunctionsState, IsLowFunction}
 use Rattle.cu_customize.specs.Least.{Held, least_arrival, least_way}
 use Rattle.cu_customize.specs.Settling.{ArrivesBy, IsSettledList, KnowsHalves, function_from, through}
 use Rattle.cu_customize.specs.Steps.Gathering.{ArrivesIn, IsGathered, IsInTime, IsLeastWay, IsOpenIn, IsPulled, IsTask, state_of, ways_of}
-use Rattle.cu_customize.specs.Steps.Kept.{IsBuiltTo, kept_state}
+use Rattle.cu_customize.specs.Steps.Kept.{IsBuiltTo, Keeps, kept_state}
+use Rattle.cu_customize.specs.Steps.Triangles.{AreTriangles, IsTriangle, middles_in}
 use Rattle.cu_customize.specs.Words.{IsFunctionWords}
 use Rattle.cu_customize.proofs.Keeping.{arcs_in, kept_are, kept_halves, next_built}
-use Rattle.cu_customize.proofs.Loops.{middles_below, taken_settled}
+use Rattle.cu_customize.proofs.Dropped.{AreAlike, arrives_alike, daily_alike, kept_alike, settled_alike}
+use Rattle.cu_customize.proofs.Filing.{middles_joined}
+use Rattle.cu_customize.proofs.Loops.{few_rising, middles_below, taken_settled}
 use Rattle.cu_customize.proofs.Settles.{LeadsOver, leads_over, setting_at}
 use Rattle.cu_customize.proofs.Bounds.{least-near, least-onward}
 use Rattle.cu_customize.proofs.DayLists.{repeats}
@@ -54,27 +54,19 @@ ways_taken arcs middles i number inside same =
     let some = length-take-le i middles (omega (arith, inside)) in
     omega (arith, both, roads, size, some, same)
 
-pub taken_member : (xs : List ℕ) (i d : ℕ) → i < length xs → Contains xs (get_or xs i d)
-taken_member xs i d inside = member_at xs (get_or xs i d) i (slice_get-get_or xs i d inside)
-
--- numbers that rise and stay below a limit are no more than it
-few_rising : (xs : List ℕ) (n : ℕ) → IsStrictlyIncreasing xs → All (λ x. x < n) xs → length xs ≤ n
-few_rising xs n rising below =
-    let rises : Rises (λ (x : ℕ). x) xs = λ k d h. AllPairs-from_increasing xs rising k (k + 1) d (omega arith) h in
-    few_items (λ (x : ℕ). x) n xs rises below
-
 -- there are fewer candidates than numbers
-pub few_ways : (task : Task) → IsTask task → (length task.arcs.now + length task.middles.now < NOBODY) × (length (ways_of task) ≡ length task.arcs.now + length task.middles.now)
+pub few_ways : (task : Task) → IsTask task → (length task.arcs.now + length task.triangles.now < NOBODY) × (length (ways_of task) ≡ length task.arcs.now + length task.triangles.now)
 few_ways task is =
     let arcs = few_rising task.arcs.now (length task.network.now.arcs) is.arcs_rise is.arcs in
-    let middles = few_rising task.middles.now task.leg.from is.middles_rise (λ k d h. (is.below k d h).0) in
+    let middles = few_rising (middles_in task.triangles.now) task.leg.from is.middles_rise (λ k d h. (is.below k d h).0) in
+    let size = length-map task.triangles.now (λ (t : Triangle). t.middle) in
     let few = is.network.few_arcs in
     let ranks = is.chordal.few_ranks in
     let from = is.ranks.0 in
     let one = length-map task.arcs.now Road in
-    let two = length-map task.middles.now Via in
-    let both = length-append (map Road task.arcs.now) (map Via task.middles.now) in
-    (omega (arith, arcs, middles, few, ranks, from), omega (arith, one, two, both))
+    let two = length-map (middles_in task.triangles.now) Via in
+    let both = length-append (map Road task.arcs.now) (map Via (middles_in task.triangles.now)) in
+    (omega (arith, arcs, middles, size, few, ranks, from), omega (arith, one, two, size, both))
 
 both_some : (first second : Option (ℕ → ℕ)) (t a : ℕ) → through first second t ≡ Some a → IsSome first × IsSome second
 both_some None second t a e = absurd (cc e)
@@ -92,6 +84,10 @@ through_near g o n k u m v t a (Some f) (Some b) h i lt e =
     let on = least-onward g o n m v (f t) (b (f t)) (i (f t)) in
     let is : min (b (f t)) (2 ^ 62) ≡ a = cc e in
     (omega (arith, near, far, to, on, is, lt), omega (arith, near, far, is, lt))
+
+ends_between : (ends : Ends) (dir : Dir) → ends.low < ends.high → (min (start_of ends dir) (end_of ends dir) ≡ ends.low) × (max (start_of ends dir) (end_of ends dir) ≡ ends.high)
+ends_between ends Up lt = (omega (arith, lt), omega (arith, lt))
+ends_between ends Down lt = (omega (arith, lt), omega (arith, lt))
 
 -- no way by a middle arrives before it leaves, or later than numbers go
 pub middle_near : (g : NetworkValue) (o : OrderValue) (edges : List Ends) (arcs : List ℕ) (f : FunctionsState) (u v : ℕ) → IsSetting g o edges arcs f u v → (m t a : ℕ) → m < u → m < v → t < day
@@ -160,13 +156,18 @@ module _ (task : Task) (held : List Held) (is : IsTask task) (gathered : IsGathe
 -- the next list, of which the task is to be settled
 module _ (task : Task) (o : OrderValue) (lists : List (List ℕ)) (edge : ℕ) (dir : Dir) (ends : Ends) (n : IsNetwork task.network.now) (k : IsOrder o) (chordal : IsChordal task.graph.now)
     (closed : IsClosureOf task.network.now o task.graph.now) (are : AreEdgeArcs task.network.now o task.graph.now.edges lists) (at : slice_get task.graph.now.edges edge ≡ Some ends)
-    (listed : slice_get lists (list_number edge dir) ≡ Some task.arcs.now) (members : (x : ℕ) → Contains task.middles.now x ↔ HasEdge task.graph.now.edges x ends.low)
-    (functions : List (Option (List Run))) (ways : List (List Entry)) (built : IsBuiltTo task.network.now o task.graph.now.edges (list_number edge dir) functions ways)
-    (same : task.functions.now ≡ functions) (from : task.leg.from ≡ start_of ends dir) (to : task.leg.to ≡ end_of ends dir) where
-  next_setting : IsSetting task.network.now o task.graph.now.edges task.arcs.now (kept_state task.network.now functions) (start_of ends dir) (end_of ends dir)
+    (listed : slice_get lists (list_number edge dir) ≡ Some task.arcs.now) (found : AreTriangles task.graph.now.edges ends.low ends.high task.triangles.now)
+    (whole functions : List (Option (List Run))) (ways : List (List Entry)) (built : IsBuiltTo task.network.now o task.graph.now.edges (list_number edge dir) whole ways)
+    (keeps : Keeps task.graph.now.edges edge whole functions) (same : task.functions.now ≡ functions) (from : task.leg.from ≡ start_of ends dir) (to : task.leg.to ≡ end_of ends dir) where
+  next_setting : IsSetting task.network.now o task.graph.now.edges task.arcs.now (kept_state task.network.now whole) (start_of ends dir) (end_of ends dir)
   next_setting =
-      setting_at task.network.now o task.graph.now edge ends dir lists task.arcs.now (kept_state task.network.now functions) n k closed are
-      (kept_are task.network.now o task.graph.now.edges (list_number edge dir) functions ways built) at listed (kept_halves task.network.now task.graph.now chordal functions edge dir ends at built.functions_long)
+      setting_at task.network.now o task.graph.now edge ends dir lists task.arcs.now (kept_state task.network.now whole) n k closed are
+      (kept_are task.network.now o task.graph.now.edges (list_number edge dir) whole ways built) at listed (kept_halves task.network.now task.graph.now chordal whole edge dir ends at
+      built.functions_long)
+
+  -- the functions that are kept settle what all of them do
+  next_alike : AreAlike task.graph.now.edges (kept_state task.network.now functions) (kept_state task.network.now whole) (start_of ends dir) (end_of ends dir)
+  next_alike = kept_alike task.network.now task.graph.now.edges chordal.rising edge dir ends whole functions at keeps
 
   -- the functions and the ends by other names
   abbrev Ready : List (Option (List Run)) → ℕ → ℕ → Type 0
@@ -176,17 +177,40 @@ module _ (task : Task) (o : OrderValue) (lists : List (List ℕ)) (edge : ℕ) (
   next_ready : Ready task.functions.now task.leg.from task.leg.to
   next_ready =
       let here : Ready functions (start_of ends dir) (end_of ends dir) = (
-        next_setting.halves,
-        middle_near task.network.now o task.graph.now.edges task.arcs.now (kept_state task.network.now functions) (start_of ends dir) (end_of ends dir) next_setting,
+        kept_halves task.network.now task.graph.now chordal functions edge dir ends at (keeps.long ∙ built.functions_long),
+        λ m t a mu mv lt e.
+            middle_near task.network.now o task.graph.now.edges task.arcs.now (kept_state task.network.now whole) (start_of ends dir) (end_of ends dir) next_setting m t a mu mv lt
+            (arrives_alike task.graph.now.edges (kept_state task.network.now functions) (kept_state task.network.now whole) (start_of ends dir) (end_of ends dir) next_alike t a (Via m) (mu, mv) e),
       ) in
       rw (same, from, to) here
 
   leads : LeadsOver task.graph.now.ranks task.leg.from task.leg.to ends.low
   leads = leads_over task.graph.now chordal edge ends dir task.leg.from task.leg.to at from to
 
+  joined_low : (middle : ℕ) → Contains (middles_in task.triangles.now) middle → HasEdge task.graph.now.edges middle ends.low
+  joined_low = middles_joined task.graph.now.edges ends.low ends.high task.triangles.now found.each
+
+  triangles_between : All (IsTriangle task.graph.now.edges (min task.leg.from task.leg.to) (max task.leg.from task.leg.to)) task.triangles.now
+  triangles_between =
+      let range = all_at (λ (e : Ends). (e.low < e.high) × (e.high < task.graph.now.ranks)) task.graph.now.edges edge ends chordal.in_range at in
+      let (low, high) = ends_between ends dir range.0 in
+      let low_is : ends.low ≡ min task.leg.from task.leg.to = (rw (from, to) (sym low)) in
+      let high_is : ends.high ≡ max task.leg.from task.leg.to = (rw (from, to) (sym high)) in
+      subst (λ (x : ℕ). All (IsTriangle task.graph.now.edges x (max task.leg.from task.leg.to)) task.triangles.now) low_is
+      (subst (λ (y : ℕ). All (IsTriangle task.graph.now.edges ends.low y) task.triangles.now) high_is found.each)
+
+  -- a middle that is joined to both ends is among them
+  common_found : (middle : ℕ) → HasEdge task.graph.now.edges middle task.leg.from → HasEdge task.graph.now.edges middle task.leg.to → Contains (middles_in task.triangles.now) middle
+  common_found middle one two =
+      common_of dir middle (subst (λ (x : ℕ). HasEdge task.graph.now.edges middle x) from one) (subst (λ (y : ℕ). HasEdge task.graph.now.edges middle y) to two)
+    where
+      common_of : (d : Dir) (m : ℕ) → HasEdge task.graph.now.edges m (start_of ends d) → HasEdge task.graph.now.edges m (end_of ends d) → Contains (middles_in task.triangles.now) m
+      common_of Up m low high = found.whole m low high
+      common_of Down m high low = found.whole m low high
+
   -- it may be settled
-  pub next_task : IsStrictlyIncreasing task.arcs.now → IsStrictlyIncreasing task.middles.now → IsFunctionWords task.stay.now → ((t : ℕ) → t < day → arrival_value task.stay.now t ≡ t) → IsTask task
-  next_task arcs_rise middles_rise stays stay = record {
+  pub next_task : IsStrictlyIncreasing task.arcs.now → IsFunctionWords task.stay.now → ((t : ℕ) → t < day → arrival_value task.stay.now t ≡ t) → IsTask task
+  next_task arcs_rise stays stay = record {
     network = n;
     chordal = chordal;
     ranks = (leads.start_in, leads.end_in);
@@ -194,18 +218,26 @@ module _ (task : Task) (o : OrderValue) (lists : List (List ℕ)) (edge : ℕ) (
     stay = stay;
     arcs_rise = arcs_rise;
     arcs = all_at (λ (xs : List ℕ). All (λ (a : ℕ). a < length task.network.now.arcs) xs) lists (list_number edge dir) task.arcs.now (arcs_in task.network.now o task.graph.now.edges lists are) listed;
-    middles_rise = middles_rise;
-    below = middles_below task.graph.now chordal task.leg.from task.leg.to ends.low task.middles.now leads.from leads.to members;
+    triangles = triangles_between;
+    middles_rise = found.rising;
+    below = middles_below task.graph.now chordal task.leg.from task.leg.to ends.low (middles_in task.triangles.now) leads.from leads.to joined_low;
     halves = next_ready.0;
     near = λ middle mu mv t arrival lt e. next_ready.1 middle t arrival mu mv lt e;
   }
 
   -- and with what is pulled of it all lists up to it are built
   pub next_step : (held : List Held) (entries : List Entry) (function : Option (List Run)) → IsTask task → IsGathered task (ways_of task) held → IsPulled (ways_of task) held entries function
-      → IsBuiltTo task.network.now o task.graph.now.edges (list_number edge dir + 1) (functions ++ function ∷ []) (ways ++ entries ∷ [])
+      → IsBuiltTo task.network.now o task.graph.now.edges (list_number edge dir + 1) (whole ++ function ∷ []) (ways ++ entries ∷ [])
   next_step held entries function is gathered pulled =
+      let edges = task.graph.now.edges in
+      let kept = kept_state task.network.now functions in
+      let all = kept_state task.network.now whole in
+      let u = start_of ends dir in
+      let v = end_of ends dir in
       let (runs, value) = pulled_runs task held is gathered entries function pulled in
-      let settled = taken_settled task.graph.now chordal (state_of task) task.leg.from task.leg.to ends.low task.arcs.now task.middles.now leads.from leads.to leads.end members entries runs in
-      let here : IsSettledList task.graph.now.edges task.arcs.now (kept_state task.network.now functions) (start_of ends dir) (end_of ends dir) entries = rw (← same, ← from, ← to) settled in
-      let value_here : IsDailyValueOf task.graph.now.edges (kept_state task.network.now functions) (start_of ends dir) (end_of ends dir) entries function = rw (← same, ← from, ← to) value in
-      next_built task.network.now o task.graph.now lists task.arcs.now functions ways edge dir ends function entries chordal n k closed are at listed built here value_here
+      let settled = taken_settled task.graph.now chordal (state_of task) task.leg.from task.leg.to ends.low task.arcs.now (middles_in task.triangles.now) leads.from leads.to joined_low
+      common_found entries runs in
+      let here : IsSettledList edges task.arcs.now kept u v entries = rw (← same, ← from, ← to) settled in
+      let value_here : IsDailyValueOf edges kept u v entries function = rw (← same, ← from, ← to) value in
+      next_built task.network.now o task.graph.now lists task.arcs.now whole ways edge dir ends function entries chordal n k closed are at listed built
+      (settled_alike edges task.arcs.now kept all u v next_alike entries here) (daily_alike edges task.arcs.now kept all u v next_alike entries function here value_here)

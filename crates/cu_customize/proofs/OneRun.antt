@@ -6,8 +6,9 @@ use Rattle.cu_arrival.specs.declared.runs.Run.{Run}
 use Rattle.cu_arrival.specs.declared.runs.RunRule.{RunRule}
 use Rattle.cu_arrival.specs.declared.runs.RunRule.TheVariants.{Shift, Fixed}
 use Rattle.cu_arrival.specs.Runs.{rule_number, arrival_value}
+use Rattle.cu_arrival.specs.Steps.Stretches.{arrives}
 use Rattle.cu_customize.specs.declared.words.TheConstants.{MAX_NUMBER}
-use Rattle.cu_customize.specs.Words.{arrives, IsDayList, IsFunctionWords, end_run}
+use Rattle.cu_customize.specs.Words.{IsDayList, IsFunctionWords, end_run}
 use Rattle.cu_customize.proofs.DayLists.{value_in_force}
 use Rattle.cu_customize.proofs.ReadLaws.{day_order}
 

@@ -1,10 +1,11 @@
 -- What is pulled from a merger: entries by the runs of the numbers of ways.
-use Rattle.std.proofs.Common.{◌≡◌, ◌≢◌, ◌≤◌, ◌<◌, ◌+◌, ◌∙◌, ◌++◌, ◌⊎◌, ℕ, zero, suc, List, [], ◌∷◌, Option, Some, None, refl, sym, ap, subst, arith, inl, inr, length, get_or, map}
+use Rattle.std.proofs.Common.{◌≡◌, ◌≢◌, ◌≤◌, ◌<◌, ◌+◌, ◌-◌, ◌∙◌, ◌++◌, ℕ, zero, suc, List, [], ◌∷◌, Option, Some, None, refl, sym, ap, subst, arith, inl, inr, length, get_or, map}
 use Rattle.std.specs.Prelude.{All, slice_get}
 use Rattle.std.specs.List.Sorted.{IsStrictlyIncreasing}
 use Rattle.std.specs.Option.{option_map}
 use Rattle.std.proofs.lemmas.Bool.{cases_eq, cases_lt}
-use Rattle.std.proofs.lemmas.List.{get_or-map, length-map}
+use Rattle.std.proofs.Math.ListN.{get_or-map as get_or_mapped}
+use Rattle.std.proofs.lemmas.List.{get_or-append_right, get_or-map, length-map}
 use Rattle.std.proofs.lemmas.List.Kept.{AllPairs-from_increasing}
 use Rattle.std.proofs.lemmas.Option.{get_or_from_slice_get, slice_get-get_or, slice_get_within}
 use Rattle.cu_model.specs.Begun.{last_begun}
@@ -20,8 +21,10 @@ use Rattle.cu_interval.specs.WayLists.{BeginsAtZero, IsWayList, way_in}
 use Rattle.cu_customize.specs.declared.merging.TheConstants.{NOBODY}
 use Rattle.cu_customize.specs.declared.merging.WayRun.{WayRun}
 use Rattle.cu_customize.specs.declared.task.Task.{Task}
+use Rattle.cu_customize.specs.declared.triangles.Triangle.{Triangle}
 use Rattle.cu_customize.specs.Least.{Held, IsWayRuns, least_arrival, least_way}
 use Rattle.cu_customize.specs.Steps.Gathering.{IsPulled, IsTask, IsWithin, read_of, said_by, ways_of}
+use Rattle.cu_customize.specs.Steps.Triangles.{middles_in}
 use Rattle.cu_customize.specs.Words.{IsFunctionWords}
 
 -- the place of a road is its place among the roads
@@ -31,6 +34,16 @@ road_place [] (y ∷ ys) zero a e = absurd (cc e)
 road_place [] (y ∷ ys) (suc i) a e = absurd (let none = road_place [] ys i a e in cc none)
 road_place (x ∷ xs) ys zero a e = let same : x ≡ a = cc e in ap Some same
 road_place (x ∷ xs) ys (suc i) a e = road_place xs ys i a e
+
+-- the ways behind the roads are those by the middles of triangles
+pub way_middle : (arcs : List ℕ) (triangles : List Triangle) (number : ℕ) (none : Triangle) → length arcs ≤ number → number < length (map Road arcs ++ map Via (middles_in triangles))
+    → slice_get (map Road arcs ++ map Via (middles_in triangles)) number ≡ Some (Via (get_or triangles (number - length arcs) none).middle)
+way_middle arcs triangles number none behind inside =
+    slice_get-get_or (map Road arcs ++ map Via (middles_in triangles)) number (Via none.middle) inside
+    ∙ ap Some
+    (get_or-append_right (map Road arcs) (map Via (middles_in triangles)) (length arcs) number (Via none.middle) (length-map arcs Road) behind
+    ∙ get_or_mapped Via (middles_in triangles) (number - length arcs) none.middle
+    ∙ ap Via (get_or_mapped (λ (t : Triangle). t.middle) triangles (number - length arcs) none))
 
 -- and that of a middle is behind them
 via_place : (xs ys : List ℕ) (i m : ℕ) → slice_get (map Road xs ++ map Via ys) i ≡ Some (Via m) → (k : ℕ) × (i ≡ length xs + k) × (slice_get ys k ≡ Some m)
@@ -177,7 +190,7 @@ pub pulled : (task : Task) (held : List Held) (read runs : List WayRun) (entries
     → IsPulled (ways_of task) held list (Some function)
 pulled task held read runs entries list words function is some ways same said is_list is_function good value =
     let here = subst (λ (rs : List WayRun). map said_by entries ≡ map (read_of (ways_of task)) rs) same said in
-    let (spelled, more) = entries_list task.arcs.now task.middles.now is.arcs_rise is.middles_rise held runs entries ways here in
-    let at = entries_way task.arcs.now task.middles.now is.arcs_rise is.middles_rise held runs entries ways here in
+    let (spelled, more) = entries_list task.arcs.now (middles_in task.triangles.now) is.arcs_rise is.middles_rise held runs entries ways here in
+    let at = entries_way task.arcs.now (middles_in task.triangles.now) is.arcs_rise is.middles_rise held runs entries ways here in
     subst (λ (es : List Entry). IsPulled (ways_of task) held es (Some function)) (sym is_list)
     (subst (λ (ws : List Run). IsPulled (ways_of task) held entries (Some ws)) (sym is_function) (some, spelled, more, good, λ t lt. (at t lt, value t lt)))

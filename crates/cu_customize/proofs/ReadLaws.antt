@@ -15,10 +15,11 @@ use Rattle.cu_arrival.specs.declared.runs.RunRule.TheVariants.{Shift, Fixed}
 use Rattle.cu_arrival.specs.Runs.{run_at, run_value, rule_number, arrival_value}
 use Rattle.cu_model.specs.Growing.{IsPushed}
 use Rattle.cu_arrival.proofs.RunLaws.{value_in_day}
+use Rattle.cu_arrival.specs.Steps.Stretches.{arrives}
 use Rattle.cu_model.proofs.Growing.{IsGrown, grown_none, grown_push}
 use Rattle.cu_customize.specs.declared.merging.Least.{Least}
 use Rattle.cu_customize.specs.declared.merging.WayRun.{WayRun}
-use Rattle.cu_customize.specs.Words.{arrives, IsDayList, IsFunctionWords, IsCompactDay, end_run}
+use Rattle.cu_customize.specs.Words.{IsDayList, IsFunctionWords, IsCompactDay, end_run}
 use Rattle.cu_customize.specs.declared.words.TheConstants.{MAX_NUMBER}
 use Rattle.cu_customize.specs.Least.{Held, held_at, least_arrival, least_way, arrival_of, KeepsDayOrder, IsWayRuns}
 use Rattle.cu_customize.specs.Steps.Merging.{least_held, IsHeld, IsLeast}

@@ -40,13 +40,19 @@ leads_over graph is edge ends dir u v at from to =
     let range = all_at (λ (e : Ends). (e.low < e.high) × (e.high < graph.ranks)) graph.edges edge ends is.in_range at in
     subst (λ (x : ℕ). LeadsOver graph.ranks x v ends.low) (sym from) (subst (λ (y : ℕ). LeadsOver graph.ranks (start_of ends dir) y ends.low) (sym to) (leads_by graph.ranks ends dir range.0 range.1))
 
+-- who is joined to both ends is joined to the lower
+lower_joined : (edges : List Ends) (low u v x : ℕ) → (low ≡ u) ⊎ (low ≡ v) → HasEdge edges x u → HasEdge edges x v → HasEdge edges x low
+lower_joined edges low u v x (inl e) one two = subst (λ (y : ℕ). HasEdge edges x y) (sym e) one
+lower_joined edges low u v x (inr e) one two = subst (λ (y : ℕ). HasEdge edges x y) (sym e) two
+
 pub settled_at : (graph : ChordalValue) → IsChordal graph → (edge : ℕ) (ends : Ends) (dir : Dir) (u v : ℕ) (arcs middles : List ℕ) (f : FunctionsState) (best : Settled)
     → slice_get graph.edges edge ≡ Some ends → u ≡ start_of ends dir → v ≡ end_of ends dir → ((x : ℕ) → Contains middles x ↔ HasEdge graph.edges x ends.low)
     → IsBestOf graph.edges f u v (map Road arcs ++ map Via middles) best
     → IsSettledList graph.edges arcs f (start_of ends dir) (end_of ends dir) best.ways × IsValueOf graph.edges f (start_of ends dir) (end_of ends dir) best.ways best.function
 settled_at graph is edge ends dir u v arcs middles f best at from to members of_ways =
     let over = leads_over graph is edge ends dir u v at from to in
-    let list = taken_settled graph is f u v ends.low arcs middles over.from over.to over.end members best.ways of_ways.runs in
+    let list = taken_settled graph is f u v ends.low arcs middles over.from over.to (λ x held. (members x).0 held)
+    (λ x one two. (members x).1 (lower_joined graph.edges ends.low u v x over.end one two)) best.ways of_ways.runs in
     subst (λ (x : ℕ). IsSettledList graph.edges arcs f x (end_of ends dir) best.ways × IsValueOf graph.edges f x (end_of ends dir) best.ways best.function) from
     (subst (λ (y : ℕ). IsSettledList graph.edges arcs f u y best.ways × IsValueOf graph.edges f u y best.ways best.function) to (list, of_ways.value))
 

@@ -6,7 +6,8 @@ use Rattle.cu_arrival.specs.declared.runs.Run.{Run}
 use Rattle.cu_arrival.specs.declared.runs.RunRule.{RunRule}
 use Rattle.cu_arrival.specs.declared.runs.RunRule.TheVariants.{Shift, Fixed}
 use Rattle.cu_arrival.specs.Runs.{arrival_value}
-use Rattle.cu_customize.specs.Words.{arrives, IsDayList, end_run}
+use Rattle.cu_arrival.specs.Steps.Stretches.{arrives}
+use Rattle.cu_customize.specs.Words.{IsDayList, end_run}
 use Rattle.cu_customize.proofs.DayLists.{next_from, from_in_day, starts_from, two_words, has_next, value_in_force}
 use Rattle.cu_customize.proofs.LinkLaws.{get_or-same}
 

@@ -5,9 +5,9 @@ use Rattle.std.specs.List.{AllAdjacentBelow}
 use Rattle.cu_model.specs.Begun.{last_begun, Rises}
 use Rattle.cu_model.specs.Days.{day}
 use Rattle.cu_arrival.specs.declared.runs.Run.{Run}
+use Rattle.cu_arrival.specs.Steps.Stretches.{arrives}
 use Rattle.cu_customize.specs.declared.merging.WayRun.{WayRun}
 use Rattle.cu_customize.specs.declared.merging.TheConstants.{MOST, NOBODY}
-use Rattle.cu_customize.specs.Words.{arrives}
 
 -- a run beside the number of the candidate whose arrivals it says
 abbrev pub Held : Type 0

@@ -7,3 +7,4 @@ pub mod Gathering
 pub mod Building
 pub mod Linking
 pub mod Merging
+pub mod Triangles

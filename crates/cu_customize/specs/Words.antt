@@ -49,11 +49,6 @@ abbrev pub is_fixed : RunRule → Bool
 is_fixed (Shift number) = false
 is_fixed (Fixed number) = true
 
--- when a rule arrives that leaves on day 0
-abbrev pub arrives : RunRule → ℕ → ℕ
-arrives (Shift seconds) second = second + seconds
-arrives (Fixed arrival) second = arrival
-
 -- a rule after a drive of so many seconds; what is fixed arrives on the day that begins at midnight
 abbrev pub after_shift : RunRule → ℕ → ℕ → RunRule
 after_shift (Shift more) seconds midnight = Shift (more + seconds)

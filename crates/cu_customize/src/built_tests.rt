@@ -18,7 +18,8 @@ fn add_profile(
     pieces: &[(u32, Rule)],
 ) -> Result<(), Fail>
     requires { length pieces.now < 2 ^ 32 }
-    ensures valid { OnOk result (All IsProfile profiles.old.items → All IsProfile profiles.new.items) }
+    ensures valid { OnOk result
+        (All IsProfile profiles.old.items → All IsProfile profiles.new.items) }
     ensures count { OnOk result (length profiles.new.items ≡ length profiles.old.items + 1) }
 {
     let mut all = Vec::new(alloc);
@@ -142,8 +143,8 @@ fn one_profile(alloc: Global) -> Result<Vec<Profile>, Fail>
     Ok(profiles)
 }
 
-// Over the middle a minute and then the slow road, which take 160 seconds, and 360 from 7:59:00 on; straight on 250. From
-// 9:55:40 on the middle arrives at 10:01:40, from 35,851 on earlier than the straight road.
+// Over the middle a minute and then the slow road, which take 160 seconds, and 360 from 7:59:00 on; straight on 250.
+// From 9:55:40 on the middle arrives at 10:01:40, from 35,851 on earlier than the straight road.
 #[test]
 fn takes_the_middle_but_where_it_is_slow(rt: HostRuntime) -> Result<(), Fail> {
     let alloc = rt.alloc();
@@ -179,8 +180,8 @@ fn takes_no_closed_road(rt: HostRuntime) -> Result<(), Fail> {
     Ok(())
 }
 
-// Two roads: 50 seconds, and 40 but where that takes 60 or waits until 2,060. At 2,010 waiting arrives as early, and the
-// first road is kept; one second later waiting is earlier. A loop is no way.
+// Two roads: 50 seconds, and 40 but where that takes 60 or waits until 2,060. At 2,010 waiting arrives as early, and
+// the first road is kept; one second later waiting is earlier. A loop is no way.
 #[test]
 fn takes_the_first_road_of_a_tie(rt: HostRuntime) -> Result<(), Fail> {
     let alloc = rt.alloc();

@@ -92,7 +92,9 @@ fn moved(end: u32, at: u32, index: usize) -> usize
 fn chosen_way(entries: &[Entry], choices: &[Choice], front: Front, way: Way) -> Way
     requires entry { front.entry < length entries.now }
     requires choice { front.choice < length choices.now }
-    ensures { chosen_by (slice_get choices.now front.choice) (option_map (λ (e : Entry). e.way) (slice_get entries.now front.entry)) way ≡ Some result }
+    ensures { chosen_by (slice_get choices.now front.choice)
+        (option_map (λ (e : Entry). e.way) (slice_get entries.now front.entry)) way
+        ≡ Some result }
 {
     if choices[front.choice].second {
         way

@@ -4,20 +4,24 @@ ghost use Rattle.std.specs.Prelude.{◌≡◌, ◌<◌, ◌+◌, ◌*◌, IfOk, 
 ghost use Rattle.cu_chordal.specs.Edges.{IsClosureOf};
 ghost use Rattle.cu_interval.specs.Hierarchies.{IsBuilt, list_number};
 ghost use Rattle.cu_customize.specs.Steps.Building.{AreParts};
-ghost use Rattle.cu_customize.specs.Steps.Kept.{IsBuiltTo};
+ghost use Rattle.cu_customize.specs.Steps.Kept.{AreBuilt, IsBuilding, IsBuildingFrom};
+ghost use Rattle.cu_customize.specs.Steps.Triangles.{AreTrianglesOf};
 
 use crate::day_function::DayFunction;
+use crate::dropping::{drop_last, if_middle};
 use crate::gathering::Gatherer;
 use crate::pulling::pull;
 use crate::settling::leg_of;
 use crate::task::Task;
+use crate::triangles::{Triangle, Triangles};
 use crate::words::{Word, function_of_run};
 use cu_chordal::Chordal;
 use cu_interval::{Dir, EdgeArcs, Hierarchy, WayList};
 use cu_model::{Network, NoMemory, Order, Roads};
 use std::alloc::Global;
 
-// What is customized, with the function of a road that takes no time. What the edges of the graph are is said by the order.
+// What is customized, with the function of a road that takes no time. What the edges of the graph are is said by the
+// order.
 #[derive(Clone, Copy)]
 struct Parts<'a> {
     network: &'a Network,
@@ -27,29 +31,32 @@ struct Parts<'a> {
     stay: &'a [Word],
 }
 
-// The functions and the lists of the first shortcuts, by list number.
+// The functions and the lists of the first shortcuts, by list number; no function where there is none or where no later
+// list needs it.
 #[derive(Debug, Drop)]
 struct Building {
     functions: Vec<Option<DayFunction>>,
     lists: Vec<WayList>,
 }
 
-// Settles the next list.
+// Settles the next list, by the triangles of its edge.
 fn settle_next(
     alloc: Global,
     parts: &Parts<'_>,
     edge: u32,
     dir: Dir,
+    triangles: &[Triangle],
     gatherer: &mut Gatherer,
     building: &mut Building,
 ) -> Result<(), NoMemory>
     requires parts { AreParts parts.now }
     requires edge { edge < length parts.now.graph.now.edges }
-    requires built { IsBuiltTo parts.now.network.now parts.now.order.now
-        parts.now.graph.now.edges (list_number edge dir)
+    requires triangles { AreTrianglesOf parts.now.graph.now.edges edge triangles.now }
+    requires built { IsBuilding parts.now.network.now parts.now.order.now
+        parts.now.graph.now.edges edge (list_number edge dir)
         building.old.functions.items building.old.lists.items }
-    ensures { OnOk result (IsBuiltTo parts.now.network.now parts.now.order.now
-        parts.now.graph.now.edges (list_number edge dir + 1)
+    ensures { OnOk result (IsBuilding parts.now.network.now parts.now.order.now
+        parts.now.graph.now.edges edge (list_number edge dir + 1)
         building.new.functions.items building.new.lists.items) }
 {
     let ends = parts.graph.ends(edge);
@@ -60,31 +67,100 @@ fn settle_next(
         stay: parts.stay,
         leg: leg_of(ends, dir),
         arcs: parts.arcs.arcs(edge, dir),
-        middles: parts.graph.down(ends.low),
+        triangles,
     };
     gatherer.gather(&task)?;
     let pulled = pull(alloc, &task, &gatherer.merger)?;
-    building.functions.push(pulled.function)?;
+    let function = if_middle(parts.graph, ends.low, pulled.function);
+    building.functions.push(function)?;
     building.lists.push(pulled.ways)?;
+    Ok(())
+}
+
+// Settles both lists of the next edge, by its triangles.
+fn settle_edge(
+    alloc: Global,
+    parts: &Parts<'_>,
+    edge: u32,
+    triangles: &[Triangle],
+    gatherer: &mut Gatherer,
+    building: &mut Building,
+) -> Result<(), NoMemory>
+    requires parts { AreParts parts.now }
+    requires edge { edge < length parts.now.graph.now.edges }
+    requires triangles { AreTrianglesOf parts.now.graph.now.edges edge triangles.now }
+    requires built { IsBuilding parts.now.network.now parts.now.order.now
+        parts.now.graph.now.edges edge (2 * edge)
+        building.old.functions.items building.old.lists.items }
+    ensures { OnOk result (IsBuilding parts.now.network.now parts.now.order.now
+        parts.now.graph.now.edges (edge + 1) (2 * (edge + 1))
+        building.new.functions.items building.new.lists.items) }
+{
+    settle_next(alloc, parts, edge, Dir::Up, triangles, gatherer, building)?;
+    settle_next(alloc, parts, edge, Dir::Down, triangles, gatherer, building)?;
+    Ok(())
+}
+
+// Settles the lists of all edges up from the next rank.
+fn settle_rank(
+    alloc: Global,
+    parts: &Parts<'_>,
+    rank: u32,
+    triangles: &mut Triangles,
+    gatherer: &mut Gatherer,
+    building: &mut Building,
+) -> Result<(), NoMemory>
+    requires parts { AreParts parts.now }
+    requires rank { rank < parts.now.graph.now.ranks }
+    requires room { length triangles.old.places.items ≡ parts.now.graph.now.ranks }
+    requires built { IsBuildingFrom parts.now.network.now parts.now.order.now
+        parts.now.graph.now.edges rank
+        building.old.functions.items building.old.lists.items }
+    ensures built { OnOk result (IsBuildingFrom parts.now.network.now parts.now.order.now
+        parts.now.graph.now.edges (rank + 1)
+        building.new.functions.items building.new.lists.items) }
+    ensures room { OnOk result
+        (length triangles.new.places.items ≡ parts.now.graph.now.ranks) }
+{
+    let first = parts.graph.first_edge(rank);
+    triangles.find(alloc, parts.graph, rank)?;
+    for place in 0..parts.graph.up(rank).len() {
+        let edge = first + place as u32;
+        settle_edge(
+            alloc,
+            parts,
+            edge,
+            triangles.group(place),
+            gatherer,
+            building,
+        )?;
+    }
+    drop_last(parts.graph, rank, &mut building.functions);
     Ok(())
 }
 
 // Settles all lists, by rising number.
 fn build_lists(alloc: Global, parts: &Parts<'_>) -> Result<Building, NoMemory>
     requires { AreParts parts.now }
-    ensures { IfOk result (λ building. IsBuiltTo parts.now.network.now parts.now.order.now
-        parts.now.graph.now.edges (2 * length parts.now.graph.now.edges)
-        building.functions.items building.lists.items) }
+    ensures { IfOk result (λ building. AreBuilt parts.now.network.now parts.now.order.now
+        parts.now.graph.now.edges building.lists.items) }
 {
     let lists = 2 * parts.graph.edges() as usize;
+    let mut triangles = Triangles::new(alloc, parts.graph.ranks())?;
     let mut gatherer = Gatherer::new(alloc)?;
     let mut building = Building {
         functions: Vec::with_capacity(alloc, lists)?,
         lists: Vec::with_capacity(alloc, lists)?,
     };
-    for edge in 0..parts.graph.edges() {
-        settle_next(alloc, parts, edge, Dir::Up, &mut gatherer, &mut building)?;
-        settle_next(alloc, parts, edge, Dir::Down, &mut gatherer, &mut building)?;
+    for rank in 0..parts.graph.ranks() {
+        settle_rank(
+            alloc,
+            parts,
+            rank,
+            &mut triangles,
+            &mut gatherer,
+            &mut building,
+        )?;
     }
     Ok(building)
 }

@@ -1,17 +1,19 @@
 //! Customization of a contraction hierarchy: the ways of every shortcut of a road network under an order.
 //!
-//! [`customize`] promises that the hierarchy that it makes is the built one (`IsBuilt` of `cu_interval`): each list has the
-//! maximal runs, over the seconds of a day, of the first way that arrives earliest. It settles list after list, by rising
-//! lower rank: the roads of a list and the middles below it are gathered in a merger, but middles that are slower at each
-//! second than some candidate ever is; and from the merger the list and its function are pulled.
+//! [`customize`] promises that the hierarchy that it makes is the built one (`IsBuilt` of `cu_interval`): each list
+//! has the maximal runs, over the seconds of a day, of the first way that arrives earliest. It settles list after
+//! list, by rising lower rank: the lower triangles of all edges up from a rank are found at once; the roads of a list
+//! and the middles of its triangles are gathered in a merger, but middles that are slower at each second than some
+//! candidate ever is; and from the merger the list and its function are pulled. The function goes once no later list
+//! takes a half from it.
 //!
 //! For that stand here functions of the seconds of a day, word by word, their composition ([`link`]), and the least of
-//! several compositions at each second with the number of the first candidate that has it ([`Merger`]). Their promise: at
-//! each second of the day both are what their definitions say, exactly.
+//! several compositions at each second with the number of the first candidate that has it ([`Merger`]). Their promise:
+//! at each second of the day both are what their definitions say, exactly.
 //!
-//! [`settle`] makes one list from whatever functions it is handed ([`Functions`]): its clauses say the list and its value
-//! by these functions (`specs/Settling.antt`), and that it is the built one where they are those of a network and order
-//! (`specs/Functions.antt`).
+//! [`settle`] makes one list from whatever functions it is handed ([`Functions`]): its clauses say the list and its
+//! value by these functions (`specs/Settling.antt`), and that it is the built one where they are those of a network
+//! and order (`specs/Functions.antt`).
 //!
 //! It stands on `cu_interval` and `cu_chordal`, for hierarchies, and on `cu_arrival`, for what a run says. How runs are
 //! packed and how lists are stepped through is private; what only that cites is in `specs/Steps`.
@@ -20,6 +22,7 @@
 mod choosing;
 mod customizing;
 mod day_function;
+mod dropping;
 mod functions;
 mod gathering;
 mod linking;
@@ -28,6 +31,7 @@ mod pulling;
 mod roads;
 mod settling;
 mod task;
+mod triangles;
 mod words;
 
 pub use customizing::{built_lists, customize};

@@ -1,12 +1,14 @@
-//! The composition of two functions over the day: along a first one and, from where it arrives, along a second. It is the
-//! operation that time-dependent contraction hierarchies call link, here word by word into a list that is used again.
+//! The composition of two functions over the day: along a first one and, from where it arrives, along a second. It is
+//! the operation that time-dependent contraction hierarchies call link, here word by word into a list that is used
+//! again.
 
 ghost use Rattle.std.specs.Prelude.{◌≡◌, ◌≤◌, ◌<◌, ◌+◌, ◌-◌, ◌^◌, ◌%◌, ℕ, IfOk, Some, All, length, slice_get};
 ghost use Rattle.cu_model.specs.declared.limits.TheConstants.{DAY};
 ghost use Rattle.cu_arrival.specs.declared.runs.Run.{Run};
 ghost use Rattle.cu_arrival.specs.declared.runs.RunRule.TheVariants.{Shift};
 ghost use Rattle.cu_arrival.specs.Runs.{arrival_value, rule_number};
-ghost use Rattle.cu_customize.specs.Words.{IsDayList, IsFunctionWords, arrives, composed};
+ghost use Rattle.cu_arrival.specs.Steps.Stretches.{arrives};
+ghost use Rattle.cu_customize.specs.Words.{IsDayList, IsFunctionWords, composed};
 ghost use Rattle.cu_customize.specs.Steps.Linking.{IsPlace, Continues};
 
 use crate::words::{MAX_NUMBER, Word, index_at};
@@ -23,9 +25,9 @@ struct Place {
     end: u64,
 }
 
-/// The composition over the day, written over what `linked` holds: at each second the second function's arrival, leaving
-/// where the first one arrives. The work is linear in the words of both. After a refusal for want of memory `linked` may
-/// hold anything.
+/// The composition over the day, written over what `linked` holds: at each second the second function's arrival,
+/// leaving where the first one arrives. The work is linear in the words of both. After a refusal for want of memory
+/// `linked` may hold anything.
 pub fn link(first: &[Word], second: &[Word], linked: &mut Vec<Word>) -> Result<(), NoMemory>
     requires first { IsFunctionWords first.now }
     requires second { IsFunctionWords second.now }

@@ -1,13 +1,14 @@
-//! The least of several candidates at each second of a day, and which of them it is. It is the operation that time-dependent
-//! contraction hierarchies call merge, here of compositions, one candidate after the other.
+//! The least of several candidates at each second of a day, and which of them it is. It is the operation that
+//! time-dependent contraction hierarchies call merge, here of compositions, one candidate after the other.
 
 ghost use Rattle.std.specs.Prelude.{◌≡◌, ◌≢◌, ◌≤◌, ◌<◌, ◌+◌, ◌-◌, ◌^◌, ◌↔◌, ℕ, [], Some, IfOk, OnErr, IsTrue, All, min, length, slice_get};
 ghost use Rattle.std.specs.List.{AllAdjacentBelow};
 ghost use Rattle.cu_model.specs.declared.limits.TheConstants.{DAY};
 ghost use Rattle.cu_arrival.specs.declared.runs.Run.{Run};
 ghost use Rattle.cu_arrival.specs.Runs.{arrival_value, rule_number};
+ghost use Rattle.cu_arrival.specs.Steps.Stretches.{arrives};
 ghost use Rattle.cu_model.specs.Growing.{IsPushed, last_says};
-ghost use Rattle.cu_customize.specs.Words.{IsCompactDay, IsDayList, IsFunctionWords, arrives, composed, end_run, is_fixed};
+ghost use Rattle.cu_customize.specs.Words.{IsCompactDay, IsDayList, IsFunctionWords, composed, end_run, is_fixed};
 ghost use Rattle.cu_customize.specs.Least.{KeepsDayOrder, IsWayRuns, least_arrival, least_way, way_with};
 ghost use Rattle.cu_customize.specs.Steps.Merging.{IsHeld, IsLeast, IsNext, IsMerging, IsMerged, IsBefore, CopiesBehind, Merges, Puts, least_held, next_held};
 
@@ -42,8 +43,8 @@ struct Least {
     ways: Vec<u32>,
 }
 
-// The same with one candidate more, as far as it is known: at all seconds below `done`. The run of the old list at `index`
-// begins no later than `done`.
+// The same with one candidate more, as far as it is known: at all seconds below `done`. The run of the old list at
+// `index` begins no later than `done`.
 #[derive(Debug, Drop)]
 struct Next {
     words: Vec<Word>,
@@ -52,8 +53,8 @@ struct Next {
     done: u64,
 }
 
-/// What merges candidates, with its room. Contracts see it as the runs of the least arrivals so far, each beside the number
-/// of its candidate.
+/// What merges candidates, with its room. Contracts see it as the runs of the least arrivals so far, each beside the
+/// number of its candidate.
 #[derive(Debug, Drop)]
 pub struct Merger {
     least: Least,
@@ -114,7 +115,8 @@ impl Next {
         Ok(())
     }
 
-    // Takes the runs of the old list that begin behind that of an index and before a second, and gives the last one's index.
+    // Takes the runs of the old list that begin behind that of an index and before a second, and gives the last one's
+    // index.
     fn copy_behind(&mut self, least: &Least, first: usize, until: u64) -> Result<usize, NoMemory>
         requires least { IsHeld least.now }
         requires even { length self.old.ways.items ≡ length self.old.words.items }

@@ -68,5 +68,5 @@ fn way_with(task: &Task<'_>, number: u32) -> Way
     if number < task.arcs.len() {
         return Way::Road(task.arcs[number]);
     }
-    Way::Via(task.middles[number - task.arcs.len()])
+    Way::Via(task.triangles[number - task.arcs.len()].middle)
 }

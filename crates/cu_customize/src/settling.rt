@@ -247,7 +247,6 @@ pub fn settle<F: Functions>(
         (λ settled. IsBuiltList g o (start_of ends dir) (end_of ends dir) settled.ways) }
     ensures same { F.state functions.new ≡ F.state functions.old }
 {
-    let _ranks = graph.ranks();
     let ends = graph.ends(edge);
     let leg = leg_of(ends, dir);
     let roads = best_road(alloc, arcs.arcs(edge, dir), functions)?;

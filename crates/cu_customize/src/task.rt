@@ -2,13 +2,14 @@
 
 use crate::day_function::DayFunction;
 use crate::settling::Leg;
+use crate::triangles::Triangle;
 use crate::words::Word;
 use cu_chordal::Chordal;
 use cu_model::Network;
 
 /// A list to be settled: between which ranks it leads; its candidates, which are these roads, by rising number, and the
-/// middles below both ends, by rising rank; and the functions of the lists before it, by list number. Staying is the
-/// function of a road that takes no time.
+/// lower triangles of its edge, by rising middle; and the functions of the lists before it, by list number. Staying is
+/// the function of a road that takes no time.
 #[derive(Clone, Copy)]
 pub struct Task<'a> {
     pub network: &'a Network,
@@ -17,7 +18,7 @@ pub struct Task<'a> {
     pub stay: &'a [Word],
     pub leg: Leg,
     pub arcs: &'a [u32],
-    pub middles: &'a [u32],
+    pub triangles: &'a [Triangle],
 }
 
 /// The functions of both halves of a way by a middle: to the middle, and on from it.

@@ -1,5 +1,5 @@
-//! Runs of arrival functions in one word each. A function over the day is a list of words: runs from second 0 on, and then a
-//! word from second 86,400 that only ends it, so that no loop asks for the end of the list.
+//! Runs of arrival functions in one word each. A function over the day is a list of words: runs from second 0 on, and
+//! then a word from second 86,400 that only ends it, so that no loop asks for the end of the list.
 
 ghost use Rattle.std.specs.Prelude.{◌≡◌, ◌≤◌, ◌<◌, ◌+◌, ◌^◌, ◌↔◌, ℕ, Some, IfOk, IsTrue, length, nat_le, true, false, slice_get, if◌then◌else◌};
 ghost use Rattle.std.specs.List.Sorted.{IsNonDecreasingBy, IsPartitionPoint};
@@ -8,7 +8,8 @@ ghost use Rattle.cu_arrival.specs.declared.runs.Run.{Run};
 ghost use Rattle.cu_arrival.specs.declared.runs.RunRule.TheVariants.{Shift, Fixed};
 ghost use Rattle.cu_model.specs.Days.{IsOnward};
 ghost use Rattle.cu_arrival.specs.Runs.{arrival_value, rule_number, run_at};
-ghost use Rattle.cu_customize.specs.Words.{IsDayList, IsFunctionWords, after_arrival, after_shift, arrives, end_run, is_fixed};
+ghost use Rattle.cu_arrival.specs.Steps.Stretches.{arrives};
+ghost use Rattle.cu_customize.specs.Words.{IsDayList, IsFunctionWords, after_arrival, after_shift, end_run, is_fixed};
 
 use cu_model::{DAY, NoMemory};
 use std::alloc::Global;
@@ -23,7 +24,8 @@ const FIXED: u64 = 70_368_744_177_664;
 pub const MAX_NUMBER: u64 = 17_592_186_044_416;
 
 /// A run in one word: the second of the day from which it holds (0 to 86,400), whether it is fixed, and its number
-/// (below 2^46): the seconds it takes, or where it is fixed the second at which it arrives. Contracts see it as a `Run`.
+/// (below 2^46): the seconds it takes, or where it is fixed the second at which it arrives. Contracts see it as a
+/// `Run`.
 #[derive(Clone, Copy, Debug, PartialEq, Eq)]
 pub struct Word {
     bits: u64,

@@ -1,17 +1,20 @@
 -- Candidates that are merged one after the other: which of them is the first least at each second, under which number.
-use Rattle.std.specs.Prelude.{ℕ, List, [], ◌∷◌, ◌++◌, Option, Some, None, ◌≡◌, ◌≢◌, ◌≤◌, ◌<◌, ◌+◌, ◌-◌, ◌^◌, ◌⊎◌, All, length, map, slice_get}
+use Rattle.std.specs.Prelude.{ℕ, List, [], ◌∷◌, ◌++◌, Option, Some, None, ◌≡◌, ◌≢◌, ◌≤◌, ◌<◌, ◌+◌, ◌-◌, ◌^◌, ◌⊎◌, All, length, map, max, min, slice_get}
 use Rattle.std.specs.List.Sorted.{IsStrictlyIncreasing}
-use Rattle.cu_model.specs.Networks.{NetworkValue, IsNetwork}
+use Rattle.cu_model.specs.Networks.{IsNetwork}
 use Rattle.cu_model.specs.Days.{day}
 use Rattle.cu_arrival.specs.declared.runs.Run.{Run}
 use Rattle.cu_arrival.specs.Runs.{arrival_value}
-use Rattle.cu_chordal.specs.Graphs.{IsChordal}
+use Rattle.cu_chordal.specs.declared.graph.Ends.{Ends}
+use Rattle.cu_chordal.specs.Graphs.{FindsEdge, IsChordal}
 use Rattle.cu_interval.specs.declared.ways.Entry.{Entry}
 use Rattle.cu_interval.specs.declared.ways.Way.{Way}
 use Rattle.cu_interval.specs.declared.ways.Way.TheVariants.{Road, Via}
 use Rattle.cu_interval.specs.WayLists.{GoesFirst, IsWayList, way_in}
 use Rattle.cu_customize.specs.declared.merging.TheConstants.{MOST, NOBODY}
 use Rattle.cu_customize.specs.declared.merging.WayRun.{WayRun}
+use Rattle.cu_customize.specs.declared.gathering.HalfEdges.{HalfEdges}
+use Rattle.cu_customize.specs.declared.settling.Leg.{Leg}
 use Rattle.cu_customize.specs.declared.task.Halves.{Halves}
 use Rattle.cu_customize.specs.declared.task.Task.{Task}
 use Rattle.cu_customize.specs.declared.words.TheConstants.{MAX_NUMBER}
@@ -20,6 +23,7 @@ use Rattle.cu_customize.specs.Least.{Held, least_arrival, least_way}
 use Rattle.cu_customize.specs.Settling.{ArrivesBy, KnowsHalves, function_from}
 use Rattle.cu_customize.specs.Steps.Best.{IsOpenAmong, IsOpenWay}
 use Rattle.cu_customize.specs.Steps.Kept.{kept_state}
+use Rattle.cu_customize.specs.Steps.Triangles.{IsTriangle, middles_in}
 use Rattle.cu_customize.specs.Words.{IsFunctionWords}
 
 abbrev pub state_of : Task → FunctionsState
@@ -27,7 +31,7 @@ state_of task = kept_state task.network.now task.functions.now
 
 -- the candidates of a list: each has the number of its place among them
 abbrev pub ways_of : Task → List Way
-ways_of task = map Road task.arcs.now ++ map Via task.middles.now
+ways_of task = map Road task.arcs.now ++ map Via (middles_in task.triangles.now)
 
 abbrev pub IsOpenIn : Task → List Way → Way → Type 0
 IsOpenIn task ways way = IsOpenAmong task.graph.now.edges (state_of task) task.leg.from task.leg.to ways way
@@ -73,8 +77,9 @@ pub record IsTask (task : Task) : Type 0 where
   pub stay : (t : ℕ) → t < day → arrival_value task.stay.now t ≡ t
   pub arcs_rise : IsStrictlyIncreasing task.arcs.now
   pub arcs : All (λ arc. arc < length task.network.now.arcs) task.arcs.now
-  pub middles_rise : IsStrictlyIncreasing task.middles.now
-  pub below : All (λ middle. (middle < task.leg.from) × (middle < task.leg.to)) task.middles.now
+  pub triangles : All (IsTriangle task.graph.now.edges (min task.leg.from task.leg.to) (max task.leg.from task.leg.to)) task.triangles.now
+  pub middles_rise : IsStrictlyIncreasing (middles_in task.triangles.now)
+  pub below : All (λ middle. (middle < task.leg.from) × (middle < task.leg.to)) (middles_in task.triangles.now)
   pub halves : KnowsHalves task.graph.now.edges (state_of task) task.leg.from task.leg.to
   pub near : (middle : ℕ) → middle < task.leg.from → middle < task.leg.to → IsNear task (Via middle)
 
@@ -109,6 +114,11 @@ IsGatheredBut task most ways held = IsLeastOf task (IsRival task most ways) ways
 abbrev pub Gathers : Task → ℕ → Way → ℕ → List Held → List Held → Type 0
 Gathers task most way number old new = (ways : List Way) → length ways ≡ number → All (λ before. GoesFirst before way) ways
     → IsGatheredBut task most ways old → IsGatheredBut task most (ways ++ way ∷ []) new
+
+-- the edges between a middle and the ends of a list
+pub record HasHalves (edges : List Ends) (leg : Leg) (middle : ℕ) (halves : HalfEdges) : Type 0 where
+  pub first : FindsEdge edges middle leg.from (Some halves.first)
+  pub second : FindsEdge edges middle leg.to (Some halves.second)
 
 -- the functions of both halves of the way by a middle; none where it has no way
 abbrev pub FindsHalves : Task → ℕ → Option Halves → Type 0

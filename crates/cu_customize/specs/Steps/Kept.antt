@@ -1,5 +1,5 @@
 -- Functions that are kept by list number, those of roads made anew; and what is built so far.
-use Rattle.std.specs.Prelude.{ℕ, Bool, true, false, List, Option, Some, None, ◌≡◌, ◌<◌, nat_lt, length, slice_get}
+use Rattle.std.specs.Prelude.{ℕ, Bool, true, false, List, Option, Some, None, ◌≡◌, ◌≤◌, ◌<◌, ◌-◌, ◌*◌, ◌⊎◌, nat_lt, length, slice_get}
 use Rattle.std.specs.Option.{option_map}
 use Rattle.cu_model.specs.Networks.{NetworkValue}
 use Rattle.cu_model.specs.Orders.{OrderValue}
@@ -7,6 +7,7 @@ use Rattle.cu_model.specs.Roads.{arc_value, is_closed_arc}
 use Rattle.cu_arrival.specs.declared.runs.Run.{Run}
 use Rattle.cu_arrival.specs.Runs.{arrival_value}
 use Rattle.cu_chordal.specs.declared.graph.Ends.{Ends}
+use Rattle.cu_chordal.specs.Graphs.{HasEdge, first_edge_of}
 use Rattle.cu_interval.specs.declared.ways.Dir.{Dir}
 use Rattle.cu_interval.specs.declared.ways.Entry.{Entry}
 use Rattle.cu_interval.specs.FirstWays.{IsBuiltList}
@@ -43,3 +44,33 @@ pub record IsBuiltTo (g : NetworkValue) (o : OrderValue) (edges : List Ends) (co
       → IsLowFunction g o (start_of ends dir) (end_of ends dir) (value_kept (slice_get functions (list_number edge dir)))
   pub built : (edge : ℕ) (dir : Dir) (ends : Ends) (entries : List Entry) → slice_get edges edge ≡ Some ends → list_number edge dir < count
       → slice_get lists (list_number edge dir) ≡ Some entries → IsBuiltList g o (start_of ends dir) (end_of ends dir) entries
+
+-- a middle of this edge or of one with a higher number: joined to both ends
+abbrev pub IsMiddleFrom : List Ends → ℕ → ℕ → Type 0
+IsMiddleFrom edges edge middle = (later : ℕ) × (ends : Ends) × (edge ≤ later) × (slice_get edges later ≡ Some ends) × HasEdge edges middle ends.low × HasEdge edges middle ends.high
+
+-- of all these functions those are kept whose edge's lower end is such a middle
+pub record Keeps (edges : List Ends) (edge : ℕ) (whole kept : List (Option (List Run))) : Type 0 where
+  pub long : length kept ≡ length whole
+  pub same : (e : ℕ) (dir : Dir) (ends : Ends) → slice_get edges e ≡ Some ends → IsMiddleFrom edges edge ends.low
+      → slice_get kept (list_number e dir) ≡ slice_get whole (list_number e dir)
+
+-- the lists with the first numbers are built, and of their functions those are kept that this edge or a later one takes a half from
+abbrev pub IsBuilding : NetworkValue → OrderValue → List Ends → ℕ → ℕ → List (Option (List Run)) → List (List Entry) → Type 0
+IsBuilding g o edges edge count functions lists = (whole : List (Option (List Run))) × IsBuiltTo g o edges count whole lists × Keeps edges edge whole functions
+
+-- so it is where the edges up from this rank are next
+abbrev pub IsBuildingFrom : NetworkValue → OrderValue → List Ends → ℕ → List (Option (List Run)) → List (List Entry) → Type 0
+IsBuildingFrom g o edges rank functions lists = IsBuilding g o edges (first_edge_of edges rank) (2 * first_edge_of edges rank) functions lists
+
+-- all lists are built
+abbrev pub AreBuilt : NetworkValue → OrderValue → List Ends → List (List Entry) → Type 0
+AreBuilt g o edges lists = (whole : List (Option (List Run))) × IsBuiltTo g o edges (2 * length edges) whole lists
+
+-- the highest of these ranks but one
+abbrev pub IsLastButOne : List ℕ → ℕ → Type 0
+IsLastButOne ranks rank = (2 ≤ length ranks) × (slice_get ranks (length ranks - 2) ≡ Some rank)
+
+-- nothing changes but at these numbers
+abbrev pub StaysBut : ℕ → ℕ → List (Option (List Run)) → List (Option (List Run)) → Type 0
+StaysBut start end old new = (number : ℕ) → (number < start) ⊎ (end ≤ number) → slice_get new number ≡ slice_get old number

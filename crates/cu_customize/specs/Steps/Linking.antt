@@ -3,9 +3,9 @@ use Rattle.std.specs.Prelude.{ℕ, List, ◌≡◌, ◌≤◌, ◌<◌, ◌+◌,
 use Rattle.cu_model.specs.Days.{day}
 use Rattle.cu_arrival.specs.declared.runs.Run.{Run}
 use Rattle.cu_arrival.specs.Runs.{arrival_value}
+use Rattle.cu_arrival.specs.Steps.Stretches.{arrives}
 use Rattle.cu_model.proofs.Tiling.{IsTiled}
 use Rattle.cu_customize.specs.declared.linking.Place.{Place}
-use Rattle.cu_customize.specs.Words.{arrives}
 
 -- the run of this index holds from `t` or an earlier second until the place's end
 pub record IsPlace (words : List Run) (place : Place) (t : ℕ) : Type 0 where

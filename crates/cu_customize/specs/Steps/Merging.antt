@@ -3,10 +3,11 @@ use Rattle.std.specs.Prelude.{ℕ, List, [], ◌∷◌, ◌++◌, Some, ◌≡�
 use Rattle.std.specs.List.{zip}
 use Rattle.cu_model.specs.Days.{day}
 use Rattle.cu_arrival.specs.declared.runs.Run.{Run}
+use Rattle.cu_arrival.specs.Steps.Stretches.{arrives}
 use Rattle.cu_model.proofs.Tiling.{IsTiled}
 use Rattle.cu_customize.specs.declared.merging.Least.{Least}
 use Rattle.cu_customize.specs.declared.merging.Next.{Next}
-use Rattle.cu_customize.specs.Words.{arrives, IsDayList}
+use Rattle.cu_customize.specs.Words.{IsDayList}
 use Rattle.cu_customize.specs.Least.{Held, held_from, held_at, least_arrival, way_with, KeepsDayOrder}
 
 -- the runs of the least so far beside their candidates' numbers

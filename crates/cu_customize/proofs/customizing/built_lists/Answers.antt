@@ -1,9 +1,10 @@
-use Rattle.std.proofs.Common.{◌≡◌, ◌+◌, ◌∙◌, List, ap, arith, sym, subst}
+use Rattle.std.proofs.Common.{◌≡◌, ◌∙◌, List, ap, arith, sym, subst}
 use Rattle.cu_arrival.specs.declared.runs.Run.{Run}
 use Rattle.cu_arrival.specs.declared.runs.RunRule.{RunRule}
 use Rattle.cu_arrival.specs.declared.runs.RunRule.TheVariants.{Shift}
 use Rattle.cu_arrival.specs.Runs.{arrival_value}
-use Rattle.cu_customize.specs.Words.{IsFunctionWords, arrives}
+use Rattle.cu_arrival.specs.Steps.Stretches.{arrives}
+use Rattle.cu_customize.specs.Words.{IsFunctionWords}
 use Rattle.cu_customize.proofs.Whole.{made_built}
 use Rattle.cu_customize.proofs.customizing.built_lists.Goals as goal
 
@@ -24,5 +25,6 @@ build_lists-requires c =
 
 pub returns-clause-built : goal.returns-clause-built
 returns-clause-built c =
-    made_built c.args.network.now c.args.order.now c.args.graph.now c.in_ok-building.building.functions.items c.in_ok-building.building.lists.items c.nodes.ensures.sound c.nodes-2.ensures.sound
-    c.requires.same c.ranks.ensures.sound c.requires.closed c.in_ok-building.ensures
+    let (whole, built) = c.in_ok-building.ensures in
+    made_built c.args.network.now c.args.order.now c.args.graph.now whole c.in_ok-building.building.lists.items c.nodes.ensures.sound c.nodes-2.ensures.sound
+    c.requires.same c.ranks.ensures.sound c.requires.closed built

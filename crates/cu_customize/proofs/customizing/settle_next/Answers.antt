@@ -1,14 +1,16 @@
-use Rattle.std.proofs.Common.{◌≡◌, ◌<◌, ◌+◌, ◌*◌, ◌++◌, ◌∷◌, [], List, Option, arith, refl, sym, subst}
+use Rattle.std.proofs.Common.{◌≡◌, ◌+◌, ◌++◌, ◌∷◌, [], List, Option, arith, inl, inr, length, refl, sym, subst}
+use Rattle.std.proofs.lemmas.Bool.{cases_lt}
 use Rattle.std.proofs.lemmas.Slice.{pushed}
 use Rattle.cu_arrival.specs.declared.runs.Run.{Run}
+use Rattle.cu_chordal.specs.Graphs.{up_of}
 use Rattle.cu_interval.specs.Hierarchies.{list_number}
 use Rattle.cu_interval.specs.declared.ways.Entry.{Entry}
-use Rattle.cu_customize.specs.Steps.Gathering.{ways_of}
-use Rattle.cu_customize.specs.Steps.Kept.{IsBuiltTo}
+use Rattle.cu_customize.specs.Steps.Kept.{IsBuiltTo, IsMiddleFrom, Keeps}
 use Rattle.cu_customize.proofs.Gathers.{gathered_within}
 use Rattle.cu_customize.proofs.Keeping.{number_within}
-use Rattle.cu_customize.proofs.Nexts.{next_step, next_task}
+use Rattle.cu_customize.proofs.Dropped.{keeps_pushed, lone_middle}
 use Rattle.cu_customize.proofs.Settles.{leads_over}
+use Rattle.cu_customize.proofs.Nexts.{next_step, next_task}
 use Rattle.cu_customize.proofs.customizing.settle_next.Goals as goal
 
 pub arcs-requires : goal.arcs-requires
@@ -17,49 +19,65 @@ arcs-requires c =
     let long = c.requires.parts.arcs.long in
     omega (arith, inside, long)
 
-pub down-requires : goal.down-requires
-down-requires c =
-    let over = leads_over c.args.parts.now.graph.now c.requires.parts.chordal c.args.edge c.ends-ends.result c.args.dir c.leg_of.result.from c.leg_of.result.to c.ends-ends.ensures.there c.leg_of.ensures.from
-    c.leg_of.ensures.to in
-    let low = over.from in
-    let inside = over.start_in in
-    omega (arith, low, inside)
-
 pub gather-requires : goal.gather-requires
 gather-requires c =
     let p = c.requires.parts in
-    next_task _ c.args.parts.now.order.now c.args.parts.now.arcs.now c.args.edge c.args.dir c.ends-ends.result p.network p.order p.chordal p.closed p.arcs c.ends-ends.ensures.there c.arcs.ensures.there
-    c.down.ensures.members c.args.building.now.functions.items c.args.building.now.lists.items c.requires.built c.deref.ensures.value c.leg_of.ensures.from c.leg_of.ensures.to c.arcs.ensures.rising
-    c.down.ensures.rising p.stays p.stay
+    let (whole, built, keeps) = c.requires.built in
+    next_task _ c.args.parts.now.order.now c.args.parts.now.arcs.now c.args.edge c.args.dir c.ends-ends.result p.network p.order p.chordal p.closed p.arcs c.ends-ends.ensures.there
+    c.arcs.ensures.there
+    (c.requires.triangles c.ends-ends.result c.ends-ends.ensures.there) whole c.args.building.now.functions.items c.args.building.now.lists.items built keeps c.deref.ensures.value
+    c.leg_of.ensures.from
+    c.leg_of.ensures.to c.arcs.ensures.rising p.stays p.stay
 
 pub pull-requires-clause-task : goal.pull-requires-clause-task
 pull-requires-clause-task c =
     let p = c.requires.parts in
-    next_task _ c.args.parts.now.order.now c.args.parts.now.arcs.now c.args.edge c.args.dir c.ends-ends.result p.network p.order p.chordal p.closed p.arcs c.ends-ends.ensures.there c.arcs.ensures.there
-    c.down.ensures.members c.args.building.now.functions.items c.args.building.now.lists.items c.requires.built c.deref.ensures.value c.leg_of.ensures.from c.leg_of.ensures.to c.arcs.ensures.rising
-    c.down.ensures.rising p.stays p.stay
+    let (whole, built, keeps) = c.requires.built in
+    next_task _ c.args.parts.now.order.now c.args.parts.now.arcs.now c.args.edge c.args.dir c.ends-ends.result p.network p.order p.chordal p.closed p.arcs c.ends-ends.ensures.there
+    c.arcs.ensures.there
+    (c.requires.triangles c.ends-ends.result c.ends-ends.ensures.there) whole c.args.building.now.functions.items c.args.building.now.lists.items built keeps c.deref.ensures.value
+    c.leg_of.ensures.from
+    c.leg_of.ensures.to c.arcs.ensures.rising p.stays p.stay
 
 pub pull-requires-clause-held : goal.pull-requires-clause-held
 pull-requires-clause-held c = λ some. gathered_within _ _ _ c.in_ok-gather.ensures some
 
+pub if_middle-function-requires : goal.if_middle-function-requires
+if_middle-function-requires c =
+    let over = leads_over c.args.parts.now.graph.now c.requires.parts.chordal c.args.edge c.ends-ends.result c.args.dir _ _ c.ends-ends.ensures.there refl refl in
+    let low = over.from in
+    let inside = over.start_in in
+    omega (arith, low, inside)
+
 pub returns : goal.returns
 returns c =
     let p = c.requires.parts in
+    let (whole, built, keeps) = c.requires.built in
+    let edges = c.args.parts.now.graph.now.edges in
     let functions = c.args.building.now.functions.items in
     let lists = c.args.building.now.lists.items in
     let ready =
-    next_task _ c.args.parts.now.order.now c.args.parts.now.arcs.now c.args.edge c.args.dir c.ends-ends.result p.network p.order p.chordal p.closed p.arcs c.ends-ends.ensures.there c.arcs.ensures.there
-    c.down.ensures.members c.args.building.now.functions.items c.args.building.now.lists.items c.requires.built c.deref.ensures.value c.leg_of.ensures.from c.leg_of.ensures.to c.arcs.ensures.rising
-    c.down.ensures.rising p.stays p.stay in
-    let next = next_step _ c.args.parts.now.order.now c.args.parts.now.arcs.now c.args.edge c.args.dir c.ends-ends.result p.network p.order p.chordal p.closed p.arcs c.ends-ends.ensures.there c.arcs.ensures.there
-    c.down.ensures.members functions lists c.requires.built c.deref.ensures.value c.leg_of.ensures.from c.leg_of.ensures.to c.gather.new.self.merger c.in_ok-pulled.pulled.ways c.in_ok-pulled.pulled.function ready
-    c.in_ok-gather.ensures c.in_ok-pulled.ensures in
+    next_task _ c.args.parts.now.order.now c.args.parts.now.arcs.now c.args.edge c.args.dir c.ends-ends.result p.network p.order p.chordal p.closed p.arcs c.ends-ends.ensures.there
+    c.arcs.ensures.there
+    (c.requires.triangles c.ends-ends.result c.ends-ends.ensures.there) whole functions lists built keeps c.deref.ensures.value c.leg_of.ensures.from c.leg_of.ensures.to c.arcs.ensures.rising
+    p.stays p.stay in
+    let next = next_step _ c.args.parts.now.order.now c.args.parts.now.arcs.now c.args.edge c.args.dir c.ends-ends.result p.network p.order p.chordal p.closed p.arcs c.ends-ends.ensures.there
+    c.arcs.ensures.there
+    (c.requires.triangles c.ends-ends.result c.ends-ends.ensures.there) whole functions lists built keeps c.deref.ensures.value c.leg_of.ensures.from c.leg_of.ensures.to c.gather.new.self.merger
+    c.in_ok-pulled.pulled.ways c.in_ok-pulled.pulled.function ready c.in_ok-gather.ensures c.in_ok-pulled.ensures in
+    let function = c.in_ok-pulled.pulled.function in
+    let one = c.if_middle-function.result in
+    let is : IsMiddleFrom edges c.args.edge c.ends-ends.result.low → one ≡ function = λ later. elim (cases_lt (length (up_of edges c.ends-ends.result.low)) 2) [
+      | inl few ↦ absurd (lone_middle c.args.parts.now.graph.now p.chordal c.ends-ends.result.low c.args.edge few later)
+      | inr some ↦ c.if_middle-function.ensures.kept some
+    ] in
+    let kept = keeps_pushed edges c.args.edge c.args.dir c.ends-ends.result whole functions function one c.ends-ends.ensures.there built.functions_long is keeps in
     let same_functions : functions ≡ functions = refl in
     let same_lists : lists ≡ lists = refl in
-    let functions_is = pushed (c.in_ok-pulled.pulled.function ∷ []) same_functions c.in_ok-push.was c.push.ensures.items in
-    let lists_is = pushed (c.in_ok-pulled.pulled.ways ∷ []) same_lists c.in_ok-push-2.was c.push-2.ensures.items in
-    subst (λ (fs : List (Option (List Run))). IsBuiltTo c.args.parts.now.network.now c.args.parts.now.order.now c.args.parts.now.graph.now.edges (list_number c.args.edge c.args.dir + 1) fs c.push-2.new.self.items) (sym functions_is)
-    (subst
-    (λ (ls : List (List Entry)).
-    IsBuiltTo c.args.parts.now.network.now c.args.parts.now.order.now c.args.parts.now.graph.now.edges (list_number c.args.edge c.args.dir + 1) (functions ++ c.in_ok-pulled.pulled.function ∷ []) ls)
-    (sym lists_is) next)
+    let functions_is = pushed (one ∷ []) same_functions c.in_ok-push.was c.push.ensures.items in
+    let lists_is = pushed (c.in_ok-pulled.pulled.ways ∷ []) same_lists c.in_ok-push-2.was c.push-2.ensures.items in (
+      whole ++ function ∷ [],
+      subst (λ (ls : List (List Entry)). IsBuiltTo c.args.parts.now.network.now c.args.parts.now.order.now edges (list_number c.args.edge c.args.dir + 1) (whole ++ function ∷ []) ls)
+          (sym lists_is) next,
+      subst (λ (fs : List (Option (List Run))). Keeps edges c.args.edge (whole ++ function ∷ []) fs) (sym functions_is) kept,
+    )

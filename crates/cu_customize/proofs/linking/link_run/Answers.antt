@@ -1,7 +1,8 @@
 use Rattle.std.proofs.Common.{◌≡◌, ◌∙◌, sym, ap, subst, rules, false, IfOk}
 use Rattle.cu_arrival.specs.declared.runs.RunRule.{RunRule}
 use Rattle.cu_arrival.specs.declared.runs.RunRule.TheVariants.{Shift}
-use Rattle.cu_customize.specs.Words.{arrives, is_fixed}
+use Rattle.cu_arrival.specs.Steps.Stretches.{arrives}
+use Rattle.cu_customize.specs.Words.{is_fixed}
 use Rattle.cu_customize.specs.Steps.Linking.{Continues}
 use Rattle.cu_customize.proofs.LinkLaws.{fixed_pushed, shift_rule}
 use Rattle.cu_customize.proofs.linking.link_run.Goals as goal

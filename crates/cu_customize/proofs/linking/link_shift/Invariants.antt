@@ -1,6 +1,6 @@
 use Rattle.std.proofs.Common.{◌+◌, ◌-◌, ◌<◌, min}
 use Rattle.cu_arrival.specs.declared.runs.RunRule.TheVariants.{Shift}
-use Rattle.cu_customize.specs.Words.{arrives}
+use Rattle.cu_arrival.specs.Steps.Stretches.{arrives}
 use Rattle.cu_customize.specs.Steps.Linking.{IsPlace}
 use Rattle.cu_customize.proofs.LinkLaws.{Reaches}
 use Rattle.cu_customize.proofs.linking.link_shift.Given as goal

@@ -1,9 +1,10 @@
-use Rattle.std.proofs.Common.{◌≡◌, ◌≢◌, ◌<◌, List, length, sym, subst, true}
+use Rattle.std.proofs.Common.{◌≢◌, ◌<◌, List, length, sym, subst}
 use Rattle.std.specs.Prelude.{All}
 use Rattle.cu_customize.specs.declared.merging.TheConstants.{NOBODY}
 use Rattle.cu_customize.specs.declared.merging.WayRun.{WayRun}
 use Rattle.cu_customize.specs.Least.{IsWayRuns, least_way}
 use Rattle.cu_customize.specs.Steps.Gathering.{ways_of}
+use Rattle.cu_customize.specs.Steps.Triangles.{middles_in}
 use Rattle.cu_customize.proofs.Pulls.{entries_list, pulled, runs_within}
 use Rattle.cu_customize.proofs.pulling.pull.Goals as goal
 
@@ -15,11 +16,13 @@ entries_of-requires c =
 
 pub list_of-requires-2 : goal.list_of-requires-2
 list_of-requires-2 c =
-    (entries_list c.args.task.now.arcs.now c.args.task.now.middles.now c.requires.task.arcs_rise c.requires.task.middles_rise c.args.merger.now c.deref.result.now c.in_ok-entries.entries.items
+    (entries_list c.args.task.now.arcs.now (middles_in c.args.task.now.triangles.now) c.requires.task.arcs_rise c.requires.task.middles_rise c.args.merger.now c.deref.result.now
+    c.in_ok-entries.entries.items
     (subst (λ (runs : List WayRun). IsWayRuns c.args.merger.now runs) (sym c.deref.ensures.value) c.in_ok-runs.ensures) c.in_ok-entries.ensures).0
 
 pub returns : goal.returns
 returns c =
     let some : least_way c.args.merger.now 0 ≢ NOBODY = λ nobody. let empty = c.is_empty.ensures.1 nobody in absurd (cc (empty, c.if-is_empty.false)) in
-    pulled c.args.task.now c.args.merger.now c.deref.result.now c.in_ok-runs.runs.items c.in_ok-entries.entries.items c.list_of-2.result c.in_ok-least_words.field-0.items c.of-function.result c.requires.task some
+    pulled c.args.task.now c.args.merger.now c.deref.result.now c.in_ok-runs.runs.items c.in_ok-entries.entries.items c.list_of-2.result c.in_ok-least_words.field-0.items c.of-function.result
+    c.requires.task some
     c.in_ok-runs.ensures c.deref.ensures.value c.in_ok-entries.ensures c.list_of-2.ensures c.of-function.ensures c.in_ok-least_words.ensures.function c.in_ok-least_words.ensures.value

@@ -2,7 +2,7 @@ use Rattle.std.proofs.Common.{◌≡◌, Option, List, true, sym, subst}
 use Rattle.cu_arrival.specs.declared.runs.Run.{Run}
 use Rattle.cu_interval.specs.declared.ways.Dir.TheVariants.{Down, Up}
 use Rattle.cu_customize.specs.Functions.{FunctionsState, IsFunction}
-use Rattle.cu_customize.proofs.Triangles.{both_halves, first_closed, knows_first, knows_second, no_first, no_second, second_closed}
+use Rattle.cu_customize.proofs.Halves.{both_halves, first_closed, knows_first, knows_second, no_first, no_second, second_closed}
 use Rattle.cu_customize.proofs.settling.through.Goals as goal
 
 pub returns-in_default-clause-way : goal.returns-in_default-clause-way

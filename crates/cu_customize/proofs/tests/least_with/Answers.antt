@@ -3,7 +3,7 @@ use Rattle.cu_arrival.specs.declared.runs.Run.{Run}
 use Rattle.cu_arrival.specs.declared.runs.RunRule.{RunRule}
 use Rattle.cu_arrival.specs.declared.runs.RunRule.TheVariants.{Shift, Fixed}
 use Rattle.cu_arrival.specs.Runs.{arrival_value, rule_number}
-use Rattle.cu_customize.specs.Words.{arrives}
+use Rattle.cu_arrival.specs.Steps.Stretches.{arrives}
 use Rattle.cu_customize.proofs.tests.least_with.Goals as goal
 
 soon : (r : RunRule) (t : ℕ) → arrives r t ≤ t + rule_number r

@@ -2,7 +2,8 @@ use Rattle.std.proofs.Common.{◌≡◌, ◌<◌, ◌∙◌, [], ◌∷◌, ℕ,
 use Rattle.cu_model.specs.Days.{day}
 use Rattle.cu_arrival.specs.declared.runs.Run.{Run}
 use Rattle.cu_arrival.specs.Runs.{arrival_value}
-use Rattle.cu_customize.specs.Words.{IsFunctionWords, arrives, end_run}
+use Rattle.cu_arrival.specs.Steps.Stretches.{arrives}
+use Rattle.cu_customize.specs.Words.{IsFunctionWords, end_run}
 use Rattle.cu_customize.proofs.OneRun.{one_value, one_function}
 use Rattle.cu_customize.proofs.words.function_of_run.Goals as goal
 

@@ -1,6 +1,6 @@
 use Rattle.std.proofs.Common.{arith, ◌<◌, ◌+◌, ◌-◌, ℕ, length, subst, sym, ap}
 use Rattle.cu_arrival.specs.Runs.{arrival_value}
-use Rattle.cu_customize.specs.Words.{arrives}
+use Rattle.cu_arrival.specs.Steps.Stretches.{arrives}
 use Rattle.cu_customize.proofs.DayLists.{two_words}
 use Rattle.cu_customize.proofs.TravelLaws.{IsLeastBefore, begin_of, begin_read, begin_next, begin_end, run_onward, least_first, least_more}
 use Rattle.cu_customize.proofs.words.least_travel.Goals as goal

@@ -1,0 +1,56 @@
+-- The edges up from one rank after the other.
+use Rattle.std.proofs.Common.{◌≡◌, ◌<◌, ◌+◌, ℕ, Bool, true, false, List, [], ◌∷◌, Some, refl, subst, arith, cond, length, get_or}
+use Rattle.std.specs.Prelude.{nat_lt, slice_get, ◌==◌}
+use Rattle.std.proofs.lemmas.Bool.Decides.{nat_tests}
+use Rattle.std.proofs.lemmas.Option.{slice_get-get_or, slice_get_within}
+use Rattle.cu_chordal.specs.declared.graph.Ends.{Ends}
+use Rattle.cu_chordal.specs.Graphs.{ChordalValue, IsChordal, NumbersEdges, first_edge_of, one_if, up_of}
+use Rattle.cu_chordal.proofs.Tables.{first_all}
+use Rattle.cu_customize.specs.declared.triangles.Triangle.{Triangle}
+use Rattle.cu_customize.specs.Steps.Triangles.{AreTriangles, AreTrianglesOf, HoldsTriangles}
+
+length_if : (b : Bool) (y : ℕ) (ys : List ℕ) → length (cond b (y ∷ ys) ys) ≡ one_if b + length ys
+length_if true y ys = omega arith
+length_if false y ys = omega arith
+
+next_step : (x k a b c : ℕ) → a ≡ b + c → one_if (nat_lt x (k + 1)) + a ≡ (one_if (nat_lt x k) + b) + (one_if (x == k) + c)
+next_step x k a b c h = grind (arith, nat_tests)
+
+-- the edges below the next rank are those below a rank and those up from it
+pub first_next : (edges : List Ends) (rank : ℕ) → first_edge_of edges (rank + 1) ≡ first_edge_of edges rank + length (up_of edges rank)
+first_next [] rank = refl
+first_next (e ∷ es) rank =
+    let more = length_if (e.low == rank) e.high (up_of es rank) in
+    let rest = next_step e.low rank (first_edge_of es (rank + 1)) (first_edge_of es rank) (length (up_of es rank)) (first_next es rank) in
+    omega (arith, more, rest)
+
+none_below : (x m : ℕ) → m ≡ 0 → one_if (nat_lt x 0) + m ≡ 0
+none_below x m h = grind (arith, nat_tests)
+
+pub first_zero : (edges : List Ends) → first_edge_of edges 0 ≡ 0
+first_zero [] = refl
+first_zero (e ∷ es) = none_below e.low (first_edge_of es 0) (first_zero es)
+
+pub first_last : (graph : ChordalValue) → IsChordal graph → first_edge_of graph.edges graph.ranks ≡ length graph.edges
+first_last graph is = first_all graph.edges graph.ranks (λ k d h. let range = is.in_range k d h in let low = range.0 in let high = range.1 in omega (arith, low, high))
+
+-- the group at a place is that of the edge to the higher neighbour there
+pub group_here : (edges : List Ends) (rank first place : ℕ) (groups : List (List Triangle)) (group : List Triangle) → NumbersEdges edges rank first → HoldsTriangles edges rank groups
+    → place < length (up_of edges rank) → slice_get groups place ≡ Some group → (first + place < length edges) × AreTrianglesOf edges (first + place) group
+group_here edges rank first place groups group numbers holds inside there =
+    let high = get_or (up_of edges rank) place 0 in
+    let at : slice_get (up_of edges rank) place ≡ Some high = slice_get-get_or (up_of edges rank) place 0 inside in
+    let edge = numbers place high at in
+    let (found, found_there, are) = holds place high at in
+    let same : found ≡ group = cc (found_there, there) in (
+      slice_get_within edges (first + place) (record { low = rank; high = high }) edge,
+      λ ends is.
+          let ends_are : record { low = rank; high = high } ≡ ends = cc (edge, is) in
+          subst (λ (e : Ends). AreTriangles edges e.low e.high group) ends_are (subst (λ (g : List Triangle). AreTriangles edges rank high g) same are),
+    )
+
+-- it is there
+pub group_there : (edges : List Ends) (rank place : ℕ) (groups : List (List Triangle)) → HoldsTriangles edges rank groups → place < length (up_of edges rank) → place < length groups
+group_there edges rank place groups holds inside =
+    let (found, found_there, are) = holds place (get_or (up_of edges rank) place 0) (slice_get-get_or (up_of edges rank) place 0 inside) in
+    slice_get_within groups place found found_there
