@@ -110,8 +110,8 @@ fn ask(
 {
     let graph = hierarchy.graph();
     let _edges = hierarchy.edges();
-    let mut work = Work::new(alloc, 3)?;
-    let mut listed = Listed::new(alloc, Unpacker::new(hierarchy, &mut work), room)?;
+    let work = Work::new(alloc, 3)?;
+    let mut listed = Listed::new(alloc, Unpacker::new(hierarchy, work), room)?;
     let found = query(tree, graph, desk, &mut listed, from, to, second);
     if are_told(listed.calls(), calls, room) {
         return Ok(Some(found));
@@ -131,8 +131,8 @@ fn writes(
     requires arriving { AreArriving hierarchy.now desk.old.calls }
     ensures desk { OnOk result (desk.new.nodes ≡ desk.old.nodes) }
 {
-    let mut work = Work::new(alloc, 3)?;
-    let mut unpacker = Unpacker::new(hierarchy, &mut work);
+    let work = Work::new(alloc, 3)?;
+    let mut unpacker = Unpacker::new(hierarchy, work);
     let mut sink = MemorySink::new(alloc, 8, Vec::new(alloc))?;
     route(desk, &mut unpacker, &mut sink)?;
     Ok(sink.bytes() == roads)

@@ -74,7 +74,7 @@ fn asks_lists_without_ways(rt: HostRuntime) -> Result<(), Fail> {
         Relaxed::NoWay
     );
     assert_eq!(rt; counted.steps(), 1);
-    let unpacker = Unpacker::new(&hierarchy, &mut work);
+    let unpacker = Unpacker::new(&hierarchy, work);
     let mut listed = Listed::new(alloc, unpacker, 1)?;
     assert_eq!(rt; listed.relax(0, Dir::Up, 5), Relaxed::NoWay);
     let call = Call {

@@ -16,11 +16,11 @@ use cu_interval::{Dir, Relaxed, Relaxer, Ways};
 use cu_io::{Sink, SinkFailed};
 use std::marker::Model;
 
-/// Relaxes the shortcuts of borrowed ways, with borrowed room. Contracts see the hierarchy. It doesn't tell its calls.
+/// Relaxes the shortcuts of borrowed ways, with room of its own. Contracts see the hierarchy. It doesn't tell its calls.
 #[derive(Drop)]
 pub struct Unpacker<'a, W: Ways> {
     ways: &'a W,
-    work: &'a mut Work,
+    work: Work,
 }
 
 impl<'a, W: Ways> Model for Unpacker<'a, W> {
@@ -31,17 +31,24 @@ impl<'a, W: Ways> Model for Unpacker<'a, W> {
 
     ghost view = { λ unpacker. W.hierarchy unpacker.ways.now };
 
-    ghost invariant = { λ unpacker. unpacker.work.now
+    ghost invariant = { λ unpacker. unpacker.work
         ≡ (W.hierarchy unpacker.ways.now).network.nodes };
 }
 
 impl<'a, W: Ways> Unpacker<'a, W> {
     /// An unpacker over these ways, with room that was made for as many nodes. Takes no memory.
-    pub fn new(ways: &'a W, work: &'a mut Work) -> Unpacker<'a, W>
-        requires { work.old ≡ (W.hierarchy ways.now).network.nodes }
+    pub fn new(ways: &'a W, work: Work) -> Unpacker<'a, W>
+        requires { work ≡ (W.hierarchy ways.now).network.nodes }
         ensures { result ≡ W.hierarchy ways.now }
     {
         Unpacker { ways, work }
+    }
+
+    /// Gives the room back, for the next unpacker. Takes no memory.
+    pub fn into_work(self) -> Work
+        ensures room { result ≡ self.entry.network.nodes }
+    {
+        self.work
     }
 
     /// Writes the roads of the walk of a relaxation that arrives, in plain decimal, a blank before each, but not before the
@@ -66,7 +73,7 @@ impl<'a, W: Ways> Unpacker<'a, W> {
         ensures stays { self.new ≡ self.old }
     {
         let ways = self.ways;
-        let work = &mut *self.work;
+        let work = &mut self.work;
         walk_over_ways(ways, work, edge, dir, at, first, sink)
     }
 }
@@ -87,7 +94,7 @@ impl<'a, W: Ways> Relaxer for Unpacker<'a, W> {
         ensures built { IsLowWhereBuilt self.old edge dir at result }
     {
         let ways = self.ways;
-        let work = &mut *self.work;
+        let work = &mut self.work;
         relax_over(ways, work, edge, dir, at)
     }
 }
