@@ -1,9 +1,10 @@
 -- The order of a part has each of its nodes once.
-use Rattle.std.proofs.Common.{◌≡◌, ◌≤◌, ◌<◌, ℕ, zero, suc, List, [], ◌∷◌, ◌++◌, Bool, not, cond, eqb, length, sym, subst, arith, append_assoc, inl, inr}
+use Rattle.std.proofs.Common.{◌≡◌, ◌≤◌, ◌<◌, ◌∙◌, ℕ, zero, suc, List, [], ◌∷◌, ◌++◌, Bool, not, cond, eqb, length, sym, subst, arith, append_assoc, inl, inr}
 use Rattle.std.specs.Prelude.{All, nat_le}
 use Rattle.std.specs.List.{filter, range_with_len}
 use Rattle.std.specs.List.Sorted.{IsPermutation}
 use Rattle.std.proofs.lemmas.Bool.{cases_Bool}
+use Rattle.std.proofs.lemmas.List.FromFn.{length-range_with_len}
 use Rattle.std.proofs.lemmas.List.Sorted.{All-permutation, IsPermutation-append, IsPermutation-append_comm, IsPermutation-cons, IsPermutation-middle, IsPermutation-refl, IsPermutation-sym, IsPermutation-trans, length_permutation}
 use Rattle.std.proofs.lemmas.Map.Keys.{IsDistinct-IsPermutation}
 use Rattle.cu_model.specs.Networks.{NetworkValue}
@@ -53,6 +54,11 @@ dissected_permutes g places (suc fuel) part =
       | inl small ↦ subst (λ (b : Bool). IsPermutation part (cond b (unsplit part) (around (split_of g places part) left right)).order) (sym small) (IsPermutation-refl part)
       | inr large ↦ subst (λ (b : Bool). IsPermutation part (cond b (unsplit part) (around (split_of g places part) left right)).order) (sym large) split
     ]
+
+pub dissected_long : (g : NetworkValue) (places : List Place) → length (dissected g places).order ≡ g.nodes
+dissected_long g places =
+    let nodes : List ℕ = range_with_len 0 g.nodes in
+    length_permutation nodes (dissected g places).order (dissected_permutes g places g.nodes nodes) ∙ length-range_with_len 0 g.nodes
 
 pub dissected_once : (g : NetworkValue) (places : List Place) → g.nodes ≤ 262144 → ListsEachNodeOnce (dissected g places).order
 dissected_once g places few =

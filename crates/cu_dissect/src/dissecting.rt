@@ -113,6 +113,7 @@ pub fn dissect(
         (λ made. made.0.node_at ≡ (dissected network.now places.now).order) }
     ensures splits { IfOk result
         (λ made. made.1.items ≡ (dissected network.now places.now).splits) }
+    ensures count { IfOk result (λ made. length made.0.node_at ≡ network.now.nodes) }
     ensures sound { IfOk result (λ made. IsOrder made.0) }
     ensures apart { IfOk result (λ made. All (IsApart network.now) made.1.items) }
     ensures unrelated { IfOk result

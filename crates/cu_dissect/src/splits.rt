@@ -16,5 +16,9 @@ impl Model for Split {
 
     ghost Value = { SplitValue };
 
-    ghost view = { λ split. record { left = split.left.items; right = split.right.items; separator = split.separator.items } };
+    ghost view = { λ split. record {
+      left = split.left.items;
+      right = split.right.items;
+      separator = split.separator.items;
+    } };
 }

@@ -7,3 +7,4 @@ pub mod DrawnGrids
 pub mod WrittenRows
 pub mod WrittenNetworks
 pub mod GridLaws
+pub mod GridCounts

@@ -84,6 +84,15 @@ pub fn grid(
     Ok(texts)
 }
 
+/// How many roads a grid has, 1 to 512 nodes wide and 1 to 512 high: two between neighbours in a row or in a column.
+pub fn grid_roads(width: u32, height: u32) -> u32
+    requires width { IsSide width }
+    requires height { IsSide height }
+    ensures { (start : ℕ) → result ≡ length (grid_network start width height).network.arcs }
+{
+    2 * ((width - 1) * height + (height - 1) * width)
+}
+
 /// A law: where the node in column x and row y lies, and which roads it gives.
 pub fn grid_by_rows()
     ensures place { (width height x y : ℕ) → x < width → y < height

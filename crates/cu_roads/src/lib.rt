@@ -16,7 +16,7 @@ mod refusals;
 mod writer;
 
 pub use draws::Draws;
-pub use grids::{GridTexts, MAX_SIDE, draw_day, grid, grid_by_rows};
+pub use grids::{GridTexts, MAX_SIDE, draw_day, grid, grid_by_rows, grid_roads};
 pub use places::{MAX_COORDINATE, Place, Places};
 pub use reader::read_network;
 pub use refusals::{File, RoadRefusal};

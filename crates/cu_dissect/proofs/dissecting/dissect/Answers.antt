@@ -1,4 +1,4 @@
-use Rattle.std.proofs.Common.{◌≡◌, ◌∙◌, ℕ, List, subst, sym}
+use Rattle.std.proofs.Common.{◌≡◌, ◌∙◌, ℕ, List, length, ap, subst, sym}
 use Rattle.std.specs.Prelude.{All}
 use Rattle.cu_model.specs.Networks.{NetworkValue}
 use Rattle.cu_model.specs.Orders.{ListsEachNodeOnce, OrderValue}
@@ -7,7 +7,7 @@ use Rattle.cu_roads.specs.declared.places.Place.{Place}
 use Rattle.cu_dissect.specs.Apart.{IsApart, IsUnrelated}
 use Rattle.cu_dissect.specs.Dissection.{dissected}
 use Rattle.cu_dissect.proofs.Barred.{IsBarred, splits_barred}
-use Rattle.cu_dissect.proofs.Permuting.{dissected_once}
+use Rattle.cu_dissect.proofs.Permuting.{dissected_long, dissected_once}
 use Rattle.cu_dissect.proofs.Unrelated.{barred_unrelated}
 use Rattle.cu_dissect.proofs.dissecting.dissect.Goals as goal
 
@@ -16,6 +16,11 @@ of-requires c =
     let g : NetworkValue = c.args.network.now in
     let places : List Place = c.args.places.now in
     subst ListsEachNodeOnce (sym c.in_ok-dissection.ensures.order) (dissected_once g places c.in_ok-dissection.ensures.sound.few_nodes)
+
+pub returns-clause-count : goal.returns-clause-count
+returns-clause-count c =
+    let given : c.in_ok-order.order.node_at ≡ (dissected c.args.network.now c.args.places.now).order = c.in_ok-order.ensures.given ∙ c.in_ok-dissection.ensures.order in
+    ap (λ (nodes : List ℕ). length nodes) given ∙ dissected_long c.args.network.now c.args.places.now
 
 pub returns-clause-apart : goal.returns-clause-apart
 returns-clause-apart c =
