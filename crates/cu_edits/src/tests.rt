@@ -2,25 +2,31 @@
 
 ghost use Rattle.std.specs.Prelude.{◌≡◌, ◌<◌, [], IfOk, length};
 ghost use Rattle.cu_chordal.specs.Edges.{IsClosureOf};
+ghost use Rattle.cu_interval.specs.Hierarchies.{IsBuilt};
 ghost use Rattle.cu_model.specs.Edits.{IsEditInRange};
 ghost use Rattle.cu_model.specs.Profiles.{IsProfile};
 
-use crate::touched_edges;
+use crate::{copy_network, rebuild, touched_edges};
 use cu_chordal::{Chordal, close};
-use cu_interval::{Hierarchy, WayList, Ways};
+use cu_customize::customize;
+use cu_interval::{Dir, Hierarchy, Way, WayList, Ways};
 use cu_links::RankBuckets;
 use cu_model::{Edit, Network, Order, Piece, Profile, RoadArc, Roads, Rule};
 use std::alloc::Global;
 use std::test::Fail;
 
+// The profile of one rule all day.
+fn always(alloc: Global, rule: Rule) -> Result<Profile, Fail>
+    ensures { IfOk result IsProfile }
+{
+    let piece = Piece { from: 0, rule };
+    Ok(Profile::of(vec![in alloc; piece]?)?)
+}
+
 fn minute(alloc: Global) -> Result<Profile, Fail>
     ensures { IfOk result IsProfile }
 {
-    let piece = Piece {
-        from: 0,
-        rule: Rule::Travel(60),
-    };
-    Ok(Profile::of(vec![in alloc; piece]?)?)
+    always(alloc, Rule::Travel(60))
 }
 
 fn road(tail: u32, head: u32, profile: u32) -> RoadArc
@@ -118,5 +124,52 @@ fn setting_touches_the_edges_of_roads_and_those_above(rt: HostRuntime) -> Result
     assert!(rt; set_touches(alloc, &hierarchy, 0, &[0, 2])?);
     assert!(rt; set_touches(alloc, &hierarchy, 1, &[1, 2])?);
     assert!(rt; set_touches(alloc, &hierarchy, 2, &[])?);
+    Ok(())
+}
+
+// The built hierarchy of the network with node 1 below the others: nodes 1, 0 and 2 have the ranks 0, 1 and 2.
+fn built(alloc: Global) -> Result<Hierarchy, Fail>
+    ensures roads { IfOk result (λ hierarchy. length hierarchy.network.arcs ≡ 4) }
+    ensures profiles { IfOk result (λ hierarchy. length hierarchy.network.profiles ≡ 3) }
+    ensures nodes { IfOk result (λ hierarchy. hierarchy.network.nodes ≡ 3) }
+    ensures built { IfOk result IsBuilt }
+{
+    let network = network(alloc)?;
+    let order = Order::of(alloc, vec![in alloc; 1, 0, 2]?)?;
+    let graph = close(alloc, &network, &order)?;
+    Ok(customize(alloc, network, order, graph)?)
+}
+
+// The way from node 0 to node 2 at second 0: road 2, or over node 1, whose rank is 0, along roads 0 and 1.
+fn way(hierarchy: &Hierarchy) -> Option<Way>
+    requires { 1 < hierarchy.now.network.nodes }
+{
+    let edge = hierarchy.edge(1, 2)?;
+    hierarchy.way(edge, Dir::Up, 0)
+}
+
+#[test]
+fn a_copy_is_made(rt: HostRuntime) -> Result<(), Fail> {
+    let network = network(rt.alloc())?;
+    let copy = copy_network(rt.alloc(), &network)?;
+    assert_eq!(rt; (copy.nodes(), copy.arcs(), copy.profiles()), (3, 4, 3));
+    Ok(())
+}
+
+#[test]
+fn rebuilt_lists_follow_the_edits(rt: HostRuntime) -> Result<(), Fail> {
+    let alloc = rt.alloc();
+    let mut hierarchy = built(alloc)?;
+    assert_eq!(rt; way(&hierarchy), Some(Way::Road(2)));
+    // Roads 1 and 2 are closed.
+    let closed = Edit::Set {
+        profile: 1,
+        pieces: always(alloc, Rule::Closed(0))?,
+    };
+    rebuild(alloc, &mut hierarchy, closed)?;
+    assert_eq!(rt; way(&hierarchy), None);
+    // Road 1 takes a minute, as road 0 does.
+    rebuild(alloc, &mut hierarchy, Edit::Assign { arc: 1, profile: 0 })?;
+    assert_eq!(rt; way(&hierarchy), Some(Way::Via(0)));
     Ok(())
 }
