@@ -1,0 +1,47 @@
+use Rattle.std.proofs.Common.{ap, arith}
+use Rattle.cu_pack.specs.declared.layout.Counts.{Counts}
+use Rattle.cu_pack.specs.Reading.{counts_in}
+use Rattle.cu_pack.proofs.ListNumbers.{list_inside}
+use Rattle.cu_pack.proofs.WayEntries.{entries_decided, number_inside, start_inside}
+use Rattle.cu_pack.proofs.checks.ways.are_entries_wrong.Goals as goal
+
+pub list_number-list-requires : goal.list_number-list-requires
+list_number-list-requires c =
+    let inside = number_inside c.args.sections.now c.requires.graph c.args.edge c.args.ends c.requires.ends in
+    let limits = c.requires.graph.roads.joined.ordered.sized.limited.limits in
+    omega (arith, inside, limits.edges)
+
+pub way_start-start-requires : goal.way_start-start-requires
+way_start-start-requires c =
+    let bytes = c.args.sections.now in
+    let inside = number_inside bytes c.requires.graph c.args.edge c.args.ends c.requires.ends in
+    let within = list_inside c.args.edge (counts_in bytes).edges c.args.dir inside in
+    record { list = omega (arith, within, c.list_number-list.ensures) }
+
+pub overflow_add-list : goal.overflow_add-list
+overflow_add-list c =
+    let bytes = c.args.sections.now in
+    let inside = number_inside bytes c.requires.graph c.args.edge c.args.ends c.requires.ends in
+    let within = list_inside c.args.edge (counts_in bytes).edges c.args.dir inside in
+    let limits = c.requires.graph.roads.joined.ordered.sized.limited.limits in
+    omega (arith, within, c.list_number-list.ensures, limits.edges)
+
+pub way_start-end-requires : goal.way_start-end-requires
+way_start-end-requires c =
+    let bytes = c.args.sections.now in
+    let inside = number_inside bytes c.requires.graph c.args.edge c.args.ends c.requires.ends in
+    let within = list_inside c.args.edge (counts_in bytes).edges c.args.dir inside in
+    record { list = omega (arith, within, c.list_number-list.ensures) }
+
+pub has_wrong_entry-requires-clause-from : goal.has_wrong_entry-requires-clause-from
+has_wrong_entry-requires-clause-from c =
+    let inside = start_inside c.args.sections.now c.requires.graph c.args.edge c.args.ends c.args.dir c.requires.ends in
+    omega (arith, inside, c.directed-from.ensures.from)
+
+pub returns : goal.returns
+returns c =
+    let entries = ap (λ (counts : Counts). counts.entries) c.counts.ensures.counts in
+    let within = c.if-end-counts.false in
+    entries_decided c.args.sections.now c.args.edge c.args.dir c.args.ends c.list_number-list.result c.way_start-start.result c.way_start-end.result c.directed-from.result.0
+    c.directed-from.result.1 c.has_wrong_entry.result c.requires.ends c.list_number-list.ensures c.way_start-start.ensures.start c.way_start-end.ensures.start c.directed-from.ensures.from
+    c.directed-from.ensures.to c.if-end-start.false (omega (arith, within, entries)) c.has_wrong_entry.ensures

@@ -1,0 +1,9 @@
+use Rattle.cu_pack.proofs.Again.{one_hierarchy}
+use Rattle.cu_pack.proofs.Parts.{file_long}
+use Rattle.cu_pack.proofs.laws.file_of_one_hierarchy.Goals as goal
+
+pub returns-clause-long : goal.returns-clause-long
+returns-clause-long c = file_long
+
+pub returns-clause-one : goal.returns-clause-one
+returns-clause-one c = one_hierarchy

@@ -1,0 +1,6 @@
+pub mod Layouts
+pub mod Places
+pub mod Spelling
+pub mod Reading
+pub mod Checks
+pub mod Steps

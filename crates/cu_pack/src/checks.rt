@@ -1,0 +1,11 @@
+//! The checks of a packed file, each over its sections.
+
+pub mod entries;
+pub mod graph;
+pub mod header;
+pub mod order;
+pub mod profiles;
+pub mod roads;
+#[cfg(test)]
+mod tests;
+pub mod ways;

@@ -1,0 +1,154 @@
+//! The entries of way lists in a file whose graph passed its check.
+
+ghost use Rattle.std.specs.Prelude.{◌≡◌, ◌≤◌, ◌<◌, ◌*◌, ◌↔◌, IsTrue, suc};
+ghost use Rattle.cu_interval.specs.declared.ways.Way.TheVariants.{Via};
+ghost use Rattle.cu_interval.specs.Hierarchies.{IsWellFormed, end_of, start_of};
+ghost use Rattle.cu_interval.specs.Low.{LeadsRanks};
+ghost use Rattle.cu_interval.specs.WayLists.{Turns};
+ghost use Rattle.cu_pack.specs.Checks.{IsGraph};
+ghost use Rattle.cu_pack.specs.Reading.{counts_in, network_in, order_in, decoded, rank_of_in, way_start};
+ghost use Rattle.cu_pack.specs.Steps.Entries.{HasWay, HasWrongEntry, IsOutOfTurn, IsWrongEntry};
+
+use crate::cutting::Sections;
+use crate::joining::list_number;
+use cu_chordal::Ends;
+use cu_interval::{Dir, Entry, Way};
+use cu_model::{DAY, RoadArc};
+
+/// Whether one of these entries is wrong in a list from one rank to another.
+pub fn has_wrong_entry(sections: &Sections<'_>, start: u64, end: u64, from: u32, to: u32) -> bool
+    requires graph { IsGraph sections.now }
+    requires end { end ≤ (counts_in sections.now).entries }
+    requires from { from < (counts_in sections.now).nodes }
+    ensures { IsTrue result ↔ HasWrongEntry sections.now start end from to }
+{
+    for entry in start..end {
+        if is_wrong_entry(sections, start, entry, from, to) {
+            return true;
+        }
+    }
+    false
+}
+
+/// The ranks from and to which the list of an edge leads in a direction.
+pub fn directed(ends: Ends, dir: Dir) -> (u32, u32)
+    ensures from { result.0 ≡ start_of ends dir }
+    ensures to { result.1 ≡ end_of ends dir }
+{
+    match dir {
+        Dir::Up => (ends.low, ends.high),
+        Dir::Down => (ends.high, ends.low),
+    }
+}
+
+// Whether an entry is wrong in a list that starts with the entry `start` and leads from one rank to another.
+fn is_wrong_entry(sections: &Sections<'_>, start: u64, entry: u64, from: u32, to: u32) -> bool
+    requires graph { IsGraph sections.now }
+    requires start { start ≤ entry }
+    requires entry { entry < (counts_in sections.now).entries }
+    requires from { from < (counts_in sections.now).nodes }
+    ensures { IsTrue result ↔ IsWrongEntry sections.now start from to entry }
+{
+    sections.entry_kind(entry) > 1
+        || is_out_of_turn(sections, start, entry)
+        || !is_well_formed(sections, from, to, sections.entry(entry).way)
+}
+
+// Whether an entry isn't the first from second 0, nor a turn from the one before, or is past the day.
+fn is_out_of_turn(sections: &Sections<'_>, start: u64, entry: u64) -> bool
+    requires start { start ≤ entry }
+    requires entry { entry < (counts_in sections.now).entries }
+    ensures { IsTrue result ↔ IsOutOfTurn sections.now start entry }
+{
+    let this = sections.entry(entry);
+    if this.from >= DAY {
+        return true;
+    }
+    if entry == start {
+        return this.from != 0;
+    }
+    !turns(&sections.entry(entry - 1), &this)
+}
+
+// Whether the next entry begins later, with another way.
+fn turns(entry: &Entry, next: &Entry) -> bool
+    ensures { IsTrue result ↔ Turns entry.now next.now }
+{
+    entry.from < next.from && entry.way != next.way
+}
+
+// Whether a way from one rank to another is well formed.
+fn is_well_formed(sections: &Sections<'_>, from: u32, to: u32, way: Way) -> bool
+    requires graph { IsGraph sections.now }
+    requires from { from < (counts_in sections.now).nodes }
+    ensures { IsTrue result ↔ IsWellFormed (decoded sections.now) from to way }
+{
+    match way {
+        Way::Road(arc) => leads(sections, arc, from, to),
+        Way::Via(middle) => joins(sections, middle, from, to),
+    }
+}
+
+// Whether a road may be driven from one rank to another.
+fn leads(sections: &Sections<'_>, arc: u32, from: u32, to: u32) -> bool
+    requires graph { IsGraph sections.now }
+    ensures { IsTrue result ↔ LeadsRanks (network_in sections.now) (order_in sections.now) arc from to }
+{
+    if arc >= sections.counts().arcs {
+        return false;
+    }
+    let road = sections.arc(arc);
+    has_ranks(sections, road, from, to) && !sections.is_closed(arc)
+}
+
+// Whether a road's ends have these ranks.
+fn has_ranks(sections: &Sections<'_>, road: RoadArc, from: u32, to: u32) -> bool
+    requires tail { road.tail < (counts_in sections.now).nodes }
+    requires head { road.head < (counts_in sections.now).nodes }
+    ensures { IsTrue result ↔ ((rank_of_in sections.now road.tail ≡ from)
+        × (rank_of_in sections.now road.head ≡ to)) }
+{
+    sections.rank_of(road.tail) == from && sections.rank_of(road.head) == to
+}
+
+// Whether a middle is below both ranks, and both halves have a way.
+fn joins(sections: &Sections<'_>, middle: u32, from: u32, to: u32) -> bool
+    requires graph { IsGraph sections.now }
+    requires from { from < (counts_in sections.now).nodes }
+    ensures { IsTrue result ↔ IsWellFormed (decoded sections.now) from to (Via middle) }
+{
+    if middle >= from || middle >= to {
+        return false;
+    }
+    let first = Ends {
+        low: middle,
+        high: from,
+    };
+    let second = Ends {
+        low: middle,
+        high: to,
+    };
+    has_way(sections, first, Dir::Down) && has_way(sections, second, Dir::Up)
+}
+
+// Whether an edge joins these ends, and its list in this direction has entries.
+fn has_way(sections: &Sections<'_>, ends: Ends, dir: Dir) -> bool
+    requires graph { IsGraph sections.now }
+    requires low { ends.low < (counts_in sections.now).nodes }
+    requires high { ends.low < ends.high }
+    ensures { IsTrue result ↔ HasWay sections.now ends dir }
+{
+    match sections.edge(ends.low, ends.high) {
+        Some(edge) => has_entries(sections, list_number(edge, dir)),
+        None => false,
+    }
+}
+
+// Whether a list has entries.
+fn has_entries(sections: &Sections<'_>, list: u32) -> bool
+    requires graph { IsGraph sections.now }
+    requires list { list < 2 * (counts_in sections.now).edges }
+    ensures { IsTrue result ↔ (way_start sections.now list < way_start sections.now (suc list)) }
+{
+    sections.way_start(list) < sections.way_start(list + 1)
+}

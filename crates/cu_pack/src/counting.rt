@@ -1,0 +1,46 @@
+//! How many of each a hierarchy has.
+
+ghost use Rattle.std.specs.Prelude.{◌≡◌, length};
+ghost use Rattle.cu_pack.specs.Layouts.{AreInLimits};
+ghost use Rattle.cu_pack.specs.Spelling.{counts_of, total};
+
+use crate::layout::Counts;
+use cu_interval::{Dir, Hierarchy, Ways};
+use cu_model::{Network, Roads};
+
+// How many of each there are. None is past its limit.
+pub fn count(hierarchy: &Hierarchy) -> Counts
+    ensures counts { result ≡ counts_of hierarchy.now }
+    ensures limits { AreInLimits result }
+{
+    Counts {
+        nodes: hierarchy.nodes(),
+        arcs: hierarchy.arcs(),
+        profiles: hierarchy.profiles(),
+        edges: hierarchy.edges(),
+        pieces: count_pieces(hierarchy.network()),
+        entries: count_entries(hierarchy),
+    }
+}
+
+fn count_pieces(network: &Network) -> u64
+    ensures { result ≡ total network.now.profiles }
+{
+    let mut count = 0;
+    for profile in 0..network.profiles() {
+        count += u64::from(network.pieces(profile));
+    }
+    count
+}
+
+fn count_entries(hierarchy: &Hierarchy) -> u64
+    ensures { result ≡ total hierarchy.now.lists }
+{
+    let mut count = 0;
+    for edge in 0..hierarchy.edges() {
+        let up = u64::from(hierarchy.entries(edge, Dir::Up));
+        let down = u64::from(hierarchy.entries(edge, Dir::Down));
+        count += up + down;
+    }
+    count
+}

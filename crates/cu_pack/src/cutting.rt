@@ -1,0 +1,242 @@
+//! The sections of a file, each number read where it lies.
+
+ghost use Rattle.std.specs.Prelude.{◌≡◌, ◌≤◌, ◌<◌, ◌*◌, Some, length};
+ghost use Rattle.cu_model.specs.Profiles.{piece_at};
+ghost use Rattle.cu_pack.specs.Layouts.{AreInLimits, file_length};
+ghost use Rattle.cu_pack.specs.Reading.{arc_in, counts_in, edge_start, entry_from, entry_kind, entry_place, node_at_in, piece_from, piece_kind, piece_place, list_in, profile_in, profile_start, rank_of_in, upper_in, way_start};
+ghost use Rattle.cu_pack.specs.Steps.Parts.{FindsUpper, HasList, HasPart, HasProfile, IsLowOf, IsPartUpTo, StartsRise};
+
+use crate::bytes::{entry as entry_at, long, word};
+use crate::layout::{Counts, Layout};
+use crate::searching::count_up_to;
+use crate::way_slices::WaySlice;
+use cu_interval::Entry;
+use cu_model::{Piece, RoadArc, Rule};
+use std::marker::Model;
+
+/// The bytes of a file whose counts are within their limits and whose length is the one that they ask for. Contracts see
+/// the bytes.
+#[derive(Drop)]
+pub struct Sections<'a> {
+    bytes: &'a [u8],
+    counts: Counts,
+    layout: Layout,
+}
+
+impl<'a> Model for Sections<'a> {
+    ghost use Rattle.std.specs.Prelude.{ℕ, List};
+    ghost use Rattle.cu_pack.specs.Steps.Cuts.{IsCut};
+
+    ghost Value = { List ℕ };
+
+    ghost view = { λ sections. sections.bytes.now };
+
+    ghost invariant = { λ sections. IsCut sections.bytes.now sections.counts sections.layout };
+}
+
+impl<'a> Sections<'a> {
+    /// The sections of these bytes, whose header has these counts.
+    pub fn of(bytes: &'a [u8], counts: Counts) -> Sections<'a>
+        requires counts { counts ≡ counts_in bytes.now }
+        requires limits { AreInLimits counts }
+        requires size { file_length counts ≡ length bytes.now }
+        ensures same { result ≡ bytes.now }
+    {
+        let layout = Layout::of(&counts);
+        Sections {
+            bytes,
+            counts,
+            layout,
+        }
+    }
+
+    /// How many of each there are.
+    pub fn counts(&self) -> Counts
+        ensures counts { result ≡ counts_in self.now }
+        ensures limits { AreInLimits result }
+        ensures size { file_length result ≡ length self.now }
+    {
+        self.counts
+    }
+
+    /// The node at a rank.
+    pub fn node_at(&self, rank: u32) -> u32
+        requires rank { rank < (counts_in self.now).nodes }
+        ensures node { result ≡ node_at_in self.now rank }
+    {
+        word(self.bytes, self.layout.node_at as usize + 4 * rank as usize)
+    }
+
+    /// The rank of a node.
+    pub fn rank_of(&self, node: u32) -> u32
+        requires node { node < (counts_in self.now).nodes }
+        ensures rank { result ≡ rank_of_in self.now node }
+    {
+        word(self.bytes, self.layout.rank_of as usize + 4 * node as usize)
+    }
+
+    /// The road with this number.
+    pub fn arc(&self, arc: u32) -> RoadArc
+        requires arc { arc < (counts_in self.now).arcs }
+        ensures road { result ≡ arc_in self.now arc }
+    {
+        let at = self.layout.arcs as usize + 12 * arc as usize;
+        RoadArc {
+            tail: word(self.bytes, at),
+            head: word(self.bytes, at + 4),
+            profile: word(self.bytes, at + 8),
+        }
+    }
+
+    /// How many pieces are before a profile; at the number of profiles, how many there are in all.
+    pub fn profile_start(&self, profile: u32) -> u64
+        requires profile { profile ≤ (counts_in self.now).profiles }
+        ensures start { result ≡ profile_start self.now profile }
+    {
+        long(
+            self.bytes,
+            self.layout.profile_starts as usize + 8 * profile as usize,
+        )
+    }
+
+    /// The kind of a piece, counted over all profiles.
+    pub fn piece_kind(&self, piece: u64) -> u32
+        requires piece { piece < (counts_in self.now).pieces }
+        ensures kind { result ≡ piece_kind self.now piece }
+    {
+        word(
+            self.bytes,
+            self.layout.pieces as usize + 12 * piece as usize + 4,
+        )
+    }
+
+    /// A piece, counted over all profiles.
+    pub fn piece(&self, piece: u64) -> Piece
+        requires piece { piece < (counts_in self.now).pieces }
+        ensures piece { result ≡ piece_from self.now (piece_place self.now piece) }
+    {
+        let at = self.layout.pieces as usize + 12 * piece as usize;
+        let value = word(self.bytes, at + 8);
+        let rule = match word(self.bytes, at + 4) {
+            0 => Rule::Travel(value),
+            1 => Rule::Until(value),
+            _ => Rule::Closed(value),
+        };
+        Piece {
+            from: word(self.bytes, at),
+            rule,
+        }
+    }
+
+    /// How many edges are before a rank; at the number of ranks, how many there are in all.
+    pub fn edge_start(&self, rank: u32) -> u32
+        requires rank { rank ≤ (counts_in self.now).nodes }
+        ensures start { result ≡ edge_start self.now rank }
+    {
+        word(
+            self.bytes,
+            self.layout.edge_starts as usize + 4 * rank as usize,
+        )
+    }
+
+    /// The higher rank of an edge.
+    pub fn upper(&self, edge: u32) -> u32
+        requires edge { edge < (counts_in self.now).edges }
+        ensures rank { result ≡ upper_in self.now edge }
+    {
+        word(self.bytes, self.layout.uppers as usize + 4 * edge as usize)
+    }
+
+    /// How many entries are before a way list; at the number of lists, how many there are in all.
+    pub fn way_start(&self, list: u32) -> u64
+        requires list { list ≤ 2 * (counts_in self.now).edges }
+        ensures start { result ≡ way_start self.now list }
+    {
+        long(
+            self.bytes,
+            self.layout.way_starts as usize + 8 * list as usize,
+        )
+    }
+
+    /// The kind of an entry, counted over all way lists.
+    pub fn entry_kind(&self, entry: u64) -> u32
+        requires entry { entry < (counts_in self.now).entries }
+        ensures kind { result ≡ entry_kind self.now entry }
+    {
+        word(
+            self.bytes,
+            self.layout.entries as usize + 12 * entry as usize + 4,
+        )
+    }
+
+    /// An entry, counted over all way lists.
+    pub fn entry(&self, entry: u64) -> Entry
+        requires entry { entry < (counts_in self.now).entries }
+        ensures entry { result ≡ entry_from self.now (entry_place self.now entry) }
+    {
+        entry_at(
+            self.bytes,
+            self.layout.entries as usize + 12 * entry as usize,
+        )
+    }
+
+    /// The last piece of a profile that has begun by this second of the day.
+    pub fn piece_begun(&self, profile: u32, second: u32) -> Piece
+        requires profile { HasProfile self.now profile }
+        ensures piece { piece_at (profile_in self.now profile) second ≡ Some result }
+    {
+        let pieces = self.layout.pieces as usize;
+        let start = self.profile_start(profile);
+        let count = (self.profile_start(profile + 1) - start) as usize;
+        let begun = count_up_to(self.bytes, pieces + 12 * start as usize, 12, count, second);
+        self.piece(start + begun as u64 - 1)
+    }
+
+    /// The lower rank of an edge: the last that has no more edges before it.
+    pub fn low_of(&self, edge: u32) -> u32
+        requires starts { StartsRise self.now }
+        requires edge { edge < (counts_in self.now).edges }
+        ensures low { IsLowOf self.now edge result }
+    {
+        let starts = self.layout.edge_starts as usize;
+        count_up_to(self.bytes, starts, 4, self.counts.nodes as usize, edge) as u32 - 1
+    }
+
+    /// The edge from a rank to a higher one.
+    pub fn edge_between(&self, low: u32, high: u32) -> Option<u32>
+        requires low { HasPart self.now low }
+        ensures edge { FindsUpper self.now low high result }
+    {
+        let number = self.edges_up_to(low, high);
+        if number == 0 {
+            return None;
+        }
+        let edge = self.edge_start(low) + number - 1;
+        if self.upper(edge) != high {
+            return None;
+        }
+        Some(edge)
+    }
+
+    // How many of a rank's edges lead to this higher rank or to a lower one.
+    fn edges_up_to(&self, low: u32, high: u32) -> u32
+        requires low { HasPart self.now low }
+        ensures count { IsPartUpTo self.now low high result }
+    {
+        let uppers = self.layout.uppers as usize;
+        let start = self.edge_start(low);
+        let count = (self.edge_start(low + 1) - start) as usize;
+        count_up_to(self.bytes, uppers + 4 * start as usize, 4, count, high) as u32
+    }
+
+    /// The way list with this number.
+    pub fn way_list(&self, list: u32) -> WaySlice<'a>
+        requires list { HasList self.now list }
+        ensures entries { result ≡ list_in self.now list }
+    {
+        let entries = self.layout.entries as usize;
+        let start = self.way_start(list);
+        let count = self.way_start(list + 1) - start;
+        WaySlice::of(self.bytes, entries + 12 * start as usize, count as u32)
+    }
+}

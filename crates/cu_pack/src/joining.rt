@@ -1,0 +1,34 @@
+//! The edges of a file whose graph passed its check, found by their ends, and the numbers of their lists.
+
+ghost use Rattle.std.specs.Prelude.{◌≡◌, ◌<◌};
+ghost use Rattle.cu_chordal.specs.declared.graph.TheConstants.{MAX_EDGES};
+ghost use Rattle.cu_chordal.specs.Graphs.{FindsEdge};
+ghost use Rattle.cu_interval.specs.Hierarchies.{list_number};
+ghost use Rattle.cu_pack.specs.Checks.{IsGraph};
+ghost use Rattle.cu_pack.specs.Reading.{counts_in, decoded};
+
+use crate::cutting::Sections;
+use cu_chordal::MAX_EDGES;
+use cu_interval::Dir;
+
+impl<'a> Sections<'a> {
+    /// The number of the edge between two ranks. None exactly where there is no such edge.
+    pub fn edge(&self, low: u32, high: u32) -> Option<u32>
+        requires graph { IsGraph self.now }
+        requires rank { low < (counts_in self.now).nodes }
+        ensures found { FindsEdge (decoded self.now).edges low high result }
+    {
+        self.edge_between(low, high)
+    }
+}
+
+/// The number of an edge's list in a direction.
+pub fn list_number(edge: u32, dir: Dir) -> u32
+    requires few { edge < MAX_EDGES }
+    ensures { result ≡ list_number edge dir }
+{
+    match dir {
+        Dir::Up => 2 * edge,
+        Dir::Down => 2 * edge + 1,
+    }
+}

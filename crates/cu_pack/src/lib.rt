@@ -1,0 +1,50 @@
+//! The packed file of a hierarchy: written, opened and asked as it lies.
+//!
+//! [`pack`] gives the bytes of `spelling` (`specs/Spelling.antt`). [`PackedView::open`] takes bytes that are the
+//! packed file of a hierarchy, and refuses all others by the first check that fails ([`PackRefusal`],
+//! `specs/Checks.antt`). [`PackedView::adopt`] takes bytes that are known to be such a file, and checks nothing. A
+//! view stands for the hierarchy (`Roads`, `Ways`), and each look-up reads the borrowed bytes: [`WaySlice`] is a
+//! way list in them. [`order_of`] and [`chordal_of`] copy the order and the graph.
+//!
+//! Two laws speak of files alone. [`file_of_one_hierarchy`]: no two hierarchies have the same file, and a file is
+//! as long as its counts say. [`file_is_read_back`]: a file says its hierarchy (`specs/Reading.antt`), and no check
+//! refuses it.
+//!
+//! Where each section of a file lies is said once, by [`Layout`] (`specs/Layouts.antt`). What is private stands on
+//! it in layers: `bytes` reads a number at a place, `searching` counts the numbers of a column up to a bound,
+//! `cutting` looks up whatever a section holds, and `copying` reads whole columns into memory. `driving` and
+//! `joining` answer for roads and edges as soon as the checks of their sections have passed; the later checks
+//! (`checks`) and the view call the same ones. What only private functions cite is in `specs/Steps`.
+//!
+//! It stands on `cu_model`, `cu_chordal` and `cu_interval`, on the crate `sha2` for the digest (FIPS 180-4), and on
+//! `cu_customize` for its tests alone.
+#![tactic(auto)]
+
+mod bytes;
+mod checked_roads;
+mod checks;
+mod copying;
+mod counting;
+mod cutting;
+mod driving;
+mod joining;
+mod laws;
+mod layout;
+mod numbers;
+mod opening;
+mod packing;
+mod refusals;
+mod searching;
+mod sections;
+#[cfg(test)]
+mod tests;
+mod view;
+mod way_slices;
+
+pub use laws::{file_is_read_back, file_of_one_hierarchy};
+pub use layout::{Counts, Layout};
+pub use packing::pack;
+pub use refusals::{Field, PackRefusal};
+pub use view::PackedView;
+pub use view::copies::{chordal_of, order_of};
+pub use way_slices::WaySlice;

@@ -1,0 +1,40 @@
+//! The bytes of a hierarchy.
+
+ghost use Rattle.std.specs.Prelude.{◌≡◌, ◌++◌, IfOk, OnOk};
+ghost use Rattle.cu_pack.specs.Spelling.{arcs_section, edges_section, order_section, profiles_section, spelling, ways_section};
+
+use crate::counting::count;
+use crate::layout::Layout;
+use crate::sections::{put_arcs, put_edges, put_header, put_order, put_profiles, put_ways};
+use cu_interval::Hierarchy;
+use cu_model::NoMemory;
+use sha2::{Digest, Sha256};
+use std::alloc::Global;
+
+/// The bytes of a hierarchy's packed file, its digest included.
+pub fn pack(alloc: Global, hierarchy: &Hierarchy) -> Result<Vec<u8>, NoMemory>
+    ensures spelled { IfOk result (λ bytes. bytes.items ≡ spelling hierarchy.now) }
+{
+    let counts = count(hierarchy);
+    let layout = Layout::of(&counts);
+    let mut bytes = Vec::with_capacity(alloc, layout.length as usize)?;
+    put_header(&mut bytes, &counts, layout.length)?;
+    put_parts(&mut bytes, hierarchy)?;
+    let digest = Sha256::digest(bytes.as_slice());
+    bytes.extend_from_slice(&digest)?;
+    Ok(bytes)
+}
+
+// All sections between the header and the digest.
+fn put_parts(bytes: &mut Vec<u8>, hierarchy: &Hierarchy) -> Result<(), NoMemory>
+    ensures { OnOk result (bytes.new.items ≡ bytes.old.items ++ (order_section hierarchy.now
+        ++ (arcs_section hierarchy.now ++ (profiles_section hierarchy.now
+        ++ (edges_section hierarchy.now ++ ways_section hierarchy.now))))) }
+{
+    let network = hierarchy.network();
+    put_order(bytes, hierarchy.order())?;
+    put_arcs(bytes, network)?;
+    put_profiles(bytes, network)?;
+    put_edges(bytes, hierarchy.graph())?;
+    put_ways(bytes, hierarchy)
+}

@@ -1,0 +1,57 @@
+//! A hierarchy over the bytes of its packed file.
+
+ghost use Rattle.std.specs.Prelude.{◌≡◌, ◌*◌, suc};
+ghost use Rattle.cu_interval.specs.Hierarchies.{HierarchyValue};
+ghost use Rattle.cu_pack.specs.Checks.{IsGraph, IsWrongList, NoneWrong, Spells};
+ghost use Rattle.cu_pack.specs.Reading.{counts_in, decoded};
+
+use crate::checks::header::header_counts;
+use crate::cutting::Sections;
+use std::marker::Model;
+
+pub mod copies;
+mod hierarchy;
+mod roads;
+#[cfg(test)]
+mod tests;
+
+/// The hierarchy whose packed file some borrowed bytes are. Contracts see the hierarchy.
+#[derive(Drop)]
+pub struct PackedView<'a> {
+    sections: Sections<'a>,
+}
+
+impl<'a> Model for PackedView<'a> {
+    ghost use Rattle.cu_interval.specs.Hierarchies.{HierarchyValue};
+    ghost use Rattle.cu_pack.specs.Checks.{Spells};
+    ghost use Rattle.cu_pack.specs.Reading.{decoded};
+
+    ghost Value = { HierarchyValue };
+
+    ghost view = { λ view. decoded view.sections };
+
+    ghost invariant = { λ view. Spells view.sections (decoded view.sections) };
+}
+
+impl<'a> PackedView<'a> {
+    /// The view of bytes that are a hierarchy's packed file. They are borrowed, and nothing of them is checked. Takes
+    /// no memory.
+    pub fn adopt(bytes: &'a [u8]) -> PackedView<'a>
+        requires spelled { (h : HierarchyValue) × Spells bytes.now h }
+        ensures spells { Spells bytes.now result }
+    {
+        PackedView {
+            sections: Sections::of(bytes, header_counts(bytes)),
+        }
+    }
+
+    /// The view of bytes that pass every check, cut into their sections.
+    pub(crate) fn of(bytes: &'a [u8], sections: Sections<'a>) -> PackedView<'a>
+        requires same { sections ≡ bytes.now }
+        requires graph { IsGraph bytes.now }
+        requires ways { NoneWrong (IsWrongList bytes.now) (suc (2 * (counts_in bytes.now).edges)) }
+        ensures said { result ≡ decoded bytes.now }
+    {
+        PackedView { sections }
+    }
+}
