@@ -1,6 +1,6 @@
 -- Where nothing fails, a run that can be served is served.
-use Rattle.std.proofs.Common.{◌≡◌, ◌<◌, ◌≤◌, ◌⊎◌, ◌∙◌, ◌∷◌, [], ℕ, List, length, refl, sym, ap, subst, arith, inl, inr, length-append}
-use Rattle.std.specs.Prelude.{Option, Some, Result, Ok, Err}
+use Rattle.std.proofs.Common.{◌≡◌, ◌<◌, ◌≤◌, ◌⊎◌, ◌∙◌, ◌∷◌, [], ℕ, List, length, refl, sym, ap, subst, arith, inl, inr, length-append, true, false}
+use Rattle.std.specs.Prelude.{Bool, Option, Some, None, Result, Ok, Err}
 use Rattle.cu_io.specs.Counts.{Rose}
 use Rattle.cu_io.specs.Shelves.{ShelfState}
 use Rattle.cu_io.specs.Sinks.{SinkState}
@@ -10,15 +10,18 @@ use Rattle.cu_model.specs.Networks.{NetworkValue}
 use Rattle.cu_model.specs.Orders.{OrderValue}
 use Rattle.cu_chordal.specs.Edges.{HasTooManyEdges}
 use Rattle.cu_order.specs.declared.refusals.OrderRefusal.{OrderRefusal}
+use Rattle.cu_pack.specs.Spelling.{spelling}
 use Rattle.cu_roads.specs.NetworkTexts.{NetworkRead, network_of}
+use Rattle.cu_roads.specs.Written.{written_network}
 use Rattle.cu_roads.specs.declared.refusals.RoadRefusal.{RoadRefusal}
 use Rattle.cu_cli.specs.declared.stops.Stop.{Stop}
 use Rattle.cu_cli.specs.declared.stops.Stop.TheVariants as stop
-use Rattle.cu_cli.specs.Preparing.{IsLoaded, StopsLoad, AreLoaded, StopsLoading, IsOrderOf, IsOrderRefused, Names, StopsOrder, StopsTables, StopsReading}
-use Rattle.cu_cli.specs.Runs.{Answers, EndsWork, EndsServe, IsServable, IsShort, MeetsNoFault, take_limit}
+use Rattle.cu_cli.specs.Preparing.{IsLoaded, StopsLoad, AreLoaded, StopsLoading, IsOrderOf, IsOrderRefused, Names, StopsNetwork, StopsOrder, StopsPreparing, StopsTables, StopsTexts, StopsReading, ordering_files}
+use Rattle.cu_cli.specs.Runs.{Answers, Ending, EndsBuild, EndsMake, EndsOrder, EndsServe, EndsStoring, EndsTrial, EndsWork, IsBuilding, IsOrderable, IsServable, IsShort, IsTriable, IsWorkable, Leaves, MeetsNoFault, built_text, has_script, made_text, order_files_made, ordered_text, packed_file, tables_made, take_limit}
+use Rattle.cu_cli.specs.Storing.{FileMade, FileStored, StopsStore, StopsStoring}
 use Rattle.cu_cli.specs.Stops.{status_of}
 use Rattle.cu_cli.specs.Steps.Outcomes.{Refuses, SaysStop, Works}
-use Rattle.cu_cli.specs.Words.{Command, FileAsked, command_of, table_files}
+use Rattle.cu_cli.specs.Words.{Command, Serve, Order, Make, Build, Trial, BuildingAsked, FileAsked, MakingAsked, OrderAsked, OrderingAsked, TablesAsked, TrialAsked, grid_read, table_files}
 
 -- a file of a shelf that tells has one text
 one_text : (a : ShelfState) (files : List ℕ → Option (List ℕ)) (file : FileAsked) (text other : List ℕ) → a.held ≡ Some files → IsLoaded a file text → IsLoaded a file other → other ≡ text
@@ -59,17 +62,46 @@ loads_stop a b files (file ∷ asked) (text ∷ texts) why told h fine (inl stop
 loads_stop a b files (file ∷ asked) (text ∷ texts) why told h fine (inr (other, loaded, more)) = loads_stop a b files asked texts why told h.1 fine more
 
 -- the reading of texts that pass their checks is stopped for want of memory alone
-order_stops : (g : NetworkValue) (given : List (List ℕ)) (why : Stop) → ((other : OrderRefusal) → IsOrderRefused g.nodes given other → ⊥)
-    → ((order : OrderValue) → IsOrderOf g given order → HasTooManyEdges g order → ⊥) → StopsOrder g given why → why ≡ stop.NoMemory
-order_stops g given (stop.Order refusal) ordered few k = absurd (ordered refusal k)
-order_stops g given stop.TooManyEdges ordered few (order, is, many) = absurd (few order is many)
-order_stops g given stop.NoMemory ordered few k = refl
-order_stops g given _ ordered few k = absurd k
+order_stops : (asked : OrderAsked) (read : NetworkRead) (given : List (List ℕ)) (why : Stop) → ((other : OrderRefusal) → IsOrderRefused asked read given other → ⊥)
+    → ((order : OrderValue) → IsOrderOf asked read given order → HasTooManyEdges read.network order → ⊥) → StopsOrder asked read given why → why ≡ stop.NoMemory
+order_stops asked read given (stop.Order refusal) ordered few k = absurd (ordered refusal k)
+order_stops asked read given stop.TooManyEdges ordered few (order, is, many) = absurd (few order is many)
+order_stops asked read given stop.NoMemory ordered few k = refl
+order_stops asked read given _ ordered few k = absurd k
 
-tables_stop : (read : Result NetworkRead RoadRefusal) (g : NetworkValue) (given : List (List ℕ)) (why : Stop) → Names read g → ((other : OrderRefusal) → IsOrderRefused g.nodes given other → ⊥)
-    → ((order : OrderValue) → IsOrderOf g given order → HasTooManyEdges g order → ⊥) → StopsTables read given why → why ≡ stop.NoMemory
-tables_stop (Err refusal) g given why named ordered few k = absurd named
-tables_stop (Ok read) g given why named ordered few k = order_stops g given why ordered few (subst (λ (n : NetworkValue). StopsOrder n given why) named k)
+tables_stop : (asked : OrderAsked) (named : Result NetworkRead RoadRefusal) (read : NetworkRead) (given : List (List ℕ)) (why : Stop) → Names named read
+    → ((other : OrderRefusal) → IsOrderRefused asked read given other → ⊥)
+    → ((order : OrderValue) → IsOrderOf asked read given order → HasTooManyEdges read.network order → ⊥) → StopsTables asked named given why → why ≡ stop.NoMemory
+tables_stop asked (Err refusal) read given why is ordered few k = absurd is
+tables_stop asked (Ok named) read given why is ordered few k = order_stops asked read given why ordered few (subst (λ (n : NetworkRead). StopsOrder asked n given why) is k)
+
+network_stops : (named : Result NetworkRead RoadRefusal) (read : NetworkRead) (why : Stop) → Names named read → StopsNetwork named why → why ≡ stop.NoMemory
+network_stops named read (stop.Network refusal) is k = absurd (subst (λ (r : Result NetworkRead RoadRefusal). Names r read) k is)
+network_stops named read stop.NoMemory is k = refl
+network_stops named read _ is k = absurd k
+
+-- stores that meet no fault are stopped for want of memory alone
+store_stops : (a b : ShelfState) (file : FileMade) (why : Stop) → ((name : List ℕ) → Rose (a.store_faults name) (b.store_faults name) → ⊥) → StopsStore a b file why → why ≡ stop.NoMemory
+store_stops a b file (stop.Fault whose) fine k = absurd (fine file.name k.1)
+store_stops a b file stop.NoMemory fine k = refl
+store_stops a b file _ fine k = absurd k
+
+stores_stop : (a b : ShelfState) (files : List FileMade) (why : Stop) (stored : List FileStored) → ((name : List ℕ) → Rose (a.store_faults name) (b.store_faults name) → ⊥)
+    → StopsStoring a b files why stored → why ≡ stop.NoMemory
+stores_stop a b [] why stored fine k = absurd k
+stores_stop a b (file ∷ files) why [] fine k = absurd k
+stores_stop a b (file ∷ files) why (entry ∷ stored) fine (same, inl stops) = store_stops a b file why fine stops.0
+stores_stop a b (file ∷ files) why (entry ∷ stored) fine (same, inr more) = stores_stop a b files why stored fine more.1
+
+storing_stops : (a b : ShelfState) (files : List FileMade) (text : List ℕ) (why : Stop) (work : Ending) → ((name : List ℕ) → Rose (a.store_faults name) (b.store_faults name) → ⊥)
+    → (why ≡ stop.Sink → ⊥) → work.stop ≡ Some why → EndsStoring a b files text work → why ≡ stop.NoMemory
+storing_stops a b files text why work fine sink is (nil, inl (stored, inl (none, said))) = absurd (cc (none, is))
+storing_stops a b files text why work fine sink is (nil, inl (stored, inr (failed, front))) =
+    let same : why ≡ stop.Sink = cc (failed, is) in
+    absurd (sink same)
+storing_stops a b files text why work fine sink is (nil, inr (other, stops, other_is, quiet)) =
+    let same : other ≡ why = cc (other_is, is) in
+    sym same ∙ stores_stop a b files other work.stored fine stops
 
 -- of the answers over a network only those of a fault, of the limit or of want of memory aren't done
 answers_stop : (why : Stop) (g : NetworkValue) (order : OrderValue) (taken output : List ℕ) → length taken < take_limit → (why ≡ stop.Source → ⊥) → (why ≡ stop.Sink → ⊥) → Answers g order (Some why) taken output → why ≡ stop.NoMemory
@@ -86,37 +118,122 @@ few_taken source now taken (input, told, few) took =
     let size = ap (λ (t : List ℕ). length t) parts in
     omega (arith, size, length-append taken rest, few)
 
--- nothing but want of memory stops the work of words that can be served
-work_stops : (a b : ShelfState) (s t : SourceState) (k mid now : SinkState) (words : List (List ℕ)) (why : Stop) → IsServable a words → IsShort s → MeetsNoFault a b s t k now → mid.faults ≤ now.faults
-    → Works (Some why) (EndsWork a b (command_of words)) a b s t k mid → why ≡ stop.NoMemory
-work_stops a b s t k mid now words why can short fine later done = ends (subst (λ (command : Option Command). EndsWork a b command done.work) can.asked done.ended)
+no_sink : (a b : ShelfState) (s t : SourceState) (k mid now : SinkState) (script : Bool) (why : Stop) → MeetsNoFault a b s t k now → mid.faults ≤ now.faults
+    → Leaves script (status_of why) s t k mid → why ≡ stop.Sink → ⊥
+no_sink a b s t k mid now script why fine later leaves is = fine.sink (omega (arith, later, leaves.sink_fault (ap status_of is)))
+
+-- a file has too many bytes
+abbrev IsTooLarge : Stop → Type 0
+IsTooLarge why = (bytes : ℕ) × (why ≡ stop.TooLarge bytes)
+
+-- nothing but want of memory stops the preparing of tables that can be served
+preparing_stops : (a b : ShelfState) (tables : TablesAsked) (why : Stop) → IsServable a tables → ((name : List ℕ) → Rose (a.load_faults name) (b.load_faults name) → ⊥)
+    → StopsPreparing a b tables why → why ≡ stop.NoMemory
+preparing_stops a b tables why can fine (inl loading) = loads_stop a b can.files (table_files tables) (can.nodes ∷ can.roads ∷ can.profiles ∷ can.given) why can.told can.loaded fine loading
+preparing_stops a b tables why can fine (inr (texts, loaded, reading)) =
+    let read = same_texts a can.files (table_files tables) (can.nodes ∷ can.roads ∷ can.profiles ∷ can.given) texts can.told can.loaded loaded in
+    let stops = subst (λ (t : List (List ℕ)). StopsReading tables.order t why) read reading in
+    tables_stop tables.order (network_of can.nodes can.roads can.profiles) can.read can.given why can.named can.ordered can.few stops
+
+-- and their serving
+serve_stops : (a b : ShelfState) (s t : SourceState) (k mid now : SinkState) (tables : TablesAsked) (why : Stop) → IsServable a tables → IsShort s → MeetsNoFault a b s t k now → mid.faults ≤ now.faults
+    → Works true (Some why) (EndsServe a b tables) a b s t k mid → why ≡ stop.NoMemory
+serve_stops a b s t k mid now tables why can short fine later done = ends done.ended
   where
     no_source : why ≡ stop.Source → ⊥
     no_source is = fine.source (done.leaves.source_fault (ap status_of is))
 
-    no_sink : why ≡ stop.Sink → ⊥
-    no_sink is = fine.sink (omega (arith, later, done.leaves.sink_fault (ap status_of is)))
+    ends : EndsServe a b tables done.work → why ≡ stop.NoMemory
+    ends (inl (read, order, prepares, answers, stored)) =
+        let stops = subst (λ (o : Option Stop). Answers read.network order o done.work.taken done.work.output) done.stop answers in
+        answers_stop why read.network order done.work.taken done.work.output (few_taken s t.left done.work.taken short done.moves.0) no_source
+        (no_sink a b s t k mid now true why fine later done.leaves) stops
+    ends (inr (other, stops, before)) =
+        let same : other ≡ why = cc (before.0, done.stop) in
+        sym same ∙ preparing_stops a b tables other can fine.loads stops
 
-    ends : EndsServe a b can.tables done.work → why ≡ stop.NoMemory
-    ends (inl (g, order, prepares, answers, stored)) =
-        let stops = subst (λ (o : Option Stop). Answers g order o done.work.taken done.work.output) done.stop answers in
-        answers_stop why g order done.work.taken done.work.output (few_taken s t.left done.work.taken short done.moves.0) no_source no_sink stops
+-- and the ordering of tables that can be read
+ordering_stops : (a b : ShelfState) (s t : SourceState) (k mid now : SinkState) (asked : OrderingAsked) (why : Stop) → IsOrderable a asked → MeetsNoFault a b s t k now → mid.faults ≤ now.faults
+    → Works false (Some why) (EndsOrder a b asked) a b s t k mid → why ≡ stop.NoMemory
+ordering_stops a b s t k mid now asked why can fine later done = ends done.ended
+  where
+    ends : EndsOrder a b asked done.work → why ≡ stop.NoMemory
+    ends (inl (read, order, reads, sound, given, storing)) =
+        storing_stops a b (order_files_made asked.out order) (ordered_text read.network) why done.work fine.stores (no_sink a b s t k mid now false why fine later done.leaves) done.stop storing
     ends (inr (other, inl loading, before)) =
         let same : other ≡ why = cc (before.0, done.stop) in
-        sym same ∙ loads_stop a b can.files (table_files can.tables) (can.nodes ∷ can.roads ∷ can.profiles ∷ can.given) other can.told can.loaded fine.shelf loading
+        sym same ∙ loads_stop a b can.files (ordering_files asked) (can.nodes ∷ can.roads ∷ can.profiles ∷ []) other can.told can.loaded fine.loads loading
     ends (inr (other, inr (texts, loaded, reading), before)) =
         let same : other ≡ why = cc (before.0, done.stop) in
-        let read = same_texts a can.files (table_files can.tables) (can.nodes ∷ can.roads ∷ can.profiles ∷ can.given) texts can.told can.loaded loaded in
-        let stops = subst (λ (t : List (List ℕ)). StopsReading t other) read reading in
-        sym same ∙ tables_stop (network_of can.nodes can.roads can.profiles) can.network can.given other can.named can.ordered can.few stops
+        let read = same_texts a can.files (ordering_files asked) (can.nodes ∷ can.roads ∷ can.profiles ∷ []) texts can.told can.loaded loaded in
+        let stops = subst (λ (t : List (List ℕ)). StopsTexts t other) read reading in
+        sym same ∙ network_stops (network_of can.nodes can.roads can.profiles) can.read other can.named stops
 
-pub completes : (a b : ShelfState) (s t : SourceState) (k mid now : SinkState) (words : List (List ℕ)) (why : Stop) (status : ℕ) → IsServable a words → IsShort s → MeetsNoFault a b s t k now
-    → Works (Some why) (EndsWork a b (command_of words)) a b s t k mid → Refuses why mid now status → (status ≡ 0) ⊎ (status ≡ 9)
-completes a b s t k mid now words why status can short fine done refuses = inr (ends (subst (λ (e : Stop). SaysStop e mid now status) is refuses.said))
+-- and the making of any grid
+making_stops : (a b : ShelfState) (s t : SourceState) (k mid now : SinkState) (asked : MakingAsked) (why : Stop) → MeetsNoFault a b s t k now → mid.faults ≤ now.faults
+    → Works false (Some why) (EndsMake a b asked) a b s t k mid → why ≡ stop.NoMemory
+making_stops a b s t k mid now asked why fine later done = ends done.ended
   where
-    is : why ≡ stop.NoMemory
-    is = work_stops a b s t k mid now words why can short fine refuses.later done
+    ends : EndsMake a b asked done.work → why ≡ stop.NoMemory
+    ends (inl storing) = storing_stops a b (tables_made asked (written_network (grid_read asked.grid))) (made_text asked.grid) why done.work fine.stores (no_sink a b s t k mid now false why fine later done.leaves) done.stop storing
+    ends (inr before) = cc (before.0, done.stop)
 
-    ends : SaysStop stop.NoMemory mid now status → status ≡ 9
-    ends (inl said) = said.0
-    ends (inr (eight, some, more, rose)) = absurd (some refl)
+-- and a trial whose graph hasn't too many edges
+trial_stops : (a b : ShelfState) (s t : SourceState) (k mid now : SinkState) (asked : TrialAsked) (why : Stop) → IsTriable asked → MeetsNoFault a b s t k now → mid.faults ≤ now.faults
+    → Works false (Some why) (EndsTrial asked) a b s t k mid → why ≡ stop.NoMemory
+trial_stops a b s t k mid now asked why can fine later done = ends done.ended
+  where
+    ends : EndsTrial asked done.work → why ≡ stop.NoMemory
+    ends (inl (text, is, inl (none, said), taken, stored)) = absurd (cc (none, done.stop))
+    ends (inl (text, is, inr (failed, front), taken, stored)) =
+        let same : why ≡ stop.Sink = cc (failed, done.stop) in
+        absurd (no_sink a b s t k mid now false why fine later done.leaves same)
+    ends (inr (inl (order, given, many, before))) = absurd (can order given many)
+    ends (inr (inr before)) = cc (before.0, done.stop)
+
+-- of the building of tables that can be served: want of memory, or a file that is too large
+building_stops : (a b : ShelfState) (s t : SourceState) (k mid now : SinkState) (asked : BuildingAsked) (why : Stop) → IsServable a asked.tables → MeetsNoFault a b s t k now → mid.faults ≤ now.faults
+    → Works false (Some why) (EndsBuild a b asked) a b s t k mid → (why ≡ stop.NoMemory) ⊎ IsTooLarge why
+building_stops a b s t k mid now asked why can fine later done = ends done.ended
+  where
+    ends : EndsBuild a b asked done.work → (why ≡ stop.NoMemory) ⊎ IsTooLarge why
+    ends (inl (h, places, built, prepares, inl (few, storing))) =
+        inl (storing_stops a b (packed_file asked.out h ∷ []) (built_text h (length (spelling h))) why done.work fine.stores (no_sink a b s t k mid now false why fine later done.leaves) done.stop storing)
+    ends (inl (h, places, built, prepares, inr (large, before))) =
+        let same : stop.TooLarge (length (spelling h)) ≡ why = cc (before.0, done.stop) in
+        inr (length (spelling h), sym same)
+    ends (inr (other, stops, before)) =
+        let same : other ≡ why = cc (before.0, done.stop) in
+        inl (sym same ∙ preparing_stops a b asked.tables other can fine.loads stops)
+
+work_stops : (a b : ShelfState) (s t : SourceState) (k mid now : SinkState) (command : Option Command) (why : Stop) → IsWorkable a command → IsShort s → MeetsNoFault a b s t k now → mid.faults ≤ now.faults
+    → Works (has_script command) (Some why) (EndsWork a b command) a b s t k mid → (why ≡ stop.NoMemory) ⊎ (IsBuilding command × IsTooLarge why)
+work_stops a b s t k mid now None why can short fine later done = absurd can
+work_stops a b s t k mid now (Some (Serve tables)) why can short fine later done = inl (serve_stops a b s t k mid now tables why can short fine later done)
+work_stops a b s t k mid now (Some (Order asked)) why can short fine later done = inl (ordering_stops a b s t k mid now asked why can fine later done)
+work_stops a b s t k mid now (Some (Make asked)) why can short fine later done = inl (making_stops a b s t k mid now asked why fine later done)
+work_stops a b s t k mid now (Some (Trial asked)) why can short fine later done = inl (trial_stops a b s t k mid now asked why can fine later done)
+work_stops a b s t k mid now (Some (Build asked)) why can short fine later done = or_large (building_stops a b s t k mid now asked why can fine later done)
+  where
+    or_large : (why ≡ stop.NoMemory) ⊎ IsTooLarge why → (why ≡ stop.NoMemory) ⊎ (Unit {0} × IsTooLarge why)
+    or_large (inl none) = inl none
+    or_large (inr large) = inr (tt, large)
+
+pub completes : (a b : ShelfState) (s t : SourceState) (k mid now : SinkState) (command : Option Command) (why : Stop) (status : ℕ) → IsWorkable a command → IsShort s → MeetsNoFault a b s t k now
+    → Works (has_script command) (Some why) (EndsWork a b command) a b s t k mid → Refuses why mid now status → (status ≡ 0) ⊎ (status ≡ 9) ⊎ (IsBuilding command × (status ≡ 13))
+completes a b s t k mid now command why status can short fine done refuses = by (work_stops a b s t k mid now command why can short fine refuses.later done)
+  where
+    says : (other : Stop) → why ≡ other → SaysStop other mid now status
+    says other is = subst (λ (e : Stop). SaysStop e mid now status) is refuses.said
+
+    nine : SaysStop stop.NoMemory mid now status → status ≡ 9
+    nine (inl said) = said.0
+    nine (inr (eight, some, more, rose)) = absurd (some refl)
+
+    thirteen : (bytes : ℕ) → SaysStop (stop.TooLarge bytes) mid now status → status ≡ 13
+    thirteen bytes (inl said) = said.0
+    thirteen bytes (inr (eight, some, more, rose)) = absurd (fine.sink (omega (arith, done.leaves.later, rose)))
+
+    by : (why ≡ stop.NoMemory) ⊎ (IsBuilding command × IsTooLarge why) → (status ≡ 0) ⊎ (status ≡ 9) ⊎ (IsBuilding command × (status ≡ 13))
+    by (inl is) = inr (inl (nine (says stop.NoMemory is)))
+    by (inr (building, (bytes, is))) = inr (inr (building, thirteen bytes (says (stop.TooLarge bytes) is)))

@@ -1,5 +1,5 @@
 -- Loads one after another.
-use Rattle.std.proofs.Common.{ℕ, List, [], ◌∷◌, ◌∙◌, refl, arith, inl, inr}
+use Rattle.std.proofs.Common.{ℕ, List, [], ◌∷◌, ◌++◌, ◌∙◌, refl, arith, inl, inr}
 use Rattle.cu_io.specs.Shelves.{ShelfState}
 use Rattle.cu_cli.specs.declared.stops.Stop.{Stop}
 use Rattle.cu_cli.specs.declared.stops.Stop.TheVariants as stop
@@ -8,10 +8,15 @@ use Rattle.cu_cli.specs.Steps.Loading.{OnlyLoads}
 use Rattle.cu_cli.specs.Words.{FileAsked}
 
 pub only_nothing : (a : ShelfState) → OnlyLoads a a
-only_nothing a = record { held = refl; most = refl; later = λ name. omega arith }
+only_nothing a = record { held = refl; most = refl; later = λ name. omega arith; stores = refl }
 
 pub only_then : {a b c : ShelfState} → OnlyLoads a b → OnlyLoads b c → OnlyLoads a c
-only_then h k = record { held = k.held ∙ h.held; most = k.most ∙ h.most; later = λ name. omega (arith, h.later name, k.later name) }
+only_then h k = record {
+  held = k.held ∙ h.held;
+  most = k.most ∙ h.most;
+  later = λ name. omega (arith, h.later name, k.later name);
+  stores = k.stores ∙ h.stores;
+}
 
 -- a file that is loaded behind others could be loaded before them
 pub loaded_behind : {a b : ShelfState} (file : FileAsked) (bytes : List ℕ) → OnlyLoads a b → IsLoaded b file bytes → IsLoaded a file bytes
@@ -34,3 +39,23 @@ pub stops_all_behind : {a b : ShelfState} (c : ShelfState) (files : List FileAsk
 stops_all_behind c [] why h k = absurd k
 stops_all_behind c (file ∷ files) why h (inl stops) = inl (stops_behind c file why h stops)
 stops_all_behind c (file ∷ files) why h (inr (text, loaded, more)) = inr (text, loaded_behind file text h loaded, stops_all_behind c files why h more)
+
+-- the loads of more files behind those of some
+pub loaded_then : (a : ShelfState) (files more : List FileAsked) (texts others : List (List ℕ)) → AreLoaded a files texts → AreLoaded a more others → AreLoaded a (files ++ more) (texts ++ others)
+loaded_then a [] more [] others h k = k
+loaded_then a [] more (text ∷ texts) others h k = absurd h
+loaded_then a (file ∷ files) more [] others h k = absurd h
+loaded_then a (file ∷ files) more (text ∷ texts) others (loaded, rest) k = (loaded, loaded_then a files more texts others rest k)
+
+-- a load of the first files that stops the run stops the loading of more
+pub stops_sooner : (a b : ShelfState) (files more : List FileAsked) (why : Stop) → StopsLoading a b files why → StopsLoading a b (files ++ more) why
+stops_sooner a b [] more why h = absurd h
+stops_sooner a b (file ∷ files) more why (inl stops) = inl stops
+stops_sooner a b (file ∷ files) more why (inr (text, loaded, rest)) = inr (text, loaded, stops_sooner a b files more why rest)
+
+-- and one behind the first files
+pub stops_later : (a b : ShelfState) (files more : List FileAsked) (texts : List (List ℕ)) (why : Stop) → AreLoaded a files texts → StopsLoading a b more why → StopsLoading a b (files ++ more) why
+stops_later a b [] more [] why h k = k
+stops_later a b [] more (text ∷ texts) why h k = absurd h
+stops_later a b (file ∷ files) more [] why h k = absurd h
+stops_later a b (file ∷ files) more (text ∷ texts) why (loaded, rest) k = inr (text, loaded, stops_later a b files more texts why rest k)

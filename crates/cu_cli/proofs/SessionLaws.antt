@@ -14,27 +14,26 @@ use Rattle.cu_io.proofs.Cutting.{cut_none, cut_line, cut_end, cut_open}
 use Rattle.cu_io.proofs.Taking.{takes_more, takes_nothing}
 use Rattle.cu_model.specs.Networks.{NetworkValue}
 use Rattle.cu_model.specs.Orders.{OrderValue}
-use Rattle.cu_model.specs.Queries.{query_of}
-use Rattle.cu_cli.specs.declared.stops.Stop.TheVariants as stop
-use Rattle.cu_cli.specs.Replies.{IsOutput, IsReply, IsReplyTo, line_limit}
-use Rattle.cu_cli.specs.Runs.{Leaves, take_limit}
-use Rattle.cu_interval.specs.Hierarchies.{HierarchyValue}
 use Rattle.cu_cli.specs.declared.stops.Stop.{Stop}
+use Rattle.cu_cli.specs.declared.stops.Stop.TheVariants as stop
+use Rattle.cu_cli.specs.Replies.{IsOutput, IsReply, IsReplyTo, asked_of, line_limit}
+use Rattle.cu_cli.specs.Runs.{Leaves, take_limit}
 use Rattle.cu_cli.specs.Steps.Sessions.{Session, EndsSession, TakesTurn, left_to_read}
-use Rattle.cu_cli.proofs.Outputs.{output_more, front_lines}
+use Rattle.cu_cli.proofs.Outputs.{answered_more, front_lines}
 
 -- the reply to the text of a line within the limit
-pub text_reply : (g : NetworkValue) (order : OrderValue) (line text reply : List ℕ) → length line ≤ line_limit → text ≡ without_return line → IsReplyTo g order (query_of g.nodes text) reply → IsReply g order line reply
-text_reply g order line text reply short is h =
-    let same = subst (λ (t : List ℕ). IsReplyTo g order (query_of g.nodes t) reply) is h in
+pub text_reply : (g after : NetworkValue) (order : OrderValue) (line text reply : List ℕ) → length line ≤ line_limit → text ≡ without_return line → IsReplyTo g order (asked_of g text) reply after
+    → IsReply g order line reply after
+text_reply g after order line text reply short is h =
+    let same = subst (λ (t : List ℕ). IsReplyTo g order (asked_of g t) reply after) is h in
     elim (cases_Bool (nat_lt line_limit (length line))) [
       | inl long ↦ absurd (omega (arith, short, ltb-true line_limit (length line) long))
       | inr not_long ↦ rw not_long same
     ]
 
 -- the reply to a longer line
-pub long_reply : (g : NetworkValue) (order : OrderValue) (line : List ℕ) → line_limit < length line → IsReply g order line (codes "refused: long")
-long_reply g order line long = rw (lt-ltb line_limit (length line) long) refl
+pub long_reply : (g : NetworkValue) (order : OrderValue) (line : List ℕ) → line_limit < length line → IsReply g order line (codes "refused: long") g
+long_reply g order line long = rw (lt-ltb line_limit (length line) long) (refl, refl)
 
 -- a line that is handed out leaves fewer bytes
 pub falls_by : {r after : ReaderState} {s t : SourceState} {chunk : List ℕ} (line : List ℕ) → TakesLine r after s t chunk → IsFirstLine (r.held ++ chunk) after.shown line after.held
@@ -47,16 +46,16 @@ falls_by {r = r} {after = after} {chunk = chunk} line took (none, inr (over, som
     let empty = ap (λ (t : List ℕ). length t) nil in
     omega (arith, size, empty, some, length-append r.held chunk, took.taken, took.within, took.take_limit)
 
--- a turn over the same hierarchy
-pub same_turn : (a b : HierarchyValue) (result : Result Bool Stop) (reader after : ReaderState) (source left : SourceState) (sink now : SinkState) → a ≡ b
-    → TakesTurn a.network a.order result reader after source left sink now → TakesTurn b.network b.order result reader after source left sink now
-same_turn a b result reader after source left sink now same turn =
-    subst (λ (h : HierarchyValue). TakesTurn h.network h.order result reader after source left sink now) same turn
+-- a turn under the same order
+pub same_turn : (a b : OrderValue) (network next : NetworkValue) (result : Result Bool Stop) (reader after : ReaderState) (source left : SourceState) (sink now : SinkState) → a ≡ b
+    → TakesTurn a network next result reader after source left sink now → TakesTurn b network next result reader after source left sink now
+same_turn a b network next result reader after source left sink now same turn =
+    subst (λ (order : OrderValue). TakesTurn order network next result reader after source left sink now) same turn
 
 -- nothing was read, taken or written
-pub leaves_all : (status : ℕ) (source : SourceState) (sink : SinkState) → (status ≡ 0 → ⊥) → (status ≡ 7 → ⊥) → (status ≡ 8 → ⊥) → Leaves status source source sink sink
-leaves_all status source sink some read wrote = record {
-  whole = λ zero. absurd (some zero);
+pub leaves_all : (script : Bool) (status : ℕ) (source : SourceState) (sink : SinkState) → (status ≡ 0 → ⊥) → (status ≡ 7 → ⊥) → (status ≡ 8 → ⊥) → Leaves script status source source sink sink
+leaves_all script status source sink some read wrote = record {
+  whole = λ _ zero. absurd (some zero);
   flushed = λ other. inl refl;
   source_fault = λ seven. absurd (read seven);
   sink_fault = λ eight. absurd (wrote eight);
@@ -72,12 +71,12 @@ nothing_done g order source sink = record {
   takes = takes_nothing source.left;
   appends = appends_nothing sink.written;
   answers = refl;
-  leaves = leaves_all 9 source sink (λ e. cc e) (λ e. cc e) (λ e. cc e);
+  leaves = leaves_all true 9 source sink (λ e. cc e) (λ e. cc e) (λ e. cc e);
 }
 
 -- nothing was read yet
 pub session_begins : (g : NetworkValue) (order : OrderValue) (reader : ReaderState) (source : SourceState) (sink : SinkState)
-    → reader ≡ (record { held = []; line = []; taken = 0; shown = false; over = false; line_limit = line_limit; take_limit = take_limit }) → Session g order source sink reader source sink
+    → reader ≡ (record { held = []; line = []; taken = 0; shown = false; over = false; line_limit = line_limit; take_limit = take_limit }) → Session g order g source sink reader source sink
 session_begins g order reader source sink is = rw is (record {
   taken = [];
   lines = [];
@@ -90,7 +89,7 @@ session_begins g order reader source sink is = rw is (record {
   within = omega arith;
   line_limit = refl;
   take_limit = refl;
-  replies = refl;
+  replies = (refl, refl);
   appends = appends_nothing sink.written;
   flushed = inl refl;
   source_later = omega arith;
@@ -98,7 +97,7 @@ session_begins g order reader source sink is = rw is (record {
   rises = omega arith;
 })
 
-module _ (g : NetworkValue) (order : OrderValue) (source_before : SourceState) (sink_before : SinkState) (r after : ReaderState) (s t : SourceState) (k : SinkState) (h : Session g order source_before sink_before r s k) (chunk : List ℕ)
+module _ (g network : NetworkValue) (order : OrderValue) (source_before : SourceState) (sink_before : SinkState) (r after : ReaderState) (s t : SourceState) (k : SinkState) (h : Session g order network source_before sink_before r s k) (chunk : List ℕ)
     (took : TakesLine r after s t chunk) where
   taken_now : List ℕ
   taken_now = h.taken ++ chunk
@@ -125,9 +124,9 @@ module _ (g : NetworkValue) (order : OrderValue) (source_before : SourceState) (
   ]
 
   -- a line was answered
-  pub answered : {T E : Type 0} {x : T} {now : SinkState} (line reply : List ℕ) → IsFirstLine (r.held ++ chunk) after.shown line after.held → IsReply g order line reply → WroteLine {T = T} {E = E} k now (Ok x) reply
-      → Session g order source_before sink_before after t now
-  answered {now = now} line reply first is wrote = record {
+  pub answered : {T E : Type 0} {x : T} {now : SinkState} (next : NetworkValue) (line reply : List ℕ) → IsFirstLine (r.held ++ chunk) after.shown line after.held → IsReply network order line reply next
+      → WroteLine {T = T} {E = E} k now (Ok x) reply → Session g order next source_before sink_before after t now
+  answered {now = now} next line reply first is wrote = record {
     taken = h.taken ++ chunk;
     lines = h.lines ++ line ∷ [];
     output = h.output ++ (reply ++ 10 ∷ []);
@@ -139,7 +138,7 @@ module _ (g : NetworkValue) (order : OrderValue) (source_before : SourceState) (
     within = within_now;
     line_limit = took.line_limit ∙ h.line_limit;
     take_limit = took.take_limit ∙ h.take_limit;
-    replies = output_more g order h.lines line h.output reply h.replies is;
+    replies = answered_more g network next order h.lines line h.output reply h.replies is;
     appends = appends_more sink_before.written k.written now.written h.output (reply ++ 10 ∷ []) h.appends wrote.wrote.ok;
     flushed = inr wrote.flushed;
     source_later = omega (arith, h.source_later, took.later);
@@ -148,9 +147,9 @@ module _ (g : NetworkValue) (order : OrderValue) (source_before : SourceState) (
   }
 
   -- a reply broke off
-  pub broke : {T E : Type 0} {e : E} {now : SinkState} (line reply : List ℕ) → IsFirstLine (r.held ++ chunk) after.shown line after.held → IsReply g order line reply → WroteLine {T = T} {E = E} k now (Err e) reply
-      → EndsSession g order (Some stop.Sink) source_before t sink_before now
-  broke {now = now} line reply first is wrote =
+  pub broke : {T E : Type 0} {e : E} {now : SinkState} (next : NetworkValue) (line reply : List ℕ) → IsFirstLine (r.held ++ chunk) after.shown line after.held → IsReply network order line reply next
+      → WroteLine {T = T} {E = E} k now (Err e) reply → EndsSession g order (Some stop.Sink) source_before t sink_before now
+  broke {now = now} next line reply first is wrote =
       let text = h.output ++ (reply ++ 10 ∷ []) in
       let (count, within, app) = appends_then sink_before.written k.written now.written h.output (reply ++ 10 ∷ []) h.appends wrote.wrote.err in
       let cut = cut_line h.taken h.lines line h.cut took first in
@@ -158,7 +157,7 @@ module _ (g : NetworkValue) (order : OrderValue) (source_before : SourceState) (
       let lines : lines_of (h.taken ++ chunk) ≡ (h.lines ++ line ∷ []) ++ lines_of after.held =
       ap (λ (t : List ℕ). lines_of t) (sym (append-nil (h.taken ++ chunk))) ∙ all ∙ ap (λ (t : List ℕ). (h.lines ++ line ∷ []) ++ lines_of t) (append-nil after.held) in
       let front = ap (λ (t : List (List ℕ)). take (length (h.lines ++ line ∷ [])) t) lines ∙ front_lines (h.lines ++ line ∷ []) (lines_of after.held) in
-      let output : IsOutput g order (h.lines ++ line ∷ []) text = output_more g order h.lines line h.output reply h.replies is in
+      let output : IsOutput g order (h.lines ++ line ∷ []) text = (next, answered_more g network next order h.lines line h.output reply h.replies is) in
       record {
         taken = h.taken ++ chunk;
         output = take count text;
@@ -166,7 +165,7 @@ module _ (g : NetworkValue) (order : OrderValue) (source_before : SourceState) (
         appends = app;
         answers = (length (h.lines ++ line ∷ []), text, subst (λ (t : List (List ℕ)). IsOutput g order t text) (sym front) output, (count, refl));
         leaves = record {
-          whole = λ zero. absurd (cc zero);
+          whole = λ _ zero. absurd (cc zero);
           flushed = λ broken. absurd (broken refl);
           source_fault = λ source. absurd (cc source);
           sink_fault = λ sink. omega (arith, h.sink_later, wrote.wrote.cause);
@@ -184,9 +183,9 @@ module _ (g : NetworkValue) (order : OrderValue) (source_before : SourceState) (
         output = h.output;
         takes = takes_now;
         appends = h.appends;
-        answers = (omega (arith, unspent_now shown, count_now), subst (λ (t : List (List ℕ)). IsOutput g order t h.output) (sym lines) h.replies);
+        answers = (omega (arith, unspent_now shown, count_now), subst (λ (t : List (List ℕ)). IsOutput g order t h.output) (sym lines) (network, h.replies));
         leaves = record {
-          whole = λ zero. whole_left source_before.left t.left (h.taken ++ chunk) takes_now (whole_now shown);
+          whole = λ _ zero. whole_left source_before.left t.left (h.taken ++ chunk) takes_now (whole_now shown);
           flushed = λ other. h.flushed;
           source_fault = λ source. absurd (cc source);
           sink_fault = λ sink. absurd (cc sink);
@@ -209,9 +208,9 @@ module _ (g : NetworkValue) (order : OrderValue) (source_before : SourceState) (
         output = h.output;
         takes = takes_now;
         appends = h.appends;
-        answers = (omega (arith, below, count_now, h.take_limit), subst (λ (t : List (List ℕ)). IsOutput g order t h.output) (sym lines) h.replies);
+        answers = (omega (arith, below, count_now, h.take_limit), subst (λ (t : List (List ℕ)). IsOutput g order t h.output) (sym lines) (network, h.replies));
         leaves = record {
-          whole = λ zero. absurd (cc zero);
+          whole = λ _ zero. absurd (cc zero);
           flushed = λ other. h.flushed;
           source_fault = λ source. omega (arith, h.source_later, rose);
           sink_fault = λ sink. absurd (cc sink);
@@ -229,9 +228,9 @@ module _ (g : NetworkValue) (order : OrderValue) (source_before : SourceState) (
         output = h.output;
         takes = takes_now;
         appends = h.appends;
-        answers = (omega (arith, all, count_now, h.take_limit), subst (λ (t : List (List ℕ)). IsOutput g order t h.output) (sym lines) h.replies);
+        answers = (omega (arith, all, count_now, h.take_limit), subst (λ (t : List (List ℕ)). IsOutput g order t h.output) (sym lines) (network, h.replies));
         leaves = record {
-          whole = λ zero. absurd (cc zero);
+          whole = λ _ zero. absurd (cc zero);
           flushed = λ other. h.flushed;
           source_fault = λ source. absurd (cc source);
           sink_fault = λ sink. absurd (cc sink);

@@ -1,72 +1,136 @@
 -- The work of commands, and what is said of it.
-use Rattle.std.proofs.Common.{◌≡◌, ◌∙◌, ◌++◌, [], ℕ, List, take, refl, sym, ap, subst, inl, inr}
-use Rattle.std.specs.Prelude.{Option, Some, None}
+use Rattle.std.proofs.Common.{◌≡◌, ◌<◌, ◌≤◌, ◌∙◌, ◌∷◌, ◌++◌, [], ℕ, List, length, take, refl, sym, ap, subst, inl, inr, true, false}
+use Rattle.std.specs.Prelude.{Bool, Option, Some, None}
 use Rattle.cu_io.specs.Shelves.{ShelfState}
 use Rattle.cu_io.specs.Sinks.{SinkState}
 use Rattle.cu_io.specs.Sources.{SourceState}
 use Rattle.cu_io.specs.Transfers.{Appends}
 use Rattle.cu_io.proofs.Appending.{appends_nothing, appends_more}
 use Rattle.cu_io.proofs.Taking.{takes_nothing}
-use Rattle.cu_model.specs.Networks.{NetworkValue}
-use Rattle.cu_model.specs.Orders.{OrderValue}
+use Rattle.cu_model.specs.Orders.{OrderValue, IsOrder}
+use Rattle.cu_interval.specs.Hierarchies.{HierarchyValue, IsBuilt}
+use Rattle.cu_pack.specs.Spelling.{spelling}
+use Rattle.cu_cli.specs.declared.preparing.Prepared.{Prepared}
 use Rattle.cu_cli.specs.declared.stops.Stop.{Stop}
 use Rattle.cu_cli.specs.declared.stops.Stop.TheVariants as stop
-use Rattle.cu_cli.specs.Preparing.{Prepares, StopsPreparing}
-use Rattle.cu_cli.specs.Runs.{Ending, EndsRun, EndsServe, EndsWork, Leaves, Moves, Stores}
+use Rattle.cu_roads.specs.NetworkTexts.{NetworkRead}
+use Rattle.cu_roads.specs.Written.{written_network}
+use Rattle.cu_roads.specs.declared.places.Place.{Place}
+use Rattle.cu_cli.specs.Preparing.{IsOrderGiven, Prepares, ReadsTables, StopsOrdering, StopsPreparing}
+use Rattle.cu_cli.specs.Runs.{Ending, EndsBuild, EndsMake, EndsOrder, EndsRun, EndsServe, EndsStoring, EndsWork, Leaves, Moves, StopsBefore, built_text, has_script, made_text, order_files_made, ordered_text, packed_file, tables_made}
+use Rattle.cu_cli.specs.Storing.{Stores}
 use Rattle.cu_cli.specs.Stops.{said_at, said_of, status_at, status_of}
-use Rattle.cu_cli.specs.Steps.Loading.{OnlyLoads}
+use Rattle.cu_cli.specs.Steps.Loading.{HasPrepared, OnlyLoads}
 use Rattle.cu_cli.specs.Steps.Outcomes.{IsBeforeScript, Refuses, SaysStop, Works}
 use Rattle.cu_cli.specs.Steps.Sessions.{EndsSession}
-use Rattle.cu_cli.specs.Words.{TablesAsked, command_of}
+use Rattle.cu_cli.specs.Words.{BuildingAsked, Command, Dissected, MakingAsked, OrderingAsked, TablesAsked, command_of, grid_read}
 use Rattle.cu_cli.proofs.SessionLaws.{leaves_all}
 
-leaves_before : (why : Stop) (s : SourceState) (k : SinkState) → IsBeforeScript why → Leaves (status_of why) s s k k
-leaves_before stop.Words s k h = leaves_all 2 s k (λ e. cc e) (λ e. cc e) (λ e. cc e)
-leaves_before (stop.Fault whose) s k h = leaves_all 3 s k (λ e. cc e) (λ e. cc e) (λ e. cc e)
-leaves_before (stop.TooLong whose) s k h = leaves_all 3 s k (λ e. cc e) (λ e. cc e) (λ e. cc e)
-leaves_before (stop.Network refusal) s k h = leaves_all 4 s k (λ e. cc e) (λ e. cc e) (λ e. cc e)
-leaves_before (stop.Order refusal) s k h = leaves_all 5 s k (λ e. cc e) (λ e. cc e) (λ e. cc e)
-leaves_before stop.NoMemory s k h = leaves_all 9 s k (λ e. cc e) (λ e. cc e) (λ e. cc e)
-leaves_before stop.TooManyEdges s k h = leaves_all 11 s k (λ e. cc e) (λ e. cc e) (λ e. cc e)
-leaves_before _ s k h = absurd h
+pub leaves_before : (script : Bool) (why : Stop) (s : SourceState) (k : SinkState) → IsBeforeScript why → Leaves script (status_of why) s s k k
+leaves_before script stop.Words s k h = leaves_all script 2 s k (λ e. cc e) (λ e. cc e) (λ e. cc e)
+leaves_before script (stop.Fault whose) s k h = leaves_all script 3 s k (λ e. cc e) (λ e. cc e) (λ e. cc e)
+leaves_before script (stop.TooLong whose) s k h = leaves_all script 3 s k (λ e. cc e) (λ e. cc e) (λ e. cc e)
+leaves_before script (stop.Network refusal) s k h = leaves_all script 4 s k (λ e. cc e) (λ e. cc e) (λ e. cc e)
+leaves_before script (stop.Order refusal) s k h = leaves_all script 5 s k (λ e. cc e) (λ e. cc e) (λ e. cc e)
+leaves_before script stop.NoMemory s k h = leaves_all script 9 s k (λ e. cc e) (λ e. cc e) (λ e. cc e)
+leaves_before script stop.TooManyEdges s k h = leaves_all script 11 s k (λ e. cc e) (λ e. cc e) (λ e. cc e)
+leaves_before script (stop.TooLarge bytes) s k h = leaves_all script 13 s k (λ e. cc e) (λ e. cc e) (λ e. cc e)
+leaves_before script _ s k h = absurd h
+
+-- the work stopped before anything was taken, written or stored
+pub stopped_before : (script : Bool) (a b : ShelfState) (s : SourceState) (k : SinkState) (Ends : Ending → Type 0) (why : Stop) → b.held ≡ a.held → IsBeforeScript why
+    → ((work : Ending) → StopsBefore why work → Ends work) → Works script (Some why) Ends a b s s k k
+stopped_before script a b s k Ends why held before ends = record {
+  work = record { stop = Some why; taken = []; output = []; stored = [] };
+  stop = refl;
+  ended = ends (record { stop = Some why; taken = []; output = []; stored = [] }) (refl, refl, refl, refl);
+  moves = (takes_nothing s.left, appends_nothing k.written);
+  stores = held;
+  leaves = leaves_before script why s k before;
+}
+
+-- work that ended in one way ended in another
+pub ends_so : {script : Bool} {why : Option Stop} {P Q : Ending → Type 0} {a b : ShelfState} {s t : SourceState} {k now : SinkState} → ((work : Ending) → P work → Q work)
+    → Works script why P a b s t k now → Works script why Q a b s t k now
+ends_so ends done = record {
+  work = done.work;
+  stop = done.stop;
+  ended = ends done.work done.ended;
+  moves = done.moves;
+  stores = done.stores;
+  leaves = done.leaves;
+}
 
 -- the preparing was stopped
 pub stopped : (a b : ShelfState) (s : SourceState) (k : SinkState) (tables : TablesAsked) (why : Stop) → OnlyLoads a b → StopsPreparing a b tables why → IsBeforeScript why
-    → Works (Some why) (EndsServe a b tables) a b s s k k
-stopped a b s k tables why loads stops before = record {
-  work = record { stop = Some why; taken = []; output = []; stored = [] };
-  stop = refl;
-  ended = inr (why, stops, (refl, refl, refl, refl));
-  moves = (takes_nothing s.left, appends_nothing k.written);
-  stores = loads.held;
-  leaves = leaves_before why s k before;
-}
+    → Works true (Some why) (EndsServe a b tables) a b s s k k
+stopped a b s k tables why loads stops before = stopped_before true a b s k (EndsServe a b tables) why loads.held before (λ work ends. inr (why, stops, ends))
+
+-- the ordering was stopped
+pub ordering_stopped : (a b : ShelfState) (s : SourceState) (k : SinkState) (asked : OrderingAsked) (why : Stop) → OnlyLoads a b → StopsOrdering a b asked why → IsBeforeScript why
+    → Works false (Some why) (EndsOrder a b asked) a b s s k k
+ordering_stopped a b s k asked why loads stops before = stopped_before false a b s k (EndsOrder a b asked) why loads.held before (λ work ends. inr (why, stops, ends))
+
+-- the order was made, and its storing ended
+pub ordered : {a b : ShelfState} {s : SourceState} {k now : SinkState} {why : Option Stop} (asked : OrderingAsked) (read : NetworkRead) (order : OrderValue) → ReadsTables a asked read → IsOrder order
+    → IsOrderGiven Dissected read [] order → Works false why (EndsStoring a b (order_files_made asked.out order) (ordered_text read.network)) a b s s k now → Works false why (EndsOrder a b asked) a b s s k now
+ordered asked read order reads sound is done = ends_so (λ work ends. inl (read, order, reads, sound, is, ends)) done
+
+-- the grid was drawn, and the storing of its tables ended
+pub made : {a b : ShelfState} {s : SourceState} {k now : SinkState} {why : Option Stop} (asked : MakingAsked)
+    → Works false why (EndsStoring a b (tables_made asked (written_network (grid_read asked.grid))) (made_text asked.grid)) a b s s k now → Works false why (EndsMake a b asked) a b s s k now
+made asked done = ends_so (λ work ends. inl ends) done
+
+-- the building was stopped
+pub building_stopped : (a b : ShelfState) (s : SourceState) (k : SinkState) (asked : BuildingAsked) (why : Stop) → OnlyLoads a b → StopsPreparing a b asked.tables why → IsBeforeScript why
+    → Works false (Some why) (EndsBuild a b asked) a b s s k k
+building_stopped a b s k asked why loads stops before = stopped_before false a b s k (EndsBuild a b asked) why loads.held before (λ work ends. inr (why, stops, ends))
+
+-- the hierarchy was built
+pub record HasBuilt (a : ShelfState) (asked : BuildingAsked) (h : HierarchyValue) : Type 0 where
+  pub built : IsBuilt h
+  pub places : List Place
+  pub prepares : Prepares a asked.tables (record { network = h.network; places = places }) h.order
+
+pub has_built : {a : ShelfState} (asked : BuildingAsked) {h : HierarchyValue} (prepared : Prepared) → HasPrepared a asked.tables prepared → IsBuilt h → h.network ≡ prepared.network → h.order ≡ prepared.order → HasBuilt a asked h
+has_built asked prepared (places, prepares) built network order = record { built = built; places = places; prepares = rw (network, order) prepares }
+
+-- and its file has too many bytes
+pub built_large : {a b : ShelfState} (s : SourceState) (k : SinkState) (asked : BuildingAsked) (h : HierarchyValue) → OnlyLoads a b → HasBuilt a asked h → a.most < length (spelling h)
+    → Works false (Some (stop.TooLarge (length (spelling h)))) (EndsBuild a b asked) a b s s k k
+built_large {a = a} {b = b} s k asked h loads has large =
+    stopped_before false a b s k (EndsBuild a b asked) (stop.TooLarge (length (spelling h))) loads.held tt (λ work ends. inl (h, has.places, has.built, has.prepares, inr (large, ends)))
+
+-- or few enough, and its storing ended
+pub built : {a b : ShelfState} {s : SourceState} {k now : SinkState} {why : Option Stop} (asked : BuildingAsked) (h : HierarchyValue) → HasBuilt a asked h → length (spelling h) ≤ a.most
+    → Works false why (EndsStoring a b (packed_file asked.out h ∷ []) (built_text h (length (spelling h)))) a b s s k now → Works false why (EndsBuild a b asked) a b s s k now
+built asked h has few done = ends_so (λ work ends. inl (h, has.places, has.built, has.prepares, inl (few, ends))) done
 
 -- the script was answered
-pub served : (a b : ShelfState) (s t : SourceState) (k now : SinkState) (tables : TablesAsked) (why : Option Stop) (g : NetworkValue) (order : OrderValue) → OnlyLoads a b → Prepares a tables g order
-    → EndsSession g order why s t k now → Works why (EndsServe a b tables) a b s t k now
-served a b s t k now tables why g order loads prepares session = record {
+pub served : (a b : ShelfState) (s t : SourceState) (k now : SinkState) (tables : TablesAsked) (why : Option Stop) (read : NetworkRead) (order : OrderValue) → OnlyLoads a b → Prepares a tables read order
+    → EndsSession read.network order why s t k now → Works true why (EndsServe a b tables) a b s t k now
+served a b s t k now tables why read order loads prepares session = record {
   work = record { stop = why; taken = session.taken; output = session.output; stored = [] };
   stop = refl;
-  ended = inl (g, order, prepares, session.answers, refl);
+  ended = inl (read, order, prepares, session.answers, refl);
   moves = (session.takes, session.appends);
   stores = loads.held;
   leaves = session.leaves;
 }
 
 -- the words are no command's
-pub no_command : (a : ShelfState) (s : SourceState) (k : SinkState) (words : List (List ℕ)) → command_of words ≡ None → Works (Some stop.Words) (EndsWork a a (command_of words)) a a s s k k
-no_command a s k words is = rw is (record {
-  work = record { stop = Some stop.Words; taken = []; output = []; stored = [] };
-  stop = refl;
-  ended = (refl, refl, refl, refl);
-  moves = (takes_nothing s.left, appends_nothing k.written);
-  stores = refl;
-  leaves = leaves_all 2 s k (λ e. cc e) (λ e. cc e) (λ e. cc e);
-})
+pub no_command : (a : ShelfState) (s : SourceState) (k : SinkState) (words : List (List ℕ)) → command_of words ≡ None
+    → Works (has_script (command_of words)) (Some stop.Words) (EndsWork a a (command_of words)) a a s s k k
+no_command a s k words is = rw is (stopped_before false a a s k (StopsBefore stop.Words) stop.Words refl tt (λ work ends. ends))
+
+-- the command of the words did its work
+pub commanded : {a b : ShelfState} {s t : SourceState} {k now : SinkState} {why : Option Stop} (words : List (List ℕ)) (command : Command) → command_of words ≡ Some command
+    → Works (has_script (Some command)) why (EndsWork a b (Some command)) a b s t k now → Works (has_script (command_of words)) why (EndsWork a b (command_of words)) a b s t k now
+commanded {a = a} {b = b} {s = s} {t = t} {k = k} {now = now} {why = why} words command is done =
+    subst (λ (c : Option Command). Works (has_script c) why (EndsWork a b c) a b s t k now) (sym is) done
 
 -- what stopped the work was said
-pub closed : (a b : ShelfState) (s t : SourceState) (k mid now : SinkState) (words : List (List ℕ)) (why : Stop) (status : ℕ) → Works (Some why) (EndsWork a b (command_of words)) a b s t k mid → Refuses why mid now status
+pub closed : (a b : ShelfState) (s t : SourceState) (k mid now : SinkState) (words : List (List ℕ)) (why : Stop) (status : ℕ) → Works (has_script (command_of words)) (Some why) (EndsWork a b (command_of words)) a b s t k mid → Refuses why mid now status
     → (ending : Ending) × (status ≡ status_at ending.stop) × EndsRun a b words ending × Moves s t k now ending × Stores a.held ending.stored b.held
 closed a b s t k mid now words why status done refuses = said refuses.said
   where

@@ -1,7 +1,9 @@
 pub mod Words
 pub mod Stops
 pub mod Preparing
+pub mod Storing
 pub mod Swept
 pub mod Replies
+pub mod Trials
 pub mod Runs
 pub mod Steps

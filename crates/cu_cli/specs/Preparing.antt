@@ -5,6 +5,7 @@ use Rattle.cu_io.specs.Holdings.{Holds, HoldsMore}
 use Rattle.cu_io.specs.Shelves.{ShelfState}
 use Rattle.cu_model.specs.Networks.{NetworkValue}
 use Rattle.cu_model.specs.Orders.{OrderValue, IsOrder}
+use Rattle.cu_dissect.specs.Dissection.{dissected}
 use Rattle.cu_chordal.specs.Edges.{HasTooManyEdges, ListsEdges}
 use Rattle.cu_chordal.specs.declared.graph.TheConstants.{MAX_EDGES}
 use Rattle.cu_chordal.specs.declared.graph.Ends.{Ends}
@@ -14,7 +15,7 @@ use Rattle.cu_roads.specs.NetworkTexts.{NetworkRead, network_of}
 use Rattle.cu_roads.specs.declared.refusals.RoadRefusal.{RoadRefusal}
 use Rattle.cu_cli.specs.declared.stops.Stop.{Stop}
 use Rattle.cu_cli.specs.declared.stops.Stop.TheVariants as stop
-use Rattle.cu_cli.specs.Words.{FileAsked, TablesAsked, table_files}
+use Rattle.cu_cli.specs.Words.{FileAsked, OrderAsked, Identity, Dissected, Named, OrderingAsked, TablesAsked, network_files, table_files}
 
 -- the file is loaded with these bytes
 abbrev pub IsLoaded : ShelfState → FileAsked → List ℕ → Type 0
@@ -39,60 +40,94 @@ StopsLoading before now [] why = ⊥
 StopsLoading before now (file ∷ files) why =
     StopsLoad before now file why ⊎ ((text : List ℕ) × IsLoaded before file text × StopsLoading before now files why)
 
--- the order that is given for so many nodes: each node its own rank where no text has it, and otherwise that of the text
-abbrev pub IsOrderGiven : ℕ → List (List ℕ) → OrderValue → Type 0
-IsOrderGiven nodes [] order = (rank : ℕ) → rank < nodes → slice_get order.node_at rank ≡ Some rank
-IsOrderGiven nodes (text ∷ texts) order = order_of nodes text ≡ Ok order.node_at
+-- the order that is given: each node its own rank, or that of the dissection of the network, or that of the text
+abbrev pub IsOrderGiven : OrderAsked → NetworkRead → List (List ℕ) → OrderValue → Type 0
+IsOrderGiven Identity read texts order = (rank : ℕ) → rank < read.network.nodes → slice_get order.node_at rank ≡ Some rank
+IsOrderGiven Dissected read texts order = order.node_at ≡ (dissected read.network read.places).order
+IsOrderGiven (Named name) read (text ∷ texts) order = order_of read.network.nodes text ≡ Ok order.node_at
+IsOrderGiven (Named name) read [] order = ⊥
 
 -- an order of the network's nodes, the one that is given
-pub record IsOrderOf (g : NetworkValue) (texts : List (List ℕ)) (order : OrderValue) : Type 0 where
+pub record IsOrderOf (asked : OrderAsked) (read : NetworkRead) (texts : List (List ℕ)) (order : OrderValue) : Type 0 where
   pub sound : IsOrder order
-  pub count : length order.node_at ≡ g.nodes
-  pub given : IsOrderGiven g.nodes texts order
+  pub count : length order.node_at ≡ read.network.nodes
+  pub given : IsOrderGiven asked read texts order
 
 -- the order's text is refused so
-abbrev pub IsOrderRefused : ℕ → List (List ℕ) → OrderRefusal → Type 0
-IsOrderRefused nodes [] other = ⊥
-IsOrderRefused nodes (text ∷ texts) other = order_of nodes text ≡ Err other
+abbrev pub IsOrderRefused : OrderAsked → NetworkRead → List (List ℕ) → OrderRefusal → Type 0
+IsOrderRefused (Named name) read (text ∷ texts) other = order_of read.network.nodes text ≡ Err other
+IsOrderRefused _ read texts other = ⊥
 
 abbrev pub HasFewEdges : NetworkValue → OrderValue → Type 0
 HasFewEdges g order = (edges : List Ends) × ListsEdges g order edges × (length edges ≤ MAX_EDGES)
 
--- the tables name this network
-abbrev pub Names : Result NetworkRead RoadRefusal → NetworkValue → Type 0
-Names (Err refusal) g = ⊥
-Names (Ok read) g = read.network ≡ g
+-- the tables name this network, with these places
+abbrev pub Names : Result NetworkRead RoadRefusal → NetworkRead → Type 0
+Names (Err refusal) read = ⊥
+Names (Ok named) read = named ≡ read
 
 -- the texts of three tables, and perhaps of an order, name this network and this order, whose graph has few edges
-abbrev pub AreRead : List (List ℕ) → NetworkValue → OrderValue → Type 0
-AreRead (nodes ∷ roads ∷ profiles ∷ given) g order = Names (network_of nodes roads profiles) g × IsOrderOf g given order × HasFewEdges g order
-AreRead _ g order = ⊥
+abbrev pub AreRead : OrderAsked → List (List ℕ) → NetworkRead → OrderValue → Type 0
+AreRead asked (nodes ∷ roads ∷ profiles ∷ given) read order =
+    Names (network_of nodes roads profiles) read × IsOrderOf asked read given order × HasFewEdges read.network order
+AreRead asked _ read order = ⊥
 
 -- behind the tables: the order's text is refused, or the graph has too many edges, or memory ran out
-abbrev pub StopsOrder : NetworkValue → List (List ℕ) → Stop → Type 0
-StopsOrder g given (stop.Order refusal) = IsOrderRefused g.nodes given refusal
-StopsOrder g given stop.TooManyEdges = (order : OrderValue) × IsOrderOf g given order × HasTooManyEdges g order
-StopsOrder g given stop.NoMemory = Unit {0}
-StopsOrder g given _ = ⊥
+abbrev pub StopsOrder : OrderAsked → NetworkRead → List (List ℕ) → Stop → Type 0
+StopsOrder asked read given (stop.Order refusal) = IsOrderRefused asked read given refusal
+StopsOrder asked read given stop.TooManyEdges = (order : OrderValue) × IsOrderOf asked read given order × HasTooManyEdges read.network order
+StopsOrder asked read given stop.NoMemory = Unit {0}
+StopsOrder asked read given _ = ⊥
 
 -- the first check that the tables fail, or what stops the run behind them
-abbrev pub StopsTables : Result NetworkRead RoadRefusal → List (List ℕ) → Stop → Type 0
-StopsTables (Ok read) given why = StopsOrder read.network given why
-StopsTables (Err refusal) given (stop.Network other) = refusal ≡ other
-StopsTables (Err refusal) given stop.NoMemory = Unit {0}
-StopsTables (Err refusal) given _ = ⊥
+abbrev pub StopsTables : OrderAsked → Result NetworkRead RoadRefusal → List (List ℕ) → Stop → Type 0
+StopsTables asked (Ok read) given why = StopsOrder asked read given why
+StopsTables asked (Err refusal) given (stop.Network other) = refusal ≡ other
+StopsTables asked (Err refusal) given stop.NoMemory = Unit {0}
+StopsTables asked (Err refusal) given _ = ⊥
 
 -- the reading of the texts stops the run so
-abbrev pub StopsReading : List (List ℕ) → Stop → Type 0
-StopsReading (nodes ∷ roads ∷ profiles ∷ given) why = StopsTables (network_of nodes roads profiles) given why
-StopsReading _ why = ⊥
+abbrev pub StopsReading : OrderAsked → List (List ℕ) → Stop → Type 0
+StopsReading asked (nodes ∷ roads ∷ profiles ∷ given) why = StopsTables asked (network_of nodes roads profiles) given why
+StopsReading asked _ why = ⊥
 
 -- all files of the tables are loaded and read
-abbrev pub Prepares : ShelfState → TablesAsked → NetworkValue → OrderValue → Type 0
-Prepares before tables g order = (texts : List (List ℕ)) × AreLoaded before (table_files tables) texts × AreRead texts g order
+abbrev pub Prepares : ShelfState → TablesAsked → NetworkRead → OrderValue → Type 0
+Prepares before tables read order =
+    (texts : List (List ℕ)) × AreLoaded before (table_files tables) texts × AreRead tables.order texts read order
 
 -- a load, or the reading behind all loads, stops the run so
 abbrev pub StopsPreparing : ShelfState → ShelfState → TablesAsked → Stop → Type 0
 StopsPreparing before now tables why =
     StopsLoading before now (table_files tables) why
-    ⊎ ((texts : List (List ℕ)) × AreLoaded before (table_files tables) texts × StopsReading texts why)
+    ⊎ ((texts : List (List ℕ)) × AreLoaded before (table_files tables) texts × StopsReading tables.order texts why)
+
+-- the files of the tables whose order is asked for
+abbrev pub ordering_files : OrderingAsked → List FileAsked
+ordering_files asked = network_files asked.nodes asked.roads asked.profiles
+
+-- the texts of three tables name this network
+abbrev pub AreTables : List (List ℕ) → NetworkRead → Type 0
+AreTables (nodes ∷ roads ∷ profiles ∷ []) read = Names (network_of nodes roads profiles) read
+AreTables _ read = ⊥
+
+-- the tables are loaded and read, and no order is given
+abbrev pub ReadsTables : ShelfState → OrderingAsked → NetworkRead → Type 0
+ReadsTables before asked read = (texts : List (List ℕ)) × AreLoaded before (ordering_files asked) texts × AreTables texts read
+
+-- the first check that the tables fail, or memory ran out
+abbrev pub StopsNetwork : Result NetworkRead RoadRefusal → Stop → Type 0
+StopsNetwork named (stop.Network refusal) = named ≡ Err refusal
+StopsNetwork named stop.NoMemory = Unit {0}
+StopsNetwork named _ = ⊥
+
+-- the reading of three texts stops the run so
+abbrev pub StopsTexts : List (List ℕ) → Stop → Type 0
+StopsTexts (nodes ∷ roads ∷ profiles ∷ []) why = StopsNetwork (network_of nodes roads profiles) why
+StopsTexts _ why = ⊥
+
+-- a load, or the reading behind all loads, stops the ordering so
+abbrev pub StopsOrdering : ShelfState → ShelfState → OrderingAsked → Stop → Type 0
+StopsOrdering before now asked why =
+    StopsLoading before now (ordering_files asked) why
+    ⊎ ((texts : List (List ℕ)) × AreLoaded before (ordering_files asked) texts × StopsTexts texts why)

@@ -1,7 +1,7 @@
 -- What a run answers, writes, takes and stores, by its words, its files and its input.
-use Rattle.std.specs.Prelude.{ℕ, List, [], ◌∷◌, ◌++◌, ◌≡◌, ◌≢◌, ◌<◌, ◌≤◌, ◌⊎◌, ◌^◌, Option, Some, None, IfSome, length, take}
+use Rattle.std.specs.Prelude.{ℕ, List, [], ◌∷◌, ◌++◌, ◌*◌, ◌≡◌, ◌≢◌, ◌<◌, ◌≤◌, ◌⊎◌, ◌^◌, Bool, true, false, Option, Some, None, IfSome, codes, decimal, length, map, take}
+use Rattle.csv.proofs.RoundTrip.{rows_text}
 use Rattle.cu_io.specs.Counts.{Rose}
-use Rattle.cu_io.specs.Holdings.{Holds, KeepsOthers}
 use Rattle.cu_io.specs.Shelves.{ShelfState}
 use Rattle.cu_io.specs.Sinks as sinks
 use Rattle.cu_io.specs.Sinks.{SinkState}
@@ -9,31 +9,29 @@ use Rattle.cu_io.specs.Sources.{SourceState}
 use Rattle.cu_io.specs.Lines.{lines_of, ended_lines_of}
 use Rattle.cu_io.specs.Transfers.{Appends, Takes}
 use Rattle.cu_model.specs.Networks.{NetworkValue}
-use Rattle.cu_model.specs.Orders.{OrderValue}
+use Rattle.cu_model.specs.Orders.{OrderValue, IsOrder}
 use Rattle.cu_chordal.specs.Edges.{HasTooManyEdges}
+use Rattle.cu_interval.specs.Hierarchies.{HierarchyValue, IsBuilt}
+use Rattle.cu_order.specs.Written.{node_row}
 use Rattle.cu_order.specs.declared.refusals.OrderRefusal.{OrderRefusal}
-use Rattle.cu_roads.specs.NetworkTexts.{network_of}
+use Rattle.cu_pack.specs.Spelling.{spelling}
+use Rattle.cu_roads.specs.NetworkTexts.{NetworkRead, network_of}
+use Rattle.cu_roads.specs.Written.{ThreeTexts, written_network}
+use Rattle.cu_roads.specs.declared.places.Place.{Place}
+use Rattle.cu_cli.specs.declared.stops.Role.TheVariants as role
 use Rattle.cu_cli.specs.declared.stops.Stop.{Stop}
 use Rattle.cu_cli.specs.declared.stops.Stop.TheVariants as stop
-use Rattle.cu_cli.specs.Words.{Command, Serve, TablesAsked, command_of, table_files}
-use Rattle.cu_cli.specs.Stops.{said_at}
-use Rattle.cu_cli.specs.Preparing.{AreLoaded, Prepares, StopsPreparing, IsOrderOf, IsOrderRefused, Names}
+use Rattle.cu_cli.specs.Words.{Command, Serve, Order, Make, Build, Trial, Dissected, BuildingAsked, GridAsked, MakingAsked, OrderingAsked, TablesAsked, TrialAsked}
+use Rattle.cu_cli.specs.Words.{command_of, grid_read, table_files}
+use Rattle.cu_cli.specs.Stops.{line_of, said_at}
+use Rattle.cu_cli.specs.Preparing.{AreLoaded, Prepares, StopsPreparing, IsOrderGiven, IsOrderOf, IsOrderRefused, Names, ReadsTables, StopsOrdering, ordering_files}
+use Rattle.cu_cli.specs.Storing.{FileMade, FileStored, StopsStoring, all_stored}
 use Rattle.cu_cli.specs.Replies.{IsOutput}
+use Rattle.cu_cli.specs.Trials.{IsGridOrder, IsTrial}
 
 -- the most bytes taken in a run
 abbrev pub take_limit : ℕ
 take_limit = 2 ^ 40
-
--- a file that a run stored
-pub record FileStored : Type 0 where
-  pub name : List ℕ
-  pub bytes : List ℕ
-
--- what each name holds once these files were stored, in this order
-abbrev pub Stores : Option (List ℕ → Option (List ℕ)) → List FileStored → Option (List ℕ → Option (List ℕ)) → Type 0
-Stores before [] now = now ≡ before
-Stores before (file ∷ files) now =
-    (then : Option (List ℕ → Option (List ℕ))) × Holds then file.name file.bytes × KeepsOthers before then file.name × Stores then files now
 
 -- how a run ended: why it stopped, if it did before all was done; the bytes that it took and those that it wrote; and the files that it
 -- stored, in order
@@ -64,13 +62,105 @@ StopsBefore why work = (work.stop ≡ Some why) × (work.taken ≡ []) × (work.
 -- `serve`: a network and its order were prepared, and the script is answered over the network; or the first refusal stopped it
 abbrev pub EndsServe : ShelfState → ShelfState → TablesAsked → Ending → Type 0
 EndsServe before now tables work =
-    ((g : NetworkValue) × (order : OrderValue) × Prepares before tables g order × Answers g order work.stop work.taken work.output × (work.stored ≡ []))
+    ((read : NetworkRead) × (order : OrderValue) × Prepares before tables read order
+    × Answers read.network order work.stop work.taken work.output × (work.stored ≡ []))
     ⊎ ((why : Stop) × StopsPreparing before now tables why × StopsBefore why work)
+
+-- a line says what was done; or the sink failed in it
+abbrev pub SaysDone : List ℕ → Ending → Type 0
+SaysDone text work =
+    ((work.stop ≡ None) × (work.output ≡ line_of text))
+    ⊎ ((work.stop ≡ Some stop.Sink) × IsFrontOf work.output (line_of text))
+
+-- the files are stored and it is said; or the first store that is refused stops the work
+abbrev pub EndsStoring : ShelfState → ShelfState → List FileMade → List ℕ → Ending → Type 0
+EndsStoring before now files text work =
+    (work.taken ≡ [])
+    × (((work.stored ≡ all_stored files) × SaysDone text work)
+    ⊎ ((why : Stop) × StopsStoring before now files why work.stored × (work.stop ≡ Some why) × (work.output ≡ [])))
+
+-- the file of an order: the node of each rank in turn
+abbrev pub order_files_made : List ℕ → OrderValue → List FileMade
+order_files_made out order = record { role = role.Out; name = out; bytes = rows_text (map node_row order.node_at) } ∷ []
+
+-- what is said of an order that is stored
+abbrev pub ordered_text : NetworkValue → List ℕ
+ordered_text g = codes "ordered " ++ decimal g.nodes
+
+-- `order`: the tables are read, and their dissection's order is stored and said; or the first refusal stopped it
+abbrev pub EndsOrder : ShelfState → ShelfState → OrderingAsked → Ending → Type 0
+EndsOrder before now asked work =
+    ((read : NetworkRead) × (order : OrderValue) × ReadsTables before asked read × IsOrder order
+    × IsOrderGiven Dissected read [] order
+    × EndsStoring before now (order_files_made asked.out order) (ordered_text read.network) work)
+    ⊎ ((why : Stop) × StopsOrdering before now asked why × StopsBefore why work)
+
+-- the files of these tables
+abbrev pub tables_made : MakingAsked → ThreeTexts → List FileMade
+tables_made asked texts =
+    record { role = role.Nodes; name = asked.nodes; bytes = texts.nodes }
+    ∷ record { role = role.Roads; name = asked.roads; bytes = texts.roads }
+    ∷ record { role = role.Profiles; name = asked.profiles; bytes = texts.profiles }
+    ∷ []
+
+-- what is said of a grid that is stored: its nodes, its roads and its profiles
+abbrev pub made_text : GridAsked → List ℕ
+made_text grid =
+    codes "made " ++ decimal (grid.width * grid.height) ++ codes " " ++ decimal (length (grid_read grid).network.arcs)
+    ++ codes " 64"
+
+-- `make`: the three texts of the grid are stored and said; or memory ran out before
+abbrev pub EndsMake : ShelfState → ShelfState → MakingAsked → Ending → Type 0
+EndsMake before now asked work =
+    EndsStoring before now (tables_made asked (written_network (grid_read asked.grid))) (made_text asked.grid) work
+    ⊎ StopsBefore stop.NoMemory work
+
+-- the packed file is stored and it is said; or it has more bytes than the limit, and nothing is stored
+abbrev pub EndsPacking : ShelfState → ShelfState → FileMade → List ℕ → Ending → Type 0
+EndsPacking before now file text work =
+    ((length file.bytes ≤ before.most) × EndsStoring before now (file ∷ []) text work)
+    ⊎ ((before.most < length file.bytes) × StopsBefore (stop.TooLarge (length file.bytes)) work)
+
+-- the packed file of a hierarchy
+abbrev pub packed_file : List ℕ → HierarchyValue → FileMade
+packed_file out h = record { role = role.Out; name = out; bytes = spelling h }
+
+-- what is said of a hierarchy that is stored: its nodes, its roads, its edges and the bytes of its file
+abbrev pub built_text : HierarchyValue → ℕ → List ℕ
+built_text h bytes =
+    codes "built " ++ decimal h.network.nodes ++ codes " " ++ decimal (length h.network.arcs) ++ codes " "
+    ++ decimal (length h.edges) ++ codes " " ++ decimal bytes
+
+-- `build`: a network, whatever its places are, and its order were prepared, and the packed file of their built hierarchy is stored and
+-- said; or the first refusal stopped it
+abbrev pub EndsBuild : ShelfState → ShelfState → BuildingAsked → Ending → Type 0
+EndsBuild before now asked work =
+    ((h : HierarchyValue) × (places : List Place) × IsBuilt h
+    × Prepares before asked.tables (record { network = h.network; places = places }) h.order
+    × EndsPacking before now (packed_file asked.out h) (built_text h (length (spelling h))) work)
+    ⊎ ((why : Stop) × StopsPreparing before now asked.tables why × StopsBefore why work)
+
+-- `trial`: its line is said; or the graph has too many edges, or memory ran out
+abbrev pub EndsTrial : TrialAsked → Ending → Type 0
+EndsTrial asked work =
+    ((text : List ℕ) × IsTrial asked text × SaysDone text work × (work.taken ≡ []) × (work.stored ≡ []))
+    ⊎ ((order : OrderValue) × IsGridOrder asked.grid order × HasTooManyEdges (grid_read asked.grid).network order
+    × StopsBefore stop.TooManyEdges work)
+    ⊎ StopsBefore stop.NoMemory work
 
 -- how the work of a command ended, before anything was said of it
 abbrev pub EndsWork : ShelfState → ShelfState → Option Command → Ending → Type 0
 EndsWork before now None work = StopsBefore stop.Words work
 EndsWork before now (Some (Serve tables)) work = EndsServe before now tables work
+EndsWork before now (Some (Order asked)) work = EndsOrder before now asked work
+EndsWork before now (Some (Make asked)) work = EndsMake before now asked work
+EndsWork before now (Some (Build asked)) work = EndsBuild before now asked work
+EndsWork before now (Some (Trial asked)) work = EndsTrial asked work
+
+-- whether a command answers the script of the source
+abbrev pub has_script : Option Command → Bool
+has_script (Some (Serve tables)) = true
+has_script _ = false
 
 -- behind what was written stands what is said of the stop; or, where there is a line and the sink failed in it, first bytes of that line
 abbrev pub Closes : Ending → Ending → Type 0
@@ -92,37 +182,66 @@ Moves source_before source_now sink_before sink_now ending =
 abbrev pub IsFlushed : SinkState → SinkState → Type 0
 IsFlushed before now = (now.written ≡ before.written) ⊎ sinks.IsFlushed now
 
--- What a run that ends with this status leaves of its source and its sink.
-pub record Leaves (status : ℕ) (source_before source_now : SourceState) (sink_before sink_now : SinkState) : Type 0 where
-  pub whole : status ≡ 0 → IfSome source_before.left (λ _. source_now.left ≡ Some [])
+-- What a run that ends with this status leaves of its source and its sink. Only a script is read to its end.
+pub record Leaves (script : Bool) (status : ℕ) (source_before source_now : SourceState) (sink_before sink_now : SinkState) : Type 0 where
+  pub whole : script ≡ true → status ≡ 0 → IfSome source_before.left (λ _. source_now.left ≡ Some [])
   pub flushed : status ≢ 8 → IsFlushed sink_before sink_now
   pub source_fault : status ≡ 7 → Rose source_before.faults source_now.faults
   pub sink_fault : status ≡ 8 → Rose sink_before.faults sink_now.faults
   pub later : sink_before.faults ≤ sink_now.faults
   pub rises : sink_before.flushed ≤ sink_now.flushed
 
--- words that serve files which are there, within the limit, and name a network and an order of few edges
-pub record IsServable (before : ShelfState) (words : List (List ℕ)) : Type 0 where
+-- tables that are there, within the limit, and name a network and an order of few edges
+pub record IsServable (before : ShelfState) (tables : TablesAsked) : Type 0 where
   pub files : List ℕ → Option (List ℕ)
   pub told : before.held ≡ Some files
-  pub tables : TablesAsked
-  pub asked : command_of words ≡ Some (Serve tables)
   pub nodes : List ℕ
   pub roads : List ℕ
   pub profiles : List ℕ
   pub given : List (List ℕ)
   pub loaded : AreLoaded before (table_files tables) (nodes ∷ roads ∷ profiles ∷ given)
-  pub network : NetworkValue
-  pub named : Names (network_of nodes roads profiles) network
-  pub ordered : (other : OrderRefusal) → IsOrderRefused network.nodes given other → ⊥
-  pub few : (order : OrderValue) → IsOrderOf network given order → HasTooManyEdges network order → ⊥
+  pub read : NetworkRead
+  pub named : Names (network_of nodes roads profiles) read
+  pub ordered : (other : OrderRefusal) → IsOrderRefused tables.order read given other → ⊥
+  pub few : (order : OrderValue) → IsOrderOf tables.order read given order → HasTooManyEdges read.network order → ⊥
+
+-- tables that are there, within the limit, and name a network
+pub record IsOrderable (before : ShelfState) (asked : OrderingAsked) : Type 0 where
+  pub files : List ℕ → Option (List ℕ)
+  pub told : before.held ≡ Some files
+  pub nodes : List ℕ
+  pub roads : List ℕ
+  pub profiles : List ℕ
+  pub loaded : AreLoaded before (ordering_files asked) (nodes ∷ roads ∷ profiles ∷ [])
+  pub read : NetworkRead
+  pub named : Names (network_of nodes roads profiles) read
+
+-- a trial whose graph hasn't too many edges
+abbrev pub IsTriable : TrialAsked → Type 0
+IsTriable asked =
+    (order : OrderValue) → IsGridOrder asked.grid order → HasTooManyEdges (grid_read asked.grid).network order → ⊥
+
+-- words of a command that can be done with the files as they are
+abbrev pub IsWorkable : ShelfState → Option Command → Type 0
+IsWorkable before None = ⊥
+IsWorkable before (Some (Serve tables)) = IsServable before tables
+IsWorkable before (Some (Order asked)) = IsOrderable before asked
+IsWorkable before (Some (Make asked)) = Unit {0}
+IsWorkable before (Some (Build asked)) = IsServable before asked.tables
+IsWorkable before (Some (Trial asked)) = IsTriable asked
+
+-- the command stores a packed file, which may be too large
+abbrev pub IsBuilding : Option Command → Type 0
+IsBuilding (Some (Build asked)) = Unit {0}
+IsBuilding _ = ⊥
 
 -- the source tells fewer bytes than a run takes
 abbrev pub IsShort : SourceState → Type 0
 IsShort source = (input : List ℕ) × (source.left ≡ Some input) × (length input < take_limit)
 
--- no load, no read and no write met a fault
+-- no load, no store, no read and no write met a fault
 pub record MeetsNoFault (shelf_before shelf_now : ShelfState) (source_before source_now : SourceState) (sink_before sink_now : SinkState) : Type 0 where
-  pub shelf : (name : List ℕ) → Rose (shelf_before.load_faults name) (shelf_now.load_faults name) → ⊥
+  pub loads : (name : List ℕ) → Rose (shelf_before.load_faults name) (shelf_now.load_faults name) → ⊥
+  pub stores : (name : List ℕ) → Rose (shelf_before.store_faults name) (shelf_now.store_faults name) → ⊥
   pub source : Rose source_before.faults source_now.faults → ⊥
   pub sink : Rose sink_before.faults sink_now.faults → ⊥

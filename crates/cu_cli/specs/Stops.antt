@@ -78,6 +78,7 @@ role_word role.Nodes = codes "nodes"
 role_word role.Roads = codes "roads"
 role_word role.Profiles = codes "profiles"
 role_word role.Order = codes "order"
+role_word role.Out = codes "out"
 
 abbrev pub line_of : List ℕ → List ℕ
 line_of text = text ++ 10 ∷ []
@@ -90,6 +91,7 @@ said_of (stop.TooLong whose) = line_of (codes "shelf: long " ++ role_word whose)
 said_of (stop.Network refusal) = line_of (network_fault refusal)
 said_of (stop.Order refusal) = line_of (order_fault refusal)
 said_of stop.TooManyEdges = line_of (codes "too many shortcuts")
+said_of (stop.TooLarge bytes) = line_of (codes "too large " ++ decimal bytes)
 said_of stop.Source = []
 said_of stop.Sink = []
 said_of stop.NoMemory = []
@@ -107,6 +109,7 @@ status_of stop.Sink = 8
 status_of stop.NoMemory = 9
 status_of stop.TooManyEdges = 11
 status_of stop.TakeLimit = 12
+status_of (stop.TooLarge bytes) = 13
 
 -- what is said where a run stopped, if it did
 abbrev pub said_at : Option Stop → List ℕ

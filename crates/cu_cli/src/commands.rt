@@ -1,3 +1,7 @@
 //! The commands, each with what it loads and what it does.
 
+pub mod build;
+pub mod make;
+pub mod order;
 pub mod serve;
+pub mod trial;

@@ -1,4 +1,4 @@
-//! The lines that say why a run ended before its script was answered.
+//! The lines that say why a run ended before its work was done.
 
 ghost use Rattle.std.specs.Prelude.{◌≡◌, ◌++◌, decimal};
 ghost use Rattle.cu_io.specs.Sinks.{Wrote, WroteLine};
@@ -61,8 +61,8 @@ fn put_profile_fault<K: Sink>(sink: &mut K, refusal: ProfileRefusal) -> Result<(
     }
 }
 
-// Writes why the pieces of a profile are refused.
-fn put_piece_refusal<K: Sink>(sink: &mut K, refusal: PieceRefusal) -> Result<(), SinkFailed>
+/// Writes why the pieces of a profile are refused.
+pub fn put_piece_refusal<K: Sink>(sink: &mut K, refusal: PieceRefusal) -> Result<(), SinkFailed>
     ensures wrote { Wrote (K.state sink.old) (K.state sink.new) result
         (piece_refusal_words refusal) }
 {
@@ -81,12 +81,25 @@ fn put_piece_refusal<K: Sink>(sink: &mut K, refusal: PieceRefusal) -> Result<(),
     }
 }
 
-fn put_word_and_number<K: Sink>(sink: &mut K, word: &[u8], number: u32) -> Result<(), SinkFailed>
+/// Writes a word and a number.
+pub fn put_word_and_number<K: Sink>(
+    sink: &mut K,
+    word: &[u8],
+    number: u32,
+) -> Result<(), SinkFailed>
+    ensures wrote { Wrote (K.state sink.old) (K.state sink.new) result
+        (word.now ++ decimal number) }
+{
+    put_word_and_long(sink, word, u64::from(number))
+}
+
+/// Writes a word and a number of up to 64 bits.
+pub fn put_word_and_long<K: Sink>(sink: &mut K, word: &[u8], number: u64) -> Result<(), SinkFailed>
     ensures wrote { Wrote (K.state sink.old) (K.state sink.new) result
         (word.now ++ decimal number) }
 {
     put_all(sink, word)?;
-    put_number(sink, u64::from(number))
+    put_number(sink, number)
 }
 
 // Writes a table, a row of it and a word.

@@ -1,31 +1,45 @@
-//! What a command prepares before its work: its files loaded, their texts read, and the graph closed. Whatever is refused stops the run.
+//! What a command prepares before its work: its files loaded, their texts read, and the graph closed. Whatever is
+//! refused stops the run.
 
-ghost use Rattle.std.specs.Prelude.{◌≡◌, ◌≤◌, [], IfOk, IfErr, length};
+ghost use Rattle.std.specs.Prelude.{◌≡◌, ◌≤◌, ◌<◌, ℕ, Some, IfOk, IfErr, length, slice_get};
 ghost use Rattle.cu_chordal.specs.Edges.{IsClosureOf};
+ghost use Rattle.cu_dissect.specs.Dissection.{dissected};
+ghost use Rattle.cu_model.specs.Networks.{IsNetwork};
 ghost use Rattle.cu_model.specs.Orders.{IsOrder};
 ghost use Rattle.cu_model.specs.declared.limits.TheConstants.{MAX_NODES};
-ghost use Rattle.cu_cli.specs.Preparing.{AreLoaded, AreRead, IsLoaded, IsOrderGiven, Prepares, StopsLoad, StopsLoading, StopsPreparing, StopsReading};
+ghost use Rattle.cu_cli.specs.Preparing.{AreLoaded, AreTables, IsLoaded, IsOrderGiven, StopsLoad, StopsLoading, StopsPreparing, StopsTexts};
 ghost use Rattle.cu_cli.specs.Steps.Asks.{order_asked, tables_asked};
-ghost use Rattle.cu_cli.specs.Steps.Loading.{HasNoOrder, OnlyLoads, order_texts, texts_of};
+ghost use Rattle.cu_cli.specs.Steps.Loading.{HasPrepared, IsGivenBy, IsReadFrom, OnlyLoads, RefusesOrder, StopsReadingFrom, order_kind, order_texts, table_texts};
 ghost use Rattle.cu_cli.specs.Steps.Outcomes.{IsBeforeScript};
-ghost use Rattle.cu_cli.specs.Words.{order_files, table_files};
+ghost use Rattle.cu_cli.specs.Words.{network_files, order_files};
 
 use crate::stops::{Role, Stop};
 use crate::words::{OrderWord, TableWords};
 use cu_chordal::{Chordal, close};
+use cu_dissect::dissect;
 use cu_io::{LoadFailed, Shelf};
 use cu_model::{Network, Order, Roads};
 use cu_order::{OrderRefusal, read_order};
-use cu_roads::read_network;
+use cu_roads::{Places, read_network};
 use std::alloc::Global;
 
-/// The texts of a network's tables, and of its order where a file has it.
+/// The texts of a network's tables.
 #[derive(Drop)]
 pub struct TableTexts {
     pub nodes: Vec<u8>,
     pub roads: Vec<u8>,
     pub profiles: Vec<u8>,
-    pub order: Option<Vec<u8>>,
+}
+
+/// What gives the order of a network's nodes.
+#[derive(Drop)]
+pub enum OrderGiven {
+    /// Each node is its own rank.
+    Identity,
+    /// The order follows from the places and the roads by dissection.
+    Dissected,
+    /// The bytes of a file have the order.
+    Text(Vec<u8>),
 }
 
 /// A network, an order of its nodes, and the graph closed under this order.
@@ -42,62 +56,64 @@ pub fn prepare<H: Shelf>(
     tables: TableWords<'_>,
     shelf: &mut H,
 ) -> Result<Prepared, Stop>
-    ensures ok { IfOk result (λ prepared.
-        Prepares (H.state shelf.old) (tables_asked tables.entry) prepared.network prepared.order) }
-    ensures closed { IfOk result (λ prepared. IsClosureOf prepared.network prepared.order
-        prepared.graph) }
+    ensures ok { IfOk result (HasPrepared (H.state shelf.old) (tables_asked tables.entry)) }
+    ensures closed { IfOk result
+        (λ prepared. IsClosureOf prepared.network prepared.order prepared.graph) }
     ensures err { IfErr result (StopsPreparing (H.state shelf.old) (H.state shelf.new)
         (tables_asked tables.entry)) }
     ensures before { IfErr result IsBeforeScript }
     ensures loads { OnlyLoads (H.state shelf.old) (H.state shelf.new) }
 {
-    let texts = load_tables(alloc, tables, shelf)?;
-    read_tables(alloc, &texts)
+    let texts = load_tables(alloc, tables.nodes, tables.roads, tables.profiles, shelf)?;
+    let given = load_order(alloc, tables.order, shelf)?;
+    read_prepared(alloc, &texts, &given)
 }
 
-// The bytes of the tables and of the order, in the order of the words.
-fn load_tables<H: Shelf>(
+/// Loads the tables of a network, in the order of their words.
+pub fn load_tables<H: Shelf>(
     alloc: Global,
-    tables: TableWords<'_>,
+    nodes: &str,
+    roads: &str,
+    profiles: &str,
     shelf: &mut H,
 ) -> Result<TableTexts, Stop>
-    ensures ok { IfOk result (λ texts.
-        AreLoaded (H.state shelf.old) (table_files (tables_asked tables.entry)) (texts_of texts)) }
-    ensures err { IfErr result
-        (StopsLoading (H.state shelf.old) (H.state shelf.new) (table_files (tables_asked tables.entry))) }
+    ensures ok { IfOk result (λ texts. AreLoaded (H.state shelf.old)
+        (network_files nodes.now roads.now profiles.now) (table_texts texts)) }
+    ensures err { IfErr result (StopsLoading (H.state shelf.old) (H.state shelf.new)
+        (network_files nodes.now roads.now profiles.now)) }
     ensures before { IfErr result IsBeforeScript }
     ensures loads { OnlyLoads (H.state shelf.old) (H.state shelf.new) }
 {
-    let nodes = load_file(alloc, Role::Nodes, tables.nodes, shelf)?;
-    let roads = load_file(alloc, Role::Roads, tables.roads, shelf)?;
-    let profiles = load_file(alloc, Role::Profiles, tables.profiles, shelf)?;
-    let order = load_order(alloc, tables.order, shelf)?;
+    let nodes = load_file(alloc, Role::Nodes, nodes, shelf)?;
+    let roads = load_file(alloc, Role::Roads, roads, shelf)?;
+    let profiles = load_file(alloc, Role::Profiles, profiles, shelf)?;
     Ok(TableTexts {
         nodes,
         roads,
         profiles,
-        order,
     })
 }
 
-// The bytes of the order's file; none where each node is its own rank.
+// What gives the order, with the bytes of its file where a file has it.
 fn load_order<H: Shelf>(
     alloc: Global,
     order: OrderWord<'_>,
     shelf: &mut H,
-) -> Result<Option<Vec<u8>>, Stop>
-    ensures ok { IfOk result (λ text.
-        AreLoaded (H.state shelf.old) (order_files (order_asked order.entry)) (order_texts text)) }
-    ensures err { IfErr result
-        (StopsLoading (H.state shelf.old) (H.state shelf.new) (order_files (order_asked order.entry))) }
+) -> Result<OrderGiven, Stop>
+    ensures ok { IfOk result (λ given. AreLoaded (H.state shelf.old)
+        (order_files (order_asked order.entry)) (order_texts given)) }
+    ensures given { IfOk result (IsGivenBy (order_asked order.entry)) }
+    ensures err { IfErr result (StopsLoading (H.state shelf.old) (H.state shelf.new)
+        (order_files (order_asked order.entry))) }
     ensures before { IfErr result IsBeforeScript }
     ensures loads { OnlyLoads (H.state shelf.old) (H.state shelf.new) }
 {
     match order {
-        OrderWord::Identity => Ok(None),
+        OrderWord::Identity => Ok(OrderGiven::Identity),
+        OrderWord::Dissected => Ok(OrderGiven::Dissected),
         OrderWord::Named(name) => {
             let text = load_file(alloc, Role::Order, name, shelf)?;
-            Ok(Some(text))
+            Ok(OrderGiven::Text(text))
         }
     }
 }
@@ -111,8 +127,8 @@ pub fn load_file<H: Shelf>(
 ) -> Result<Vec<u8>, Stop>
     ensures ok { IfOk result (λ bytes.
         IsLoaded (H.state shelf.old) (record { role = role; name = name.now }) bytes.items) }
-    ensures err { IfErr result
-        (StopsLoad (H.state shelf.old) (H.state shelf.new) (record { role = role; name = name.now })) }
+    ensures err { IfErr result (StopsLoad (H.state shelf.old) (H.state shelf.new)
+        (record { role = role; name = name.now })) }
     ensures before { IfErr result IsBeforeScript }
     ensures loads { OnlyLoads (H.state shelf.old) (H.state shelf.new) }
 {
@@ -125,17 +141,28 @@ pub fn load_file<H: Shelf>(
     }
 }
 
-// The network of the tables, its order, and the graph closed under it.
-fn read_tables(alloc: Global, texts: &TableTexts) -> Result<Prepared, Stop>
-    ensures ok { IfOk result (λ prepared. AreRead
-        (texts_of texts.now) prepared.network prepared.order) }
-    ensures closed { IfOk result (λ prepared. IsClosureOf prepared.network prepared.order
-        prepared.graph) }
-    ensures err { IfErr result (StopsReading (texts_of texts.now)) }
+/// The network of the tables, and the places of its nodes.
+pub fn read_tables(alloc: Global, texts: &TableTexts) -> Result<(Network, Places), Stop>
+    ensures ok { IfOk result (λ read. AreTables (table_texts texts.now)
+        (record { network = read.0; places = read.1 })) }
+    ensures places { IfOk result (λ read. length read.1 ≡ read.0.nodes) }
+    ensures sound { IfOk result (λ read. IsNetwork read.0) }
+    ensures err { IfErr result (StopsTexts (table_texts texts.now)) }
     ensures before { IfErr result IsBeforeScript }
 {
-    let (network, _) = read_network(alloc, &texts.nodes, &texts.roads, &texts.profiles)?;
-    let order = make_order(alloc, &texts.order, network.nodes())?;
+    Ok(read_network(alloc, &texts.nodes, &texts.roads, &texts.profiles)?)
+}
+
+// The network of the tables, its order, and the graph closed under it.
+fn read_prepared(alloc: Global, texts: &TableTexts, given: &OrderGiven) -> Result<Prepared, Stop>
+    ensures ok { IfOk result (IsReadFrom (table_texts texts.now) given.now) }
+    ensures closed { IfOk result
+        (λ prepared. IsClosureOf prepared.network prepared.order prepared.graph) }
+    ensures err { IfErr result (StopsReadingFrom (table_texts texts.now) given.now) }
+    ensures before { IfErr result IsBeforeScript }
+{
+    let (network, places) = read_tables(alloc, texts)?;
+    let order = make_order(alloc, given, &network, &places)?;
     let graph = close(alloc, &network, &order)?;
     Ok(Prepared {
         network,
@@ -144,27 +171,49 @@ fn read_tables(alloc: Global, texts: &TableTexts) -> Result<Prepared, Stop>
     })
 }
 
-// The order of a text, or the one in which each node is its own rank.
-fn make_order(alloc: Global, text: &Option<Vec<u8>>, nodes: u32) -> Result<Order, OrderRefusal>
-    requires { nodes ≤ MAX_NODES }
-    ensures given { IfOk result (IsOrderGiven nodes (order_texts text.now)) }
-    ensures count { IfOk result (λ order. length order.node_at ≡ nodes) }
+// The order that is given.
+fn make_order(
+    alloc: Global,
+    given: &OrderGiven,
+    network: &Network,
+    places: &Places,
+) -> Result<Order, OrderRefusal>
+    requires { length places.now ≡ network.now.nodes }
+    ensures given { IfOk result (IsOrderGiven (order_kind given.now)
+        (record { network = network.now; places = places.now }) (order_texts given.now)) }
+    ensures count { IfOk result (λ order. length order.node_at ≡ network.now.nodes) }
     ensures sound { IfOk result IsOrder }
-    ensures refused { IfErr result (HasNoOrder nodes (order_texts text.now)) }
+    ensures refused { IfErr result
+        (RefusesOrder given.now (record { network = network.now; places = places.now })) }
 {
-    match text {
-        None => own_ranks(alloc, nodes),
-        Some(text) => read_order(alloc, text, nodes),
+    match given {
+        OrderGiven::Identity => own_ranks(alloc, network.nodes()),
+        OrderGiven::Dissected => dissected_order(alloc, network, places),
+        OrderGiven::Text(text) => read_order(alloc, text, network.nodes()),
     }
 }
 
 // The order in which each node is its own rank.
 fn own_ranks(alloc: Global, nodes: u32) -> Result<Order, OrderRefusal>
     requires { nodes ≤ MAX_NODES }
-    ensures given { IfOk result (IsOrderGiven nodes []) }
+    ensures same { IfOk result
+        (λ order. (rank : ℕ) → rank < nodes → slice_get order.node_at rank ≡ Some rank) }
     ensures count { IfOk result (λ order. length order.node_at ≡ nodes) }
     ensures sound { IfOk result IsOrder }
     ensures refused { IfErr result (λ refusal. refusal ≡ OrderRefusal.NoMemory) }
 {
     Ok(Order::identity(alloc, nodes)?)
+}
+
+// The order of the dissection.
+fn dissected_order(alloc: Global, network: &Network, places: &Places) -> Result<Order, OrderRefusal>
+    requires { length places.now ≡ network.now.nodes }
+    ensures given { IfOk result
+        (λ order. order.node_at ≡ (dissected network.now places.now).order) }
+    ensures count { IfOk result (λ order. length order.node_at ≡ network.now.nodes) }
+    ensures sound { IfOk result IsOrder }
+    ensures refused { IfErr result (λ refusal. refusal ≡ OrderRefusal.NoMemory) }
+{
+    let (order, _splits) = dissect(alloc, network, places)?;
+    Ok(order)
 }

@@ -1,13 +1,13 @@
 //! Why a run stops before all is done: one type, one line for each reason, and one place that says it.
 
-ghost use Rattle.std.specs.Prelude.{◌≡◌, ◌++◌};
+ghost use Rattle.std.specs.Prelude.{◌≡◌, ◌++◌, codes, decimal};
 ghost use Rattle.cu_io.specs.Sinks.{WroteLine};
 ghost use Rattle.cu_cli.specs.Stops.{role_word, said_of, status_of};
 ghost use Rattle.cu_cli.specs.Steps.Outcomes.{Refuses, Said};
 
-use crate::faults::{put_network_line, put_order_line};
+use crate::faults::{put_network_line, put_order_line, put_word_and_long};
 use cu_chordal::CloseRefusal;
-use cu_io::{Sink, SinkFailed, put_all, put_line};
+use cu_io::{Sink, SinkFailed, end_line, put_all, put_line};
 use cu_model::NoMemory;
 use cu_order::OrderRefusal;
 use cu_roads::RoadRefusal;
@@ -19,6 +19,7 @@ pub enum Role {
     Roads,
     Profiles,
     Order,
+    Out,
 }
 
 impl Role {
@@ -30,6 +31,7 @@ impl Role {
             Role::Roads => b"roads",
             Role::Profiles => b"profiles",
             Role::Order => b"order",
+            Role::Out => b"out",
         }
     }
 }
@@ -39,7 +41,7 @@ impl Role {
 pub enum Stop {
     /// The words are no command's.
     Words,
-    /// A file could not be loaded.
+    /// A file could not be loaded or stored.
     Fault(Role),
     /// A file has more bytes than the shelf's limit.
     TooLong(Role),
@@ -53,10 +55,12 @@ pub enum Stop {
     Source,
     /// The sink failed.
     Sink,
-    /// Memory ran out, before the first reply.
+    /// Memory ran out, before anything was written to the sink.
     NoMemory,
     /// As many bytes were taken from the source as a run takes, and the end not seen.
     TakeLimit,
+    /// A packed file would have so many bytes, more than the shelf's limit.
+    TooLarge(u64),
 }
 
 impl Stop {
@@ -74,6 +78,7 @@ impl Stop {
             Stop::NoMemory => 9,
             Stop::TooManyEdges => 11,
             Stop::TakeLimit => 12,
+            Stop::TooLarge(_) => 13,
         }
     }
 }
@@ -142,7 +147,8 @@ impl From<SinkFailed> for Stop {
     }
 }
 
-/// Says the one line of a stop, where it has one, and answers the run's status: that of the stop, or of a sink that fails meanwhile.
+/// Says the one line of a stop, where it has one, and answers the run's status: that of the stop, or of a sink that
+/// fails meanwhile.
 pub fn refuse<K: Sink>(stop: Stop, sink: &mut K) -> u8
     ensures refuses { Refuses stop (K.state sink.old) (K.state sink.new) result }
 {
@@ -164,8 +170,17 @@ fn say<K: Sink>(stop: Stop, sink: &mut K) -> Result<(), SinkFailed>
         Stop::Network(refusal) => put_network_line(sink, refusal),
         Stop::Order(refusal) => put_order_line(sink, refusal),
         Stop::TooManyEdges => put_line(sink, b"too many shortcuts"),
+        Stop::TooLarge(bytes) => put_large_line(sink, bytes),
         Stop::Source | Stop::Sink | Stop::NoMemory | Stop::TakeLimit => Ok(()),
     }
+}
+
+fn put_large_line<K: Sink>(sink: &mut K, bytes: u64) -> Result<(), SinkFailed>
+    ensures wrote { WroteLine (K.state sink.old) (K.state sink.new) result
+        (codes "too large " ++ decimal bytes) }
+{
+    put_word_and_long(sink, b"too large ", bytes)?;
+    end_line(sink)
 }
 
 fn put_role_line<K: Sink>(sink: &mut K, words: &[u8], role: Role) -> Result<(), SinkFailed>

@@ -8,7 +8,11 @@ use cu_roads::read_network;
 use std::alloc::Global;
 use std::test::Fail;
 
+mod commands;
+mod edits;
+mod packed;
 mod talk;
+mod trials;
 
 const NODES: &str = "node,x,y\n0,0,0\n1,50,10\n2,100,0\n";
 
@@ -129,12 +133,12 @@ fn parallel_roads_and_loops_are_driven(rt: HostRuntime) -> Result<(), Fail> {
             "arc,tail,head,profile\n0,0,0,0\n1,0,1,1\n2,0,1,2\n",
             "profile,from,kind,value\n0,0,travel,0\n1,0,travel,50\n2,0,travel,40\n2,1000,travel,60\n2,2000,until,2060\n2,2020,travel,40\n",
         ],
-        "q,0,1,0\nq,0,1,1000\nq,0,1,2010\nq,0,1,2011\nq,0,0,7\n",
+        "q,0,1,0\nq,0,1,1000\nq,0,1,2010\nq,0,1,2011\nq,0,0,7\na,0,1\n",
         PLAIN,
     )?;
     assert_eq!(rt;
         replies.as_slice(),
-        b"arrive=40 arcs=2\narrive=1050 arcs=1\narrive=2060 arcs=1\narrive=2060 arcs=2\narrive=7 arcs=\n".as_slice()
+        b"arrive=40 arcs=2\narrive=1050 arcs=1\narrive=2060 arcs=1\narrive=2060 arcs=2\narrive=7 arcs=\ndone 0\n".as_slice()
     );
     assert_eq!(rt; status, 0);
     Ok(())
@@ -266,17 +270,5 @@ fn stars_close_up_to_the_limit(rt: HostRuntime) -> Result<(), Fail> {
     let (status, reply) = serve(rt.alloc(), tables, "q,0,5792,0\n", PLAIN)?;
     assert_eq!(rt; reply.as_slice(), b"too many shortcuts\n".as_slice());
     assert_eq!(rt; status, 11);
-    Ok(())
-}
-
-#[test]
-fn other_words_are_refused(rt: HostRuntime) -> Result<(), Fail> {
-    let alloc = rt.alloc();
-    let mut shelf = MemoryShelf::new(alloc, 1000, Vec::new(alloc));
-    let mut source = MemorySource::of(Vec::new(alloc), Vec::new(alloc));
-    let mut sink = MemorySink::new(alloc, 100, Vec::new(alloc))?;
-    let status = run(alloc, &Vec::new(alloc), &mut shelf, &mut source, &mut sink);
-    assert_eq!(rt; sink.bytes(), b"words\n".as_slice());
-    assert_eq!(rt; status, 2);
     Ok(())
 }

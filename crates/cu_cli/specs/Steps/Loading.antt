@@ -1,28 +1,63 @@
 -- What loads leave of a shelf, and the texts that a command has loaded.
-use Rattle.std.specs.Prelude.{◌≡◌, ◌≤◌, ℕ, List, [], ◌∷◌, Option, Some, None, Vec}
-use Rattle.std.specs.declared.alloc.Global.{Global}
+use Rattle.std.specs.Prelude.{◌≡◌, ◌≤◌, ◌++◌, ℕ, List, [], ◌∷◌}
 use Rattle.cu_io.specs.Shelves.{ShelfState}
 use Rattle.cu_order.specs.declared.refusals.OrderRefusal.{OrderRefusal}
 use Rattle.cu_order.specs.declared.refusals.OrderRefusal.TheVariants as order
+use Rattle.cu_roads.specs.NetworkTexts.{NetworkRead}
+use Rattle.cu_roads.specs.declared.places.Place.{Place}
+use Rattle.cu_cli.specs.declared.preparing.OrderGiven.{OrderGiven}
+use Rattle.cu_cli.specs.declared.preparing.OrderGiven.TheVariants as given
+use Rattle.cu_cli.specs.declared.preparing.Prepared.{Prepared}
 use Rattle.cu_cli.specs.declared.preparing.TableTexts.{TableTexts}
-use Rattle.cu_cli.specs.Preparing.{IsOrderRefused}
+use Rattle.cu_cli.specs.declared.stops.Stop.{Stop}
+use Rattle.cu_cli.specs.Preparing.{AreRead, IsOrderRefused, Prepares, StopsReading}
+use Rattle.cu_cli.specs.Words.{OrderAsked, Identity, Dissected, Named, TablesAsked}
 
--- what the names hold, and the limit, are as before; no count of faults fell
+-- what the names hold, the limit and the counts of stores are as before; no count of loads fell
 pub record OnlyLoads (before now : ShelfState) : Type 0 where
   pub held : now.held ≡ before.held
   pub most : now.most ≡ before.most
   pub later : (name : List ℕ) → before.load_faults name ≤ now.load_faults name
+  pub stores : now.store_faults ≡ before.store_faults
+
+-- the texts of three tables
+abbrev pub table_texts : TableTexts → List (List ℕ)
+table_texts texts = texts.nodes.items ∷ texts.roads.items ∷ texts.profiles.items ∷ []
+
+-- what gives the order is what is asked for
+abbrev pub IsGivenBy : OrderAsked → OrderGiven → Type 0
+IsGivenBy Identity given.Identity = Unit {0}
+IsGivenBy Dissected given.Dissected = Unit {0}
+IsGivenBy (Named name) (given.Text text) = Unit {0}
+IsGivenBy _ _ = ⊥
+
+-- what was asked for, but for the name of a file
+abbrev pub order_kind : OrderGiven → OrderAsked
+order_kind given.Identity = Identity
+order_kind given.Dissected = Dissected
+order_kind (given.Text text) = Named []
 
 -- the text of an order, where a file has it
-abbrev pub order_texts : Option (Vec ℕ Global) → List (List ℕ)
-order_texts None = []
-order_texts (Some text) = text.items ∷ []
+abbrev pub order_texts : OrderGiven → List (List ℕ)
+order_texts (given.Text text) = text.items ∷ []
+order_texts _ = []
 
--- the texts of the tables, and of the order
-abbrev pub texts_of : TableTexts → List (List ℕ)
-texts_of texts = texts.nodes.items ∷ texts.roads.items ∷ texts.profiles.items ∷ order_texts texts.order
+-- the network, whatever its places are, and its order are those of the tables
+abbrev pub HasPrepared : ShelfState → TablesAsked → Prepared → Type 0
+HasPrepared before tables prepared =
+    (places : List Place) × Prepares before tables (record { network = prepared.network; places = places }) prepared.order
+
+-- and likewise of the texts of the tables, and of what gives the order
+abbrev pub IsReadFrom : List (List ℕ) → OrderGiven → Prepared → Type 0
+IsReadFrom texts given prepared =
+    (places : List Place)
+    × AreRead (order_kind given) (texts ++ order_texts given) (record { network = prepared.network; places = places }) prepared.order
+
+-- the reading of these texts stops the run so
+abbrev pub StopsReadingFrom : List (List ℕ) → OrderGiven → Stop → Type 0
+StopsReadingFrom texts given why = StopsReading (order_kind given) (texts ++ order_texts given) why
 
 -- the order wasn't made: memory ran out, or its text is refused so
-abbrev pub HasNoOrder : ℕ → List (List ℕ) → OrderRefusal → Type 0
-HasNoOrder nodes texts order.NoMemory = Unit {0}
-HasNoOrder nodes texts other = IsOrderRefused nodes texts other
+abbrev pub RefusesOrder : OrderGiven → NetworkRead → OrderRefusal → Type 0
+RefusesOrder given read order.NoMemory = Unit {0}
+RefusesOrder given read other = IsOrderRefused (order_kind given) read (order_texts given) other

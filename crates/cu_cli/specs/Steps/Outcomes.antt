@@ -1,5 +1,5 @@
 -- What a refused call makes of a run.
-use Rattle.std.specs.Prelude.{◌≡◌, ◌≢◌, ◌≤◌, ◌⊎◌, ℕ, List, [], Option, Some, None, Result, Ok, Err, OnOk, OnErr}
+use Rattle.std.specs.Prelude.{◌≡◌, ◌≢◌, ◌≤◌, ◌⊎◌, ℕ, Bool, List, [], Option, Some, None, Result, Ok, Err, OnOk, OnErr}
 use Rattle.cu_io.specs.Counts.{Rose}
 use Rattle.cu_io.specs.Sinks.{SinkState, Wrote}
 use Rattle.cu_io.specs.Shelves.{ShelfState}
@@ -13,7 +13,8 @@ use Rattle.cu_roads.specs.declared.refusals.RoadRefusal.{RoadRefusal}
 use Rattle.cu_roads.specs.declared.refusals.RoadRefusal.TheVariants as road
 use Rattle.cu_cli.specs.declared.stops.Stop.{Stop}
 use Rattle.cu_cli.specs.declared.stops.Stop.TheVariants as stop
-use Rattle.cu_cli.specs.Runs.{Ending, IsFlushed, Leaves, Moves, Stores}
+use Rattle.cu_cli.specs.Runs.{Ending, IsFlushed, Leaves, Moves}
+use Rattle.cu_cli.specs.Storing.{Stores}
 use Rattle.cu_cli.specs.Stops.{said_of, status_at, status_of}
 
 -- the stop of a refused network; want of memory has its own
@@ -61,11 +62,11 @@ pub record Refuses (why : Stop) (before now : SinkState) (status : ℕ) : Type 0
   pub later : before.faults ≤ now.faults
   pub rises : before.flushed ≤ now.flushed
 
--- The work of a command ended as `Ends` says, and moved, stored and left so much.
-pub record Works (why : Option Stop) (Ends : Ending → Type 0) (shelf_before shelf_now : ShelfState) (source_before source_now : SourceState) (sink_before sink_now : SinkState) : Type 0 where
+-- The work of a command, which may answer a script, ended as `Ends` says, and moved, stored and left so much.
+pub record Works (script : Bool) (why : Option Stop) (Ends : Ending → Type 0) (shelf_before shelf_now : ShelfState) (source_before source_now : SourceState) (sink_before sink_now : SinkState) : Type 0 where
   pub work : Ending
   pub stop : work.stop ≡ why
   pub ended : Ends work
   pub moves : Moves source_before source_now sink_before sink_now work
   pub stores : Stores shelf_before.held work.stored shelf_now.held
-  pub leaves : Leaves (status_at why) source_before source_now sink_before sink_now
+  pub leaves : Leaves script (status_at why) source_before source_now sink_before sink_now

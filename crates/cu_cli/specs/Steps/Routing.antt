@@ -1,12 +1,42 @@
--- What a script is answered from.
-use Rattle.std.specs.Prelude.{ℕ, List, Option, ◌≡◌}
+-- What a script is answered from, and what an edit makes of it.
+use Rattle.std.specs.Prelude.{ℕ, List, Option, Some, None, ◌≡◌, length}
+use Rattle.cu_model.specs.declared.queries.Query.{Query}
+use Rattle.cu_model.specs.declared.roads.Edit.{Edit}
+use Rattle.cu_model.specs.Edits.{edited}
+use Rattle.cu_model.specs.Networks.{NetworkValue}
+use Rattle.cu_model.specs.Roads.{HasNoWalk, IsLeastArrival}
 use Rattle.cu_elimtree.specs.SweepArcs.{parents_in}
-use Rattle.cu_interval.specs.Hierarchies.{HierarchyValue, IsBuilt, graph_of}
+use Rattle.cu_interval.specs.Hierarchies.{HierarchyValue, IsBuilt, IsHierarchy, graph_of}
+use Rattle.cu_interval.specs.Touching.{NumbersTouched}
+use Rattle.cu_links.specs.Buckets.{BucketsValue}
+use Rattle.cu_sweep.specs.declared.finding.Found.{Found}
+use Rattle.cu_sweep.specs.declared.finding.Found.TheVariants.{Arrive, NoWalk}
 use Rattle.cu_sweep.specs.Desks.{DeskValue}
 
--- the tree is that of a built hierarchy, the desk is made for it, and it is the one that is unpacked
-pub record HasRoom (h : HierarchyValue) (parents : List (Option ℕ)) (queries : DeskValue) (unpacked : HierarchyValue) : Type 0 where
+-- the room beside a built hierarchy is made for it
+pub record HasRoom (h : HierarchyValue) (parents : List (Option ℕ)) (queries : DeskValue) (walks : Option ℕ) (buckets : BucketsValue) : Type 0 where
   pub built : IsBuilt h
   pub tree : parents ≡ parents_in (graph_of h)
   pub desk : queries.nodes ≡ h.network.nodes
-  pub same : unpacked ≡ h
+  pub work : walks ≡ Some h.network.nodes
+  pub ranks : buckets.ranks ≡ h.network.nodes
+  pub edges : length buckets.states ≡ length h.edges
+
+-- the least arrival of a query; none where there is no walk
+abbrev pub FindsArrival : NetworkValue → Query → Option ℕ → Type 0
+FindsArrival g query None = HasNoWalk g query.from query.to
+FindsArrival g query (Some arrival) = IsLeastArrival g query.from query.to query.second arrival
+
+-- what the sweeps found where no relaxation was too long
+abbrev pub found_by : Option ℕ → Found
+found_by None = NoWalk
+found_by (Some arrival) = Arrive arrival
+
+-- an edit was made that touches so many edges
+pub record IsEdited (old : HierarchyValue) (edit : Edit) (new : HierarchyValue) (touches : ℕ) : Type 0 where
+  pub sound : IsHierarchy old
+  pub touched : List ℕ
+  pub numbers : NumbersTouched old edit touched
+  pub count : touches ≡ length touched
+  pub network : new.network ≡ edited old.network edit
+  pub order : new.order ≡ old.order

@@ -8,12 +8,13 @@ use Rattle.cu_io.specs.Transfers.{Appends, Takes}
 use Rattle.cu_model.specs.Networks.{NetworkValue}
 use Rattle.cu_model.specs.Orders.{OrderValue}
 use Rattle.cu_cli.specs.declared.stops.Stop.{Stop}
-use Rattle.cu_cli.specs.Replies.{IsOutput, line_limit}
+use Rattle.cu_cli.specs.Replies.{IsAnswered, line_limit}
 use Rattle.cu_cli.specs.Runs.{Answers, IsFlushed, Leaves, take_limit}
 use Rattle.cu_cli.specs.Stops.{status_at}
 
--- The bytes taken so far are the lines that were answered, and what the reader holds.
-pub record Session (g : NetworkValue) (order : OrderValue) (source_before : SourceState) (sink_before : SinkState) (reader : ReaderState) (source : SourceState) (sink : SinkState) : Type 0 where
+-- The bytes taken so far are the lines that were answered, by which the first network became this one, and what the
+-- reader holds.
+pub record Session (g : NetworkValue) (order : OrderValue) (network : NetworkValue) (source_before : SourceState) (sink_before : SinkState) (reader : ReaderState) (source : SourceState) (sink : SinkState) : Type 0 where
   pub taken : List ℕ
   pub lines : List (List ℕ)
   pub output : List ℕ
@@ -25,7 +26,7 @@ pub record Session (g : NetworkValue) (order : OrderValue) (source_before : Sour
   pub within : reader.taken ≤ take_limit
   pub line_limit : reader.line_limit ≡ line_limit
   pub take_limit : reader.take_limit ≡ take_limit
-  pub replies : IsOutput g order lines output
+  pub replies : IsAnswered g order lines output network
   pub appends : Appends sink_before.written sink.written output
   pub flushed : IsFlushed sink_before sink
   pub source_later : source_before.faults ≤ source.faults
@@ -39,18 +40,19 @@ pub record EndsSession (g : NetworkValue) (order : OrderValue) (why : Option Sto
   pub takes : Takes source_before.left source_now.left taken
   pub appends : Appends sink_before.written sink_now.written output
   pub answers : Answers g order why taken output
-  pub leaves : Leaves (status_at why) source_before source_now sink_before sink_now
+  pub leaves : Leaves true (status_at why) source_before source_now sink_before sink_now
 
--- what one turn makes of a script: it goes on, or the answering ended
-abbrev pub Turned : NetworkValue → OrderValue → Result Bool Stop → SourceState → SinkState → ReaderState → SourceState → SinkState → Type 0
-Turned g order (Ok true) source_before sink_before reader source sink = Session g order source_before sink_before reader source sink × (reader.over ≡ false)
-Turned g order (Ok false) source_before sink_before reader source sink = EndsSession g order None source_before source sink_before sink
-Turned g order (Err why) source_before sink_before reader source sink = EndsSession g order (Some why) source_before source sink_before sink
+-- what one turn makes of a script: it goes on over this network, or the answering ended
+abbrev pub Turned : NetworkValue → OrderValue → NetworkValue → Result Bool Stop → SourceState → SinkState → ReaderState → SourceState → SinkState → Type 0
+Turned g order network (Ok true) source_before sink_before reader source sink = Session g order network source_before sink_before reader source sink × (reader.over ≡ false)
+Turned g order network (Ok false) source_before sink_before reader source sink = EndsSession g order None source_before source sink_before sink
+Turned g order network (Err why) source_before sink_before reader source sink = EndsSession g order (Some why) source_before source sink_before sink
 
-abbrev pub TakesTurn : NetworkValue → OrderValue → Result Bool Stop → ReaderState → ReaderState → SourceState → SourceState → SinkState → SinkState → Type 0
-TakesTurn g order result reader after source left sink now =
-    (source_before : SourceState) (sink_before : SinkState) → Session g order source_before sink_before reader source sink
-    → Turned g order result source_before sink_before after left now
+-- one turn, before which the network was this one and after which it is that one
+abbrev pub TakesTurn : OrderValue → NetworkValue → NetworkValue → Result Bool Stop → ReaderState → ReaderState → SourceState → SourceState → SinkState → SinkState → Type 0
+TakesTurn order network next result reader after source left sink now =
+    (g : NetworkValue) (source_before : SourceState) (sink_before : SinkState) → Session g order network source_before sink_before reader source sink
+    → Turned g order next result source_before sink_before after left now
 
 -- how many bytes are left to be handed out, at most
 abbrev pub left_to_read : ReaderState → ℕ

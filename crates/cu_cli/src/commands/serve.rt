@@ -1,5 +1,6 @@
-//! `serve`: the queries of the source answered over a network.
+//! `serve`: the queries and edits of the source answered over a network.
 
+ghost use Rattle.std.specs.Prelude.{true};
 ghost use Rattle.cu_cli.specs.Runs.{EndsServe};
 ghost use Rattle.cu_cli.specs.Steps.Asks.{tables_asked};
 ghost use Rattle.cu_cli.specs.Steps.Outcomes.{Works, stop_of};
@@ -10,13 +11,11 @@ use crate::session::answer_script;
 use crate::stops::Stop;
 use crate::words::TableWords;
 use cu_customize::customize;
-use cu_elimtree::Tree;
 use cu_io::{Shelf, Sink, Source};
-use cu_model::Roads;
-use cu_unpack::Work;
 use std::alloc::Global;
 
-/// Builds the hierarchy of the tables, and answers the script of the source from it. All that a query needs is made before the first reply.
+/// Builds the hierarchy of the tables, and answers the script of the source from it. All that a query needs is made
+/// before the first reply; an edit takes memory of its own.
 pub fn serve<H: Shelf, S: Source, K: Sink>(
     alloc: Global,
     tables: TableWords<'_>,
@@ -25,6 +24,7 @@ pub fn serve<H: Shelf, S: Source, K: Sink>(
     sink: &mut K,
 ) -> Result<(), Stop>
     ensures works { Works
+        true
         (stop_of result)
         (EndsServe (H.state shelf.old) (H.state shelf.new) (tables_asked tables.entry))
         (H.state shelf.old)
@@ -36,8 +36,6 @@ pub fn serve<H: Shelf, S: Source, K: Sink>(
 {
     let prepared = prepare(alloc, tables, shelf)?;
     let hierarchy = customize(alloc, prepared.network, prepared.order, prepared.graph)?;
-    let tree = Tree::of(alloc, hierarchy.graph())?;
-    let mut work = Work::new(alloc, hierarchy.nodes())?;
-    let mut router = Router::new(alloc, &hierarchy, &tree, &mut work)?;
+    let mut router = Router::new(alloc, hierarchy)?;
     answer_script(alloc, &mut router, source, sink)
 }

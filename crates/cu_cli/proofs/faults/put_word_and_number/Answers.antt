@@ -1,5 +1,4 @@
-use Rattle.cu_io.proofs.Appending.{wrote_then}
 use Rattle.cu_cli.proofs.faults.put_word_and_number.Goals as goal
 
 pub returns : goal.returns
-returns g c = record { wrote = wrote_then c.in_ok-put_all.ensures.wrote (rw c.from.ensures at c.put_number.ensures.wrote) }
+returns g c = record { wrote = rw c.from.ensures at c.put_word_and_long.ensures.wrote }

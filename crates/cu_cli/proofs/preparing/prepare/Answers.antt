@@ -1,12 +1,60 @@
-use Rattle.std.proofs.Common.{inr}
-use Rattle.cu_cli.specs.Steps.Loading.{texts_of}
-use Rattle.cu_cli.proofs.StopLaws.{if_ok_map, if_err_map}
+use Rattle.std.proofs.Common.{◌++◌, inl, inr}
+use Rattle.cu_cli.specs.Steps.Asks.{order_asked}
+use Rattle.cu_cli.specs.Steps.Loading.{order_texts, table_texts}
+use Rattle.cu_cli.specs.Words.{network_files, order_files}
+use Rattle.cu_cli.proofs.LoadLaws.{all_loaded_behind, loaded_then, stops_all_behind, stops_later, stops_sooner}
+use Rattle.cu_cli.proofs.OrderKinds.{read_asked, reading_stops_asked}
+use Rattle.cu_cli.proofs.StopLaws.{err_is, if_ok_map, if_err_map}
 use Rattle.cu_cli.proofs.preparing.prepare.Goals as goal
+
+pub returns-in_err-texts-clause-err : goal.returns-in_err-texts-clause-err
+returns-in_err-texts-clause-err g c =
+    let asked = c.args.tables in
+    let before = g.H.Shelf.state c.args.shelf.now in
+    let now = g.H.Shelf.state c.load_tables.new.shelf in
+    let stops = stops_sooner before now (network_files asked.nodes.now asked.roads.now asked.profiles.now) (order_files (order_asked asked.order)) c.in_err-texts.field-0.0 c.in_err-texts.ensures.err in
+    rw (err_is c.from_residual.result c.in_err-texts.field-0.0 c.from_residual.ensures.1) (inl stops)
+
+pub returns-in_err-given-clause-err : goal.returns-in_err-given-clause-err
+returns-in_err-given-clause-err g c =
+    let asked = c.args.tables in
+    let before = g.H.Shelf.state c.args.shelf.now in
+    let now = g.H.Shelf.state c.load_order.new.shelf in
+    let why = c.in_err-given.field-0.0 in
+    let order = stops_all_behind now (order_files (order_asked asked.order)) why c.in_ok-texts.ensures.loads c.in_err-given.ensures.err in
+    let stops =
+    stops_later before now (network_files asked.nodes.now asked.roads.now asked.profiles.now) (order_files (order_asked asked.order)) (table_texts c.in_ok-texts.texts) why c.in_ok-texts.ensures.ok order in
+    rw (err_is c.from_residual-in_err-given.result why c.from_residual-in_err-given.ensures.1) (inl stops)
 
 pub returns-clause-ok : goal.returns-clause-ok
 returns-clause-ok g c =
-    if_ok_map c.read_tables.result _ _ (λ prepared read. (texts_of c.in_ok-texts.texts, c.in_ok-texts.ensures.ok, read)) c.read_tables.ensures.ok
+    let asked = c.args.tables in
+    let before = g.H.Shelf.state c.args.shelf.now in
+    let texts = c.in_ok-texts.texts in
+    let given = c.in_ok-given.given in
+    let order = all_loaded_behind (order_files (order_asked asked.order)) (order_texts given) c.in_ok-texts.ensures.loads c.in_ok-given.ensures.ok in
+    let loaded =
+    loaded_then before (network_files asked.nodes.now asked.roads.now asked.profiles.now) (order_files (order_asked asked.order)) (table_texts texts) (order_texts given) c.in_ok-texts.ensures.ok order in
+    if_ok_map c.read_prepared.result _ _
+    (λ prepared (places, read). (
+      places,
+      (
+        table_texts texts ++ order_texts given,
+        loaded,
+        read_asked (order_asked asked.order) given texts.nodes.items texts.roads.items texts.profiles.items (record { network = prepared.network; places = places }) prepared.order c.in_ok-given.ensures.given read,
+      ),
+    ))
+    c.read_prepared.ensures.ok
 
 pub returns-clause-err : goal.returns-clause-err
 returns-clause-err g c =
-    if_err_map c.read_tables.result _ _ (λ why stops. inr (texts_of c.in_ok-texts.texts, c.in_ok-texts.ensures.ok, stops)) c.read_tables.ensures.err
+    let asked = c.args.tables in
+    let before = g.H.Shelf.state c.args.shelf.now in
+    let texts = c.in_ok-texts.texts in
+    let given = c.in_ok-given.given in
+    let order = all_loaded_behind (order_files (order_asked asked.order)) (order_texts given) c.in_ok-texts.ensures.loads c.in_ok-given.ensures.ok in
+    let loaded =
+    loaded_then before (network_files asked.nodes.now asked.roads.now asked.profiles.now) (order_files (order_asked asked.order)) (table_texts texts) (order_texts given) c.in_ok-texts.ensures.ok order in
+    if_err_map c.read_prepared.result _ _
+    (λ why stops. inr (table_texts texts ++ order_texts given, loaded, reading_stops_asked (order_asked asked.order) given texts.nodes.items texts.roads.items texts.profiles.items why c.in_ok-given.ensures.given stops))
+    c.read_prepared.ensures.err

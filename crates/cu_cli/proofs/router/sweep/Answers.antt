@@ -1,18 +1,26 @@
-use Rattle.std.proofs.Common.{sym, subst}
-use Rattle.cu_interval.specs.Hierarchies.{HierarchyValue}
-use Rattle.cu_sweep.specs.declared.finding.Found.{Found}
-use Rattle.cu_sweep.specs.Desks.{AreArriving, HoldsFound}
-use Rattle.cu_cli.proofs.RouteLaws.{answered}
+use Rattle.std.proofs.Common.{arith, subst}
+use Rattle.cu_sweep.specs.Answers.{IsAnswer}
+use Rattle.cu_cli.proofs.ArrivalLaws.{arrival_near}
 use Rattle.cu_cli.proofs.router.sweep.Goals as goal
 
-pub put_arrival-requires-clause-arriving : goal.put_arrival-requires-clause-arriving
-put_arrival-requires-clause-arriving g c =
-    let q = c.query-found in
+pub returns-in-Arrive-clause-found : goal.returns-in-Arrive-clause-found
+returns-in-Arrive-clause-found c =
     let h = c.args.unpacker.now in
-    let (label, there, calls, arriving, unturned) = subst (λ (f : Found). HoldsFound h c.args.from c.args.to c.args.query.second f q.new.desk) c.in-Arrive.is q.ensures.holds in
-    subst (λ (v : HierarchyValue). AreArriving v q.new.desk.calls) (sym q.ensures.stays) (subst (AreArriving h) (sym calls) arriving)
+    let placed = c.requires.built.sound.order.placed in
+    let u = placed c.args.query.from c.args.from c.requires.start in
+    let v = placed c.args.query.to c.args.to c.requires.stop in
+    subst (IsAnswer h.network c.args.query.from c.args.query.to c.args.query.second) c.in-Arrive.is
+    (c.query.ensures.least c.requires.built c.args.query.from c.args.query.to u v)
 
-pub returns-in-Arrive-clause-least : goal.returns-in-Arrive-clause-least
-returns-in-Arrive-clause-least g c =
-    let q = c.query-found in
-    answered c.args.unpacker.now c.requires.built c.args.query c.args.from c.args.to c.requires.start c.requires.stop q.result q.new.desk q.ensures.found q.ensures.holds q.ensures.least q.ensures.real
+pub returns-in-Arrive-clause-near : goal.returns-in-Arrive-clause-near
+returns-in-Arrive-clause-near c =
+    let h = c.args.unpacker.now in
+    let sound = c.requires.built.sound in
+    let u = sound.order.placed c.args.query.from c.args.from c.requires.start in
+    let v = sound.order.placed c.args.query.to c.args.to c.requires.stop in
+    let least = subst (IsAnswer h.network c.args.query.from c.args.query.to c.args.query.second) c.in-Arrive.is
+    (c.query.ensures.least c.requires.built c.args.query.from c.args.query.to u v) in
+    let near = arrival_near h.network h.order sound.network sound.order sound.same c.args.from c.args.to c.args.query.from c.args.query.to c.args.query.second c.in-Arrive.arrival u v least in
+    let few = sound.network.few_nodes in
+    let day = c.requires.second in
+    omega (arith, near, few, day)

@@ -4,9 +4,9 @@ use Rattle.cu_cli.proofs.session.answer_script.Given as goal
 
 abbrev pub invariant-lines : goal.invariant-lines
 invariant-lines g l = record {
-  session : Session l.fn.router.network l.fn.router.order (g.S.Source.state l.fn.source) (g.K.Sink.state l.fn.sink) l.reader (g.S.Source.state l.source) (g.K.Sink.state l.sink);
+  session : Session l.fn.router.network l.fn.router.order l.router.network (g.S.Source.state l.fn.source) (g.K.Sink.state l.fn.sink) l.reader (g.S.Source.state l.source) (g.K.Sink.state l.sink);
   more : l.reader.over ≡ false;
-  stays : l.router ≡ l.fn.router;
+  order : l.router.order ≡ l.fn.router.order;
 }
 
 abbrev pub decreases-lines : goal.decreases-lines

@@ -14,27 +14,15 @@ pub returns-in_err-hierarchy : goal.returns-in_err-hierarchy
 returns-in_err-hierarchy g c =
     let none = nothing_done c.in_ok-prepared.prepared.network c.in_ok-prepared.prepared.order (g.S.Source.state c.args.source.now) (g.K.Sink.state c.args.sink.now) in
     rw (err_is c.from_residual-in_err-hierarchy.result stop.NoMemory c.from_residual-in_err-hierarchy.ensures.1)
-    (record { works = served _ _ _ _ _ _ (tables_asked c.args.tables) _ _ _ c.in_ok-prepared.ensures.loads c.in_ok-prepared.ensures.ok none })
-
-pub returns-in_err-tree : goal.returns-in_err-tree
-returns-in_err-tree g c =
-    let none = nothing_done c.in_ok-prepared.prepared.network c.in_ok-prepared.prepared.order (g.S.Source.state c.args.source.now) (g.K.Sink.state c.args.sink.now) in
-    rw (err_is c.from_residual-in_err-tree.result stop.NoMemory c.from_residual-in_err-tree.ensures.1)
-    (record { works = served _ _ _ _ _ _ (tables_asked c.args.tables) _ _ _ c.in_ok-prepared.ensures.loads c.in_ok-prepared.ensures.ok none })
-
-pub returns-in_err-work : goal.returns-in_err-work
-returns-in_err-work g c =
-    let none = nothing_done c.in_ok-prepared.prepared.network c.in_ok-prepared.prepared.order (g.S.Source.state c.args.source.now) (g.K.Sink.state c.args.sink.now) in
-    rw (err_is c.from_residual-in_err-work.result stop.NoMemory c.from_residual-in_err-work.ensures.1)
-    (record { works = served _ _ _ _ _ _ (tables_asked c.args.tables) _ _ _ c.in_ok-prepared.ensures.loads c.in_ok-prepared.ensures.ok none })
+    (record { works = served _ _ _ _ _ _ (tables_asked c.args.tables) _ _ _ c.in_ok-prepared.ensures.loads c.in_ok-prepared.ensures.ok.1 none })
 
 pub returns-in_err-router : goal.returns-in_err-router
 returns-in_err-router g c =
     let none = nothing_done c.in_ok-prepared.prepared.network c.in_ok-prepared.prepared.order (g.S.Source.state c.args.source.now) (g.K.Sink.state c.args.sink.now) in
     rw (err_is c.from_residual-in_err-router.result stop.NoMemory c.from_residual-in_err-router.ensures.1)
-    (record { works = served _ _ _ _ _ _ (tables_asked c.args.tables) _ _ _ c.in_ok-prepared.ensures.loads c.in_ok-prepared.ensures.ok none })
+    (record { works = served _ _ _ _ _ _ (tables_asked c.args.tables) _ _ _ c.in_ok-prepared.ensures.loads c.in_ok-prepared.ensures.ok.1 none })
 
 pub returns : goal.returns
 returns g c =
     let ended = rw (c.in_ok-router.ensures.same, c.in_ok-hierarchy.ensures.network, c.in_ok-hierarchy.ensures.order) at c.answer_script.ensures.ended in
-    record { works = served _ _ _ _ _ _ (tables_asked c.args.tables) _ _ _ c.in_ok-prepared.ensures.loads c.in_ok-prepared.ensures.ok ended }
+    record { works = served _ _ _ _ _ _ (tables_asked c.args.tables) _ _ _ c.in_ok-prepared.ensures.loads c.in_ok-prepared.ensures.ok.1 ended }

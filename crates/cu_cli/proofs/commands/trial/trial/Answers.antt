@@ -1,0 +1,40 @@
+use Rattle.std.proofs.Common.{inl}
+use Rattle.cu_cli.specs.declared.stops.Stop.TheVariants as stop
+use Rattle.cu_cli.specs.Steps.Asks.{grid_asked, trial_asked}
+use Rattle.cu_cli.proofs.StopLaws.{err_is}
+use Rattle.cu_cli.proofs.TrialLaws.{grid_drawable, grid_stopped, said_alone, tried_all, unsaid_alone}
+use Rattle.cu_cli.proofs.commands.trial.trial.Goals as goal
+
+pub take_turns-requires-clause-drawable : goal.take_turns-requires-clause-drawable
+take_turns-requires-clause-drawable g c =
+    let grid = c.args.asked.grid in
+    rw c.in_ok-router.ensures.network (grid_drawable (grid_asked grid) grid.wide grid.high)
+
+pub returns-in_err-router : goal.returns-in_err-router
+returns-in_err-router g c =
+    rw (err_is c.from_residual.result c.in_err-router.field-0.0 c.from_residual.ensures.1)
+    (record { works = λ shelf source. grid_stopped shelf source _ (trial_asked c.args.asked) _ c.in_err-router.ensures.err })
+
+pub returns-in_err-take_turns : goal.returns-in_err-take_turns
+returns-in_err-take_turns g c =
+    rw (err_is c.from_residual-in_err-take_turns.result stop.NoMemory c.from_residual-in_err-take_turns.ensures.1)
+    (record { works = λ shelf source. grid_stopped shelf source _ (trial_asked c.args.asked) stop.NoMemory tt })
+
+pub returns-in_err-say_tried : goal.returns-in_err-say_tried
+returns-in_err-say_tried g c =
+    let first = c.in_ok-router.router in
+    let last = c.take_turns.new.router in
+    let turns = c.in_ok-take_turns.ensures in
+    let is = tried_all (trial_asked c.args.asked) first last c.build_grid.new.draws c.take_turns.new.tally c.in_ok-router.ensures.order c.in_ok-router.ensures.network c.in_ok-router.ensures.behind turns.tried turns.order c.hierarchy.ensures.built in
+    let line = rw c.hierarchy.ensures.same at c.in_err-say_tried.ensures.wrote in
+    rw (err_is c.from_residual-in_err-say_tried.result stop.Sink c.from_residual-in_err-say_tried.ensures.1)
+    (record { works = λ shelf source. unsaid_alone shelf source line (λ work done. inl (_, is, done.0, done.1, done.2)) })
+
+pub returns : goal.returns
+returns g c =
+    let first = c.in_ok-router.router in
+    let last = c.take_turns.new.router in
+    let turns = c.in_ok-take_turns.ensures in
+    let is = tried_all (trial_asked c.args.asked) first last c.build_grid.new.draws c.take_turns.new.tally c.in_ok-router.ensures.order c.in_ok-router.ensures.network c.in_ok-router.ensures.behind turns.tried turns.order c.hierarchy.ensures.built in
+    let line = rw c.hierarchy.ensures.same at c.in_ok-say_tried.ensures.wrote in
+    record { works = λ shelf source. said_alone shelf source line (λ work done. inl (_, is, done.0, done.1, done.2)) }

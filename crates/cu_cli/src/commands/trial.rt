@@ -1,0 +1,275 @@
+//! `trial`: queries and edits drawn over a grid, and what they come to.
+
+ghost use Rattle.std.specs.Prelude.{◌≡◌, ◌≤◌, ◌<◌, ◌+◌, ◌++◌, false, IfOk, IfErr, OnOk, decimal, length};
+ghost use Rattle.std.specs.List.{sum_by};
+ghost use Rattle.cu_io.specs.Shelves.{ShelfState};
+ghost use Rattle.cu_io.specs.Sources.{SourceState};
+ghost use Rattle.cu_io.specs.Sinks.{Wrote, WroteLine};
+ghost use Rattle.cu_model.specs.Networks.{NetworkValue};
+ghost use Rattle.cu_model.specs.declared.limits.TheConstants.{DAY};
+ghost use Rattle.cu_roads.specs.Draws.{after};
+ghost use Rattle.cu_roads.specs.Grids.{behind_grid};
+ghost use Rattle.cu_cli.specs.Runs.{EndsTrial};
+ghost use Rattle.cu_cli.specs.Steps.Asks.{grid_asked, trial_asked};
+ghost use Rattle.cu_cli.specs.Steps.Outcomes.{Works, stop_of};
+ghost use Rattle.cu_cli.specs.Steps.Trials.{IsDrawable, IsSmall, StopsGrid, standing};
+ghost use Rattle.cu_cli.specs.Trials.{IsEditedBy, IsGridOrder, IsQueried, IsTried, IsTurn, drawn_edit, drawn_query, edits_text, hierarchy_text, queries_text};
+ghost use Rattle.cu_cli.specs.Words.{grid_read};
+ghost use Rattle.cu_cli.specs.declared.words.trial.TheConstants.{MAX_TURNS};
+
+use crate::router::Router;
+use crate::stops::Stop;
+use crate::words::{GridWords, TrialWords};
+use cu_chordal::close;
+use cu_customize::customize;
+use cu_dissect::dissect;
+use cu_interval::{Dir, Hierarchy, Ways};
+use cu_io::{Sink, SinkFailed, end_line, put_all, put_number};
+use cu_model::{DAY, Edit, NoMemory, Profile, Query, Roads};
+use cu_roads::{Draws, draw_day, grid, read_network};
+use std::alloc::Global;
+
+// How many profiles a grid has.
+const PROFILES: u32 = 64;
+
+// The number, modulo 10, of a turn with an edit.
+const EDITING: u32 = 9;
+
+/// What the turns of a trial came to so far, and where its draws stand.
+#[derive(Clone, Copy)]
+pub struct Tally {
+    draws: Draws,
+    reached: u32,
+    sum: u64,
+    edits: u32,
+    touched: u64,
+}
+
+/// Draws a grid, builds its hierarchy under the order of its dissection, draws and answers queries, makes an edit in
+/// each tenth turn, and says what they came to. Nothing is loaded, stored or taken from a source.
+pub fn trial<K: Sink>(alloc: Global, asked: TrialWords, sink: &mut K) -> Result<(), Stop>
+    ensures works { (shelf : ShelfState) (source : SourceState) → Works
+        false
+        (stop_of result)
+        (EndsTrial (trial_asked asked))
+        shelf
+        shelf
+        source
+        source
+        (K.state sink.old)
+        (K.state sink.new) }
+{
+    let mut draws = Draws::new(asked.grid.start);
+    let mut router = build_grid(alloc, &mut draws, asked.grid)?;
+    let mut tally = Tally {
+        draws,
+        reached: 0,
+        sum: 0,
+        edits: 0,
+        touched: 0,
+    };
+    take_turns(alloc, &mut router, &mut tally, asked.turns)?;
+    say_tried(sink, router.hierarchy(), asked.turns, &tally)?;
+    Ok(())
+}
+
+// Draws a grid and builds its hierarchy under the order of its dissection.
+fn build_grid(alloc: Global, draws: &mut Draws, size: GridWords) -> Result<Router, Stop>
+    requires start { draws.old ≡ size.start }
+    ensures network { IfOk result
+        (λ router. router.network ≡ (grid_read (grid_asked size)).network) }
+    ensures order { IfOk result (λ router. IsGridOrder (grid_asked size) router.order) }
+    ensures behind { OnOk result (draws.new ≡ behind_grid size.start size.width size.height) }
+    ensures err { IfErr result (StopsGrid (grid_asked size)) }
+{
+    let texts = grid(alloc, draws, size.width, size.height)?;
+    let (network, places) = read_network(alloc, &texts.nodes, &texts.roads, &texts.profiles)?;
+    let (order, _splits) = dissect(alloc, &network, &places)?;
+    let graph = close(alloc, &network, &order)?;
+    let hierarchy = customize(alloc, network, order, graph)?;
+    Ok(Router::new(alloc, hierarchy)?)
+}
+
+// Takes so many turns.
+fn take_turns(
+    alloc: Global,
+    router: &mut Router,
+    tally: &mut Tally,
+    turns: u32,
+) -> Result<(), NoMemory>
+    requires turns { turns ≤ MAX_TURNS }
+    requires drawable { IsDrawable router.old.network }
+    requires none { (tally.old.reached ≡ 0) × (tally.old.edits ≡ 0) }
+    requires small { IsSmall tally.old }
+    ensures tried { OnOk result (IsTried router.old.order (standing router.old.network tally.old)
+        turns (standing router.new.network tally.new)) }
+    ensures order { OnOk result (router.new.order ≡ router.old.order) }
+{
+    'turns: for number in 0..turns {
+        take_turn(alloc, router, tally, number)?;
+    }
+    Ok(())
+}
+
+// Takes the turn with this number: counts a query, and makes an edit in each tenth turn.
+fn take_turn(
+    alloc: Global,
+    router: &mut Router,
+    tally: &mut Tally,
+    number: u32,
+) -> Result<(), NoMemory>
+    requires drawable { IsDrawable router.old.network }
+    requires reached { tally.old.reached < MAX_TURNS }
+    requires edits { tally.old.edits < MAX_TURNS }
+    requires small { IsSmall tally.old }
+    ensures turn { OnOk result (IsTurn router.old.order number
+        (standing router.old.network tally.old) (standing router.new.network tally.new)) }
+    ensures order { OnOk result (router.new.order ≡ router.old.order) }
+    ensures drawable { OnOk result (IsDrawable router.new.network) }
+    ensures reached { OnOk result (tally.new.reached ≤ tally.old.reached + 1) }
+    ensures edits { OnOk result (tally.new.edits ≤ tally.old.edits + 1) }
+    ensures small { OnOk result (IsSmall tally.new) }
+{
+    count_query(router, tally);
+    if number % 10 == EDITING {
+        return count_edit(alloc, router, tally);
+    }
+    Ok(())
+}
+
+// Draws a query, and counts it with its arrival where there is a walk.
+fn count_query(router: &mut Router, tally: &mut Tally)
+    requires drawable { IsDrawable router.old.network }
+    requires reached { tally.old.reached < MAX_TURNS }
+    requires small { IsSmall tally.old }
+    ensures queried { IsQueried (standing router.old.network tally.old)
+        (standing router.new.network tally.new) }
+    ensures stays { router.new ≡ router.old }
+    ensures reached { tally.new.reached ≤ tally.old.reached + 1 }
+    ensures small { IsSmall tally.new }
+{
+    let query = draw_query(&mut tally.draws, router.hierarchy().nodes());
+    let Some(arrival) = router.find(query) else {
+        return;
+    };
+    tally.reached += 1;
+    tally.sum += arrival;
+}
+
+// Draws a query between nodes below so many.
+fn draw_query(draws: &mut Draws, nodes: u32) -> Query
+    requires { 0 < nodes }
+    ensures query { result ≡ drawn_query nodes draws.old }
+    ensures state { draws.new ≡ after 3 draws.old }
+    ensures from { result.from < nodes }
+    ensures to { result.to < nodes }
+    ensures second { result.second < DAY }
+{
+    Query {
+        from: draws.next(nodes),
+        to: draws.next(nodes),
+        second: draws.next(DAY),
+    }
+}
+
+// Draws an edit, makes it, and counts it with the edges that it touches.
+fn count_edit(alloc: Global, router: &mut Router, tally: &mut Tally) -> Result<(), NoMemory>
+    requires drawable { IsDrawable router.old.network }
+    requires edits { tally.old.edits < MAX_TURNS }
+    requires small { IsSmall tally.old }
+    ensures edited { OnOk result (IsEditedBy router.old.order
+        (standing router.old.network tally.old) (standing router.new.network tally.new)) }
+    ensures order { OnOk result (router.new.order ≡ router.old.order) }
+    ensures drawable { OnOk result (IsDrawable router.new.network) }
+    ensures small { OnOk result (IsSmall tally.new) }
+{
+    let edit = draw_edit(alloc, &mut tally.draws)?;
+    let touched = router.edit(alloc, edit)?;
+    tally.edits += 1;
+    tally.touched += touched as u64;
+    Ok(())
+}
+
+// Draws an edit: a day for one of the profiles of a grid.
+fn draw_edit(alloc: Global, draws: &mut Draws) -> Result<Edit, NoMemory>
+    ensures edit { IfOk result (λ edit. edit ≡ drawn_edit draws.old) }
+    ensures state { OnOk result (draws.new ≡ after 3 draws.old) }
+{
+    let profile = draws.next(PROFILES);
+    let day = draw_day(draws);
+    let mut pieces = Vec::new(alloc);
+    pieces.extend_from_slice(&day)?;
+    Ok(Edit::Set {
+        profile,
+        pieces: Profile::of(pieces).unwrap(),
+    })
+}
+
+// Says what a trial came to.
+fn say_tried<K: Sink>(
+    sink: &mut K,
+    hierarchy: &Hierarchy,
+    turns: u32,
+    tally: &Tally,
+) -> Result<(), SinkFailed>
+    ensures wrote { WroteLine (K.state sink.old) (K.state sink.new) result
+        (hierarchy_text hierarchy.now
+        ++ queries_text turns (standing hierarchy.now.network tally.now)
+        ++ edits_text (standing hierarchy.now.network tally.now)) }
+{
+    put_hierarchy(sink, hierarchy)?;
+    put_queries(sink, turns, tally)?;
+    put_edits(sink, tally)?;
+    end_line(sink)
+}
+
+// Writes what a hierarchy comes to.
+fn put_hierarchy<K: Sink>(sink: &mut K, hierarchy: &Hierarchy) -> Result<(), SinkFailed>
+    ensures wrote { Wrote (K.state sink.old) (K.state sink.new) result
+        (hierarchy_text hierarchy.now) }
+{
+    put_count(sink, b"nodes ", u64::from(hierarchy.nodes()))?;
+    put_count(sink, b" arcs ", u64::from(hierarchy.arcs()))?;
+    put_count(sink, b" edges ", u64::from(hierarchy.edges()))?;
+    put_count(sink, b" entries ", count_entries(hierarchy))
+}
+
+// How many entries all lists of a hierarchy have.
+fn count_entries(hierarchy: &Hierarchy) -> u64
+    ensures { result ≡ sum_by (λ list. length list) hierarchy.now.lists }
+{
+    let mut entries = 0;
+    'edges: for edge in 0..hierarchy.edges() {
+        entries += u64::from(hierarchy.entries(edge, Dir::Up));
+        entries += u64::from(hierarchy.entries(edge, Dir::Down));
+    }
+    entries
+}
+
+// Writes what the queries of so many turns come to.
+fn put_queries<K: Sink>(sink: &mut K, turns: u32, tally: &Tally) -> Result<(), SinkFailed>
+    ensures wrote { (g : NetworkValue) → Wrote (K.state sink.old) (K.state sink.new) result
+        (queries_text turns (standing g tally.now)) }
+{
+    put_count(sink, b" queries ", u64::from(turns))?;
+    put_count(sink, b" reached ", u64::from(tally.reached))?;
+    put_count(sink, b" sum ", tally.sum)
+}
+
+// Writes what the edits come to.
+fn put_edits<K: Sink>(sink: &mut K, tally: &Tally) -> Result<(), SinkFailed>
+    ensures wrote { (g : NetworkValue) → Wrote (K.state sink.old) (K.state sink.new) result
+        (edits_text (standing g tally.now)) }
+{
+    put_count(sink, b" edits ", u64::from(tally.edits))?;
+    put_count(sink, b" touched ", tally.touched)
+}
+
+// Writes what is counted and its number.
+fn put_count<K: Sink>(sink: &mut K, word: &[u8], count: u64) -> Result<(), SinkFailed>
+    ensures wrote { Wrote (K.state sink.old) (K.state sink.new) result
+        (word.now ++ decimal count) }
+{
+    put_all(sink, word)?;
+    put_number(sink, count)
+}
