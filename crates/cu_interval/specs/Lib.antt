@@ -6,5 +6,6 @@ pub mod Unpacking
 pub mod Calls
 pub mod Touching
 pub mod Resettling
+pub mod Replacing
 pub mod EdgeArcs
 pub mod Steps
