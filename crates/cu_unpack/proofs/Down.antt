@@ -19,7 +19,8 @@ use Rattle.cu_interval.proofs.Lookups.{middles_fall, well_formed}
 use Rattle.cu_unpack.specs.declared.unpacking.Spot.{Spot}
 use Rattle.cu_unpack.specs.Steps.Legs.{Leg, AreWaiting, FindsRoad, HasWay, IsAt, IsLegOf, IsMiddle, IsSomewhere, Parts, low_of, walk_on}
 use Rattle.cu_unpack.proofs.Edges.{ends_range, leg_way, no_way}
-use Rattle.cu_unpack.proofs.Waiting.{set_here, waiting_kept}
+use Rattle.cu_unpack.proofs.Waiting.{waiting_kept}
+use Rattle.cu_unpack.proofs.Writes.{set_here}
 
 -- the legs went down so far: their walk is the same, and each look-up parted one
 pub record WentDown (h : HierarchyValue) (leg : Leg) (legs : List Leg) (t : ℕ) (pending : List ℕ) (spot : Spot) (before now : ℕ) : Type 0 where

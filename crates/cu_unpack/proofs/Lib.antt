@@ -1,4 +1,5 @@
 pub mod Edges
+pub mod Writes
 pub mod Waiting
 pub mod Down
 pub mod Driving
@@ -6,3 +7,7 @@ pub mod OnWay
 pub mod Texts
 pub mod Built
 pub mod Hollow
+pub mod WayFunctions
+pub mod KeptFunctions
+pub mod HalvesFirst
+pub mod HalfEdges

@@ -1,25 +1,15 @@
 -- Lists of what waits, as one more waits and the last goes on.
-use Rattle.std.proofs.Common.{◌≡◌, ◌≤◌, ◌<◌, ◌∙◌, ℕ, zero, suc, List, [], ◌∷◌, Some, refl, arith, length}
-use Rattle.std.specs.Prelude.{slice_get, slice_set}
+use Rattle.std.proofs.Common.{◌≡◌, ◌≤◌, ◌∙◌, ℕ, List, [], ◌∷◌, arith, length}
+use Rattle.std.specs.Prelude.{slice_set}
 use Rattle.cu_interval.specs.Hierarchies.{HierarchyValue}
 use Rattle.cu_unpack.specs.Steps.Legs.{Leg, AreWaiting}
-
-pub set_here : (xs : List ℕ) (i x : ℕ) → i < length xs → slice_get (slice_set xs i x) i ≡ Some x
-set_here [] i x lt = absurd (omega (arith, lt))
-set_here (y ∷ ys) zero x lt = refl
-set_here (y ∷ ys) (suc i) x lt = set_here ys i x (omega (arith, lt))
-
-pub set_other : (xs : List ℕ) (i j x : ℕ) → j < i → slice_get (slice_set xs i x) j ≡ slice_get xs j
-set_other [] i j x lt = refl
-set_other (y ∷ ys) zero j x lt = absurd (omega (arith, lt))
-set_other (y ∷ ys) (suc i) zero x lt = refl
-set_other (y ∷ ys) (suc i) (suc j) x lt = set_other ys i j x (omega (arith, lt))
+use Rattle.cu_unpack.proofs.Writes.{set_other}
 
 -- what waits is the same where more is written above it
 pub waiting_kept : (h : HierarchyValue) (pending : List ℕ) (i x count : ℕ) (legs : List Leg) → count ≤ i → AreWaiting h pending count legs → AreWaiting h (slice_set pending i x) count legs
 waiting_kept h pending i x count [] le none = none
 waiting_kept h pending i x count (leg ∷ legs) le (below, edge, is, at, of, room, way, rest) =
-    (below, edge, is, set_other pending i below x (omega (arith, is, le)) ∙ at, of, room, way, waiting_kept h pending i x below legs (omega (arith, is, le)) rest)
+    (below, edge, is, set_other pending i below x (λ same. omega (arith, is, le, same)) ∙ at, of, room, way, waiting_kept h pending i x below legs (omega (arith, is, le)) rest)
 
 -- as many wait as there are legs
 pub waiting_count : (h : HierarchyValue) (pending : List ℕ) (count : ℕ) (legs : List Leg) → AreWaiting h pending count legs → count ≡ length legs

@@ -1,5 +1,6 @@
 pub mod Answers
 pub mod Counts
+pub mod Rebuilds
 pub mod Texts
 pub mod Told
 pub mod Steps

@@ -3,12 +3,15 @@
 //! [`Unpacker`] relaxes the shortcuts of whatever holds a hierarchy, as `Relaxer` of `cu_interval` says, and writes their
 //! walks. In a built hierarchy its answers are those over all low walks (`specs/Answers.antt`). [`relax_counted`] is the
 //! same over [`CountedWays`], which count the look-ups (`specs/Counts.antt`). [`Listed`] tells the calls of a relaxer.
+//! [`Rebuilt`] has the function over the day of a shortcut in any hierarchy, built or not (`specs/Rebuilds.antt`).
 //!
-//! It stands on `cu_model`, `cu_io`, `cu_chordal` and `cu_interval`. `specs/Steps` is cited by private functions alone.
+//! It stands on `cu_model`, `cu_io`, `cu_arrival`, `cu_chordal` and `cu_interval`, and its tests on `cu_customize`.
+//! `specs/Steps` is cited by private functions alone.
 #![tactic(auto)]
 
 mod counted;
 mod listed;
+mod rebuilding;
 #[cfg(test)]
 mod tests;
 mod unpacker;
@@ -18,6 +21,7 @@ mod work;
 pub use counted::{Counted, CountedWays};
 pub use cu_interval::{Relaxed, Relaxer};
 pub use listed::Listed;
+pub use rebuilding::Rebuilt;
 pub use unpacker::Unpacker;
 pub use unpacking::relax_counted;
 pub use work::Work;

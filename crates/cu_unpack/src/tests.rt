@@ -1,23 +1,26 @@
-//! What no clause says: that calls succeed, over lists without ways. Hierarchies that are customized are unpacked in the
-//! crates above.
+//! What no clause says: that calls succeed, over lists without ways, and a function that was worked by hand. Hierarchies that
+//! are customized are unpacked in the crates above.
 
 ghost use Rattle.std.specs.Prelude.{◌≡◌, [], IfOk, length};
 ghost use Rattle.cu_chordal.specs.Edges.{IsClosureOf};
 
-use crate::{Counted, CountedWays, Listed, Relaxed, Relaxer, Unpacker, Work, relax_counted};
+use crate::{
+    Counted, CountedWays, Listed, Rebuilt, Relaxed, Relaxer, Unpacker, Work, relax_counted,
+};
 use cu_chordal::{Chordal, close};
+use cu_customize::customize;
 use cu_interval::{Call, Dir, Hierarchy, WayList, Ways};
 use cu_model::{Network, Order, Piece, Profile, RoadArc, Roads, Rule};
 use std::alloc::Global;
 use std::test::Fail;
 
-fn road(tail: u32, head: u32) -> RoadArc
-    ensures { result ≡ record { tail = tail; head = head; profile = 0 } }
+fn road(tail: u32, head: u32, profile: u32) -> RoadArc
+    ensures { result ≡ record { tail = tail; head = head; profile = profile } }
 {
     RoadArc {
         tail,
         head,
-        profile: 0,
+        profile,
     }
 }
 
@@ -30,7 +33,7 @@ fn triangle(alloc: Global) -> Result<Network, Fail>
         rule: Rule::Travel(60),
     };
     let profile = Profile::of(vec![in alloc; minute]?)?;
-    let arcs = vec![in alloc; road(0, 1), road(1, 2), road(0, 2)]?;
+    let arcs = vec![in alloc; road(0, 1, 0), road(1, 2, 0), road(0, 2, 0)]?;
     Ok(Network::of(3, arcs, vec![in alloc; profile]?))
 }
 
@@ -85,5 +88,41 @@ fn asks_lists_without_ways(rt: HostRuntime) -> Result<(), Fail> {
     assert_eq!(rt; listed.calls(), Some([call].as_slice()));
     assert_eq!(rt; listed.relax(2, Dir::Down, 7), Relaxed::NoWay);
     assert_eq!(rt; listed.calls(), None);
+    Ok(())
+}
+
+fn piece(from: u32, rule: Rule) -> Piece {
+    Piece { from, rule }
+}
+
+// The same three roads: a minute; 100 seconds, but 300 from 8:00 and closed from 9:56:40 to 10:01:40; and 250 seconds.
+fn rush_hour(alloc: Global) -> Result<Network, Fail>
+    ensures { IfOk result (λ network. network.nodes ≡ 3) }
+{
+    let minute = Profile::of(vec![in alloc; piece(0, Rule::Travel(60))]?)?;
+    let slow = Profile::of(vec![in alloc;
+        piece(0, Rule::Travel(100)),
+        piece(28_800, Rule::Travel(300)),
+        piece(35_800, Rule::Until(36_100)),
+        piece(36_000, Rule::Travel(100)),
+    ]?)?;
+    let straight = Profile::of(vec![in alloc; piece(0, Rule::Travel(250))]?)?;
+    let arcs = vec![in alloc; road(0, 1, 0), road(1, 2, 1), road(0, 2, 2)]?;
+    Ok(Network::of(3, arcs, vec![in alloc; minute, slow, straight]?))
+}
+
+#[test]
+fn rebuilds_the_function_of_a_road(rt: HostRuntime) -> Result<(), Fail> {
+    let alloc = rt.alloc();
+    let network = rush_hour(alloc)?;
+    let order = Order::identity(alloc, 3)?;
+    let graph = close(alloc, &network, &order)?;
+    let hierarchy = customize(alloc, network, order, graph)?;
+    assert!(rt; hierarchy.edges() == 3);
+    let mut rebuilt = Rebuilt::new(alloc, 3)?;
+    let function = rebuilt.function(alloc, &hierarchy, 2, Dir::Up)?;
+    let function = function.expect(&rt, "a function");
+    assert_eq!(rt; function.value(28_799), 28_899);
+    assert_eq!(rt; function.value(28_800), 29_100);
     Ok(())
 }

@@ -1,0 +1,98 @@
+-- The ways of a shortcut and the edges of their halves, which are lower.
+use Rattle.std.proofs.Common.{◌≡◌, ◌≢◌, ◌<◌, ◌+◌, ◌∙◌, ℕ, List, [], get_or, Option, Some, None, refl, sym, ap, subst, arith, length}
+use Rattle.std.specs.Prelude.{◌↔◌, IsTrue, is_some, slice_get, slice_set}
+use Rattle.std.proofs.lemmas.Option.{slice_get-get_or, slice_get_within}
+use Rattle.cu_model.proofs.RoadLaws.{all_at}
+use Rattle.cu_arrival.specs.declared.runs.Run.{Run}
+use Rattle.cu_chordal.specs.declared.graph.Ends.{Ends}
+use Rattle.cu_interval.specs.declared.ways.Dir.{Dir}
+use Rattle.cu_interval.specs.declared.ways.Dir.TheVariants.{Up, Down}
+use Rattle.cu_interval.specs.declared.ways.Way.TheVariants.{Via}
+use Rattle.cu_interval.specs.declared.ways.Entry.{Entry}
+use Rattle.cu_interval.specs.Hierarchies.{HierarchyValue, IsHierarchy, IsWellFormed, list_from, list_of, start_of, end_of}
+use Rattle.cu_interval.proofs.Lookups.{list_from-edge, number_at}
+use Rattle.cu_unpack.specs.declared.rebuilding.Shortcut.{Shortcut}
+use Rattle.cu_unpack.specs.Steps.Rebuilding.{AreHalves, HasHalves, HasWays, IsKept, IsLeastOf, IsWayOf, KeepsOne, number_of, ways_of}
+use Rattle.cu_unpack.proofs.HalvesFirst.{lower_first}
+use Rattle.cu_unpack.proofs.WayFunctions.{least_rebuilt, same_ends}
+
+-- an entry's way is one of the shortcut
+pub entry_way : (h : HierarchyValue) → IsHierarchy h → (shortcut : Shortcut) → shortcut.edge < length h.edges → (i : ℕ) (entry : Entry) → slice_get (ways_of h shortcut) i ≡ Some entry
+    → IsWayOf h shortcut entry.way
+entry_way h f shortcut lt i entry at =
+    let none : Ends = record { low = 0; high = 0 } in
+    let here = slice_get-get_or h.edges shortcut.edge none lt in
+    let ends = get_or h.edges shortcut.edge none in
+    let formed = f.formed shortcut.edge shortcut.dir ends here in
+    (ends, here, all_at (λ (e : Entry). IsWellFormed h (start_of ends shortcut.dir) (end_of ends shortcut.dir) e.way) (ways_of h shortcut) i entry formed at)
+
+below_low : (ends : Ends) (dir : Dir) (m : ℕ) → m < start_of ends dir → m < end_of ends dir → m < ends.low
+below_low ends Up m start end = start
+below_low ends Down m start end = end
+
+down_ways : (h : HierarchyValue) → IsHierarchy h → (edge m u : ℕ) (dir : Dir) → dir ≡ Down → slice_get h.edges edge ≡ Some (record { low = m; high = u }) → list_from h u m ≢ [] → list_of h edge dir ≢ []
+down_ways h f edge m u Down down at some = λ none. some (list_from-edge h f edge Down (record { low = m; high = u }) at ∙ none)
+down_ways h f edge m u Up down at some = absurd (cc down)
+
+up_ways : (h : HierarchyValue) → IsHierarchy h → (edge m v : ℕ) (dir : Dir) → dir ≡ Up → slice_get h.edges edge ≡ Some (record { low = m; high = v }) → list_from h m v ≢ [] → list_of h edge dir ≢ []
+up_ways h f edge m v Up up at some = λ none. some (list_from-edge h f edge Up (record { low = m; high = v }) at ∙ none)
+up_ways h f edge m v Down up at some = absurd (cc up)
+
+-- both halves have ways, and lower edges
+pub halves_lower : (h : HierarchyValue) → IsHierarchy h → (whole first second : Shortcut) (m : ℕ) → IsWayOf h whole (Via m) → AreHalves h whole m first second
+    → (HasWays h first × (first.edge < whole.edge)) × (HasWays h second × (second.edge < whole.edge))
+halves_lower h f whole first second m (ends, at, formed) halves =
+    let same : halves.ends ≡ ends = same_ends h.edges whole.edge halves.ends ends halves.at at in
+    let u = start_of ends whole.dir in
+    let v = end_of ends whole.dir in
+    let low : slice_get h.edges first.edge ≡ Some (record { low = m; high = u }) =
+    subst (λ (e : Ends). slice_get h.edges first.edge ≡ Some (record { low = m; high = start_of e whole.dir })) same halves.to in
+    let high : slice_get h.edges second.edge ≡ Some (record { low = m; high = v }) =
+    subst (λ (e : Ends). slice_get h.edges second.edge ≡ Some (record { low = m; high = end_of e whole.dir })) same halves.onward in
+    let below = below_low ends whole.dir m formed.0 formed.1 in (
+      (
+        (slice_get_within h.edges first.edge _ low, down_ways h f first.edge m u first.dir halves.down low formed.4),
+        lower_first h.edges f.graph.rising first.edge whole.edge (record { low = m; high = u }) ends low at below,
+      ),
+      (
+        (slice_get_within h.edges second.edge _ high, up_ways h f second.edge m v second.dir halves.up high formed.5),
+        lower_first h.edges f.graph.rising second.edge whole.edge (record { low = m; high = v }) ends high at below,
+      ),
+    )
+
+same_number : (h : HierarchyValue) → IsHierarchy h → (i j low high : ℕ) → slice_get h.edges i ≡ Some (record { low = low; high = high }) → slice_get h.edges j ≡ Some (record { low = low; high = high }) → i ≡ j
+same_number h f i j low high at_i at_j =
+    let one = number_at 0 h.edges i low high f.graph.rising at_i in
+    let two = number_at 0 h.edges j low high f.graph.rising at_j in
+    let sums : Some (0 + i) ≡ Some (0 + j) = sym one ∙ two in
+    let same : 0 + i ≡ 0 + j = cc sums in
+    omega (arith, same)
+
+-- the halves at a middle are determined, so what is kept of these is of all
+pub halves_kept : (h : HierarchyValue) → IsHierarchy h → (kept : List (Option (List Run))) (whole first second : Shortcut) (m : ℕ) → AreHalves h whole m first second
+    → IsKept kept first → IsKept kept second → HasHalves h kept whole (Via m)
+halves_kept h f kept whole first second m halves one two first_too second_too again =
+    let same : halves.ends ≡ again.ends = same_ends h.edges whole.edge halves.ends again.ends halves.at again.at in
+    let low : slice_get h.edges first.edge ≡ Some (record { low = m; high = start_of again.ends whole.dir }) =
+    subst (λ (e : Ends). slice_get h.edges first.edge ≡ Some (record { low = m; high = start_of e whole.dir })) same halves.to in
+    let high : slice_get h.edges second.edge ≡ Some (record { low = m; high = end_of again.ends whole.dir }) =
+    subst (λ (e : Ends). slice_get h.edges second.edge ≡ Some (record { low = m; high = end_of e whole.dir })) same halves.onward in
+    let first_edge = same_number h f first.edge first_too.edge m (start_of again.ends whole.dir) low again.to in
+    let second_edge = same_number h f second.edge second_too.edge m (end_of again.ends whole.dir) high again.onward in (
+      subst (IsKept kept) (same_shortcut first first_too first_edge (halves.down ∙ sym again.down)) one,
+      subst (IsKept kept) (same_shortcut second second_too second_edge (halves.up ∙ sym again.up)) two,
+    )
+  where
+    same_shortcut : (a b : Shortcut) → a.edge ≡ b.edge → a.dir ≡ b.dir → a ≡ b
+    same_shortcut a b edges dirs = ap (λ (e : ℕ). record { edge = e; dir = a.dir }) edges ∙ ap (λ (d : Dir). record { edge = b.edge; dir = d }) dirs
+
+-- the least of all ways is kept
+pub keeps_one : (h : HierarchyValue) → IsHierarchy h → (shortcut : Shortcut) (before now : List (Option (List Run))) (function : Option (List Run)) → ways_of h shortcut ≢ []
+    → IsLeastOf h shortcut (ways_of h shortcut) function → now ≡ slice_set before (number_of shortcut) function → KeepsOne h shortcut before now
+keeps_one h f shortcut before now None some least is = absurd (some least)
+keeps_one h f shortcut before now (Some runs) some least is = (runs, is, least_rebuilt h f shortcut (Some runs) least)
+
+-- whether a function is kept
+pub kept_is : (kept : List (Option (List Run))) (shortcut : Shortcut) (found : Option (List Run)) → slice_get kept (number_of shortcut) ≡ Some found → IsTrue (is_some found) ↔ IsKept kept shortcut
+kept_is kept shortcut None at = (λ t. absurd (cc t), λ is. absurd (cc (is.1, at)))
+kept_is kept shortcut (Some runs) at = (λ t. (runs, at), λ is. refl)

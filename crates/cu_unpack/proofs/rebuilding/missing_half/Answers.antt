@@ -1,0 +1,35 @@
+use Rattle.std.proofs.Common.{◌≡◌, ◌≤◌, None, arith, length, rules, sym, subst}
+use Rattle.std.specs.Prelude.{All}
+use Rattle.std.proofs.lemmas.List.{take_all}
+use Rattle.std.proofs.lemmas.List.Elements.{All-more}
+use Rattle.std.proofs.lemmas.Option.{get_or_from_slice_get, slice_get_within}
+use Rattle.cu_interval.specs.declared.ways.Entry.{Entry}
+use Rattle.cu_unpack.specs.Steps.Rebuilding.{FindsHalf, HasHalves, ways_of}
+use Rattle.cu_unpack.proofs.HalfEdges.{entry_way}
+use Rattle.cu_unpack.proofs.rebuilding.missing_half.Goals as goal
+
+pub missing_half_of-half-requires-clause-way : goal.missing_half_of-half-requires-clause-way
+missing_half_of-half-requires-clause-way g c =
+    entry_way (g.W.Ways.hierarchy c.args.ways.now) c.entry-entry.ensures.sound c.args.shortcut c.requires.edge c.loop-index.index c.entry-entry.result c.entry-entry.ensures.there
+
+pub loop-index-preserved : goal.loop-index-preserved
+loop-index-preserved g c =
+    let h = g.W.Ways.hierarchy c.args.ways.now in
+    let kept = c.args.kept.now in
+    let shortcut = c.args.shortcut in
+    let entry = c.entry-entry.result in
+    let there = c.entry-entry.ensures.there in
+    let none : c.missing_half_of-half.result ≡ None = search rules in
+    let found : HasHalves h kept shortcut entry.way = subst (FindsHalf h kept shortcut entry.way) none c.missing_half_of-half.ensures.missing in
+    let same = get_or_from_slice_get (ways_of h shortcut) c.loop-index.index entry entry there in
+    All-more (λ (e : Entry). HasHalves h kept shortcut e.way) (ways_of h shortcut) c.loop-index.index entry (slice_get_within (ways_of h shortcut) c.loop-index.index entry there)
+    c.loop-index.invariant (subst (λ (e : Entry). HasHalves h kept shortcut e.way) (sym same) found)
+
+pub returns : goal.returns
+returns g c =
+    let h = g.W.Ways.hierarchy c.args.ways.now in
+    let entries = ways_of h c.args.shortcut in
+    let over : length entries ≤ c.loop-index.index = omega (arith, c.loop-index-test.false, c.entries-index-end.ensures.count) in
+    record {
+      missing = subst (All (λ (e : Entry). HasHalves h c.args.kept.now c.args.shortcut e.way)) (take_all c.loop-index.index entries over) c.loop-index.invariant;
+    }

@@ -1,0 +1,15 @@
+-- What is kept is right, and what waits is missing. Either one more is kept, or a lower edge is next.
+use Rattle.std.proofs.Common.{◌+◌, ◌*◌, length}
+use Rattle.cu_unpack.specs.Steps.Rebuilding.{AreKept}
+use Rattle.cu_unpack.proofs.HalvesFirst.{AreWaitingHalves, next_edge}
+use Rattle.cu_unpack.proofs.KeptFunctions.{count_missing}
+use Rattle.cu_unpack.proofs.rebuilding.rebuild.Given as goal
+
+abbrev pub invariant-shortcuts : goal.invariant-shortcuts
+invariant-shortcuts g l = record {
+  kept : AreKept (g.W.Ways.hierarchy l.ways) l.kept;
+  waiting : AreWaitingHalves (g.W.Ways.hierarchy l.ways) l.kept l.waiting.items;
+}
+
+abbrev pub decreases-shortcuts : goal.decreases-shortcuts
+decreases-shortcuts g l = count_missing l.kept * length (g.W.Ways.hierarchy l.ways).edges + next_edge l.waiting.items l.shortcut

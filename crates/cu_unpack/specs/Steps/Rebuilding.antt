@@ -1,0 +1,107 @@
+-- How functions of shortcuts are rebuilt: which are kept, which wait for a half, and the function of the first ways of a list.
+use Rattle.std.specs.Prelude.{ℕ, List, [], ◌∷◌, ◌++◌, Option, Some, None, ◌≡◌, ◌≢◌, ◌<◌, ◌*◌, ◌⊎◌, All, min, length, slice_get, slice_set, option_map}
+use Rattle.cu_model.specs.Days.{day}
+use Rattle.cu_arrival.specs.declared.runs.Run.{Run}
+use Rattle.cu_arrival.specs.Runs.{IsArrivalFunction, arrival_value}
+use Rattle.cu_chordal.specs.declared.graph.Ends.{Ends}
+use Rattle.cu_interval.specs.declared.ways.Dir.TheVariants.{Up, Down}
+use Rattle.cu_interval.specs.declared.ways.Way.{Way}
+use Rattle.cu_interval.specs.declared.ways.Way.TheVariants.{Road, Via}
+use Rattle.cu_interval.specs.declared.ways.Entry.{Entry}
+use Rattle.cu_interval.specs.Hierarchies.{HierarchyValue, IsWellFormed, list_number, list_of, start_of, end_of}
+use Rattle.cu_interval.specs.Resettling.{least_in, lesser_of, rebuilt_by, value_by}
+use Rattle.cu_unpack.specs.declared.rebuilding.Shortcut.{Shortcut}
+use Rattle.cu_unpack.specs.Rebuilds.{IsRebuiltFunction, Keeps}
+
+-- the number of a shortcut's list, and the list
+abbrev pub number_of : Shortcut → ℕ
+number_of shortcut = list_number shortcut.edge shortcut.dir
+
+abbrev pub ways_of : HierarchyValue → Shortcut → List Entry
+ways_of h shortcut = list_of h shortcut.edge shortcut.dir
+
+-- functions by the number of their list, for all lists of the hierarchy, each that of its list
+abbrev pub AreKept : HierarchyValue → List (Option (List Run)) → Type 0
+AreKept h kept = (length kept ≡ 2 * length h.edges) × Keeps h (record { kept = kept })
+
+-- the function of a shortcut is kept
+abbrev pub IsKept : List (Option (List Run)) → Shortcut → Type 0
+IsKept kept shortcut = (runs : List Run) × (slice_get kept (number_of shortcut) ≡ Some (Some runs))
+
+-- one more function is kept, that of the shortcut
+abbrev pub KeepsOne : HierarchyValue → Shortcut → List (Option (List Run)) → List (Option (List Run)) → Type 0
+KeepsOne h shortcut before now =
+    (runs : List Run) × (now ≡ slice_set before (number_of shortcut) (Some runs)) × IsRebuiltFunction h shortcut.edge shortcut.dir (Some runs)
+
+-- a shortcut of some edge, with a way
+abbrev pub HasWays : HierarchyValue → Shortcut → Type 0
+HasWays h shortcut = (shortcut.edge < length h.edges) × (ways_of h shortcut ≢ [])
+
+-- the same, whose function isn't kept
+abbrev pub IsMissing : HierarchyValue → List (Option (List Run)) → Shortcut → Type 0
+IsMissing h kept shortcut = HasWays h shortcut × (IsKept kept shortcut → ⊥)
+
+-- a well-formed way of a shortcut
+abbrev pub IsWayOf : HierarchyValue → Shortcut → Way → Type 0
+IsWayOf h shortcut way = (ends : Ends) × (slice_get h.edges shortcut.edge ≡ Some ends)
+    × IsWellFormed h (start_of ends shortcut.dir) (end_of ends shortcut.dir) way
+
+-- the halves of a shortcut at a middle: downwards to it, and upwards from it
+pub record AreHalves (h : HierarchyValue) (whole : Shortcut) (middle : ℕ) (first second : Shortcut) : Type 0 where
+  pub ends : Ends
+  pub at : slice_get h.edges whole.edge ≡ Some ends
+  pub down : first.dir ≡ Down
+  pub to : slice_get h.edges first.edge ≡ Some (record { low = middle; high = start_of ends whole.dir })
+  pub up : second.dir ≡ Up
+  pub onward : slice_get h.edges second.edge ≡ Some (record { low = middle; high = end_of ends whole.dir })
+
+-- the functions of both halves of a way are kept, if it has a middle
+abbrev pub HasHalves : HierarchyValue → List (Option (List Run)) → Shortcut → Way → Type 0
+HasHalves h kept shortcut (Road a) = Unit {0}
+HasHalves h kept shortcut (Via m) = (first second : Shortcut) → AreHalves h shortcut m first second → IsKept kept first × IsKept kept second
+
+-- a half of the way, of a lower edge, whose function isn't kept; none where it has all
+abbrev pub FindsHalf : HierarchyValue → List (Option (List Run)) → Shortcut → Way → Option Shortcut → Type 0
+FindsHalf h kept shortcut way None = HasHalves h kept shortcut way
+FindsHalf h kept shortcut way (Some half) = IsMissing h kept half × (half.edge < shortcut.edge)
+
+-- the same of all ways of a list
+abbrev pub FindsMissing : HierarchyValue → List (Option (List Run)) → Shortcut → List Entry → Option Shortcut → Type 0
+FindsMissing h kept shortcut entries None = All (λ (entry : Entry). HasHalves h kept shortcut entry.way) entries
+FindsMissing h kept shortcut entries (Some half) = IsMissing h kept half × (half.edge < shortcut.edge)
+
+-- the last that waits is taken; this shortcut where none waits
+abbrev pub Takes : List Shortcut → Shortcut → List Shortcut → Shortcut → Type 0
+Takes before shortcut now next = (before ≡ now ++ next ∷ []) ⊎ ((before ≡ []) × (now ≡ []) × (next ≡ shortcut))
+
+-- when a way from u to v arrives, by the rebuilt values of its halves, whose lower ends are below both
+abbrev pub way_value : HierarchyValue → ℕ → ℕ → ℕ → Way → Option ℕ
+way_value h u v t way = value_by h.network (rebuilt_by h (min u v)) u v t way
+
+-- a function has these values over the day
+abbrev pub HasValues : List Run → (ℕ → Option ℕ) → Type 0
+HasValues runs value = (t : ℕ) → t < day → value t ≡ Some (arrival_value runs t)
+
+-- the values of a way of a shortcut
+abbrev pub IsWayFunction : HierarchyValue → Shortcut → Way → List Run → Type 0
+IsWayFunction h shortcut way runs = (ends : Ends) → slice_get h.edges shortcut.edge ≡ Some ends
+    → HasValues runs (λ t. way_value h (start_of ends shortcut.dir) (end_of ends shortcut.dir) t way)
+
+-- the least values of these ways of a shortcut; none where there is no way
+abbrev pub IsLeastOf : HierarchyValue → Shortcut → List Entry → Option (List Run) → Type 0
+IsLeastOf h shortcut entries None = entries ≡ []
+IsLeastOf h shortcut entries (Some runs) = (entries ≢ []) × IsArrivalFunction runs
+    × ((ends : Ends) → slice_get h.edges shortcut.edge ≡ Some ends
+    → HasValues runs (λ t. least_in (way_value h (start_of ends shortcut.dir) (end_of ends shortcut.dir) t) entries))
+
+-- the value of a function, if there is one
+abbrev pub value_in : Option (List Run) → ℕ → Option ℕ
+value_in function t = option_map (λ runs. arrival_value runs t) function
+
+-- the earlier of two functions, or the second alone
+abbrev pub IsEarlier : Option (List Run) → List Run → List Run → Type 0
+IsEarlier first second earlier = IsArrivalFunction earlier × HasValues earlier (λ t. lesser_of (value_in first t) (Some (arrival_value second t)))
+
+-- a function with the values of another
+abbrev pub HasSameValues : List Run → List Run → Type 0
+HasSameValues function copy = IsArrivalFunction copy × HasValues copy (λ t. Some (arrival_value function t))
