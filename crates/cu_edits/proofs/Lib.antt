@@ -6,3 +6,11 @@ pub mod LineLaws
 pub mod Hollow
 pub mod Unmoved
 pub mod Copied
+pub mod RebuiltBelow
+pub mod ResettledDecided
+pub mod ResettledRoads
+pub mod ResettledLows
+pub mod ResettledValues
+pub mod ResettledPairs
+pub mod ResettledBuilt
+pub mod ResettledOnce

@@ -47,11 +47,11 @@ kept_ends arcs b profile a u v (Some road) at (arc, there, tail, head) =
       | inr other ↦ (arc, sym (get_other arcs b a (record road { profile = profile }) other) ∙ there, tail, head)
     ]
 
-links_edited : (g : NetworkValue) (edit : Edit) (a u v : ℕ) → Links g a u v → Links (edited g edit) a u v
+pub links_edited : (g : NetworkValue) (edit : Edit) (a u v : ℕ) → Links g a u v → Links (edited g edit) a u v
 links_edited g (Set profile pieces) a u v h = h
 links_edited g (Assign b profile) a u v h = assigned_ends g.arcs b profile a u v (slice_get g.arcs b) refl h
 
-links_kept : (g : NetworkValue) (edit : Edit) (a u v : ℕ) → Links (edited g edit) a u v → Links g a u v
+pub links_kept : (g : NetworkValue) (edit : Edit) (a u v : ℕ) → Links (edited g edit) a u v → Links g a u v
 links_kept g (Set profile pieces) a u v h = h
 links_kept g (Assign b profile) a u v h = kept_ends g.arcs b profile a u v (slice_get g.arcs b) refl h
 

@@ -5,11 +5,15 @@
 //! lists an edit may change (`NumbersTouched` in `specs/Touching.antt` of `cu_interval`): those of the changed roads, and those
 //! over a lower triangle with a touched side. [`rebuild`] makes the edit in a built hierarchy.
 //!
+//! A law speaks of the definitions alone, [`resettled_is_built`]: a built hierarchy that is resettled by an edit (`IsResettled`
+//! in `specs/Resettling.antt` of `cu_interval`) is the built one of the edited network.
+//!
 //! It stands on `cu_model`, `cu_tables`, `cu_profile`, `cu_links`, `cu_chordal`, `cu_interval` and `cu_customize`. `specs/Steps`
 //! is cited by private functions alone.
 #![tactic(auto)]
 
 mod copying;
+mod laws;
 mod lines;
 mod rebuilding;
 #[cfg(test)]
@@ -17,6 +21,7 @@ mod tests;
 mod touching;
 
 pub use copying::copy_network;
+pub use laws::resettled_is_built;
 pub use lines::{EditLine, EditRefusal, MAX_EDIT_LINE, check_edit};
 pub use rebuilding::rebuild;
 pub use touching::touched_edges;
