@@ -27,7 +27,16 @@ pub mod EdgesRead
 pub mod WayEntries
 pub mod FirstList
 pub mod Parted
+pub mod Cursors
 pub mod Views
 pub mod ViewedRoads
 pub mod ViewedEdges
 pub mod Copied
+pub mod Stretches
+pub mod ViewedParts
+pub mod Replaced
+pub mod CountedStarts
+pub mod Rewritten
+pub mod SetItems
+pub mod Edited
+pub mod Whole

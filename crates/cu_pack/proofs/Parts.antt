@@ -79,32 +79,32 @@ behind_header h = order_section h ++ behind_order h
 
 module _ (h : HierarchyValue) (f : IsHierarchy h) where
   -- how long each section is
-  nodes_long : length (flat_map word h.order.node_at) ≡ 4 * h.network.nodes
+  pub nodes_long : length (flat_map word h.order.node_at) ≡ 4 * h.network.nodes
   nodes_long = flat_length word 4 (λ n. refl) h.order.node_at ∙ ap (λ (n : ℕ). 4 * n) f.same
 
-  ranks_long : length (flat_map word h.order.rank_of) ≡ 4 * h.network.nodes
+  pub ranks_long : length (flat_map word h.order.rank_of) ≡ 4 * h.network.nodes
   ranks_long = flat_length word 4 (λ n. refl) h.order.rank_of ∙ ap (λ (n : ℕ). 4 * n) (f.order.same ∙ f.same)
 
-  arcs_long : length (arcs_section h) ≡ 12 * length h.network.arcs
+  pub arcs_long : length (arcs_section h) ≡ 12 * length h.network.arcs
   arcs_long = flat_length arc_bytes 12 arc_long h.network.arcs
 
-  profile_starts_long : length (flat_map long (starts_from 0 h.network.profiles)) ≡ 8 * (length h.network.profiles + 1)
+  pub profile_starts_long : length (flat_map long (starts_from 0 h.network.profiles)) ≡ 8 * (length h.network.profiles + 1)
   profile_starts_long = flat_length long 8 (λ n. refl) (starts_from 0 h.network.profiles) ∙ ap (λ (n : ℕ). 8 * n) (starts_long 0 h.network.profiles)
 
-  pieces_long : length (flat_map (flat_map piece_bytes) h.network.profiles) ≡ 12 * total h.network.profiles
+  pub pieces_long : length (flat_map (flat_map piece_bytes) h.network.profiles) ≡ 12 * total h.network.profiles
   pieces_long = flat_flat_length piece_bytes 12 piece_long h.network.profiles
 
-  edge_starts_long : length (flat_map word (edge_starts h)) ≡ 4 * (h.network.nodes + 1)
+  pub edge_starts_long : length (flat_map word (edge_starts h)) ≡ 4 * (h.network.nodes + 1)
   edge_starts_long =
       flat_length word 4 (λ n. refl) (edge_starts h) ∙ ap (λ (n : ℕ). 4 * n) (length-map-range_with_len (first_edge_of h.edges) 0 (suc h.network.nodes) ∙ omega arith)
 
-  uppers_long : length (flat_map word (map (λ (ends : Ends). ends.high) h.edges)) ≡ 4 * length h.edges
+  pub uppers_long : length (flat_map word (map (λ (ends : Ends). ends.high) h.edges)) ≡ 4 * length h.edges
   uppers_long = flat_length word 4 (λ n. refl) (map (λ (ends : Ends). ends.high) h.edges) ∙ ap (λ (n : ℕ). 4 * n) (length-map h.edges (λ (ends : Ends). ends.high))
 
-  way_starts_long : length (flat_map long (starts_from 0 h.lists)) ≡ 8 * (2 * length h.edges + 1)
+  pub way_starts_long : length (flat_map long (starts_from 0 h.lists)) ≡ 8 * (2 * length h.edges + 1)
   way_starts_long = flat_length long 8 (λ n. refl) (starts_from 0 h.lists) ∙ ap (λ (n : ℕ). 8 * n) (starts_long 0 h.lists ∙ ap (λ (n : ℕ). n + 1) f.lists)
 
-  entries_long : length (flat_map (flat_map entry_bytes) h.lists) ≡ 12 * total h.lists
+  pub entries_long : length (flat_map (flat_map entry_bytes) h.lists) ≡ 12 * total h.lists
   entries_long = flat_flat_length entry_bytes 12 entry_long h.lists
 
   body_stands : StandsAt (spelling h) 0 (body h)

@@ -32,10 +32,10 @@ said_again bytes h f =
 
 module _ (bytes : List ℕ) (h : HierarchyValue) (f : Spells bytes h) where
   -- what is so of the hierarchy's file is so of the bytes
-  moved : (P : List ℕ → Type 0) → P (spelling h) → P bytes
+  pub moved : (P : List ℕ → Type 0) → P (spelling h) → P bytes
   moved P held = subst P (sym f.spelled) held
 
-  counts_known : counts_in bytes ≡ counts_of h
+  pub counts_known : counts_in bytes ≡ counts_of h
   counts_known = moved (λ (bs : List ℕ). counts_in bs ≡ counts_of h) (counts_again h f.sound)
 
   -- the counts are within their limits, and the file is as long as they ask

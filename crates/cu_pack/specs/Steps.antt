@@ -1,7 +1,9 @@
 pub mod Columns
+pub mod Cursors
 pub mod Cuts
 pub mod Entries
 pub mod Parts
 pub mod Pieces
 pub mod Slices
+pub mod Starts
 pub mod Ways

@@ -1,9 +1,10 @@
 //! The sections of a file, each number read where it lies.
 
-ghost use Rattle.std.specs.Prelude.{◌≡◌, ◌≤◌, ◌<◌, ◌*◌, Some, length};
+ghost use Rattle.std.specs.Prelude.{◌≡◌, ◌≤◌, ◌<◌, ◌*◌, Some, length, slice_range, suc};
 ghost use Rattle.cu_model.specs.Profiles.{piece_at};
-ghost use Rattle.cu_pack.specs.Layouts.{AreInLimits, file_length};
+ghost use Rattle.cu_pack.specs.Layouts.{AreInLimits, file_length, layout_of};
 ghost use Rattle.cu_pack.specs.Reading.{arc_in, counts_in, edge_start, entry_from, entry_kind, entry_place, node_at_in, piece_from, piece_kind, piece_place, list_in, profile_in, profile_start, rank_of_in, upper_in, way_start};
+ghost use Rattle.cu_pack.specs.Steps.Cursors.{IsBefore, IsReaching};
 ghost use Rattle.cu_pack.specs.Steps.Parts.{FindsUpper, HasList, HasPart, HasProfile, IsLowOf, IsPartUpTo, StartsRise};
 
 use crate::bytes::{entry as entry_at, long, word};
@@ -57,6 +58,22 @@ impl<'a> Sections<'a> {
         ensures size { file_length result ≡ length self.now }
     {
         self.counts
+    }
+
+    /// Where each section starts.
+    pub fn layout(&self) -> Layout
+        ensures layout { result ≡ layout_of (counts_in self.now) }
+    {
+        self.layout
+    }
+
+    /// The bytes from a place on, up to another.
+    pub fn between(&self, start: u64, end: u64) -> &'a [u8]
+        requires order { start ≤ end }
+        requires room { end ≤ length self.now }
+        ensures part { result.now ≡ slice_range self.now start end }
+    {
+        &self.bytes[start as usize..end as usize]
     }
 
     /// The node at a rank.
@@ -216,6 +233,62 @@ impl<'a> Sections<'a> {
             return None;
         }
         Some(edge)
+    }
+
+    // Where the edges of a rank end.
+    fn edge_end(&self, low: u32) -> u32
+        requires low { low < (counts_in self.now).nodes }
+        ensures end { result ≡ edge_start self.now (suc low) }
+    {
+        let first = self.layout.edge_starts as usize;
+        word(self.bytes, first + 4 * (low as usize + 1))
+    }
+
+    /// The edge from a rank to a higher one, sought from a place on before which the rank's edges lead lower.
+    pub fn edge_behind(&self, low: u32, place: u32, high: u32) -> Option<u32>
+        requires low { HasPart self.now low }
+        requires place { IsBefore self.now low high place }
+        ensures edge { FindsUpper self.now low high result }
+    {
+        let edge = self.edge_reaching(low, place, high);
+        if edge == self.edge_end(low) || self.upper(edge) != high {
+            return None;
+        }
+        Some(edge)
+    }
+
+    /// The first of a rank's edges that leads to this higher rank or beyond, or where they end; sought from a place on
+    /// before which the rank's edges lead lower. Fast where it is this place.
+    pub fn edge_reaching(&self, low: u32, place: u32, high: u32) -> u32
+        requires low { HasPart self.now low }
+        requires place { IsBefore self.now low high place }
+        ensures edge { IsReaching self.now low high result }
+    {
+        let end = self.edge_end(low);
+        if place == end || self.upper(place) >= high {
+            return place;
+        }
+        self.edge_reaching_until(low, place + 1, end, high)
+    }
+
+    // The same, by bisection up to where the rank's edges end.
+    fn edge_reaching_until(&self, low: u32, place: u32, end: u32, high: u32) -> u32
+        requires low { HasPart self.now low }
+        requires place { IsBefore self.now low high place }
+        requires end { end ≡ edge_start self.now (suc low) }
+        ensures edge { IsReaching self.now low high result }
+    {
+        let mut first = place;
+        let mut last = end;
+        while first < last {
+            let middle = first + (last - first) / 2;
+            if self.upper(middle) < high {
+                first = middle + 1;
+            } else {
+                last = middle;
+            }
+        }
+        first
     }
 
     // How many of a rank's edges lead to this higher rank or to a lower one.

@@ -6,6 +6,7 @@ ghost use Rattle.cu_chordal.specs.Graphs.{FindsEdge};
 ghost use Rattle.cu_interval.specs.Hierarchies.{list_number};
 ghost use Rattle.cu_pack.specs.Checks.{IsGraph};
 ghost use Rattle.cu_pack.specs.Reading.{counts_in, decoded};
+ghost use Rattle.cu_pack.specs.Steps.Cursors.{AreCursors};
 
 use crate::cutting::Sections;
 use cu_chordal::MAX_EDGES;
@@ -19,6 +20,27 @@ impl<'a> Sections<'a> {
         ensures found { FindsEdge (decoded self.now).edges low high result }
     {
         self.edge_between(low, high)
+    }
+
+    /// The number of the edge between two ranks, sought with a place of each rank before which its edges lead lower than
+    /// to the higher of the two. None exactly where there is no such edge.
+    pub fn edge_by(&self, places: &[u32], low: u32, high: u32) -> Option<u32>
+        requires graph { IsGraph self.now }
+        requires places { AreCursors self.now high places.now }
+        requires rank { low < (counts_in self.now).nodes }
+        ensures found { FindsEdge (decoded self.now).edges low high result }
+    {
+        self.edge_behind(low, places[low as usize], high)
+    }
+
+    /// Moves a rank's place on to its first edge that leads to this higher rank or beyond.
+    pub fn move_on(&self, places: &mut [u32], low: u32, high: u32)
+        requires graph { IsGraph self.now }
+        requires places { AreCursors self.now high places.old }
+        requires rank { low < (counts_in self.now).nodes }
+        ensures places { AreCursors self.now high places.new }
+    {
+        places[low as usize] = self.edge_reaching(low, places[low as usize], high);
     }
 }
 

@@ -4,7 +4,9 @@
 //! packed file of a hierarchy, and refuses all others by the first check that fails ([`PackRefusal`],
 //! `specs/Checks.antt`). [`PackedView::adopt`] takes bytes that are known to be such a file, and checks nothing. A
 //! view stands for the hierarchy (`Roads`, `Ways`), and each look-up reads the borrowed bytes: [`WaySlice`] is a
-//! way list in them. [`order_of`] and [`chordal_of`] copy the order and the graph.
+//! way list in them. [`order_of`] and [`chordal_of`] copy the order and the graph. [`repack`] gives the file of a
+//! view's hierarchy with its network edited and the way lists of some edges replaced: whatever stays is copied as it
+//! lies, so that an edit which touches little costs little more than a copy of the file and its digest.
 //!
 //! Two laws speak of files alone. [`file_of_one_hierarchy`]: no two hierarchies have the same file, and a file is
 //! as long as its counts say. [`file_is_read_back`]: a file says its hierarchy (`specs/Reading.antt`), and no check
@@ -14,7 +16,8 @@
 //! it in layers: `bytes` reads a number at a place, `searching` counts the numbers of a column up to a bound,
 //! `cutting` looks up whatever a section holds, and `copying` reads whole columns into memory. `driving` and
 //! `joining` answer for roads and edges as soon as the checks of their sections have passed; the later checks
-//! (`checks`) and the view call the same ones. What only private functions cite is in `specs/Steps`.
+//! (`checks`) and the view call the same ones. `sections` puts the sections of a hierarchy, `editing` and `replacing`
+//! those of a view's after an edit. What only private functions cite is in `specs/Steps`.
 //!
 //! It stands on `cu_model`, `cu_chordal` and `cu_interval`, on the crate `sha2` for the digest (FIPS 180-4), and on
 //! `cu_customize` for its tests alone.
@@ -27,6 +30,7 @@ mod copying;
 mod counting;
 mod cutting;
 mod driving;
+mod editing;
 mod joining;
 mod laws;
 mod layout;
@@ -34,6 +38,8 @@ mod numbers;
 mod opening;
 mod packing;
 mod refusals;
+mod repacking;
+mod replacing;
 mod searching;
 mod sections;
 #[cfg(test)]
@@ -45,6 +51,7 @@ pub use laws::{file_is_read_back, file_of_one_hierarchy};
 pub use layout::{Counts, Layout};
 pub use packing::pack;
 pub use refusals::{Field, PackRefusal};
+pub use repacking::repack;
 pub use view::PackedView;
 pub use view::copies::{chordal_of, order_of};
 pub use way_slices::WaySlice;

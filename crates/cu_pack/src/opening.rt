@@ -27,7 +27,7 @@ impl<'a> PackedView<'a> {
         let sections = check_header(bytes)?;
         check_roads(&sections)?;
         check_graph(alloc, &sections)?;
-        check_ways(&sections)?;
+        check_ways(alloc, &sections)?;
         Ok(PackedView::of(bytes, sections))
     }
 }
@@ -66,13 +66,16 @@ fn check_graph(alloc: Global, sections: &Sections<'_>) -> Result<(), PackRefusal
 }
 
 // The way lists pass; or the first that doesn't.
-fn check_ways(sections: &Sections<'_>) -> Result<(), PackRefusal>
+fn check_ways(alloc: Global, sections: &Sections<'_>) -> Result<(), PackRefusal>
     requires graph { IsGraph sections.now }
     ensures ok { OnOk result
         (NoneWrong (IsWrongList sections.now) (suc (2 * (counts_in sections.now).edges))) }
     ensures err { IfErr result (IsRefused sections.now) }
 {
-    if let Some((edge, dir)) = wrong_list(sections) {
+    let Ok(found) = wrong_list(alloc, sections) else {
+        return Err(PackRefusal::NoMemory);
+    };
+    if let Some((edge, dir)) = found {
         return Err(PackRefusal::Ways { edge, dir });
     }
     Ok(())

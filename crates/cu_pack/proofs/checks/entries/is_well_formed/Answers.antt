@@ -6,8 +6,8 @@ use Rattle.cu_pack.specs.Reading.{decoded}
 use Rattle.cu_pack.proofs.WayEntries.{road_formed}
 use Rattle.cu_pack.proofs.checks.entries.is_well_formed.Goals as goal
 
-pub returns-in-Road : goal.returns-in-Road
-returns-in-Road c =
+pub returns-in-Road-clause-formed : goal.returns-in-Road-clause-formed
+returns-in-Road-clause-formed c =
     let bytes = c.args.sections.now in
     let formed = road_formed bytes c.in-Road.arc c.args.from c.args.to in
     subst (λ (way : Way). IsTrue c.leads.result ↔ IsWellFormed (decoded bytes) c.args.from c.args.to way) (sym c.in-Road.is)

@@ -24,6 +24,10 @@ wrong_dir-requires-clause-ends c =
 
 pub loop-edge-preserved : goal.loop-edge-preserved
 loop-edge-preserved c =
-    let bytes = c.args.sections.now in λ edge low high.
-    below_more (λ (k : ℕ). edge_start bytes c.args.low ≤ k → AreBothRight bytes k) c.loop-edge.edge (λ k less from. c.loop-edge.invariant k from less)
-    (λ from. c.in_default.ensures) edge high low
+    let bytes = c.args.sections.now in
+    record {
+      right = λ edge low high.
+          below_more (λ (k : ℕ). edge_start bytes c.args.low ≤ k → AreBothRight bytes k) c.loop-edge.edge (λ k less from. c.loop-edge.invariant.right k from less)
+          (λ from. c.in_default.ensures.dir) edge high low;
+      follow = c.in_default.ensures.places;
+    }

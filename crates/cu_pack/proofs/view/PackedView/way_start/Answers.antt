@@ -1,0 +1,18 @@
+use Rattle.std.proofs.Common.{◌∙◌, arith, subst}
+use Rattle.cu_pack.specs.Checks.{Spells}
+use Rattle.cu_pack.proofs.ViewedParts.{way_start_known}
+use Rattle.cu_pack.proofs.Views.{edges_known}
+use Rattle.cu_pack.proofs.view.PackedView.way_start.Goals as goal
+
+pub way_start-requires : goal.way_start-requires
+way_start-requires c =
+    let bytes = c.self.inside.sections in
+    let spells = subst (Spells bytes) c.self.view_is c.self.invariant in
+    let many = edges_known bytes c.args.self.now spells in
+    let lists = spells.sound.lists in
+    record { list = omega (arith, many, lists, c.requires.inside) }
+
+pub returns : goal.returns
+returns c =
+    let bytes = c.self.inside.sections in
+    record { start = c.way_start.ensures.start ∙ way_start_known bytes c.args.self.now (subst (Spells bytes) c.self.view_is c.self.invariant) c.args.list c.requires.inside }

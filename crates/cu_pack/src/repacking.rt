@@ -1,0 +1,97 @@
+//! The packed file of a hierarchy after an edit, most of it copied from the file before.
+
+ghost use Rattle.std.specs.Prelude.{◌≡◌, ◌<◌, ◌++◌, All, IfOk, OnOk, length, map};
+ghost use Rattle.std.specs.List.Sorted.{IsStrictlyIncreasing};
+ghost use Rattle.cu_model.specs.Edits.{IsEditInRange};
+ghost use Rattle.cu_interval.specs.declared.ways.TouchedEdge.{TouchedEdge};
+ghost use Rattle.cu_interval.specs.Hierarchies.{IsHierarchy};
+ghost use Rattle.cu_interval.specs.Replacing.{hierarchy_with};
+ghost use Rattle.cu_pack.specs.Layouts.{AreInLimits};
+ghost use Rattle.cu_pack.specs.Spelling.{arcs_section, counts_of, edges_section, order_section, profiles_section, spelling, ways_section};
+
+use crate::editing::{count_edited, put_edited_arcs, put_edited_profiles};
+use crate::layout::{Counts, Layout};
+use crate::replacing::{count_replaced, put_replaced};
+use crate::sections::put_header;
+use crate::view::PackedView;
+use cu_interval::{TouchedEdge, Ways};
+use cu_model::{Edit, NoMemory, Roads};
+use sha2::{Digest, Sha256};
+use std::alloc::Global;
+
+/// The packed file of a view's hierarchy with its network edited and both way lists of some edges replaced. The numbers
+/// of the edit are those of the network, the edges rise and are below the number of edges, and what is left is a
+/// hierarchy. Its order and graph are copied from the view's file as they lie, and so is whatever else lies between two
+/// places that change. Takes the memory of the new file.
+pub fn repack(
+    alloc: Global,
+    view: &PackedView<'_>,
+    edit: &Edit,
+    lists: &[TouchedEdge],
+) -> Result<Vec<u8>, NoMemory>
+    requires edit { IsEditInRange view.now.network edit.now }
+    requires rising { IsStrictlyIncreasing
+        (map (λ (touched : TouchedEdge). touched.edge) lists.now) }
+    requires edges { All
+        (λ (touched : TouchedEdge). touched.edge < length view.now.edges) lists.now }
+    requires sound { IsHierarchy (hierarchy_with view.now edit.now lists.now) }
+    ensures spelled { IfOk result
+        (λ bytes. bytes.items ≡ spelling (hierarchy_with view.now edit.now lists.now)) }
+{
+    let counts = recount(view, edit, lists);
+    let layout = Layout::of(&counts);
+    let mut bytes = Vec::with_capacity(alloc, layout.length as usize)?;
+    put_header(&mut bytes, &counts, layout.length)?;
+    put_edited(&mut bytes, view, edit, lists)?;
+    let digest = Sha256::digest(bytes.as_slice());
+    bytes.extend_from_slice(&digest)?;
+    Ok(bytes)
+}
+
+// How many of each there are after the edit. None is past its limit.
+fn recount(view: &PackedView<'_>, edit: &Edit, lists: &[TouchedEdge]) -> Counts
+    requires edit { IsEditInRange view.now.network edit.now }
+    requires rising { IsStrictlyIncreasing
+        (map (λ (touched : TouchedEdge). touched.edge) lists.now) }
+    requires edges { All
+        (λ (touched : TouchedEdge). touched.edge < length view.now.edges) lists.now }
+    requires sound { IsHierarchy (hierarchy_with view.now edit.now lists.now) }
+    ensures counts { result ≡ counts_of (hierarchy_with view.now edit.now lists.now) }
+    ensures limits { AreInLimits result }
+{
+    Counts {
+        nodes: view.nodes(),
+        arcs: view.arcs(),
+        profiles: view.profiles(),
+        edges: view.edges(),
+        pieces: count_edited(view, edit),
+        entries: count_replaced(view, lists),
+    }
+}
+
+// All sections between the header and the digest.
+fn put_edited(
+    bytes: &mut Vec<u8>,
+    view: &PackedView<'_>,
+    edit: &Edit,
+    lists: &[TouchedEdge],
+) -> Result<(), NoMemory>
+    requires edit { IsEditInRange view.now.network edit.now }
+    requires rising { IsStrictlyIncreasing
+        (map (λ (touched : TouchedEdge). touched.edge) lists.now) }
+    requires edges { All
+        (λ (touched : TouchedEdge). touched.edge < length view.now.edges) lists.now }
+    requires sound { IsHierarchy (hierarchy_with view.now edit.now lists.now) }
+    ensures { OnOk result (bytes.new.items ≡ bytes.old.items
+        ++ (order_section (hierarchy_with view.now edit.now lists.now)
+        ++ (arcs_section (hierarchy_with view.now edit.now lists.now)
+        ++ (profiles_section (hierarchy_with view.now edit.now lists.now)
+        ++ (edges_section (hierarchy_with view.now edit.now lists.now)
+        ++ ways_section (hierarchy_with view.now edit.now lists.now)))))) }
+{
+    bytes.extend_from_slice(view.order_part())?;
+    put_edited_arcs(bytes, view, edit)?;
+    put_edited_profiles(bytes, view, edit)?;
+    bytes.extend_from_slice(view.edges_part())?;
+    put_replaced(bytes, view, lists)
+}
