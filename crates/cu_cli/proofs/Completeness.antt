@@ -6,10 +6,12 @@ use Rattle.cu_io.specs.Shelves.{ShelfState}
 use Rattle.cu_io.specs.Sinks.{SinkState}
 use Rattle.cu_io.specs.Sources.{SourceState}
 use Rattle.cu_io.specs.Transfers.{Takes}
-use Rattle.cu_model.specs.Networks.{NetworkValue}
 use Rattle.cu_model.specs.Orders.{OrderValue}
 use Rattle.cu_chordal.specs.Edges.{HasTooManyEdges}
+use Rattle.cu_interval.specs.Hierarchies.{HierarchyValue}
 use Rattle.cu_order.specs.declared.refusals.OrderRefusal.{OrderRefusal}
+use Rattle.cu_pack.specs.Checks.{IsRefused, Spells}
+use Rattle.cu_pack.proofs.Accepted.{not_refused}
 use Rattle.cu_pack.specs.Spelling.{spelling}
 use Rattle.cu_roads.specs.NetworkTexts.{NetworkRead, network_of}
 use Rattle.cu_roads.specs.Written.{written_network}
@@ -17,11 +19,17 @@ use Rattle.cu_roads.specs.declared.refusals.RoadRefusal.{RoadRefusal}
 use Rattle.cu_cli.specs.declared.stops.Stop.{Stop}
 use Rattle.cu_cli.specs.declared.stops.Stop.TheVariants as stop
 use Rattle.cu_cli.specs.Preparing.{IsLoaded, StopsLoad, AreLoaded, StopsLoading, IsOrderOf, IsOrderRefused, Names, StopsNetwork, StopsOrder, StopsPreparing, StopsTables, StopsTexts, StopsReading, ordering_files}
-use Rattle.cu_cli.specs.Runs.{Answers, Ending, EndsBuild, EndsMake, EndsOrder, EndsServe, EndsStoring, EndsTrial, EndsWork, IsBuilding, IsOrderable, IsServable, IsShort, IsTriable, IsWorkable, Leaves, MeetsNoFault, built_text, has_script, made_text, order_files_made, ordered_text, packed_file, tables_made, take_limit}
+use Rattle.cu_session.specs.declared.stops.SessionStop.{SessionStop}
+use Rattle.cu_session.specs.declared.stops.SessionStop.TheVariants as session
+use Rattle.cu_session.specs.Held.{IsHeldOutput}
+use Rattle.cu_session.specs.Replies.{IsOutput}
+use Rattle.cu_session.specs.Sessions.{AnswersBy, Leaves, take_limit}
+use Rattle.cu_cli.specs.Opening.{StopsChecks, StopsOpening, StopsOpeningEdits}
+use Rattle.cu_cli.specs.Runs.{Answers, Ending, EndsAsk, EndsBuild, EndsEdit, EndsEditing, EndsMake, EndsOrder, EndsPacking, EndsServe, EndsStoring, EndsTrial, EndsWork, IsBuilding, IsEditable, IsOpenable, IsOrderable, IsServable, IsShort, IsTriable, IsWorkable, MeetsNoFault, built_text, ending_of, has_script, made_text, order_files_made, ordered_text, packed_file, stored_text, tables_made}
 use Rattle.cu_cli.specs.Storing.{FileMade, FileStored, StopsStore, StopsStoring}
 use Rattle.cu_cli.specs.Stops.{status_of}
 use Rattle.cu_cli.specs.Steps.Outcomes.{Refuses, SaysStop, Works}
-use Rattle.cu_cli.specs.Words.{Command, Serve, Order, Make, Build, Trial, BuildingAsked, FileAsked, MakingAsked, OrderAsked, OrderingAsked, TablesAsked, TrialAsked, grid_read, table_files}
+use Rattle.cu_cli.specs.Words.{Command, Serve, Order, Make, Build, Ask, Edit, Trial, BuildingAsked, EditingAsked, FileAsked, MakingAsked, OrderAsked, OrderingAsked, TablesAsked, TrialAsked, editing_files, grid_read, hierarchy_file, table_files}
 
 -- a file of a shelf that tells has one text
 one_text : (a : ShelfState) (files : List ℕ → Option (List ℕ)) (file : FileAsked) (text other : List ℕ) → a.held ≡ Some files → IsLoaded a file text → IsLoaded a file other → other ≡ text
@@ -93,23 +101,38 @@ stores_stop a b (file ∷ files) why [] fine k = absurd k
 stores_stop a b (file ∷ files) why (entry ∷ stored) fine (same, inl stops) = store_stops a b file why fine stops.0
 stores_stop a b (file ∷ files) why (entry ∷ stored) fine (same, inr more) = stores_stop a b files why stored fine more.1
 
-storing_stops : (a b : ShelfState) (files : List FileMade) (text : List ℕ) (why : Stop) (work : Ending) → ((name : List ℕ) → Rose (a.store_faults name) (b.store_faults name) → ⊥)
-    → (why ≡ stop.Sink → ⊥) → work.stop ≡ Some why → EndsStoring a b files text work → why ≡ stop.NoMemory
-storing_stops a b files text why work fine sink is (nil, inl (stored, inl (none, said))) = absurd (cc (none, is))
-storing_stops a b files text why work fine sink is (nil, inl (stored, inr (failed, front))) =
+storing_stops : (a b : ShelfState) (replies : List ℕ) (files : List FileMade) (text : List ℕ) (why : Stop) (work : Ending) → ((name : List ℕ) → Rose (a.store_faults name) (b.store_faults name) → ⊥)
+    → (why ≡ stop.Sink → ⊥) → work.stop ≡ Some why → EndsStoring a b replies files text work → why ≡ stop.NoMemory
+storing_stops a b replies files text why work fine sink is (nil, inl (stored, inl (none, said))) = absurd (cc (none, is))
+storing_stops a b replies files text why work fine sink is (nil, inl (stored, inr (failed, front))) =
     let same : why ≡ stop.Sink = cc (failed, is) in
     absurd (sink same)
-storing_stops a b files text why work fine sink is (nil, inr (other, stops, other_is, quiet)) =
+storing_stops a b replies files text why work fine sink is (nil, inr (other, stops, other_is, quiet)) =
     let same : other ≡ why = cc (other_is, is) in
     sym same ∙ stores_stop a b files other work.stored fine stops
 
--- of the answers over a network only those of a fault, of the limit or of want of memory aren't done
-answers_stop : (why : Stop) (g : NetworkValue) (order : OrderValue) (taken output : List ℕ) → length taken < take_limit → (why ≡ stop.Source → ⊥) → (why ≡ stop.Sink → ⊥) → Answers g order (Some why) taken output → why ≡ stop.NoMemory
-answers_stop stop.Source g order taken output few source sink k = absurd (source refl)
-answers_stop stop.Sink g order taken output few source sink k = absurd (sink refl)
-answers_stop stop.TakeLimit g order taken output few source sink k = absurd (omega (arith, few, k.0))
-answers_stop stop.NoMemory g order taken output few source sink k = refl
-answers_stop _ g order taken output few source sink k = absurd k
+-- a file has too many bytes
+abbrev IsTooLarge : Stop → Type 0
+IsTooLarge why = (bytes : ℕ) × (why ≡ stop.TooLarge bytes)
+
+-- a packed file, stored or too large
+packing_stops : (a b : ShelfState) (replies : List ℕ) (file : FileMade) (text : List ℕ) (why : Stop) (work : Ending) → ((name : List ℕ) → Rose (a.store_faults name) (b.store_faults name) → ⊥)
+    → (why ≡ stop.Sink → ⊥) → work.stop ≡ Some why → EndsPacking a b replies file text work → (why ≡ stop.NoMemory) ⊎ IsTooLarge why
+packing_stops a b replies file text why work fine sink is (inl (few, storing)) = inl (storing_stops a b replies (file ∷ []) text why work fine sink is storing)
+packing_stops a b replies file text why work fine sink is (inr (large, behind)) =
+    let same : stop.TooLarge (length file.bytes) ≡ why = cc (behind.0, is) in
+    inr (length file.bytes, sym same)
+
+-- of the answers only those of a fault, of the limit or of want of memory aren't done
+answers_stop : (Output : List (List ℕ) → List ℕ → Type 0) (why : Stop) (taken output : List ℕ) → length taken < take_limit → (why ≡ stop.Source → ⊥) → (why ≡ stop.Sink → ⊥) → Answers Output (Some why) taken output → why ≡ stop.NoMemory
+answers_stop Output why taken output few source sink (end, is, answers) = by end is answers
+  where
+    by : (e : Option SessionStop) → Some why ≡ ending_of e → AnswersBy Output e taken output → why ≡ stop.NoMemory
+    by None same k = absurd (cc same)
+    by (Some session.Source) same k = absurd (source (cc same))
+    by (Some session.Sink) same k = absurd (sink (cc same))
+    by (Some session.NoMemory) same k = cc same
+    by (Some session.TakeLimit) same k = absurd (omega (arith, few, k.0))
 
 -- fewer bytes were taken than a run takes
 few_taken : (source : SourceState) (now : Option (List ℕ)) (taken : List ℕ) → IsShort source → Takes source.left now taken → length taken < take_limit
@@ -121,10 +144,6 @@ few_taken source now taken (input, told, few) took =
 no_sink : (a b : ShelfState) (s t : SourceState) (k mid now : SinkState) (script : Bool) (why : Stop) → MeetsNoFault a b s t k now → mid.faults ≤ now.faults
     → Leaves script (status_of why) s t k mid → why ≡ stop.Sink → ⊥
 no_sink a b s t k mid now script why fine later leaves is = fine.sink (omega (arith, later, leaves.sink_fault (ap status_of is)))
-
--- a file has too many bytes
-abbrev IsTooLarge : Stop → Type 0
-IsTooLarge why = (bytes : ℕ) × (why ≡ stop.TooLarge bytes)
 
 -- nothing but want of memory stops the preparing of tables that can be served
 preparing_stops : (a b : ShelfState) (tables : TablesAsked) (why : Stop) → IsServable a tables → ((name : List ℕ) → Rose (a.load_faults name) (b.load_faults name) → ⊥)
@@ -145,8 +164,9 @@ serve_stops a b s t k mid now tables why can short fine later done = ends done.e
 
     ends : EndsServe a b tables done.work → why ≡ stop.NoMemory
     ends (inl (read, order, prepares, answers, stored)) =
-        let stops = subst (λ (o : Option Stop). Answers read.network order o done.work.taken done.work.output) done.stop answers in
-        answers_stop why read.network order done.work.taken done.work.output (few_taken s t.left done.work.taken short done.moves.0) no_source
+        let Output = IsOutput read.network order in
+        let stops = subst (λ (o : Option Stop). Answers Output o done.work.taken done.work.output) done.stop answers in
+        answers_stop Output why done.work.taken done.work.output (few_taken s t.left done.work.taken short done.moves.0) no_source
         (no_sink a b s t k mid now true why fine later done.leaves) stops
     ends (inr (other, stops, before)) =
         let same : other ≡ why = cc (before.0, done.stop) in
@@ -159,7 +179,7 @@ ordering_stops a b s t k mid now asked why can fine later done = ends done.ended
   where
     ends : EndsOrder a b asked done.work → why ≡ stop.NoMemory
     ends (inl (read, order, reads, sound, given, storing)) =
-        storing_stops a b (order_files_made asked.out order) (ordered_text read.network) why done.work fine.stores (no_sink a b s t k mid now false why fine later done.leaves) done.stop storing
+        storing_stops a b [] (order_files_made asked.out order) (ordered_text read.network) why done.work fine.stores (no_sink a b s t k mid now false why fine later done.leaves) done.stop storing
     ends (inr (other, inl loading, before)) =
         let same : other ≡ why = cc (before.0, done.stop) in
         sym same ∙ loads_stop a b can.files (ordering_files asked) (can.nodes ∷ can.roads ∷ can.profiles ∷ []) other can.told can.loaded fine.loads loading
@@ -175,7 +195,7 @@ making_stops : (a b : ShelfState) (s t : SourceState) (k mid now : SinkState) (a
 making_stops a b s t k mid now asked why fine later done = ends done.ended
   where
     ends : EndsMake a b asked done.work → why ≡ stop.NoMemory
-    ends (inl storing) = storing_stops a b (tables_made asked (written_network (grid_read asked.grid))) (made_text asked.grid) why done.work fine.stores (no_sink a b s t k mid now false why fine later done.leaves) done.stop storing
+    ends (inl storing) = storing_stops a b [] (tables_made asked (written_network (grid_read asked.grid))) (made_text asked.grid) why done.work fine.stores (no_sink a b s t k mid now false why fine later done.leaves) done.stop storing
     ends (inr before) = cc (before.0, done.stop)
 
 -- and a trial whose graph hasn't too many edges
@@ -197,14 +217,81 @@ building_stops : (a b : ShelfState) (s t : SourceState) (k mid now : SinkState) 
 building_stops a b s t k mid now asked why can fine later done = ends done.ended
   where
     ends : EndsBuild a b asked done.work → (why ≡ stop.NoMemory) ⊎ IsTooLarge why
-    ends (inl (h, places, built, prepares, inl (few, storing))) =
-        inl (storing_stops a b (packed_file asked.out h ∷ []) (built_text h (length (spelling h))) why done.work fine.stores (no_sink a b s t k mid now false why fine later done.leaves) done.stop storing)
-    ends (inl (h, places, built, prepares, inr (large, before))) =
-        let same : stop.TooLarge (length (spelling h)) ≡ why = cc (before.0, done.stop) in
-        inr (length (spelling h), sym same)
+    ends (inl (h, places, built, prepares, packing)) =
+        packing_stops a b [] (packed_file asked.out h) (built_text h (length (spelling h))) why done.work fine.stores (no_sink a b s t k mid now false why fine later done.leaves) done.stop packing
     ends (inr (other, stops, before)) =
         let same : other ≡ why = cc (before.0, done.stop) in
         inl (sym same ∙ preparing_stops a b asked.tables other can fine.loads stops)
+
+-- no check refuses the packed file of a hierarchy
+checks_stop : (bytes : List ℕ) (h : HierarchyValue) (why : Stop) → Spells bytes h → StopsChecks bytes why → why ≡ stop.NoMemory
+checks_stop bytes h (stop.File refusal) spells (refused, some) =
+    absurd (not_refused h spells.sound refusal some (subst (λ (t : List ℕ). IsRefused t refusal) spells.spelled refused))
+checks_stop bytes h stop.NoMemory spells k = refl
+checks_stop bytes h _ spells k = absurd k
+
+-- nothing but want of memory stops the opening of the packed file of a hierarchy
+opening_stops : (a b : ShelfState) (name : List ℕ) (why : Stop) → IsOpenable a name → ((name : List ℕ) → Rose (a.load_faults name) (b.load_faults name) → ⊥) → StopsOpening a b name why → why ≡ stop.NoMemory
+opening_stops a b name why can fine (inl loading) =
+    let (bytes, loaded, spells) = can.opened in
+    load_stops a b can.files (hierarchy_file name) bytes why can.told loaded fine loading
+opening_stops a b name why can fine (inr (other, there, checks)) =
+    let (bytes, loaded, spells) = can.opened in
+    let same = one_text a can.files (hierarchy_file name) bytes other can.told loaded there in
+    checks_stop bytes can.hierarchy why spells (subst (λ (t : List ℕ). StopsChecks t why) same checks)
+
+-- and its script
+ask_stops : (a b : ShelfState) (s t : SourceState) (k mid now : SinkState) (name : List ℕ) (why : Stop) → IsOpenable a name → IsShort s → MeetsNoFault a b s t k now → mid.faults ≤ now.faults
+    → Works true (Some why) (EndsAsk a b name) a b s t k mid → why ≡ stop.NoMemory
+ask_stops a b s t k mid now name why can short fine later done = ends done.ended
+  where
+    no_source : why ≡ stop.Source → ⊥
+    no_source is = fine.source (done.leaves.source_fault (ap status_of is))
+
+    ends : EndsAsk a b name done.work → why ≡ stop.NoMemory
+    ends (inl (h, opens, answers, legal, stored)) =
+        let stops = subst (λ (o : Option Stop). Answers (IsHeldOutput h) o done.work.taken done.work.output) done.stop answers in
+        answers_stop (IsHeldOutput h) why done.work.taken done.work.output (few_taken s t.left done.work.taken short done.moves.0) no_source
+        (no_sink a b s t k mid now true why fine later done.leaves) stops
+    ends (inr (other, stops, before)) =
+        let same : other ≡ why = cc (before.0, done.stop) in
+        sym same ∙ opening_stops a b name other can fine.loads stops
+
+-- and likewise of a packed file and its edits
+opening_edits_stops : (a b : ShelfState) (asked : EditingAsked) (why : Stop) → IsEditable a asked → ((name : List ℕ) → Rose (a.load_faults name) (b.load_faults name) → ⊥) → StopsOpeningEdits a b asked why → why ≡ stop.NoMemory
+opening_edits_stops a b asked why can fine (inl loading) =
+    let (bytes, loaded, spells) = can.opened in
+    loads_stop a b can.files (editing_files asked) (bytes ∷ can.text ∷ []) why can.told loaded fine loading
+opening_edits_stops a b asked why can fine (inr (other, text, there, checks)) =
+    let (bytes, loaded, spells) = can.opened in
+    let same = one_text a can.files (hierarchy_file asked.hierarchy) bytes other can.told loaded.0 there.0 in
+    checks_stop bytes can.hierarchy why spells (subst (λ (t : List ℕ). StopsChecks t why) same checks)
+
+-- of the edits of a packed file: want of memory, or a file that is too large
+edit_stops : (a b : ShelfState) (s t : SourceState) (k mid now : SinkState) (asked : EditingAsked) (why : Stop) → IsEditable a asked → MeetsNoFault a b s t k now → mid.faults ≤ now.faults
+    → Works false (Some why) (EndsEdit a b asked) a b s t k mid → (why ≡ stop.NoMemory) ⊎ IsTooLarge why
+edit_stops a b s t k mid now asked why can fine later done = ends done.ended
+  where
+    sink : why ≡ stop.Sink → ⊥
+    sink = no_sink a b s t k mid now false why fine later done.leaves
+
+    editing : (h : HierarchyValue) (text : List ℕ) → EndsEditing a b asked.out h text done.work → (why ≡ stop.NoMemory) ⊎ IsTooLarge why
+    editing h text (inl (after, replies, made, built, packing)) =
+        packing_stops a b replies (packed_file asked.out after) (stored_text (length (spelling after))) why done.work fine.stores sink done.stop packing
+    editing h text (inr (inl (n, after, made, behind))) = inl (cc (behind.0, done.stop))
+    editing h text (inr (inr (n, after, replies, made, front, behind))) =
+        let same : why ≡ stop.Sink = cc (behind.0, done.stop) in
+        absurd (sink same)
+
+    ends : EndsEdit a b asked done.work → (why ≡ stop.NoMemory) ⊎ IsTooLarge why
+    ends (inl (h, text, opens, edits)) = editing h text edits
+    ends (inr (other, stops, before)) =
+        let same : other ≡ why = cc (before.0, done.stop) in
+        inl (sym same ∙ opening_edits_stops a b asked other can fine.loads stops)
+
+or_large : (why : Stop) → (why ≡ stop.NoMemory) ⊎ IsTooLarge why → (why ≡ stop.NoMemory) ⊎ (Unit {0} × IsTooLarge why)
+or_large why (inl none) = inl none
+or_large why (inr large) = inr (tt, large)
 
 work_stops : (a b : ShelfState) (s t : SourceState) (k mid now : SinkState) (command : Option Command) (why : Stop) → IsWorkable a command → IsShort s → MeetsNoFault a b s t k now → mid.faults ≤ now.faults
     → Works (has_script command) (Some why) (EndsWork a b command) a b s t k mid → (why ≡ stop.NoMemory) ⊎ (IsBuilding command × IsTooLarge why)
@@ -213,11 +300,9 @@ work_stops a b s t k mid now (Some (Serve tables)) why can short fine later done
 work_stops a b s t k mid now (Some (Order asked)) why can short fine later done = inl (ordering_stops a b s t k mid now asked why can fine later done)
 work_stops a b s t k mid now (Some (Make asked)) why can short fine later done = inl (making_stops a b s t k mid now asked why fine later done)
 work_stops a b s t k mid now (Some (Trial asked)) why can short fine later done = inl (trial_stops a b s t k mid now asked why can fine later done)
-work_stops a b s t k mid now (Some (Build asked)) why can short fine later done = or_large (building_stops a b s t k mid now asked why can fine later done)
-  where
-    or_large : (why ≡ stop.NoMemory) ⊎ IsTooLarge why → (why ≡ stop.NoMemory) ⊎ (Unit {0} × IsTooLarge why)
-    or_large (inl none) = inl none
-    or_large (inr large) = inr (tt, large)
+work_stops a b s t k mid now (Some (Build asked)) why can short fine later done = or_large why (building_stops a b s t k mid now asked why can fine later done)
+work_stops a b s t k mid now (Some (Ask name)) why can short fine later done = inl (ask_stops a b s t k mid now name why can short fine later done)
+work_stops a b s t k mid now (Some (Edit asked)) why can short fine later done = or_large why (edit_stops a b s t k mid now asked why can fine later done)
 
 pub completes : (a b : ShelfState) (s t : SourceState) (k mid now : SinkState) (command : Option Command) (why : Stop) (status : ℕ) → IsWorkable a command → IsShort s → MeetsNoFault a b s t k now
     → Works (has_script command) (Some why) (EndsWork a b command) a b s t k mid → Refuses why mid now status → (status ≡ 0) ⊎ (status ≡ 9) ⊎ (IsBuilding command × (status ≡ 13))

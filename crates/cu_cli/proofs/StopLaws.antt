@@ -1,9 +1,10 @@
 -- What is said of a stop, step by step.
 use Rattle.std.proofs.Common.{◌≡◌, ◌≢◌, ◌∷◌, [], ◌++◌, ℕ, List, refl, ap, inl, inr}
-use Rattle.std.specs.Prelude.{Result, Ok, Err, IfOk, IfErr, IsErr, IsErrAnd}
+use Rattle.std.specs.Prelude.{Option, Some, Result, Ok, Err, IfOk, IfErr, IsErr, IsErrAnd}
 use Rattle.cu_io.specs.Sinks.{SinkState, Wrote, WroteLine}
 use Rattle.cu_io.proofs.Appending.{wrote_nothing, wrote_stops, line_stops}
-use Rattle.cu_cli.specs.Steps.Outcomes.{Said}
+use Rattle.cu_cli.specs.declared.stops.Stop.{Stop}
+use Rattle.cu_cli.specs.Steps.Outcomes.{Said, stop_of}
 
 ends_some : (xs : List ℕ) → xs ++ 10 ∷ [] ≢ []
 ends_some [] e = cc e
@@ -26,6 +27,11 @@ said_nothing a x = record { wrote = wrote_nothing a x; flushed = inl refl; some 
 pub err_is : {T E : Type 0} (r : Result T E) (e : E) → IsErrAnd r (λ d. d ≡ e) → r ≡ Err e
 err_is {T = T} {E = E} (Ok x) e h = absurd h
 err_is {T = T} {E = E} (Err d) e h = let f : E → Result T E = λ t. Err t in ap f h
+
+-- a stop that is known
+pub stop_is : {T : Type 0} (r : Result T Stop) (why : Option Stop) → IsErrAnd r (λ other. Some other ≡ why) → stop_of r ≡ why
+stop_is (Ok x) why h = absurd h
+stop_is (Err other) why h = h
 
 pub if_ok_map : {T E : Type 0} (r : Result T E) (P Q : T → Type 0) → ((x : T) → P x → Q x) → IfOk r P → IfOk r Q
 if_ok_map (Ok x) P Q f h = f x h

@@ -1,11 +1,11 @@
 -- Stores one after another, and what is said of them.
-use Rattle.std.proofs.Common.{◌≡◌, ◌≤◌, ◌∷◌, [], ℕ, List, take, refl, ap, subst, arith, inl, inr, false}
+use Rattle.std.proofs.Common.{◌≡◌, ◌≤◌, ◌∷◌, ◌++◌, [], ℕ, List, take, refl, ap, subst, arith, inl, inr, false}
 use Rattle.std.specs.Prelude.{Option, Some, None, Result, Ok, Err, IfErr, OnOk}
 use Rattle.cu_io.specs.Holdings.{Holds, KeepsOthers}
 use Rattle.cu_io.specs.Shelves.{ShelfState}
 use Rattle.cu_io.specs.Sinks.{SinkState, WroteLine}
 use Rattle.cu_io.specs.Sources.{SourceState}
-use Rattle.cu_io.proofs.Appending.{appends_nothing}
+use Rattle.cu_io.proofs.Appending.{appends_more}
 use Rattle.cu_io.proofs.Taking.{takes_nothing}
 use Rattle.cu_cli.specs.declared.stops.Stop.{Stop}
 use Rattle.cu_cli.specs.declared.stops.Stop.TheVariants as stop
@@ -15,7 +15,7 @@ use Rattle.cu_cli.specs.Storing.{FileMade, FileStored, StopsStore, StopsStoring,
 use Rattle.cu_cli.specs.Steps.Loading.{OnlyLoads}
 use Rattle.cu_cli.specs.Steps.Outcomes.{IsBeforeScript, Works}
 use Rattle.cu_cli.specs.Steps.Storing.{StoresInTurn}
-use Rattle.cu_cli.proofs.WorkLaws.{leaves_before}
+use Rattle.cu_cli.proofs.WorkLaws.{Behind, leaves_behind}
 
 -- one file was stored
 pub stored_one : {a b : ShelfState} (file : FileMade) → Holds b.held file.name file.bytes → KeepsOthers a.held b.held file.name
@@ -115,54 +115,54 @@ stops_there {a = a} {b = b} {file = file} files {why = why} h = record {
     stopped (entry ∷ stored) (same, inl stops) = (same, inl stops)
     stopped (entry ∷ stored) (same, inr (some, none)) = absurd none
 
--- a store was refused, and nothing said
-pub storing_refused : {T : Type 0} {a b : ShelfState} (s : SourceState) (k : SinkState) {files : List FileMade} (text : List ℕ) {why : Stop} → StoresInTurn {T = T} a b files (Err why)
-    → Works false (Some why) (EndsStoring a b files text) a b s s k k
-storing_refused s k text {why = why} h = record {
-  work = record { stop = Some why; taken = []; output = []; stored = h.stored };
+-- a store was refused behind these replies
+pub storing_refused : {T : Type 0} {a b : ShelfState} {k mid : SinkState} {replies : List ℕ} {files : List FileMade} {why : Stop} (s : SourceState) → Behind k mid replies → (text : List ℕ) → StoresInTurn {T = T} a b files (Err why)
+    → Works false (Some why) (EndsStoring a b replies files text) a b s s k mid
+storing_refused {replies = replies} {why = why} s behind text h = record {
+  work = record { stop = Some why; taken = []; output = replies; stored = h.stored };
   stop = refl;
   ended = (refl, inr (why, h.stopped, refl, refl));
-  moves = (takes_nothing s.left, appends_nothing k.written);
+  moves = (takes_nothing s.left, behind.appends);
   stores = h.stores;
-  leaves = leaves_before false why s k h.early;
+  leaves = leaves_behind false why s behind h.early;
 }
 
 -- all was stored and said
-pub storing_said : {T S E : Type 0} {a b : ShelfState} {x : T} {y : S} (s : SourceState) {k now : SinkState} {files : List FileMade} {text : List ℕ} → StoresInTurn {T = T} a b files (Ok x)
-    → WroteLine {T = S} {E = E} k now (Ok y) text → Works false None (EndsStoring a b files text) a b s s k now
-storing_said s {text = text} h line = record {
-  work = record { stop = None; taken = []; output = line_of text; stored = h.stored };
+pub storing_said : {T S E : Type 0} {a b : ShelfState} {x : T} {y : S} {k mid now : SinkState} {replies : List ℕ} {files : List FileMade} {text : List ℕ} (s : SourceState) → Behind k mid replies → StoresInTurn {T = T} a b files (Ok x)
+    → WroteLine {T = S} {E = E} mid now (Ok y) text → Works false None (EndsStoring a b replies files text) a b s s k now
+storing_said {k = k} {mid = mid} {now = now} {replies = replies} {text = text} s behind h line = record {
+  work = record { stop = None; taken = []; output = replies ++ line_of text; stored = h.stored };
   stop = refl;
   ended = (refl, inl (h.whole, inl (refl, refl)));
-  moves = (takes_nothing s.left, line.wrote.ok);
+  moves = (takes_nothing s.left, appends_more k.written mid.written now.written replies (line_of text) behind.appends line.wrote.ok);
   stores = h.stores;
   leaves = record {
     whole = λ script. absurd (cc script);
     flushed = λ _. inr line.flushed;
     source_fault = λ e. absurd (cc e);
     sink_fault = λ e. absurd (cc e);
-    later = line.wrote.later;
-    rises = line.wrote.flushed;
+    later = omega (arith, behind.later, line.wrote.later);
+    rises = omega (arith, behind.rises, line.wrote.flushed);
   };
 }
 
 -- all was stored, and the sink failed
-pub storing_unsaid : {T S E : Type 0} {a b : ShelfState} {x : T} {e : E} (s : SourceState) {k now : SinkState} {files : List FileMade} {text : List ℕ} → StoresInTurn {T = T} a b files (Ok x)
-    → WroteLine {T = S} {E = E} k now (Err e) text → Works false (Some stop.Sink) (EndsStoring a b files text) a b s s k now
-storing_unsaid s {text = text} h line =
+pub storing_unsaid : {T S E : Type 0} {a b : ShelfState} {x : T} {e : E} {k mid now : SinkState} {replies : List ℕ} {files : List FileMade} {text : List ℕ} (s : SourceState) → Behind k mid replies → StoresInTurn {T = T} a b files (Ok x)
+    → WroteLine {T = S} {E = E} mid now (Err e) text → Works false (Some stop.Sink) (EndsStoring a b replies files text) a b s s k now
+storing_unsaid {k = k} {mid = mid} {now = now} {replies = replies} {text = text} s behind h line =
     let (count, within, some) = line.wrote.err in
     record {
-      work = record { stop = Some stop.Sink; taken = []; output = take count (line_of text); stored = h.stored };
+      work = record { stop = Some stop.Sink; taken = []; output = replies ++ take count (line_of text); stored = h.stored };
       stop = refl;
       ended = (refl, inl (h.whole, inr (refl, (count, refl))));
-      moves = (takes_nothing s.left, some);
+      moves = (takes_nothing s.left, appends_more k.written mid.written now.written replies (take count (line_of text)) behind.appends some);
       stores = h.stores;
       leaves = record {
         whole = λ script. absurd (cc script);
         flushed = λ other. absurd (other refl);
         source_fault = λ seven. absurd (cc seven);
-        sink_fault = λ _. line.wrote.cause;
-        later = line.wrote.later;
-        rises = line.wrote.flushed;
+        sink_fault = λ _. omega (arith, behind.later, line.wrote.cause);
+        later = omega (arith, behind.later, line.wrote.later);
+        rises = omega (arith, behind.rises, line.wrote.flushed);
       };
     }

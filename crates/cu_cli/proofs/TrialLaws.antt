@@ -26,6 +26,9 @@ use Rattle.cu_interval.specs.declared.ways.Entry.{Entry}
 use Rattle.cu_interval.specs.Hierarchies.{HierarchyValue, IsBuilt, IsHierarchy, entries_or_none, list_of}
 use Rattle.cu_interval.specs.WayLists.{IsWayList}
 use Rattle.cu_interval.proofs.Spelled.{few_entries}
+use Rattle.cu_pack.specs.Checks.{Spells}
+use Rattle.cu_pack.specs.Spelling.{spelling}
+use Rattle.cu_pack.proofs.Again.{one_hierarchy}
 use Rattle.cu_roads.specs.Draws.{after, drawn, stepped}
 use Rattle.cu_roads.specs.Grids.{IsSide, behind_grid, grid_network}
 use Rattle.cu_roads.proofs.DrawSteps.{after_two, drawn_below}
@@ -33,15 +36,23 @@ use Rattle.cu_roads.proofs.GridLaws.{length-days}
 use Rattle.cu_cli.specs.declared.commands.trial.Tally.{Tally}
 use Rattle.cu_cli.specs.declared.stops.Stop.{Stop}
 use Rattle.cu_cli.specs.declared.stops.Stop.TheVariants as stop
+use Rattle.cu_session.specs.Steps.Routing.{IsEdited}
 use Rattle.cu_cli.specs.Runs.{Ending, EndsStoring, EndsTrial, SaysDone}
 use Rattle.cu_cli.specs.Trials.{IsEditedBy, IsGridOrder, IsTrial, IsTried, IsTurn, TrialValue, drawn_edit, drawn_query, edits_text, hierarchy_text, queries_text}
 use Rattle.cu_cli.specs.Words.{GridAsked, TrialAsked, grid_read}
 use Rattle.cu_cli.specs.Steps.Outcomes.{Works}
-use Rattle.cu_cli.specs.Steps.Routing.{IsEdited}
 use Rattle.cu_cli.specs.Steps.Storing.{StoresInTurn}
 use Rattle.cu_cli.specs.Steps.Trials.{IsDrawable, StopsGrid, standing}
 use Rattle.cu_cli.proofs.StoreLaws.{storing_said, storing_unsaid}
-use Rattle.cu_cli.proofs.WorkLaws.{ends_so, stopped_before}
+use Rattle.cu_cli.proofs.WorkLaws.{behind_nothing, ends_so, stopped_before}
+
+-- bytes are the packed file of one hierarchy
+pub spelled_once : (bytes : List ℕ) (h other : HierarchyValue) → Spells bytes h → Spells bytes other → h ≡ other
+spelled_once bytes h other one two = one_hierarchy h other one.sound two.sound (sym one.spelled ∙ two.spelled)
+
+-- and that of a built one is its own
+pub spells_built : (bytes : List ℕ) (h : HierarchyValue) → IsBuilt h → bytes ≡ spelling h → Spells bytes h
+spells_built bytes h built is = record { sound = built.sound; spelled = is }
 
 after_three : (state : ℕ) → after 3 state ≡ stepped (stepped (stepped state))
 unfolding after
@@ -177,14 +188,14 @@ nothing_stored : {T : Type 0} (a : ShelfState) (x : T) → StoresInTurn a a [] (
 nothing_stored a x = record { stored = []; stores = refl; whole = refl; stopped = tt; early = tt; later = λ name. omega arith }
 
 -- a line was said, and nothing stored before
-line_said : (a : ShelfState) (text : List ℕ) (work : Ending) → EndsStoring a a [] text work → SaysDone text work × (work.taken ≡ []) × (work.stored ≡ [])
+line_said : (a : ShelfState) (text : List ℕ) (work : Ending) → EndsStoring a a [] [] text work → SaysDone [] text work × (work.taken ≡ []) × (work.stored ≡ [])
 line_said a text work (taken, inl (stored, said)) = (said, taken, stored)
 line_said a text work (taken, inr (why, stops, rest, more)) = absurd stops
 
 pub said_alone : {S E : Type 0} {y : S} {Ends : Ending → Type 0} (a : ShelfState) (s : SourceState) {k now : SinkState} {text : List ℕ} → WroteLine {T = S} {E = E} k now (Ok y) text
-    → ((work : Ending) → SaysDone text work × (work.taken ≡ []) × (work.stored ≡ []) → Ends work) → Works false None Ends a a s s k now
-said_alone a s {text = text} line ends = ends_so (λ work done. ends work (line_said a text work done)) (storing_said s (nothing_stored {T = Unit {0}} a tt) line)
+    → ((work : Ending) → SaysDone [] text work × (work.taken ≡ []) × (work.stored ≡ []) → Ends work) → Works false None Ends a a s s k now
+said_alone a s {text = text} line ends = ends_so (λ work done. ends work (line_said a text work done)) (storing_said s (behind_nothing _) (nothing_stored {T = Unit {0}} a tt) line)
 
 pub unsaid_alone : {S E : Type 0} {e : E} {Ends : Ending → Type 0} (a : ShelfState) (s : SourceState) {k now : SinkState} {text : List ℕ} → WroteLine {T = S} {E = E} k now (Err e) text
-    → ((work : Ending) → SaysDone text work × (work.taken ≡ []) × (work.stored ≡ []) → Ends work) → Works false (Some stop.Sink) Ends a a s s k now
-unsaid_alone a s {text = text} line ends = ends_so (λ work done. ends work (line_said a text work done)) (storing_unsaid s (nothing_stored {T = Unit {0}} a tt) line)
+    → ((work : Ending) → SaysDone [] text work × (work.taken ≡ []) × (work.stored ≡ []) → Ends work) → Works false (Some stop.Sink) Ends a a s s k now
+unsaid_alone a s {text = text} line ends = ends_so (λ work done. ends work (line_said a text work done)) (storing_unsaid s (behind_nothing _) (nothing_stored {T = Unit {0}} a tt) line)

@@ -1,9 +1,8 @@
 pub mod Words
 pub mod Stops
 pub mod Preparing
+pub mod Opening
 pub mod Storing
-pub mod Swept
-pub mod Replies
 pub mod Trials
 pub mod Runs
 pub mod Steps

@@ -3,10 +3,9 @@ use Rattle.std.specs.Prelude.{ℕ, List, [], ◌∷◌, ◌++◌, ◌*◌, ◌�
 use Rattle.csv.proofs.RoundTrip.{rows_text}
 use Rattle.cu_io.specs.Counts.{Rose}
 use Rattle.cu_io.specs.Shelves.{ShelfState}
-use Rattle.cu_io.specs.Sinks as sinks
 use Rattle.cu_io.specs.Sinks.{SinkState}
 use Rattle.cu_io.specs.Sources.{SourceState}
-use Rattle.cu_io.specs.Lines.{lines_of, ended_lines_of}
+use Rattle.cu_io.specs.Lines.{lines_of}
 use Rattle.cu_io.specs.Transfers.{Appends, Takes}
 use Rattle.cu_model.specs.Networks.{NetworkValue}
 use Rattle.cu_model.specs.Orders.{OrderValue, IsOrder}
@@ -21,17 +20,18 @@ use Rattle.cu_roads.specs.declared.places.Place.{Place}
 use Rattle.cu_cli.specs.declared.stops.Role.TheVariants as role
 use Rattle.cu_cli.specs.declared.stops.Stop.{Stop}
 use Rattle.cu_cli.specs.declared.stops.Stop.TheVariants as stop
-use Rattle.cu_cli.specs.Words.{Command, Serve, Order, Make, Build, Trial, Dissected, BuildingAsked, GridAsked, MakingAsked, OrderingAsked, TablesAsked, TrialAsked}
+use Rattle.cu_cli.specs.Words.{Command, Serve, Order, Make, Build, Ask, Edit, Trial, Dissected, BuildingAsked, EditingAsked, GridAsked, MakingAsked, OrderingAsked, TablesAsked, TrialAsked}
 use Rattle.cu_cli.specs.Words.{command_of, grid_read, table_files}
 use Rattle.cu_cli.specs.Stops.{line_of, said_at}
 use Rattle.cu_cli.specs.Preparing.{AreLoaded, Prepares, StopsPreparing, IsOrderGiven, IsOrderOf, IsOrderRefused, Names, ReadsTables, StopsOrdering, ordering_files}
 use Rattle.cu_cli.specs.Storing.{FileMade, FileStored, StopsStoring, all_stored}
-use Rattle.cu_cli.specs.Replies.{IsOutput}
+use Rattle.cu_session.specs.declared.stops.SessionStop.{SessionStop}
+use Rattle.cu_session.specs.declared.stops.SessionStop.TheVariants as session
+use Rattle.cu_session.specs.Held.{AreDone, IsHeldOutput}
+use Rattle.cu_session.specs.Replies.{IsOutput}
+use Rattle.cu_session.specs.Sessions.{AnswersBy, IsFrontOf, Leaves, take_limit}
+use Rattle.cu_cli.specs.Opening.{Opens, OpensEdits, StopsOpening, StopsOpeningEdits}
 use Rattle.cu_cli.specs.Trials.{IsGridOrder, IsTrial}
-
--- the most bytes taken in a run
-abbrev pub take_limit : ℕ
-take_limit = 2 ^ 40
 
 -- how a run ended: why it stopped, if it did before all was done; the bytes that it took and those that it wrote; and the files that it
 -- stored, in order
@@ -41,19 +41,17 @@ pub record Ending : Type 0 where
   pub output : List ℕ
   pub stored : List FileStored
 
--- these are first bytes of the text
-abbrev pub IsFrontOf : List ℕ → List ℕ → Type 0
-IsFrontOf bytes text = (n : ℕ) × (bytes ≡ take n text)
+-- how the answering of a script ended, as a run says it
+abbrev pub ending_of : Option SessionStop → Option Stop
+ending_of None = None
+ending_of (Some session.Source) = Some stop.Source
+ending_of (Some session.Sink) = Some stop.Sink
+ending_of (Some session.NoMemory) = Some stop.NoMemory
+ending_of (Some session.TakeLimit) = Some stop.TakeLimit
 
--- the script is answered: all its lines where the source was read to its end, and else those whose end was taken; where the sink failed,
--- some first lines, the last of them perhaps in part; none where memory ran out
-abbrev pub Answers : NetworkValue → OrderValue → Option Stop → List ℕ → List ℕ → Type 0
-Answers g order None taken output = (length taken < take_limit) × IsOutput g order (lines_of taken) output
-Answers g order (Some stop.Source) taken output = (length taken < take_limit) × IsOutput g order (ended_lines_of taken) output
-Answers g order (Some stop.TakeLimit) taken output = (length taken ≡ take_limit) × IsOutput g order (ended_lines_of taken) output
-Answers g order (Some stop.Sink) taken output = (n : ℕ) × (text : List ℕ) × IsOutput g order (take n (lines_of taken)) text × IsFrontOf output text
-Answers g order (Some stop.NoMemory) taken output = output ≡ []
-Answers g order _ taken output = ⊥
+-- the script is answered as `Output` says, and the work ended as the answering did
+abbrev pub Answers : (List (List ℕ) → List ℕ → Type 0) → Option Stop → List ℕ → List ℕ → Type 0
+Answers Output why taken output = (end : Option SessionStop) × (why ≡ ending_of end) × AnswersBy Output end taken output
 
 -- the work stopped before anything was taken, written or stored
 abbrev pub StopsBefore : Stop → Ending → Type 0
@@ -63,21 +61,25 @@ StopsBefore why work = (work.stop ≡ Some why) × (work.taken ≡ []) × (work.
 abbrev pub EndsServe : ShelfState → ShelfState → TablesAsked → Ending → Type 0
 EndsServe before now tables work =
     ((read : NetworkRead) × (order : OrderValue) × Prepares before tables read order
-    × Answers read.network order work.stop work.taken work.output × (work.stored ≡ []))
+    × Answers (IsOutput read.network order) work.stop work.taken work.output × (work.stored ≡ []))
     ⊎ ((why : Stop) × StopsPreparing before now tables why × StopsBefore why work)
 
--- a line says what was done; or the sink failed in it
-abbrev pub SaysDone : List ℕ → Ending → Type 0
-SaysDone text work =
-    ((work.stop ≡ None) × (work.output ≡ line_of text))
-    ⊎ ((work.stop ≡ Some stop.Sink) × IsFrontOf work.output (line_of text))
+-- the work stopped with nothing taken or stored, and these replies written
+abbrev pub StopsBehind : List ℕ → Stop → Ending → Type 0
+StopsBehind replies why work = (work.stop ≡ Some why) × (work.taken ≡ []) × (work.output ≡ replies) × (work.stored ≡ [])
 
--- the files are stored and it is said; or the first store that is refused stops the work
-abbrev pub EndsStoring : ShelfState → ShelfState → List FileMade → List ℕ → Ending → Type 0
-EndsStoring before now files text work =
+-- behind these replies a line says what was done; or the sink failed in it
+abbrev pub SaysDone : List ℕ → List ℕ → Ending → Type 0
+SaysDone replies text work =
+    ((work.stop ≡ None) × (work.output ≡ replies ++ line_of text))
+    ⊎ ((work.stop ≡ Some stop.Sink) × ((n : ℕ) × (work.output ≡ replies ++ take n (line_of text))))
+
+-- behind these replies the files are stored and it is said; or the first store that is refused stops the work
+abbrev pub EndsStoring : ShelfState → ShelfState → List ℕ → List FileMade → List ℕ → Ending → Type 0
+EndsStoring before now replies files text work =
     (work.taken ≡ [])
-    × (((work.stored ≡ all_stored files) × SaysDone text work)
-    ⊎ ((why : Stop) × StopsStoring before now files why work.stored × (work.stop ≡ Some why) × (work.output ≡ [])))
+    × (((work.stored ≡ all_stored files) × SaysDone replies text work)
+    ⊎ ((why : Stop) × StopsStoring before now files why work.stored × (work.stop ≡ Some why) × (work.output ≡ replies)))
 
 -- the file of an order: the node of each rank in turn
 abbrev pub order_files_made : List ℕ → OrderValue → List FileMade
@@ -92,7 +94,7 @@ abbrev pub EndsOrder : ShelfState → ShelfState → OrderingAsked → Ending �
 EndsOrder before now asked work =
     ((read : NetworkRead) × (order : OrderValue) × ReadsTables before asked read × IsOrder order
     × IsOrderGiven Dissected read [] order
-    × EndsStoring before now (order_files_made asked.out order) (ordered_text read.network) work)
+    × EndsStoring before now [] (order_files_made asked.out order) (ordered_text read.network) work)
     ⊎ ((why : Stop) × StopsOrdering before now asked why × StopsBefore why work)
 
 -- the files of these tables
@@ -112,14 +114,14 @@ made_text grid =
 -- `make`: the three texts of the grid are stored and said; or memory ran out before
 abbrev pub EndsMake : ShelfState → ShelfState → MakingAsked → Ending → Type 0
 EndsMake before now asked work =
-    EndsStoring before now (tables_made asked (written_network (grid_read asked.grid))) (made_text asked.grid) work
+    EndsStoring before now [] (tables_made asked (written_network (grid_read asked.grid))) (made_text asked.grid) work
     ⊎ StopsBefore stop.NoMemory work
 
--- the packed file is stored and it is said; or it has more bytes than the limit, and nothing is stored
-abbrev pub EndsPacking : ShelfState → ShelfState → FileMade → List ℕ → Ending → Type 0
-EndsPacking before now file text work =
-    ((length file.bytes ≤ before.most) × EndsStoring before now (file ∷ []) text work)
-    ⊎ ((before.most < length file.bytes) × StopsBefore (stop.TooLarge (length file.bytes)) work)
+-- behind these replies the packed file is stored and it is said; or it has more bytes than the limit, and nothing is stored
+abbrev pub EndsPacking : ShelfState → ShelfState → List ℕ → FileMade → List ℕ → Ending → Type 0
+EndsPacking before now replies file text work =
+    ((length file.bytes ≤ before.most) × EndsStoring before now replies (file ∷ []) text work)
+    ⊎ ((before.most < length file.bytes) × StopsBehind replies (stop.TooLarge (length file.bytes)) work)
 
 -- the packed file of a hierarchy
 abbrev pub packed_file : List ℕ → HierarchyValue → FileMade
@@ -137,13 +139,43 @@ abbrev pub EndsBuild : ShelfState → ShelfState → BuildingAsked → Ending �
 EndsBuild before now asked work =
     ((h : HierarchyValue) × (places : List Place) × IsBuilt h
     × Prepares before asked.tables (record { network = h.network; places = places }) h.order
-    × EndsPacking before now (packed_file asked.out h) (built_text h (length (spelling h))) work)
+    × EndsPacking before now [] (packed_file asked.out h) (built_text h (length (spelling h))) work)
     ⊎ ((why : Stop) × StopsPreparing before now asked.tables why × StopsBefore why work)
+
+-- `ask`: the script is answered by the hierarchy of the loaded file, and where that is built, as over its network; or the load or a check
+-- stopped it
+abbrev pub EndsAsk : ShelfState → ShelfState → List ℕ → Ending → Type 0
+EndsAsk before now name work =
+    ((h : HierarchyValue) × Opens before name h
+    × Answers (IsHeldOutput h) work.stop work.taken work.output
+    × (IsBuilt h → Answers (IsOutput h.network h.order) work.stop work.taken work.output)
+    × (work.stored ≡ []))
+    ⊎ ((why : Stop) × StopsOpening before now name why × StopsBefore why work)
+
+-- what is said of an edited hierarchy that is stored: the bytes of its file
+abbrev pub stored_text : ℕ → List ℕ
+stored_text bytes = codes "stored " ++ decimal bytes
+
+-- all lines of edits are made, and behind their replies the packed file of the hierarchy after them is stored and said, which is the
+-- built one where the first is; or memory ran out behind some first lines, or the sink failed in their replies, and nothing is stored
+abbrev pub EndsEditing : ShelfState → ShelfState → List ℕ → HierarchyValue → List ℕ → Ending → Type 0
+EndsEditing before now out h text work =
+    ((after : HierarchyValue) × (replies : List ℕ) × AreDone h (lines_of text) replies after × (IsBuilt h → IsBuilt after)
+    × EndsPacking before now replies (packed_file out after) (stored_text (length (spelling after))) work)
+    ⊎ ((n : ℕ) × (after : HierarchyValue) × AreDone h (take n (lines_of text)) work.output after × StopsBehind work.output stop.NoMemory work)
+    ⊎ ((n : ℕ) × (after : HierarchyValue) × (replies : List ℕ) × AreDone h (take n (lines_of text)) replies after
+    × IsFrontOf work.output replies × StopsBehind work.output stop.Sink work)
+
+-- `edit`: the lines of the file of edits are made in the hierarchy of the loaded file; or a load or a check stopped it
+abbrev pub EndsEdit : ShelfState → ShelfState → EditingAsked → Ending → Type 0
+EndsEdit before now asked work =
+    ((h : HierarchyValue) × (text : List ℕ) × OpensEdits before asked h text × EndsEditing before now asked.out h text work)
+    ⊎ ((why : Stop) × StopsOpeningEdits before now asked why × StopsBefore why work)
 
 -- `trial`: its line is said; or the graph has too many edges, or memory ran out
 abbrev pub EndsTrial : TrialAsked → Ending → Type 0
 EndsTrial asked work =
-    ((text : List ℕ) × IsTrial asked text × SaysDone text work × (work.taken ≡ []) × (work.stored ≡ []))
+    ((text : List ℕ) × IsTrial asked text × SaysDone [] text work × (work.taken ≡ []) × (work.stored ≡ []))
     ⊎ ((order : OrderValue) × IsGridOrder asked.grid order × HasTooManyEdges (grid_read asked.grid).network order
     × StopsBefore stop.TooManyEdges work)
     ⊎ StopsBefore stop.NoMemory work
@@ -155,11 +187,14 @@ EndsWork before now (Some (Serve tables)) work = EndsServe before now tables wor
 EndsWork before now (Some (Order asked)) work = EndsOrder before now asked work
 EndsWork before now (Some (Make asked)) work = EndsMake before now asked work
 EndsWork before now (Some (Build asked)) work = EndsBuild before now asked work
+EndsWork before now (Some (Ask name)) work = EndsAsk before now name work
+EndsWork before now (Some (Edit asked)) work = EndsEdit before now asked work
 EndsWork before now (Some (Trial asked)) work = EndsTrial asked work
 
 -- whether a command answers the script of the source
 abbrev pub has_script : Option Command → Bool
 has_script (Some (Serve tables)) = true
+has_script (Some (Ask name)) = true
 has_script _ = false
 
 -- behind what was written stands what is said of the stop; or, where there is a line and the sink failed in it, first bytes of that line
@@ -177,19 +212,6 @@ EndsRun before now words ending =
 abbrev pub Moves : SourceState → SourceState → SinkState → SinkState → Ending → Type 0
 Moves source_before source_now sink_before sink_now ending =
     Takes source_before.left source_now.left ending.taken × Appends sink_before.written sink_now.written ending.output
-
--- nothing was written, or all bytes written are flushed
-abbrev pub IsFlushed : SinkState → SinkState → Type 0
-IsFlushed before now = (now.written ≡ before.written) ⊎ sinks.IsFlushed now
-
--- What a run that ends with this status leaves of its source and its sink. Only a script is read to its end.
-pub record Leaves (script : Bool) (status : ℕ) (source_before source_now : SourceState) (sink_before sink_now : SinkState) : Type 0 where
-  pub whole : script ≡ true → status ≡ 0 → IfSome source_before.left (λ _. source_now.left ≡ Some [])
-  pub flushed : status ≢ 8 → IsFlushed sink_before sink_now
-  pub source_fault : status ≡ 7 → Rose source_before.faults source_now.faults
-  pub sink_fault : status ≡ 8 → Rose sink_before.faults sink_now.faults
-  pub later : sink_before.faults ≤ sink_now.faults
-  pub rises : sink_before.flushed ≤ sink_now.flushed
 
 -- tables that are there, within the limit, and name a network and an order of few edges
 pub record IsServable (before : ShelfState) (tables : TablesAsked) : Type 0 where
@@ -216,6 +238,21 @@ pub record IsOrderable (before : ShelfState) (asked : OrderingAsked) : Type 0 wh
   pub read : NetworkRead
   pub named : Names (network_of nodes roads profiles) read
 
+-- a packed hierarchy that is there, within the limit
+pub record IsOpenable (before : ShelfState) (name : List ℕ) : Type 0 where
+  pub files : List ℕ → Option (List ℕ)
+  pub told : before.held ≡ Some files
+  pub hierarchy : HierarchyValue
+  pub opened : Opens before name hierarchy
+
+-- a packed hierarchy and a file of edits that are there, within the limit
+pub record IsEditable (before : ShelfState) (asked : EditingAsked) : Type 0 where
+  pub files : List ℕ → Option (List ℕ)
+  pub told : before.held ≡ Some files
+  pub hierarchy : HierarchyValue
+  pub text : List ℕ
+  pub opened : OpensEdits before asked hierarchy text
+
 -- a trial whose graph hasn't too many edges
 abbrev pub IsTriable : TrialAsked → Type 0
 IsTriable asked =
@@ -228,11 +265,14 @@ IsWorkable before (Some (Serve tables)) = IsServable before tables
 IsWorkable before (Some (Order asked)) = IsOrderable before asked
 IsWorkable before (Some (Make asked)) = Unit {0}
 IsWorkable before (Some (Build asked)) = IsServable before asked.tables
+IsWorkable before (Some (Ask name)) = IsOpenable before name
+IsWorkable before (Some (Edit asked)) = IsEditable before asked
 IsWorkable before (Some (Trial asked)) = IsTriable asked
 
 -- the command stores a packed file, which may be too large
 abbrev pub IsBuilding : Option Command → Type 0
 IsBuilding (Some (Build asked)) = Unit {0}
+IsBuilding (Some (Edit asked)) = Unit {0}
 IsBuilding _ = ⊥
 
 -- the source tells fewer bytes than a run takes

@@ -4,10 +4,6 @@ use Rattle.cu_cli.specs.declared.stops.Role.{Role}
 use Rattle.cu_cli.specs.declared.stops.Role.TheVariants as role
 use Rattle.cu_cli.specs.declared.stops.Stop.{Stop}
 use Rattle.cu_cli.specs.declared.stops.Stop.TheVariants as stop
-use Rattle.cu_model.specs.declared.profiles.PieceFault.{PieceFault}
-use Rattle.cu_model.specs.declared.profiles.PieceFault.TheVariants.{Limit, Start, Rising, Closed, Early, Fifo}
-use Rattle.cu_model.specs.declared.profiles.PieceRefusal.{PieceRefusal}
-use Rattle.cu_model.specs.declared.profiles.PieceRefusal.TheVariants as piece
 use Rattle.cu_order.specs.declared.refusals.OrderRefusal.{OrderRefusal}
 use Rattle.cu_order.specs.declared.refusals.OrderRefusal.TheVariants as order
 use Rattle.cu_profile.specs.declared.refusals.ProfileRefusal.{ProfileRefusal}
@@ -16,6 +12,12 @@ use Rattle.cu_roads.specs.declared.refusals.File.{File}
 use Rattle.cu_roads.specs.declared.refusals.File.TheVariants.{Nodes, Roads}
 use Rattle.cu_roads.specs.declared.refusals.RoadRefusal.{RoadRefusal}
 use Rattle.cu_roads.specs.declared.refusals.RoadRefusal.TheVariants as road
+use Rattle.cu_pack.specs.declared.refusals.Field.{Field}
+use Rattle.cu_pack.specs.declared.refusals.Field.TheVariants as field
+use Rattle.cu_pack.specs.declared.refusals.PackRefusal.{PackRefusal}
+use Rattle.cu_pack.specs.declared.refusals.PackRefusal.TheVariants as pack
+use Rattle.cu_session.specs.Refusals.{piece_refusal_words}
+use Rattle.cu_session.specs.Swept.{dir_word}
 
 abbrev pub file_word : File → List ℕ
 file_word Nodes = codes "nodes"
@@ -24,18 +26,6 @@ file_word Roads = codes "roads"
 -- a table, a row of it, and a word
 abbrev pub row_fault : List ℕ → ℕ → List ℕ → List ℕ
 row_fault file row word = file ++ codes " " ++ decimal row ++ codes " " ++ word
-
-abbrev pub piece_fault_words : PieceFault → List ℕ
-piece_fault_words (Limit piece) = codes "limit"
-piece_fault_words Start = codes "start"
-piece_fault_words (Rising piece) = codes "rising"
-piece_fault_words (Closed piece) = codes "closed"
-piece_fault_words (Early second) = codes "early " ++ decimal second
-piece_fault_words (Fifo second) = codes "fifo " ++ decimal second
-
-abbrev pub piece_refusal_words : PieceRefusal → List ℕ
-piece_refusal_words piece.Kind = codes "kind"
-piece_refusal_words (piece.Fault fault) = piece_fault_words fault
 
 abbrev pub profile_fault : ProfileRefusal → List ℕ
 profile_fault profile.Header = codes "profiles header"
@@ -73,11 +63,48 @@ order_fault_words order.NoMemory = []
 abbrev pub order_fault : OrderRefusal → List ℕ
 order_fault refusal = codes "order: " ++ order_fault_words refusal
 
+abbrev pub field_word : Field → List ℕ
+field_word field.Nodes = codes "nodes"
+field_word field.Arcs = codes "arcs"
+field_word field.Profiles = codes "profiles"
+field_word field.Edges = codes "edges"
+field_word field.Pieces = codes "pieces"
+field_word field.Entries = codes "entries"
+
+-- a word and a number
+abbrev pub number_fault : List ℕ → ℕ → List ℕ
+number_fault word number = word ++ codes " " ++ decimal number
+
+-- a word and two numbers
+abbrev pub numbers_fault : List ℕ → ℕ → ℕ → List ℕ
+numbers_fault word first second = word ++ codes " " ++ decimal first ++ codes " " ++ decimal second
+
+abbrev pub file_fault_words : PackRefusal → List ℕ
+file_fault_words pack.Short = codes "short"
+file_fault_words pack.Magic = codes "magic"
+file_fault_words (pack.Version found) = number_fault (codes "version") found
+file_fault_words (pack.Length said found) = numbers_fault (codes "length") said found
+file_fault_words pack.Digest = codes "digest"
+file_fault_words (pack.Limit whose) = codes "limit " ++ field_word whose
+file_fault_words (pack.Size counted found) = numbers_fault (codes "size") counted found
+file_fault_words (pack.Order rank) = number_fault (codes "order") rank
+file_fault_words (pack.RoadArc arc) = number_fault (codes "arc") arc
+file_fault_words (pack.Profile number) = number_fault (codes "profile") number
+file_fault_words (pack.Graph rank) = number_fault (codes "graph") rank
+file_fault_words (pack.Ways edge dir) = number_fault (codes "ways") edge ++ codes " " ++ dir_word dir
+file_fault_words pack.NoMemory = []
+
+-- the line of a file that is no packed hierarchy
+abbrev pub file_fault : PackRefusal → List ℕ
+file_fault refusal = codes "file: " ++ file_fault_words refusal
+
 abbrev pub role_word : Role → List ℕ
 role_word role.Nodes = codes "nodes"
 role_word role.Roads = codes "roads"
 role_word role.Profiles = codes "profiles"
 role_word role.Order = codes "order"
+role_word role.Hierarchy = codes "hierarchy"
+role_word role.Edits = codes "edits"
 role_word role.Out = codes "out"
 
 abbrev pub line_of : List ℕ → List ℕ
@@ -90,6 +117,7 @@ said_of (stop.Fault whose) = line_of (codes "shelf: fault " ++ role_word whose)
 said_of (stop.TooLong whose) = line_of (codes "shelf: long " ++ role_word whose)
 said_of (stop.Network refusal) = line_of (network_fault refusal)
 said_of (stop.Order refusal) = line_of (order_fault refusal)
+said_of (stop.File refusal) = line_of (file_fault refusal)
 said_of stop.TooManyEdges = line_of (codes "too many shortcuts")
 said_of (stop.TooLarge bytes) = line_of (codes "too large " ++ decimal bytes)
 said_of stop.Source = []
@@ -104,6 +132,7 @@ status_of (stop.Fault whose) = 3
 status_of (stop.TooLong whose) = 3
 status_of (stop.Network refusal) = 4
 status_of (stop.Order refusal) = 5
+status_of (stop.File refusal) = 6
 status_of stop.Source = 7
 status_of stop.Sink = 8
 status_of stop.NoMemory = 9

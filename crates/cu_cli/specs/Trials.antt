@@ -14,7 +14,7 @@ use Rattle.cu_dissect.specs.Dissection.{dissected}
 use Rattle.cu_interval.specs.Hierarchies.{HierarchyValue, IsBuilt}
 use Rattle.cu_roads.specs.Draws.{after, drawn, stepped}
 use Rattle.cu_roads.specs.Grids.{behind_grid, drawn_day}
-use Rattle.cu_cli.specs.Replies.{Touches}
+use Rattle.cu_session.specs.Replies.{Touches}
 use Rattle.cu_cli.specs.Words.{GridAsked, TrialAsked, grid_read}
 
 -- where a trial stands between two turns: the state of its draws, the network, and the tallies so far

@@ -55,12 +55,20 @@ pub record TrialAsked : Type 0 where
   pub grid : GridAsked
   pub turns : ℕ
 
+-- the file of a packed hierarchy, the file of edits, and the file that gets the packed hierarchy after them
+pub record EditingAsked : Type 0 where
+  pub hierarchy : List ℕ
+  pub edits : List ℕ
+  pub out : List ℕ
+
 -- what the words ask for
 pub data Command : Type 0 where
   Serve : (tables : TablesAsked) → Command
   Order : (asked : OrderingAsked) → Command
   Make : (asked : MakingAsked) → Command
   Build : (asked : BuildingAsked) → Command
+  Ask : (hierarchy : List ℕ) → Command
+  Edit : (asked : EditingAsked) → Command
   Trial : (asked : TrialAsked) → Command
 
 -- the order of a word; `./identity` and `./dissect` are files
@@ -117,6 +125,16 @@ building_of (nodes ∷ roads ∷ profiles ∷ order ∷ out ∷ []) =
     Some (Build (record { tables = record { nodes = nodes; roads = roads; profiles = profiles; order = order_of_word order }; out = out }))
 building_of _ = None
 
+-- the command behind the word `ask`
+abbrev pub ask_of : List (List ℕ) → Option Command
+ask_of (hierarchy ∷ []) = Some (Ask hierarchy)
+ask_of _ = None
+
+-- the command behind the word `edit`
+abbrev pub editing_of : List (List ℕ) → Option Command
+editing_of (hierarchy ∷ edits ∷ out ∷ []) = Some (Edit (record { hierarchy = hierarchy; edits = edits; out = out }))
+editing_of _ = None
+
 -- the trial of a grid and a number of turns, where both are there
 abbrev pub trial_by : Option GridAsked → (turns : Option ℕ) → Option Command
 trial_by (Some grid) (Some turns) = Some (Trial (record { grid = grid; turns = turns }))
@@ -135,6 +153,8 @@ command_of (word ∷ words) =
     else if bytes_eq word (codes "order") then ordering_of words
     else if bytes_eq word (codes "make") then making_of words
     else if bytes_eq word (codes "build") then building_of words
+    else if bytes_eq word (codes "ask") then ask_of words
+    else if bytes_eq word (codes "edit") then editing_of words
     else if bytes_eq word (codes "trial") then trial_of words
     else None
 
@@ -159,3 +179,11 @@ order_files _ = []
 -- the files of the tables and of the order, in the order of their words
 abbrev pub table_files : TablesAsked → List FileAsked
 table_files tables = network_files tables.nodes tables.roads tables.profiles ++ order_files tables.order
+
+-- the file of a packed hierarchy
+abbrev pub hierarchy_file : List ℕ → FileAsked
+hierarchy_file name = record { role = role.Hierarchy; name = name }
+
+-- the files of a packed hierarchy and of edits, in the order of their words
+abbrev pub editing_files : EditingAsked → List FileAsked
+editing_files asked = hierarchy_file asked.hierarchy ∷ record { role = role.Edits; name = asked.edits } ∷ []

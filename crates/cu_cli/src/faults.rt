@@ -1,14 +1,15 @@
 //! The lines that say why a run ended before its work was done.
 
-ghost use Rattle.std.specs.Prelude.{◌≡◌, ◌++◌, decimal};
+ghost use Rattle.std.specs.Prelude.{◌≡◌, ◌++◌, codes, decimal};
 ghost use Rattle.cu_io.specs.Sinks.{Wrote, WroteLine};
-ghost use Rattle.cu_cli.specs.Stops.{file_word, network_fault, order_fault, order_fault_words, piece_refusal_words, profile_fault, road_fault, row_fault};
+ghost use Rattle.cu_cli.specs.Stops.{field_word, file_fault, file_fault_words, file_word, network_fault, order_fault, order_fault_words, profile_fault, road_fault, row_fault};
 
 use cu_io::{Sink, SinkFailed, end_line, put_all, put_number};
-use cu_model::{PieceFault, PieceRefusal};
 use cu_order::OrderRefusal;
+use cu_pack::{Field, PackRefusal};
 use cu_profile::ProfileRefusal;
 use cu_roads::{File, RoadRefusal};
+use cu_session::{put_dir, put_piece_refusal, put_word_and_long, put_word_and_number};
 
 /// Writes and ends the line of a refused network.
 pub fn put_network_line<K: Sink>(sink: &mut K, refusal: RoadRefusal) -> Result<(), SinkFailed>
@@ -59,47 +60,6 @@ fn put_profile_fault<K: Sink>(sink: &mut K, refusal: ProfileRefusal) -> Result<(
         }
         ProfileRefusal::NoMemory => Ok(()),
     }
-}
-
-/// Writes why the pieces of a profile are refused.
-pub fn put_piece_refusal<K: Sink>(sink: &mut K, refusal: PieceRefusal) -> Result<(), SinkFailed>
-    ensures wrote { Wrote (K.state sink.old) (K.state sink.new) result
-        (piece_refusal_words refusal) }
-{
-    match refusal {
-        PieceRefusal::Kind => put_all(sink, b"kind"),
-        PieceRefusal::Fault(PieceFault::Limit { .. }) => put_all(sink, b"limit"),
-        PieceRefusal::Fault(PieceFault::Start) => put_all(sink, b"start"),
-        PieceRefusal::Fault(PieceFault::Rising { .. }) => put_all(sink, b"rising"),
-        PieceRefusal::Fault(PieceFault::Closed { .. }) => put_all(sink, b"closed"),
-        PieceRefusal::Fault(PieceFault::Early { second }) => put_word_and_number(
-            sink, b"early ", second,
-        ),
-        PieceRefusal::Fault(PieceFault::Fifo { second }) => put_word_and_number(
-            sink, b"fifo ", second,
-        ),
-    }
-}
-
-/// Writes a word and a number.
-pub fn put_word_and_number<K: Sink>(
-    sink: &mut K,
-    word: &[u8],
-    number: u32,
-) -> Result<(), SinkFailed>
-    ensures wrote { Wrote (K.state sink.old) (K.state sink.new) result
-        (word.now ++ decimal number) }
-{
-    put_word_and_long(sink, word, u64::from(number))
-}
-
-/// Writes a word and a number of up to 64 bits.
-pub fn put_word_and_long<K: Sink>(sink: &mut K, word: &[u8], number: u64) -> Result<(), SinkFailed>
-    ensures wrote { Wrote (K.state sink.old) (K.state sink.new) result
-        (word.now ++ decimal number) }
-{
-    put_all(sink, word)?;
-    put_number(sink, number)
 }
 
 // Writes a table, a row of it and a word.
@@ -155,4 +115,67 @@ fn put_number_and_word<K: Sink>(sink: &mut K, number: u32, word: &[u8]) -> Resul
 {
     put_number(sink, u64::from(number))?;
     put_all(sink, word)
+}
+
+/// Writes and ends the line of a file that is no packed hierarchy.
+pub fn put_file_line<K: Sink>(sink: &mut K, refusal: PackRefusal) -> Result<(), SinkFailed>
+    ensures wrote { WroteLine (K.state sink.old) (K.state sink.new) result (file_fault refusal) }
+{
+    put_all(sink, b"file: ")?;
+    put_file_fault(sink, refusal)?;
+    end_line(sink)
+}
+
+fn put_file_fault<K: Sink>(sink: &mut K, refusal: PackRefusal) -> Result<(), SinkFailed>
+    ensures wrote { Wrote (K.state sink.old) (K.state sink.new) result (file_fault_words refusal) }
+{
+    match refusal {
+        PackRefusal::Short => put_all(sink, b"short"),
+        PackRefusal::Magic => put_all(sink, b"magic"),
+        PackRefusal::Version { found } => put_word_and_number(sink, b"version ", found),
+        PackRefusal::Length { said, found } => put_word_and_two(sink, b"length ", said, found),
+        PackRefusal::Digest => put_all(sink, b"digest"),
+        PackRefusal::Limit { field } => {
+            put_all(sink, b"limit ")?;
+            put_all(sink, field_text(field))
+        }
+        PackRefusal::Size { counted, found } => put_word_and_two(sink, b"size ", counted, found),
+        PackRefusal::Order { rank } => put_word_and_number(sink, b"order ", rank),
+        PackRefusal::RoadArc { arc } => put_word_and_number(sink, b"arc ", arc),
+        PackRefusal::Profile { number } => put_word_and_number(sink, b"profile ", number),
+        PackRefusal::Graph { rank } => put_word_and_number(sink, b"graph ", rank),
+        PackRefusal::Ways { edge, dir } => {
+            put_word_and_number(sink, b"ways ", edge)?;
+            put_all(sink, b" ")?;
+            put_dir(sink, dir)
+        }
+        PackRefusal::NoMemory => Ok(()),
+    }
+}
+
+// Writes a word and two numbers.
+fn put_word_and_two<K: Sink>(
+    sink: &mut K,
+    word: &[u8],
+    first: u64,
+    second: u64,
+) -> Result<(), SinkFailed>
+    ensures wrote { Wrote (K.state sink.old) (K.state sink.new) result
+        (word.now ++ decimal first ++ codes " " ++ decimal second) }
+{
+    put_word_and_long(sink, word, first)?;
+    put_word_and_long(sink, b" ", second)
+}
+
+fn field_text(field: Field) -> &'static [u8]
+    ensures { result.now ≡ field_word field }
+{
+    match field {
+        Field::Nodes => b"nodes",
+        Field::Arcs => b"arcs",
+        Field::Profiles => b"profiles",
+        Field::Edges => b"edges",
+        Field::Pieces => b"pieces",
+        Field::Entries => b"entries",
+    }
 }

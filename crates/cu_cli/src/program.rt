@@ -1,13 +1,16 @@
 //! The program but for its edge: words, files, script and replies, over any shelf, source and sink.
 
 ghost use Rattle.std.specs.Prelude.{◌≡◌, ◌⊎◌, map, string_bytes};
-ghost use Rattle.cu_cli.specs.Runs.{EndsRun, EndsWork, Ending, IsBuilding, IsShort, IsWorkable, Leaves, MeetsNoFault, Moves, has_script};
+ghost use Rattle.cu_cli.specs.Runs.{EndsRun, EndsWork, Ending, IsBuilding, IsShort, IsWorkable, MeetsNoFault, Moves, has_script};
 ghost use Rattle.cu_cli.specs.Steps.Outcomes.{Works, stop_of};
 ghost use Rattle.cu_cli.specs.Stops.{status_at};
 ghost use Rattle.cu_cli.specs.Storing.{Stores};
 ghost use Rattle.cu_cli.specs.Words.{command_of};
+ghost use Rattle.cu_session.specs.Sessions.{Leaves};
 
+use crate::commands::ask::ask;
 use crate::commands::build::build;
+use crate::commands::edit::edit;
 use crate::commands::make::make;
 use crate::commands::order::order;
 use crate::commands::serve::serve;
@@ -18,7 +21,7 @@ use cu_io::{Shelf, Sink, Source};
 use std::alloc::Global;
 
 /// Does all that the program does: what the words ask for, over the files of the shelf and the script of the source,
-/// with the replies, or the line that says what was stored, written to the sink. Answers the program's exit status.
+/// with the replies, and the line that says what was stored, written to the sink. Answers the program's exit status.
 /// Where the sink failed, what was written are first bytes of the replies to some first lines, or of that line.
 pub fn run<H: Shelf, S: Source, K: Sink>(
     alloc: Global,
@@ -82,6 +85,8 @@ fn perform<H: Shelf, S: Source, K: Sink>(
         Some(Command::Order(asked)) => order(alloc, asked, shelf, sink),
         Some(Command::Make(asked)) => make(alloc, asked, shelf, sink),
         Some(Command::Build(asked)) => build(alloc, asked, shelf, sink),
+        Some(Command::Ask(name)) => ask(alloc, name, shelf, source, sink),
+        Some(Command::Edit(asked)) => edit(alloc, asked, shelf, sink),
         Some(Command::Trial(asked)) => trial(alloc, asked, sink),
     }
 }

@@ -5,12 +5,14 @@ ghost use Rattle.cu_io.specs.Sinks.{WroteLine};
 ghost use Rattle.cu_cli.specs.Stops.{role_word, said_of, status_of};
 ghost use Rattle.cu_cli.specs.Steps.Outcomes.{Refuses, Said};
 
-use crate::faults::{put_network_line, put_order_line, put_word_and_long};
+use crate::faults::{put_file_line, put_network_line, put_order_line};
 use cu_chordal::CloseRefusal;
 use cu_io::{Sink, SinkFailed, end_line, put_all, put_line};
 use cu_model::NoMemory;
 use cu_order::OrderRefusal;
+use cu_pack::PackRefusal;
 use cu_roads::RoadRefusal;
+use cu_session::{SessionStop, put_word_and_long};
 
 /// Whose word of a command names a file.
 #[derive(Clone, Copy, Debug, PartialEq, Eq)]
@@ -19,6 +21,8 @@ pub enum Role {
     Roads,
     Profiles,
     Order,
+    Hierarchy,
+    Edits,
     Out,
 }
 
@@ -31,6 +35,8 @@ impl Role {
             Role::Roads => b"roads",
             Role::Profiles => b"profiles",
             Role::Order => b"order",
+            Role::Hierarchy => b"hierarchy",
+            Role::Edits => b"edits",
             Role::Out => b"out",
         }
     }
@@ -49,13 +55,15 @@ pub enum Stop {
     Network(RoadRefusal),
     /// The order text is refused.
     Order(OrderRefusal),
+    /// The loaded bytes are the packed file of no hierarchy.
+    File(PackRefusal),
     /// The chordal supergraph has more than 16,777,216 edges.
     TooManyEdges,
     /// The source failed.
     Source,
     /// The sink failed.
     Sink,
-    /// Memory ran out, before anything was written to the sink.
+    /// Memory ran out: before anything was written to the sink, or, in a file of edits, at a line of it.
     NoMemory,
     /// As many bytes were taken from the source as a run takes, and the end not seen.
     TakeLimit,
@@ -73,6 +81,7 @@ impl Stop {
             Stop::Fault(_) | Stop::TooLong(_) => 3,
             Stop::Network(_) => 4,
             Stop::Order(_) => 5,
+            Stop::File(_) => 6,
             Stop::Source => 7,
             Stop::Sink => 8,
             Stop::NoMemory => 9,
@@ -125,6 +134,37 @@ impl From<CloseRefusal> for Stop {
     }
 }
 
+impl From<PackRefusal> for Stop {
+    ghost use Rattle.std.specs.Prelude.{◌≡◌};
+    ghost use Rattle.cu_cli.specs.Steps.Outcomes.{stop_of_file};
+
+    ghost from_gives = { λ refusal stop. stop ≡ stop_of_file refusal };
+
+    fn from(refusal: PackRefusal) -> Stop {
+        match refusal {
+            PackRefusal::NoMemory => Stop::NoMemory,
+            other => Stop::File(other),
+        }
+    }
+}
+
+impl From<SessionStop> for Stop {
+    ghost use Rattle.std.specs.Prelude.{◌≡◌};
+    ghost use Rattle.cu_cli.specs.Runs.{ending_of};
+    ghost use Rattle.std.specs.Prelude.{Some};
+
+    ghost from_gives = { λ session stop. Some stop ≡ ending_of (Some session) };
+
+    fn from(stop: SessionStop) -> Stop {
+        match stop {
+            SessionStop::Source => Stop::Source,
+            SessionStop::Sink => Stop::Sink,
+            SessionStop::NoMemory => Stop::NoMemory,
+            SessionStop::TakeLimit => Stop::TakeLimit,
+        }
+    }
+}
+
 impl From<NoMemory> for Stop {
     ghost use Rattle.std.specs.Prelude.{◌≡◌};
     ghost use Rattle.cu_cli.specs.declared.stops.Stop.TheVariants as stop;
@@ -169,6 +209,7 @@ fn say<K: Sink>(stop: Stop, sink: &mut K) -> Result<(), SinkFailed>
         Stop::TooLong(role) => put_role_line(sink, b"shelf: long ", role),
         Stop::Network(refusal) => put_network_line(sink, refusal),
         Stop::Order(refusal) => put_order_line(sink, refusal),
+        Stop::File(refusal) => put_file_line(sink, refusal),
         Stop::TooManyEdges => put_line(sink, b"too many shortcuts"),
         Stop::TooLarge(bytes) => put_large_line(sink, bytes),
         Stop::Source | Stop::Sink | Stop::NoMemory | Stop::TakeLimit => Ok(()),

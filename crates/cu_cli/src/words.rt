@@ -4,7 +4,7 @@ ghost use Rattle.std.specs.Prelude.{◌≡◌, ◌≤◌, IfSome, map, string_by
 ghost use Rattle.cu_roads.specs.Grids.{IsSide};
 ghost use Rattle.cu_roads.specs.declared.grids.TheConstants.{MAX_SIDE};
 ghost use Rattle.cu_cli.specs.Steps.Asks.{AsksFor, AsksForGrid, order_asked};
-ghost use Rattle.cu_cli.specs.Words.{building_of, command_of, grid_of, making_of, number_within, order_of_word, ordering_of, serve_of, trial_of};
+ghost use Rattle.cu_cli.specs.Words.{ask_of, building_of, command_of, editing_of, grid_of, making_of, number_within, order_of_word, ordering_of, serve_of, trial_of};
 
 use cu_model::{Number, parse_number};
 use cu_roads::MAX_SIDE;
@@ -60,6 +60,14 @@ pub struct BuildingWords<'a> {
     pub out: &'a str,
 }
 
+/// The file of a packed hierarchy, the file of its edits, and the file that gets the packed hierarchy after them.
+#[derive(Clone, Copy)]
+pub struct EditingWords<'a> {
+    pub hierarchy: &'a str,
+    pub edits: &'a str,
+    pub out: &'a str,
+}
+
 /// What the words ask for.
 #[derive(Clone, Copy)]
 pub enum Command<'a> {
@@ -71,6 +79,10 @@ pub enum Command<'a> {
     Make(MakingWords<'a>),
     /// `build NODES ROADS PROFILES ORDER OUT`
     Build(BuildingWords<'a>),
+    /// `ask HIERARCHY`
+    Ask(&'a str),
+    /// `edit HIERARCHY EDITS OUT`
+    Edit(EditingWords<'a>),
     /// `trial START WIDTH HEIGHT TURNS`
     Trial(TrialWords),
 }
@@ -85,6 +97,8 @@ pub fn parse_words(words: &Vec<String>) -> Option<Command<'_>>
         "order" => parse_ordering(words),
         "make" => parse_making(words),
         "build" => parse_building(words),
+        "ask" => parse_ask(words),
+        "edit" => parse_editing(words),
         "trial" => parse_trial(words),
         _ => None,
     }
@@ -156,6 +170,28 @@ fn parse_building(words: &[String]) -> Option<Command<'_>>
             profiles: profiles.as_str(),
             order: parse_order(order.as_str()),
         },
+        out: out.as_str(),
+    }))
+}
+
+fn parse_ask(words: &[String]) -> Option<Command<'_>>
+    ensures { AsksFor (ask_of (map string_bytes words.now)) result }
+{
+    let [hierarchy] = words else {
+        return None;
+    };
+    Some(Command::Ask(hierarchy.as_str()))
+}
+
+fn parse_editing(words: &[String]) -> Option<Command<'_>>
+    ensures { AsksFor (editing_of (map string_bytes words.now)) result }
+{
+    let [hierarchy, edits, out] = words else {
+        return None;
+    };
+    Some(Command::Edit(EditingWords {
+        hierarchy: hierarchy.as_str(),
+        edits: edits.as_str(),
         out: out.as_str(),
     }))
 }

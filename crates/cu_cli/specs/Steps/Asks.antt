@@ -3,6 +3,7 @@ use Rattle.std.specs.Prelude.{Option, Some, None, ◌≡◌}
 use Rattle.cu_cli.specs.declared.words.Command.TheVariants as command
 use Rattle.cu_cli.specs.declared.words.grid.GridWords.{GridWords}
 use Rattle.cu_cli.specs.declared.words.BuildingWords.{BuildingWords}
+use Rattle.cu_cli.specs.declared.words.EditingWords.{EditingWords}
 use Rattle.cu_cli.specs.declared.words.MakingWords.{MakingWords}
 use Rattle.cu_cli.specs.declared.words.OrderWord.{OrderWord}
 use Rattle.cu_cli.specs.declared.words.OrderWord.TheVariants as word
@@ -10,8 +11,8 @@ use Rattle.cu_cli.specs.declared.words.OrderingWords.{OrderingWords}
 use Rattle.cu_cli.specs.declared.words.TableWords.{TableWords}
 use Rattle.cu_cli.specs.declared.words.trial.TrialWords.{TrialWords}
 use Rattle.cu_cli.specs.declared.words.Command as words
-use Rattle.cu_cli.specs.Words.{Command, Serve, Order, Make, Build, Trial, OrderAsked, Identity, Dissected, Named}
-use Rattle.cu_cli.specs.Words.{BuildingAsked, GridAsked, MakingAsked, OrderingAsked, TablesAsked, TrialAsked}
+use Rattle.cu_cli.specs.Words.{Command, Serve, Order, Make, Build, Ask, Edit, Trial, OrderAsked, Identity, Dissected, Named}
+use Rattle.cu_cli.specs.Words.{BuildingAsked, EditingAsked, GridAsked, MakingAsked, OrderingAsked, TablesAsked, TrialAsked}
 
 -- the order that the program takes a word for
 abbrev pub order_asked : OrderWord → OrderAsked
@@ -37,6 +38,9 @@ making_asked asked =
 abbrev pub building_asked : BuildingWords → BuildingAsked
 building_asked asked = record { tables = tables_asked asked.tables; out = asked.out.now }
 
+abbrev pub editing_asked : EditingWords → EditingAsked
+editing_asked asked = record { hierarchy = asked.hierarchy.now; edits = asked.edits.now; out = asked.out.now }
+
 abbrev pub trial_asked : TrialWords → TrialAsked
 trial_asked asked = record { grid = grid_asked asked.grid; turns = asked.turns }
 
@@ -46,6 +50,8 @@ command_asked (command.Serve tables) = Serve (tables_asked tables)
 command_asked (command.Order asked) = Order (ordering_asked asked)
 command_asked (command.Make asked) = Make (making_asked asked)
 command_asked (command.Build asked) = Build (building_asked asked)
+command_asked (command.Ask hierarchy) = Ask hierarchy.now
+command_asked (command.Edit asked) = Edit (editing_asked asked)
 command_asked (command.Trial asked) = Trial (trial_asked asked)
 
 -- the program takes the words for this command, or for none

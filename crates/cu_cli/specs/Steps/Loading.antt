@@ -1,6 +1,7 @@
 -- What loads leave of a shelf, and the texts that a command has loaded.
 use Rattle.std.specs.Prelude.{◌≡◌, ◌≤◌, ◌++◌, ℕ, List, [], ◌∷◌}
 use Rattle.cu_io.specs.Shelves.{ShelfState}
+use Rattle.cu_interval.specs.Hierarchies.{HierarchyValue, IsBuilt}
 use Rattle.cu_order.specs.declared.refusals.OrderRefusal.{OrderRefusal}
 use Rattle.cu_order.specs.declared.refusals.OrderRefusal.TheVariants as order
 use Rattle.cu_roads.specs.NetworkTexts.{NetworkRead}
@@ -47,7 +48,13 @@ abbrev pub HasPrepared : ShelfState → TablesAsked → Prepared → Type 0
 HasPrepared before tables prepared =
     (places : List Place) × Prepares before tables (record { network = prepared.network; places = places }) prepared.order
 
--- and likewise of the texts of the tables, and of what gives the order
+-- the tables were read, whatever their places are, and this is their built hierarchy
+pub record HasBuilt (before : ShelfState) (tables : TablesAsked) (h : HierarchyValue) : Type 0 where
+  pub built : IsBuilt h
+  pub places : List Place
+  pub prepares : Prepares before tables (record { network = h.network; places = places }) h.order
+
+-- the network and its order are likewise those of the texts of the tables, and of what gives the order
 abbrev pub IsReadFrom : List (List ℕ) → OrderGiven → Prepared → Type 0
 IsReadFrom texts given prepared =
     (places : List Place)

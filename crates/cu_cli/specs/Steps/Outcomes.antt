@@ -9,11 +9,14 @@ use Rattle.cu_chordal.specs.declared.closure.CloseRefusal.{CloseRefusal}
 use Rattle.cu_chordal.specs.declared.closure.CloseRefusal.TheVariants as closing
 use Rattle.cu_order.specs.declared.refusals.OrderRefusal.{OrderRefusal}
 use Rattle.cu_order.specs.declared.refusals.OrderRefusal.TheVariants as order
+use Rattle.cu_pack.specs.declared.refusals.PackRefusal.{PackRefusal}
+use Rattle.cu_pack.specs.declared.refusals.PackRefusal.TheVariants as pack
 use Rattle.cu_roads.specs.declared.refusals.RoadRefusal.{RoadRefusal}
 use Rattle.cu_roads.specs.declared.refusals.RoadRefusal.TheVariants as road
 use Rattle.cu_cli.specs.declared.stops.Stop.{Stop}
 use Rattle.cu_cli.specs.declared.stops.Stop.TheVariants as stop
-use Rattle.cu_cli.specs.Runs.{Ending, IsFlushed, Leaves, Moves}
+use Rattle.cu_session.specs.Sessions.{IsFlushed, Leaves}
+use Rattle.cu_cli.specs.Runs.{Ending, Moves}
 use Rattle.cu_cli.specs.Storing.{Stores}
 use Rattle.cu_cli.specs.Stops.{said_of, status_at, status_of}
 
@@ -31,6 +34,11 @@ stop_of_order other = stop.Order other
 abbrev pub stop_of_close : CloseRefusal → Stop
 stop_of_close closing.NoMemory = stop.NoMemory
 stop_of_close closing.TooManyEdges = stop.TooManyEdges
+
+-- the stop of bytes that are no packed file
+abbrev pub stop_of_file : PackRefusal → Stop
+stop_of_file pack.NoMemory = stop.NoMemory
+stop_of_file other = stop.File other
 
 -- a stop before the script is read
 abbrev pub IsBeforeScript : Stop → Type 0

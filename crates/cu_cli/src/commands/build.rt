@@ -7,7 +7,6 @@ ghost use Rattle.cu_cli.specs.Runs.{EndsBuild, built_text};
 ghost use Rattle.cu_cli.specs.Steps.Asks.{building_asked};
 ghost use Rattle.cu_cli.specs.Steps.Outcomes.{Works, stop_of};
 
-use crate::faults::{put_word_and_long, put_word_and_number};
 use crate::preparing::prepare;
 use crate::stops::{Role, Stop};
 use crate::storing::store_file;
@@ -17,6 +16,7 @@ use cu_interval::{Hierarchy, Ways};
 use cu_io::{Shelf, Sink, SinkFailed, end_line};
 use cu_model::Roads;
 use cu_pack::pack;
+use cu_session::{put_word_and_long, put_word_and_number};
 use std::alloc::Global;
 
 /// Builds the hierarchy of the tables, stores its packed file and says how many nodes, roads, edges and bytes it has.

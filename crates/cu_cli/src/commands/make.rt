@@ -8,12 +8,12 @@ ghost use Rattle.cu_cli.specs.Steps.Asks.{grid_asked, making_asked};
 ghost use Rattle.cu_cli.specs.Steps.Outcomes.{Works, stop_of};
 ghost use Rattle.cu_cli.specs.Steps.Storing.{StoresInTurn};
 
-use crate::faults::put_word_and_number;
 use crate::stops::{Role, Stop};
 use crate::storing::store_file;
 use crate::words::{GridWords, MakingWords};
 use cu_io::{Shelf, Sink, SinkFailed, put_line};
 use cu_roads::{Draws, GridTexts, grid, grid_roads};
+use cu_session::put_word_and_number;
 use std::alloc::Global;
 
 /// Stores the tables of a grid and says how many nodes, roads and profiles it has. Nothing is taken from a source.

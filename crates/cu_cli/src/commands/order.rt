@@ -7,7 +7,6 @@ ghost use Rattle.cu_cli.specs.Runs.{EndsOrder, ordered_text};
 ghost use Rattle.cu_cli.specs.Steps.Asks.{ordering_asked};
 ghost use Rattle.cu_cli.specs.Steps.Outcomes.{Works, stop_of};
 
-use crate::faults::put_word_and_number;
 use crate::preparing::{load_tables, read_tables};
 use crate::stops::{Role, Stop};
 use crate::storing::store_file;
@@ -16,6 +15,7 @@ use cu_dissect::dissect;
 use cu_io::{Shelf, Sink, SinkFailed, end_line};
 use cu_model::{Network, Roads};
 use cu_order::write_order;
+use cu_session::put_word_and_number;
 use std::alloc::Global;
 
 /// Dissects the network of the tables, stores its order and says of how many nodes it is. Nothing is taken from a

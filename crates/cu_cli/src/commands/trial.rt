@@ -5,6 +5,7 @@ ghost use Rattle.std.specs.List.{sum_by};
 ghost use Rattle.cu_io.specs.Shelves.{ShelfState};
 ghost use Rattle.cu_io.specs.Sources.{SourceState};
 ghost use Rattle.cu_io.specs.Sinks.{Wrote, WroteLine};
+ghost use Rattle.cu_interval.specs.Hierarchies.{IsBuilt};
 ghost use Rattle.cu_model.specs.Networks.{NetworkValue};
 ghost use Rattle.cu_model.specs.declared.limits.TheConstants.{DAY};
 ghost use Rattle.cu_roads.specs.Draws.{after};
@@ -17,7 +18,6 @@ ghost use Rattle.cu_cli.specs.Trials.{IsEditedBy, IsGridOrder, IsQueried, IsTrie
 ghost use Rattle.cu_cli.specs.Words.{grid_read};
 ghost use Rattle.cu_cli.specs.declared.words.trial.TheConstants.{MAX_TURNS};
 
-use crate::router::Router;
 use crate::stops::Stop;
 use crate::words::{GridWords, TrialWords};
 use cu_chordal::close;
@@ -26,7 +26,9 @@ use cu_dissect::dissect;
 use cu_interval::{Dir, Hierarchy, Ways};
 use cu_io::{Sink, SinkFailed, end_line, put_all, put_number};
 use cu_model::{DAY, Edit, NoMemory, Profile, Query, Roads};
+use cu_pack::{PackedView, pack};
 use cu_roads::{Draws, draw_day, grid, read_network};
+use cu_session::Router;
 use std::alloc::Global;
 
 // How many profiles a grid has.
@@ -69,16 +71,18 @@ pub fn trial<K: Sink>(alloc: Global, asked: TrialWords, sink: &mut K) -> Result<
         touched: 0,
     };
     take_turns(alloc, &mut router, &mut tally, asked.turns)?;
-    say_tried(sink, router.hierarchy(), asked.turns, &tally)?;
+    let view = PackedView::adopt(router.bytes());
+    say_tried(sink, &view, asked.turns, &tally)?;
     Ok(())
 }
 
-// Draws a grid and builds its hierarchy under the order of its dissection.
+// Draws a grid, and packs its built hierarchy under the order of its dissection.
 fn build_grid(alloc: Global, draws: &mut Draws, size: GridWords) -> Result<Router, Stop>
     requires start { draws.old ≡ size.start }
     ensures network { IfOk result
         (λ router. router.network ≡ (grid_read (grid_asked size)).network) }
     ensures order { IfOk result (λ router. IsGridOrder (grid_asked size) router.order) }
+    ensures built { IfOk result IsBuilt }
     ensures behind { OnOk result (draws.new ≡ behind_grid size.start size.width size.height) }
     ensures err { IfErr result (StopsGrid (grid_asked size)) }
 {
@@ -87,7 +91,16 @@ fn build_grid(alloc: Global, draws: &mut Draws, size: GridWords) -> Result<Route
     let (order, _splits) = dissect(alloc, &network, &places)?;
     let graph = close(alloc, &network, &order)?;
     let hierarchy = customize(alloc, network, order, graph)?;
-    Ok(Router::new(alloc, hierarchy)?)
+    Ok(packed_router(alloc, &hierarchy)?)
+}
+
+// The packed bytes of a built hierarchy, and the room for its queries and edits.
+fn packed_router(alloc: Global, hierarchy: &Hierarchy) -> Result<Router, NoMemory>
+    requires built { IsBuilt hierarchy.now }
+    ensures same { IfOk result (λ router. router ≡ hierarchy.now) }
+{
+    let bytes = pack(alloc, hierarchy)?;
+    Router::new(alloc, bytes)
 }
 
 // Takes so many turns.
@@ -98,11 +111,13 @@ fn take_turns(
     turns: u32,
 ) -> Result<(), NoMemory>
     requires turns { turns ≤ MAX_TURNS }
+    requires built { IsBuilt router.old }
     requires drawable { IsDrawable router.old.network }
     requires none { (tally.old.reached ≡ 0) × (tally.old.edits ≡ 0) }
     requires small { IsSmall tally.old }
     ensures tried { OnOk result (IsTried router.old.order (standing router.old.network tally.old)
         turns (standing router.new.network tally.new)) }
+    ensures built { OnOk result (IsBuilt router.new) }
     ensures order { OnOk result (router.new.order ≡ router.old.order) }
 {
     'turns: for number in 0..turns {
@@ -118,12 +133,14 @@ fn take_turn(
     tally: &mut Tally,
     number: u32,
 ) -> Result<(), NoMemory>
+    requires built { IsBuilt router.old }
     requires drawable { IsDrawable router.old.network }
     requires reached { tally.old.reached < MAX_TURNS }
     requires edits { tally.old.edits < MAX_TURNS }
     requires small { IsSmall tally.old }
     ensures turn { OnOk result (IsTurn router.old.order number
         (standing router.old.network tally.old) (standing router.new.network tally.new)) }
+    ensures built { OnOk result (IsBuilt router.new) }
     ensures order { OnOk result (router.new.order ≡ router.old.order) }
     ensures drawable { OnOk result (IsDrawable router.new.network) }
     ensures reached { OnOk result (tally.new.reached ≤ tally.old.reached + 1) }
@@ -139,6 +156,7 @@ fn take_turn(
 
 // Draws a query, and counts it with its arrival where there is a walk.
 fn count_query(router: &mut Router, tally: &mut Tally)
+    requires built { IsBuilt router.old }
     requires drawable { IsDrawable router.old.network }
     requires reached { tally.old.reached < MAX_TURNS }
     requires small { IsSmall tally.old }
@@ -148,12 +166,19 @@ fn count_query(router: &mut Router, tally: &mut Tally)
     ensures reached { tally.new.reached ≤ tally.old.reached + 1 }
     ensures small { IsSmall tally.new }
 {
-    let query = draw_query(&mut tally.draws, router.hierarchy().nodes());
+    let query = draw_query(&mut tally.draws, count_nodes(router));
     let Some(arrival) = router.find(query) else {
         return;
     };
     tally.reached += 1;
     tally.sum += arrival;
+}
+
+// How many nodes the network has.
+fn count_nodes(router: &Router) -> u32
+    ensures { result ≡ router.now.network.nodes }
+{
+    PackedView::adopt(router.bytes()).nodes()
 }
 
 // Draws a query between nodes below so many.
@@ -174,11 +199,13 @@ fn draw_query(draws: &mut Draws, nodes: u32) -> Query
 
 // Draws an edit, makes it, and counts it with the edges that it touches.
 fn count_edit(alloc: Global, router: &mut Router, tally: &mut Tally) -> Result<(), NoMemory>
+    requires built { IsBuilt router.old }
     requires drawable { IsDrawable router.old.network }
     requires edits { tally.old.edits < MAX_TURNS }
     requires small { IsSmall tally.old }
     ensures edited { OnOk result (IsEditedBy router.old.order
         (standing router.old.network tally.old) (standing router.new.network tally.new)) }
+    ensures built { OnOk result (IsBuilt router.new) }
     ensures order { OnOk result (router.new.order ≡ router.old.order) }
     ensures drawable { OnOk result (IsDrawable router.new.network) }
     ensures small { OnOk result (IsSmall tally.new) }
@@ -208,40 +235,39 @@ fn draw_edit(alloc: Global, draws: &mut Draws) -> Result<Edit, NoMemory>
 // Says what a trial came to.
 fn say_tried<K: Sink>(
     sink: &mut K,
-    hierarchy: &Hierarchy,
+    view: &PackedView<'_>,
     turns: u32,
     tally: &Tally,
 ) -> Result<(), SinkFailed>
     ensures wrote { WroteLine (K.state sink.old) (K.state sink.new) result
-        (hierarchy_text hierarchy.now
-        ++ queries_text turns (standing hierarchy.now.network tally.now)
-        ++ edits_text (standing hierarchy.now.network tally.now)) }
+        (hierarchy_text view.now
+        ++ queries_text turns (standing view.now.network tally.now)
+        ++ edits_text (standing view.now.network tally.now)) }
 {
-    put_hierarchy(sink, hierarchy)?;
+    put_hierarchy(sink, view)?;
     put_queries(sink, turns, tally)?;
     put_edits(sink, tally)?;
     end_line(sink)
 }
 
 // Writes what a hierarchy comes to.
-fn put_hierarchy<K: Sink>(sink: &mut K, hierarchy: &Hierarchy) -> Result<(), SinkFailed>
-    ensures wrote { Wrote (K.state sink.old) (K.state sink.new) result
-        (hierarchy_text hierarchy.now) }
+fn put_hierarchy<K: Sink>(sink: &mut K, view: &PackedView<'_>) -> Result<(), SinkFailed>
+    ensures wrote { Wrote (K.state sink.old) (K.state sink.new) result (hierarchy_text view.now) }
 {
-    put_count(sink, b"nodes ", u64::from(hierarchy.nodes()))?;
-    put_count(sink, b" arcs ", u64::from(hierarchy.arcs()))?;
-    put_count(sink, b" edges ", u64::from(hierarchy.edges()))?;
-    put_count(sink, b" entries ", count_entries(hierarchy))
+    put_count(sink, b"nodes ", u64::from(view.nodes()))?;
+    put_count(sink, b" arcs ", u64::from(view.arcs()))?;
+    put_count(sink, b" edges ", u64::from(view.edges()))?;
+    put_count(sink, b" entries ", count_entries(view))
 }
 
 // How many entries all lists of a hierarchy have.
-fn count_entries(hierarchy: &Hierarchy) -> u64
-    ensures { result ≡ sum_by (λ list. length list) hierarchy.now.lists }
+fn count_entries(view: &PackedView<'_>) -> u64
+    ensures { result ≡ sum_by (λ list. length list) view.now.lists }
 {
     let mut entries = 0;
-    'edges: for edge in 0..hierarchy.edges() {
-        entries += u64::from(hierarchy.entries(edge, Dir::Up));
-        entries += u64::from(hierarchy.entries(edge, Dir::Down));
+    'edges: for edge in 0..view.edges() {
+        entries += u64::from(view.entries(edge, Dir::Up));
+        entries += u64::from(view.entries(edge, Dir::Down));
     }
     entries
 }

@@ -1,133 +1,131 @@
 //! Commands that store files. The numbers were worked out by hand, or by another program over the same grid.
 
-use super::{NODES, ROADS, RUSH, run};
-use cu_io::{MemoryShelf, MemorySink, MemorySource, Shelf};
+use super::{PLAIN, Run, leaves, perform, says, shelf_of, source_of, words_of};
+use crate::run;
+use cu_io::{MemoryShelf, MemorySink, Shelf};
+use cu_model::NoMemory;
 use std::alloc::Global;
 use std::test::Fail;
 
-// A shelf of the rush hour's tables whose calls with these numbers fail, the three stores of the tables counted.
-fn shelf_of(alloc: Global, fails: &[u64]) -> Result<MemoryShelf, Fail> {
-    let mut shelf = MemoryShelf::new(alloc, 1 << 20, Vec::from_slice(alloc, fails)?);
-    shelf.store(alloc, "nodes", NODES.as_bytes())?;
-    shelf.store(alloc, "roads", ROADS.as_bytes())?;
-    shelf.store(alloc, "profiles", RUSH.as_bytes())?;
-    Ok(shelf)
-}
+// A row of nine nodes, cut by a dissection at its fifth.
+const ROW_NODES: &[u8] =
+    b"node,x,y\n0,0,0\n1,100,0\n2,200,0\n3,300,0\n4,400,0\n5,500,0\n6,600,0\n7,700,0\n8,800,0\n";
 
-// What these words, with blanks between them, write, and their status.
-fn perform(
-    alloc: Global,
-    words: &str,
-    shelf: &mut MemoryShelf,
-    script: &str,
-    sink_fails: &[u64],
-) -> Result<(u8, Vec<u8>), Fail> {
-    let mut asked = Vec::new(alloc);
-    for word in words.split(' ') {
-        asked.push(String::from_str(alloc, word)?)?;
-    }
-    let mut source = MemorySource::of(Vec::from_slice(alloc, script.as_bytes())?, Vec::new(alloc));
-    let mut sink = MemorySink::new(alloc, 1 << 16, Vec::from_slice(alloc, sink_fails)?)?;
-    let status = run(alloc, &asked, shelf, &mut source, &mut sink);
-    Ok((status, Vec::from_slice(alloc, sink.bytes())?))
-}
+const ROW_ROADS: &[u8] =
+    b"arc,tail,head,profile\n0,0,1,0\n1,1,2,0\n2,2,3,0\n3,3,4,0\n4,4,5,0\n5,5,6,0\n6,6,7,0\n7,7,8,0\n";
 
-// The bytes under a name.
-fn held(alloc: Global, shelf: &mut MemoryShelf, name: &str) -> Result<Vec<u8>, Fail> {
-    let mut bytes = Vec::new(alloc);
-    shelf.load(alloc, name, &mut bytes)?;
-    Ok(bytes)
-}
+const ORDER: Run<'static> = Run {
+    words: "order nodes roads profiles out",
+    script: "q,0,2,0\n",
+    ..PLAIN
+};
 
 #[test]
 fn orders_are_stored(rt: HostRuntime) -> Result<(), Fail> {
     let alloc = rt.alloc();
-    let mut shelf = shelf_of(alloc, &[])?;
-    let words = "order nodes roads profiles out";
-    let (status, said) = perform(alloc, words, &mut shelf, "q,0,2,0\n", &[])?;
-    assert_eq!(rt; said.as_slice(), b"ordered 3\n".as_slice());
-    assert_eq!(rt; status, 0);
-    let order = held(alloc, &mut shelf, "out")?;
-    assert_eq!(rt; order.as_slice(), b"0\n1\n2\n".as_slice());
-    // A row of nine nodes, cut at its fifth.
-    let nodes =
-        b"node,x,y\n0,0,0\n1,100,0\n2,200,0\n3,300,0\n4,400,0\n5,500,0\n6,600,0\n7,700,0\n8,800,0\n";
-    let roads =
-        b"arc,tail,head,profile\n0,0,1,0\n1,1,2,0\n2,2,3,0\n3,3,4,0\n4,4,5,0\n5,5,6,0\n6,6,7,0\n7,7,8,0\n";
-    shelf.store(alloc, "nodes", nodes)?;
-    shelf.store(alloc, "roads", roads)?;
-    let (status, said) = perform(alloc, words, &mut shelf, "", &[])?;
-    assert_eq!(rt; said.as_slice(), b"ordered 9\n".as_slice());
-    assert_eq!(rt; status, 0);
-    let order = held(alloc, &mut shelf, "out")?;
-    assert_eq!(rt; order.as_slice(), b"0\n1\n2\n3\n5\n6\n7\n8\n4\n".as_slice());
+    let row = Run {
+        nodes: ROW_NODES,
+        roads: ROW_ROADS,
+        ..ORDER
+    };
+    assert!(rt; leaves(alloc, ORDER, 0, b"ordered 3\n", b"0\n1\n2\n"));
+    assert!(rt;
+        leaves(
+            alloc,
+            row,
+            0,
+            b"ordered 9\n",
+            b"0\n1\n2\n3\n5\n6\n7\n8\n4\n"
+        )
+    );
     Ok(())
+}
+
+// Whether `make` says this, and leaves a text that begins so under the name `out`.
+fn makes(alloc: Global, words: &str, said: &[u8], front: &[u8]) -> bool {
+    match perform(alloc, Run { words, ..PLAIN }) {
+        Ok(ended) => {
+            ended.status == 0 && ended.said.as_slice() == said && ended.out.starts_with(front)
+        }
+        Err(NoMemory) => false,
+    }
 }
 
 #[test]
 fn grids_are_stored(rt: HostRuntime) -> Result<(), Fail> {
-    let alloc = rt.alloc();
-    let mut shelf = shelf_of(alloc, &[])?;
-    let (status, said) = perform(alloc, "make 0 1 1 a b c", &mut shelf, "", &[])?;
-    assert_eq!(rt; said.as_slice(), b"made 1 0 64\n".as_slice());
-    assert_eq!(rt; status, 0);
-    let profiles = held(alloc, &mut shelf, "c")?;
-    let front = b"profile,from,kind,value\n0,0,travel,27\n0,25200,travel,52\n0,32400,until,32452\n";
-    assert!(rt; profiles.starts_with(front));
-    let (status, said) = perform(alloc, "make 7 02 001 a b c", &mut shelf, "", &[])?;
-    assert_eq!(rt; said.as_slice(), b"made 2 2 64\n".as_slice());
-    assert_eq!(rt; status, 0);
-    let nodes = held(alloc, &mut shelf, "a")?;
-    assert_eq!(rt; nodes.as_slice(), b"node,x,y\n0,0,0\n1,100,0\n".as_slice());
-    let roads = held(alloc, &mut shelf, "b")?;
-    assert_eq!(rt;
-        roads.as_slice(),
-        b"arc,tail,head,profile\n0,0,1,17\n1,1,0,17\n".as_slice()
-    );
-    // Where two words are one name, the later text stands there.
-    let words = "make 18446744073709551615 1 1 a b a";
-    let (status, said) = perform(alloc, words, &mut shelf, "", &[])?;
-    assert_eq!(rt; said.as_slice(), b"made 1 0 64\n".as_slice());
-    assert_eq!(rt; status, 0);
-    let profiles = held(alloc, &mut shelf, "a")?;
-    assert!(rt; profiles.starts_with(b"profile,from,kind,value\n"));
+    let rows: [(&str, &[u8], &[u8]); 4] = [
+        (
+            "make 0 1 1 a b out",
+            b"made 1 0 64\n",
+            b"profile,from,kind,value\n0,0,travel,27\n0,25200,travel,52\n0,32400,until,32452\n",
+        ),
+        (
+            "make 7 02 001 out b c",
+            b"made 2 2 64\n",
+            b"node,x,y\n0,0,0\n1,100,0\n",
+        ),
+        (
+            "make 7 2 1 a out c",
+            b"made 2 2 64\n",
+            b"arc,tail,head,profile\n0,0,1,17\n1,1,0,17\n",
+        ),
+        // Where two words are one name, the later text stands there.
+        (
+            "make 18446744073709551615 1 1 out b out",
+            b"made 1 0 64\n",
+            b"profile,from,kind,value\n",
+        ),
+    ];
+    for (words, said, front) in rows {
+        assert!(rt; makes(rt.alloc(), words, said, front));
+    }
     Ok(())
 }
 
 #[test]
 fn commands_stop_at_the_first_refusal(rt: HostRuntime) -> Result<(), Fail> {
-    let alloc = rt.alloc();
-    let rows: [(&str, u64, &str); 5] = [
-        ("order nodes roads profiles out", 4, "shelf: fault roads\n"),
-        ("order nodes roads profiles out", 6, "shelf: fault out\n"),
-        ("make 7 1 1 a b c", 3, "shelf: fault nodes\n"),
-        ("make 7 1 1 a b c", 4, "shelf: fault roads\n"),
-        ("make 7 1 1 a b c", 5, "shelf: fault profiles\n"),
+    let rows: [(&str, &[u64], u8, &[u8]); 6] = [
+        (
+            "order nodes roads profiles out",
+            &[7],
+            3,
+            b"shelf: fault roads\n",
+        ),
+        (
+            "order nodes roads profiles out",
+            &[9],
+            3,
+            b"shelf: fault out\n",
+        ),
+        (
+            "order roads roads profiles out",
+            &[],
+            4,
+            b"network: nodes header\n",
+        ),
+        ("make 7 1 1 out b c", &[6], 3, b"shelf: fault nodes\n"),
+        ("make 7 1 1 a out c", &[7], 3, b"shelf: fault roads\n"),
+        ("make 7 1 1 a b out", &[8], 3, b"shelf: fault profiles\n"),
     ];
-    for (words, fails, line) in rows {
-        let mut shelf = shelf_of(alloc, &[fails])?;
-        let (status, said) = perform(alloc, words, &mut shelf, "", &[])?;
-        assert_eq!(rt; said.as_slice(), line.as_bytes());
-        assert_eq!(rt; status, 3);
+    for (words, shelf, status, said) in rows {
+        let asked = Run {
+            words,
+            shelf,
+            ..PLAIN
+        };
+        assert!(rt; says(rt.alloc(), asked, status, said));
     }
-    let mut shelf = shelf_of(alloc, &[])?;
-    let words = "order roads roads profiles out";
-    let (status, said) = perform(alloc, words, &mut shelf, "", &[])?;
-    assert_eq!(rt; said.as_slice(), b"network: nodes header\n".as_slice());
-    assert_eq!(rt; status, 4);
     // The order is stored before the sink fails in the line.
-    let words = "order nodes roads profiles out";
-    let (status, said) = perform(alloc, words, &mut shelf, "", &[0])?;
-    assert_eq!(rt; said.len(), 0);
-    assert_eq!(rt; status, 8);
-    let order = held(alloc, &mut shelf, "out")?;
-    assert_eq!(rt; order.as_slice(), b"0\n1\n2\n".as_slice());
+    let unsaid = Run {
+        sink: &[0],
+        ..ORDER
+    };
+    assert!(rt; leaves(rt.alloc(), unsaid, 8, b"", b"0\n1\n2\n"));
     Ok(())
 }
 
 #[test]
 fn other_words_are_refused(rt: HostRuntime) -> Result<(), Fail> {
-    let alloc = rt.alloc();
     let rows = [
         "",
         "serve",
@@ -136,6 +134,10 @@ fn other_words_are_refused(rt: HostRuntime) -> Result<(), Fail> {
         "serve nodes roads profiles identity out",
         "order nodes roads profiles",
         "order nodes roads profiles out out",
+        "ask",
+        "ask nodes out",
+        "edit nodes roads",
+        "edit nodes roads out out",
         "make 7 1 1 a b",
         "make 7 1 1 a b c d",
         "make 18446744073709551616 1 1 a b c",
@@ -149,10 +151,7 @@ fn other_words_are_refused(rt: HostRuntime) -> Result<(), Fail> {
         "make 7 1 99999999999999999999999 a b c",
     ];
     for words in rows {
-        let mut shelf = shelf_of(alloc, &[])?;
-        let (status, said) = perform(alloc, words, &mut shelf, "", &[])?;
-        assert_eq!(rt; said.as_slice(), b"words\n".as_slice());
-        assert_eq!(rt; status, 2);
+        assert!(rt; says(rt.alloc(), Run { words, ..PLAIN }, 2, b"words\n"));
     }
     Ok(())
 }
@@ -169,7 +168,7 @@ const LATER: &str =
     "arrive=34693\narrive=34768\narrive=34786\narrive=34455\narrive=34548\narrive=34607\narrive=34592\narrive=34704\narrive=34704\narrive=33455\narrive=33460\narrive=33519\n";
 
 // The first word of each line.
-fn first_words(alloc: Global, text: &[u8]) -> Result<Vec<u8>, Fail> {
+fn first_words(alloc: Global, text: &[u8]) -> Result<Vec<u8>, NoMemory> {
     let mut words = Vec::new(alloc);
     let mut is_first = true;
     for byte in text {
@@ -187,7 +186,7 @@ fn first_words(alloc: Global, text: &[u8]) -> Result<Vec<u8>, Fail> {
 }
 
 // The lines of a text from one number to before another, from 0.
-fn lines_between(alloc: Global, text: &[u8], from: u32, to: u32) -> Result<Vec<u8>, Fail> {
+fn lines_between(alloc: Global, text: &[u8], from: u32, to: u32) -> Result<Vec<u8>, NoMemory> {
     let mut lines = Vec::new(alloc);
     let mut number = 0u32;
     for byte in text {
@@ -201,21 +200,41 @@ fn lines_between(alloc: Global, text: &[u8], from: u32, to: u32) -> Result<Vec<u
     Ok(lines)
 }
 
-#[test]
-fn a_grid_is_served(rt: HostRuntime) -> Result<(), Fail> {
-    let alloc = rt.alloc();
-    let mut shelf = shelf_of(alloc, &[])?;
-    let words = "make 7 32 32 nodes roads profiles";
-    let (status, said) = perform(alloc, words, &mut shelf, "", &[])?;
-    assert_eq!(rt; said.as_slice(), b"made 1024 3968 64\n".as_slice());
-    assert_eq!(rt; status, 0);
+// What these words write over a shelf.
+fn talk(
+    alloc: Global,
+    words: &str,
+    shelf: &mut MemoryShelf,
+    script: &str,
+) -> Result<Vec<u8>, NoMemory> {
+    let mut source = source_of(alloc, Run { script, ..PLAIN })?;
+    let mut sink = MemorySink::new(alloc, 1 << 16, Vec::new(alloc))?;
+    let words = words_of(alloc, words)?;
+    let _status = run(alloc, &words, shelf, &mut source, &mut sink);
+    Ok(Vec::from_slice(alloc, sink.bytes())?)
+}
+
+// What `serve` says over the roads of a grid of 32 by 32 nodes: of journeys, of a slower profile and the same journeys, of the old profile
+// and the same journeys, and of two others.
+fn served(alloc: Global) -> Result<Vec<u8>, NoMemory> {
+    let mut shelf = shelf_of(alloc, PLAIN)?;
+    let _said = talk(alloc, "make 7 32 32 nodes roads profiles", &mut shelf, "")?;
     let slower = "s,5,0,travel,900\n";
     let back = "s,5,0,travel,115,25200,travel,191,32400,until,32591,32476,travel,115\n";
     let others = "q,992,31,0\nq,37,500,86399\n";
     let script = format!(in alloc; "{JOURNEYS}{slower}{JOURNEYS}{back}{JOURNEYS}{others}")?;
-    let words = "serve nodes roads profiles dissect";
-    let (status, replies) = perform(alloc, words, &mut shelf, script.as_str(), &[])?;
-    assert_eq!(rt; status, 0);
+    talk(
+        alloc,
+        "serve nodes roads profiles dissect",
+        &mut shelf,
+        script.as_str(),
+    )
+}
+
+#[test]
+fn a_grid_is_served(rt: HostRuntime) -> Result<(), Fail> {
+    let alloc = rt.alloc();
+    let replies = served(alloc)?;
     let arrivals = format!(in alloc;
         "{ARRIVALS}done\n{LATER}done\n{ARRIVALS}arrive=2637\narrive=87645\n"
     )?;

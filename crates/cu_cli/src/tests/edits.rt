@@ -1,11 +1,11 @@
 //! Edit lines between queries, over the rush hour's tables; replies worked out by hand.
 
-use super::{NODES, PLAIN, ROADS, RUSH, Setting, serve};
+use super::{PLAIN, Run, says};
 use std::test::Fail;
 
 // Node 1 has the lowest rank, so that the way over it is a shortcut of the road beside it.
-const RANKED: Setting<'static> = Setting {
-    order: Some("1\n0\n2\n"),
+const RANKED: Run<'static> = Run {
+    words: "serve nodes roads profiles ranks",
     ..PLAIN
 };
 
@@ -45,9 +45,8 @@ fn edits_change_the_next_answer(rt: HostRuntime) -> Result<(), Fail> {
         ),
     ];
     for (script, replies) in rows {
-        let (status, written) = serve(rt.alloc(), [NODES, ROADS, RUSH], script, RANKED)?;
-        assert_eq!(rt; written.as_slice(), replies.as_bytes());
-        assert_eq!(rt; status, 0);
+        let asked = Run { script, ..RANKED };
+        assert!(rt; says(rt.alloc(), asked, 0, replies.as_bytes()));
     }
     Ok(())
 }

@@ -1,13 +1,10 @@
 //! `build` over the rush hour's tables.
 
-use super::{NODES, ROADS, RUSH};
-use crate::run;
-use cu_io::{MemoryShelf, MemorySink, MemorySource, Shelf};
-use std::alloc::Global;
+use super::{PLAIN, Run, leaves};
 use std::test::Fail;
 
 // The packed file of the rush hour's hierarchy where node 1 has the lowest rank, made by hand and hashed by another program.
-const BUILT: [u8; 392] = [
+pub const BUILT: [u8; 392] = [
     0x43, 0x41, 0x54, 0x43, 0x48, 0x55, 0x50, 0x48, 0x01, 0x00, 0x00, 0x00, 0x03, 0x00, 0x00, 0x00,
     0x03, 0x00, 0x00, 0x00, 0x03, 0x00, 0x00, 0x00, 0x03, 0x00, 0x00, 0x00, 0x06, 0x00, 0x00, 0x00,
     0x00, 0x00, 0x00, 0x00, 0x05, 0x00, 0x00, 0x00, 0x00, 0x00, 0x00, 0x00, 0x88, 0x01, 0x00, 0x00,
@@ -35,48 +32,33 @@ const BUILT: [u8; 392] = [
     0x82, 0x15, 0x38, 0xdd, 0xa6, 0x5e, 0x64, 0x3c,
 ];
 
-// What `build` says on a shelf with this limit, of which these calls fail: from 4 on its loads, and 8, its store. Its status, and the
-// bytes that it stored, none where it stored no file.
-fn build(alloc: Global, limit: u64, fails: &[u64]) -> Result<(Vec<u8>, u8, Vec<u8>), Fail> {
-    let mut shelf = MemoryShelf::new(alloc, limit, Vec::from_slice(alloc, fails)?);
-    shelf.store(alloc, "nodes", NODES.as_bytes())?;
-    shelf.store(alloc, "roads", ROADS.as_bytes())?;
-    shelf.store(alloc, "profiles", RUSH.as_bytes())?;
-    shelf.store(alloc, "ranks", b"1\n0\n2\n")?;
-    let mut words = Vec::new(alloc);
-    for word in ["build", "nodes", "roads", "profiles", "ranks", "packed"] {
-        words.push(String::from_str(alloc, word)?)?;
-    }
-    let mut source = MemorySource::of(Vec::new(alloc), Vec::new(alloc));
-    let mut sink = MemorySink::new(alloc, 100, Vec::new(alloc))?;
-    let status = run(alloc, &words, &mut shelf, &mut source, &mut sink);
-    let said = Vec::from_slice(alloc, sink.bytes())?;
-    let mut file = Vec::new(alloc);
-    let _outcome = shelf.load(alloc, "packed", &mut file);
-    Ok((said, status, file))
-}
-
 #[test]
 fn hierarchies_are_stored(rt: HostRuntime) -> Result<(), Fail> {
-    let (said, status, file) = build(rt.alloc(), 392, &[])?;
-    assert_eq!(rt; said.as_slice(), b"built 3 3 3 392\n".as_slice());
-    assert_eq!(rt; status, 0);
-    assert_eq!(rt; file.as_slice(), BUILT.as_slice());
-    Ok(())
-}
-
-#[test]
-fn hierarchies_that_are_refused_are_not_stored(rt: HostRuntime) -> Result<(), Fail> {
-    let rows: [(u64, &[u64], &str, u8); 3] = [
-        (391, &[], "too large 392\n", 13),
-        (392, &[8], "shelf: fault out\n", 3),
-        (392, &[4], "shelf: fault nodes\n", 3),
+    let asked = Run {
+        words: "build nodes roads profiles ranks out",
+        limit: 392,
+        ..PLAIN
+    };
+    let small = Run {
+        limit: 391,
+        ..asked
+    };
+    let no_out = Run {
+        shelf: &[10],
+        ..asked
+    };
+    let no_nodes = Run {
+        shelf: &[6],
+        ..asked
+    };
+    let rows: [(Run<'_>, u8, &[u8], &[u8]); 4] = [
+        (asked, 0, b"built 3 3 3 392\n", &BUILT),
+        (small, 13, b"too large 392\n", b""),
+        (no_out, 3, b"shelf: fault out\n", b""),
+        (no_nodes, 3, b"shelf: fault nodes\n", b""),
     ];
-    for (limit, fails, line, status) in rows {
-        let (said, ended, file) = build(rt.alloc(), limit, fails)?;
-        assert_eq!(rt; said.as_slice(), line.as_bytes());
-        assert_eq!(rt; ended, status);
-        assert_eq!(rt; file.len(), 0);
+    for (asked, status, said, out) in rows {
+        assert!(rt; leaves(rt.alloc(), asked, status, said, out));
     }
     Ok(())
 }

@@ -2,9 +2,9 @@
 
 ghost use Rattle.std.specs.Prelude.{None};
 
-use super::{NODES, ROADS, RUSH};
+use super::{PLAIN, shelf_of, words_of};
 use crate::run;
-use cu_io::{MemoryShelf, Shelf, Sink, SinkFailed, Source, SourceFailed};
+use cu_io::{Sink, SinkFailed, Source, SourceFailed};
 use std::cell::Cell;
 use std::test::Fail;
 
@@ -57,14 +57,8 @@ impl Sink for Listener<'_> {
 #[test]
 fn a_reply_is_flushed_before_the_next_line_is_read(rt: HostRuntime) -> Result<(), Fail> {
     let alloc = rt.alloc();
-    let mut shelf = MemoryShelf::new(alloc, 1 << 20, Vec::new(alloc));
-    shelf.store(alloc, "nodes", NODES.as_bytes())?;
-    shelf.store(alloc, "roads", ROADS.as_bytes())?;
-    shelf.store(alloc, "profiles", RUSH.as_bytes())?;
-    let mut words = Vec::new(alloc);
-    for word in ["serve", "nodes", "roads", "profiles", "identity"] {
-        words.push(String::from_str(alloc, word)?)?;
-    }
+    let mut shelf = shelf_of(alloc, PLAIN)?;
+    let words = words_of(alloc, "serve nodes roads profiles identity")?;
     let flushes = Cell::new(0);
     let mut source = Asker {
         flushes: &flushes,

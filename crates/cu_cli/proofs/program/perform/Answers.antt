@@ -1,6 +1,6 @@
 use Rattle.std.specs.Prelude.{map, string_bytes}
-use Rattle.cu_cli.specs.Steps.Asks.{building_asked, making_asked, ordering_asked, tables_asked, trial_asked}
-use Rattle.cu_cli.specs.Words.{Serve, Order, Make, Build, Trial}
+use Rattle.cu_cli.specs.Steps.Asks.{building_asked, editing_asked, making_asked, ordering_asked, tables_asked, trial_asked}
+use Rattle.cu_cli.specs.Words.{Serve, Order, Make, Build, Ask, Edit, Trial}
 use Rattle.cu_cli.proofs.WorkLaws.{commanded, no_command}
 use Rattle.cu_cli.proofs.program.perform.Goals as goal
 
@@ -26,6 +26,16 @@ pub returns-in-Some-Build : goal.returns-in-Some-Build
 returns-in-Some-Build g c =
     let is = rw c.in-Some-Build.field-0-is at c.in-Some-Build.ensures in
     record { works = commanded (map string_bytes c.args.words.now.items) (Build (building_asked c.in-Some-Build.asked)) is (c.build.ensures.works _) }
+
+pub returns-in-Some-Ask : goal.returns-in-Some-Ask
+returns-in-Some-Ask g c =
+    let is = rw c.in-Some-Ask.field-0-is at c.in-Some-Ask.ensures in
+    record { works = commanded (map string_bytes c.args.words.now.items) (Ask c.in-Some-Ask.name.now) is c.ask.ensures.works }
+
+pub returns-in-Some-Edit : goal.returns-in-Some-Edit
+returns-in-Some-Edit g c =
+    let is = rw c.in-Some-Edit.field-0-is at c.in-Some-Edit.ensures in
+    record { works = commanded (map string_bytes c.args.words.now.items) (Edit (editing_asked c.in-Some-Edit.asked)) is (c.edit.ensures.works _) }
 
 pub returns-in-Some-Trial : goal.returns-in-Some-Trial
 returns-in-Some-Trial g c =

@@ -3,9 +3,10 @@ use Rattle.cu_pack.specs.Spelling.{spelling}
 use Rattle.cu_cli.specs.declared.stops.Stop.TheVariants as stop
 use Rattle.cu_cli.specs.Runs.{built_text}
 use Rattle.cu_cli.specs.Steps.Asks.{building_asked}
+use Rattle.cu_cli.specs.Steps.Loading.{HasBuilt}
 use Rattle.cu_cli.proofs.StopLaws.{err_is}
 use Rattle.cu_cli.proofs.StoreLaws.{stored_behind, storing_refused, storing_said, storing_unsaid}
-use Rattle.cu_cli.proofs.WorkLaws.{HasBuilt, built, built_large, building_stopped, has_built}
+use Rattle.cu_cli.proofs.WorkLaws.{behind_nothing, built, built_large, building_stopped, has_built}
 use Rattle.cu_cli.proofs.commands.build.build.Goals as goal
 
 pub returns-in_err-prepared : goal.returns-in_err-prepared
@@ -27,8 +28,8 @@ pub returns-then-length-limit : goal.returns-then-length-limit
 returns-then-length-limit g c =
     let h = c.in_ok-hierarchy.hierarchy in
     let asked = building_asked c.args.asked in
-    let has : HasBuilt (g.H.Shelf.state c.args.shelf.now) asked h =
-    has_built asked c.in_ok-prepared.prepared c.in_ok-prepared.ensures.ok c.in_ok-hierarchy.ensures.built c.in_ok-hierarchy.ensures.network c.in_ok-hierarchy.ensures.order in
+    let has : HasBuilt (g.H.Shelf.state c.args.shelf.now) asked.tables h =
+    has_built asked.tables c.in_ok-prepared.prepared c.in_ok-prepared.ensures.ok c.in_ok-hierarchy.ensures.built c.in_ok-hierarchy.ensures.network c.in_ok-hierarchy.ensures.order in
     let same : length c.in_ok-bytes.bytes.items ≡ length (spelling h) = ap (λ (bytes : List ℕ). length bytes) c.in_ok-bytes.ensures.spelled in
     let size : c.len-length.result ≡ length (spelling h) = omega (arith, same, c.len-length.ensures, c.in_ok-bytes.bytes.ok.0) in
     let large : (g.H.Shelf.state c.args.shelf.now).most < length (spelling h) = omega (arith, size, c.limit.ensures, c.in_ok-prepared.ensures.loads.most, c.if-length-limit.true) in
@@ -38,22 +39,22 @@ pub returns-in_err-store_file : goal.returns-in_err-store_file
 returns-in_err-store_file g c =
     let h = c.in_ok-hierarchy.hierarchy in
     let asked = building_asked c.args.asked in
-    let has : HasBuilt (g.H.Shelf.state c.args.shelf.now) asked h =
-    has_built asked c.in_ok-prepared.prepared c.in_ok-prepared.ensures.ok c.in_ok-hierarchy.ensures.built c.in_ok-hierarchy.ensures.network c.in_ok-hierarchy.ensures.order in
+    let has : HasBuilt (g.H.Shelf.state c.args.shelf.now) asked.tables h =
+    has_built asked.tables c.in_ok-prepared.prepared c.in_ok-prepared.ensures.ok c.in_ok-hierarchy.ensures.built c.in_ok-hierarchy.ensures.network c.in_ok-hierarchy.ensures.order in
     let same : length c.in_ok-bytes.bytes.items ≡ length (spelling h) = ap (λ (bytes : List ℕ). length bytes) c.in_ok-bytes.ensures.spelled in
     let size : c.len-length.result ≡ length (spelling h) = omega (arith, same, c.len-length.ensures, c.in_ok-bytes.bytes.ok.0) in
     let few : length (spelling h) ≤ (g.H.Shelf.state c.args.shelf.now).most = omega (arith, size, c.limit.ensures, c.in_ok-prepared.ensures.loads.most, c.if-length-limit.false) in
     let text = c.deref.ensures.value ∙ c.in_ok-bytes.ensures.spelled in
     let stores = rw text at c.in_err-store_file.ensures.stores in
     rw (err_is c.from_residual-in_err-store_file.result c.in_err-store_file.field-0.0 c.from_residual-in_err-store_file.ensures.1)
-    (record { works = λ source. built asked h has few (storing_refused source _ (built_text h (length (spelling h))) (stored_behind c.in_ok-prepared.ensures.loads stores)) })
+    (record { works = λ source. built asked h has few (storing_refused source (behind_nothing _) (built_text h (length (spelling h))) (stored_behind c.in_ok-prepared.ensures.loads stores)) })
 
 pub returns-in_err-say_built : goal.returns-in_err-say_built
 returns-in_err-say_built g c =
     let h = c.in_ok-hierarchy.hierarchy in
     let asked = building_asked c.args.asked in
-    let has : HasBuilt (g.H.Shelf.state c.args.shelf.now) asked h =
-    has_built asked c.in_ok-prepared.prepared c.in_ok-prepared.ensures.ok c.in_ok-hierarchy.ensures.built c.in_ok-hierarchy.ensures.network c.in_ok-hierarchy.ensures.order in
+    let has : HasBuilt (g.H.Shelf.state c.args.shelf.now) asked.tables h =
+    has_built asked.tables c.in_ok-prepared.prepared c.in_ok-prepared.ensures.ok c.in_ok-hierarchy.ensures.built c.in_ok-hierarchy.ensures.network c.in_ok-hierarchy.ensures.order in
     let same : length c.in_ok-bytes.bytes.items ≡ length (spelling h) = ap (λ (bytes : List ℕ). length bytes) c.in_ok-bytes.ensures.spelled in
     let size : c.len-length.result ≡ length (spelling h) = omega (arith, same, c.len-length.ensures, c.in_ok-bytes.bytes.ok.0) in
     let few : length (spelling h) ≤ (g.H.Shelf.state c.args.shelf.now).most = omega (arith, size, c.limit.ensures, c.in_ok-prepared.ensures.loads.most, c.if-length-limit.false) in
@@ -61,18 +62,18 @@ returns-in_err-say_built g c =
     let stores = rw text at c.in_ok-store_file.ensures.stores in
     let said = rw size at c.in_err-say_built.ensures.wrote in
     rw (err_is c.from_residual-in_err-say_built.result stop.Sink c.from_residual-in_err-say_built.ensures.1)
-    (record { works = λ source. built asked h has few (storing_unsaid source (stored_behind c.in_ok-prepared.ensures.loads stores) said) })
+    (record { works = λ source. built asked h has few (storing_unsaid source (behind_nothing _) (stored_behind c.in_ok-prepared.ensures.loads stores) said) })
 
 pub returns : goal.returns
 returns g c =
     let h = c.in_ok-hierarchy.hierarchy in
     let asked = building_asked c.args.asked in
-    let has : HasBuilt (g.H.Shelf.state c.args.shelf.now) asked h =
-    has_built asked c.in_ok-prepared.prepared c.in_ok-prepared.ensures.ok c.in_ok-hierarchy.ensures.built c.in_ok-hierarchy.ensures.network c.in_ok-hierarchy.ensures.order in
+    let has : HasBuilt (g.H.Shelf.state c.args.shelf.now) asked.tables h =
+    has_built asked.tables c.in_ok-prepared.prepared c.in_ok-prepared.ensures.ok c.in_ok-hierarchy.ensures.built c.in_ok-hierarchy.ensures.network c.in_ok-hierarchy.ensures.order in
     let same : length c.in_ok-bytes.bytes.items ≡ length (spelling h) = ap (λ (bytes : List ℕ). length bytes) c.in_ok-bytes.ensures.spelled in
     let size : c.len-length.result ≡ length (spelling h) = omega (arith, same, c.len-length.ensures, c.in_ok-bytes.bytes.ok.0) in
     let few : length (spelling h) ≤ (g.H.Shelf.state c.args.shelf.now).most = omega (arith, size, c.limit.ensures, c.in_ok-prepared.ensures.loads.most, c.if-length-limit.false) in
     let text = c.deref.ensures.value ∙ c.in_ok-bytes.ensures.spelled in
     let stores = rw text at c.in_ok-store_file.ensures.stores in
     let said = rw size at c.in_ok-say_built.ensures.wrote in
-    record { works = λ source. built asked h has few (storing_said source (stored_behind c.in_ok-prepared.ensures.loads stores) said) }
+    record { works = λ source. built asked h has few (storing_said source (behind_nothing _) (stored_behind c.in_ok-prepared.ensures.loads stores) said) }

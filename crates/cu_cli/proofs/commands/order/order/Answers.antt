@@ -7,7 +7,7 @@ use Rattle.cu_cli.specs.Steps.Asks.{ordering_asked}
 use Rattle.cu_cli.specs.Steps.Loading.{table_texts}
 use Rattle.cu_cli.proofs.StopLaws.{err_is}
 use Rattle.cu_cli.proofs.StoreLaws.{stored_behind, storing_refused, storing_said, storing_unsaid}
-use Rattle.cu_cli.proofs.WorkLaws.{ordered, ordering_stopped}
+use Rattle.cu_cli.proofs.WorkLaws.{behind_nothing, ordered, ordering_stopped}
 use Rattle.cu_cli.proofs.commands.order.order.Goals as goal
 
 pub returns-in_err-texts : goal.returns-in_err-texts
@@ -44,7 +44,7 @@ returns-in_err-store_file g c =
     let text = c.deref.ensures.value ∙ c.in_ok-text.ensures.text in
     let stores = rw text at c.in_err-store_file.ensures.stores in
     rw (err_is c.from_residual-in_err-store_file.result c.in_err-store_file.field-0.0 c.from_residual-in_err-store_file.ensures.1)
-    (record { works = λ source. ordered (ordering_asked c.args.asked) read c.in_ok-order.order reads c.in_ok-order.ensures.sound c.in_ok-order.ensures.order (storing_refused source _ (ordered_text read.network) (stored_behind c.in_ok-texts.ensures.loads stores)) })
+    (record { works = λ source. ordered (ordering_asked c.args.asked) read c.in_ok-order.order reads c.in_ok-order.ensures.sound c.in_ok-order.ensures.order (storing_refused source (behind_nothing _) (ordered_text read.network) (stored_behind c.in_ok-texts.ensures.loads stores)) })
 
 pub returns-in_err-say_ordered : goal.returns-in_err-say_ordered
 returns-in_err-say_ordered g c =
@@ -53,7 +53,7 @@ returns-in_err-say_ordered g c =
     let text = c.deref.ensures.value ∙ c.in_ok-text.ensures.text in
     let stores = rw text at c.in_ok-store_file.ensures.stores in
     rw (err_is c.from_residual-in_err-say_ordered.result stop.Sink c.from_residual-in_err-say_ordered.ensures.1)
-    (record { works = λ source. ordered (ordering_asked c.args.asked) read c.in_ok-order.order reads c.in_ok-order.ensures.sound c.in_ok-order.ensures.order (storing_unsaid source (stored_behind c.in_ok-texts.ensures.loads stores) c.in_err-say_ordered.ensures.wrote) })
+    (record { works = λ source. ordered (ordering_asked c.args.asked) read c.in_ok-order.order reads c.in_ok-order.ensures.sound c.in_ok-order.ensures.order (storing_unsaid source (behind_nothing _) (stored_behind c.in_ok-texts.ensures.loads stores) c.in_err-say_ordered.ensures.wrote) })
 
 pub returns : goal.returns
 returns g c =
@@ -61,4 +61,4 @@ returns g c =
     let reads : ReadsTables (g.H.Shelf.state c.args.shelf.now) (ordering_asked c.args.asked) read = (table_texts c.in_ok-texts.texts, c.in_ok-texts.ensures.ok, c.in_ok-network.ensures.ok) in
     let text = c.deref.ensures.value ∙ c.in_ok-text.ensures.text in
     let stores = rw text at c.in_ok-store_file.ensures.stores in
-    record { works = λ source. ordered (ordering_asked c.args.asked) read c.in_ok-order.order reads c.in_ok-order.ensures.sound c.in_ok-order.ensures.order (storing_said source (stored_behind c.in_ok-texts.ensures.loads stores) c.in_ok-say_ordered.ensures.wrote) }
+    record { works = λ source. ordered (ordering_asked c.args.asked) read c.in_ok-order.order reads c.in_ok-order.ensures.sound c.in_ok-order.ensures.order (storing_said source (behind_nothing _) (stored_behind c.in_ok-texts.ensures.loads stores) c.in_ok-say_ordered.ensures.wrote) }

@@ -1,28 +1,27 @@
-use Rattle.cu_cli.specs.declared.stops.Stop.TheVariants as stop
+use Rattle.std.specs.Prelude.{Some, None}
 use Rattle.cu_cli.specs.Steps.Asks.{tables_asked}
-use Rattle.cu_cli.proofs.SessionLaws.{nothing_done}
-use Rattle.cu_cli.proofs.StopLaws.{err_is}
+use Rattle.cu_cli.proofs.StopLaws.{err_is, stop_is}
 use Rattle.cu_cli.proofs.WorkLaws.{served, stopped}
 use Rattle.cu_cli.proofs.commands.serve.serve.Goals as goal
 
-pub returns-in_err-prepared : goal.returns-in_err-prepared
-returns-in_err-prepared g c =
-    rw (err_is c.from_residual.result c.in_err-prepared.field-0.0 c.from_residual.ensures.1)
-    (record { works = stopped _ _ _ _ (tables_asked c.args.tables) _ c.in_err-prepared.ensures.loads c.in_err-prepared.ensures.err c.in_err-prepared.ensures.before })
+pub returns-in_err-bytes : goal.returns-in_err-bytes
+returns-in_err-bytes g c =
+    rw (err_is c.from_residual.result c.in_err-bytes.field-0.0 c.from_residual.ensures.1)
+    (record { works = stopped _ _ _ _ (tables_asked c.args.tables) _ c.in_err-bytes.ensures.loads c.in_err-bytes.ensures.err c.in_err-bytes.ensures.before })
 
-pub returns-in_err-hierarchy : goal.returns-in_err-hierarchy
-returns-in_err-hierarchy g c =
-    let none = nothing_done c.in_ok-prepared.prepared.network c.in_ok-prepared.prepared.order (g.S.Source.state c.args.source.now) (g.K.Sink.state c.args.sink.now) in
-    rw (err_is c.from_residual-in_err-hierarchy.result stop.NoMemory c.from_residual-in_err-hierarchy.ensures.1)
-    (record { works = served _ _ _ _ _ _ (tables_asked c.args.tables) _ _ _ c.in_ok-prepared.ensures.loads c.in_ok-prepared.ensures.ok.1 none })
+pub answer_script-requires : goal.answer_script-requires
+answer_script-requires g c =
+    let (h, has, spells) = c.in_ok-bytes.ensures.ok in
+    record { spelled = (h, spells) }
 
-pub returns-in_err-router : goal.returns-in_err-router
-returns-in_err-router g c =
-    let none = nothing_done c.in_ok-prepared.prepared.network c.in_ok-prepared.prepared.order (g.S.Source.state c.args.source.now) (g.K.Sink.state c.args.sink.now) in
-    rw (err_is c.from_residual-in_err-router.result stop.NoMemory c.from_residual-in_err-router.ensures.1)
-    (record { works = served _ _ _ _ _ _ (tables_asked c.args.tables) _ _ _ c.in_ok-prepared.ensures.loads c.in_ok-prepared.ensures.ok.1 none })
+pub returns-in_err-answer_script : goal.returns-in_err-answer_script
+returns-in_err-answer_script g c =
+    let (h, has, spells) = c.in_ok-bytes.ensures.ok in
+    let ended = c.in_err-answer_script.ensures.ended h spells in
+    rw (stop_is c.from_residual-in_err-answer_script.result _ c.from_residual-in_err-answer_script.ensures.1)
+    (record { works = served _ _ _ _ _ _ (tables_asked c.args.tables) (Some c.in_err-answer_script.field-0.0) h c.in_ok-bytes.ensures.loads has ended })
 
 pub returns : goal.returns
 returns g c =
-    let ended = rw (c.in_ok-router.ensures.same, c.in_ok-hierarchy.ensures.network, c.in_ok-hierarchy.ensures.order) at c.answer_script.ensures.ended in
-    record { works = served _ _ _ _ _ _ (tables_asked c.args.tables) _ _ _ c.in_ok-prepared.ensures.loads c.in_ok-prepared.ensures.ok.1 ended }
+    let (h, has, spells) = c.in_ok-bytes.ensures.ok in
+    record { works = served _ _ _ _ _ _ (tables_asked c.args.tables) None h c.in_ok-bytes.ensures.loads has (c.in_ok-answer_script.ensures.ended h spells) }

@@ -4,7 +4,7 @@ use Rattle.cu_cli.proofs.commands.trial.count_entries.Goals as goal
 
 pub edges-preserved : goal.edges-preserved
 edges-preserved c =
-    let h = c.args.hierarchy.now in
+    let h = c.args.view.now in
     let edge = c.edges.edge in
     let sound = c.edges-edge-end.ensures.sound in
     let end = c.edges-edge-end.ensures.count in

@@ -4,6 +4,6 @@ use Rattle.cu_cli.proofs.commands.trial.count_entries.Given as goal
 
 abbrev pub invariant-edges : goal.invariant-edges
 invariant-edges l = record {
-  entries : l.entries ≡ sum_by (λ list. length list) (take (2 * l.edge) l.hierarchy.lists);
+  entries : l.entries ≡ sum_by (λ list. length list) (take (2 * l.edge) l.view.lists);
   small : l.entries ≤ l.edge * 2 ^ 33;
 }

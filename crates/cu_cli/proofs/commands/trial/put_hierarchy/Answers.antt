@@ -7,14 +7,14 @@ use Rattle.cu_cli.proofs.commands.trial.put_hierarchy.Goals as goal
 
 pub returns-in_err-put_count : goal.returns-in_err-put_count
 returns-in_err-put_count g c =
-    let h = c.args.hierarchy.now in
+    let h = c.args.view.now in
     let nodes = rw (c.from.ensures, c.nodes.ensures.count) at c.in_err-put_count.ensures.wrote in
     let rest = codes " arcs " ++ decimal (length h.network.arcs) ++ codes " edges " ++ decimal (length h.edges) ++ codes " entries " ++ decimal (sum_by (λ list. length list) h.lists) in
     record { wrote = wrote_same (simp append_assoc) (wrote_stops rest c.from_residual.ensures.0 nodes) }
 
 pub returns-in_err-put_count-2 : goal.returns-in_err-put_count-2
 returns-in_err-put_count-2 g c =
-    let h = c.args.hierarchy.now in
+    let h = c.args.view.now in
     let nodes = rw (c.from.ensures, c.nodes.ensures.count) at c.in_ok-put_count.ensures.wrote in
     let arcs = rw (c.from-2.ensures, c.arcs.ensures.count) at c.in_err-put_count-2.ensures.wrote in
     let entries = decimal (sum_by (λ list. length list) h.lists) in
@@ -24,7 +24,7 @@ returns-in_err-put_count-2 g c =
 
 pub returns-in_err-put_count-3 : goal.returns-in_err-put_count-3
 returns-in_err-put_count-3 g c =
-    let h = c.args.hierarchy.now in
+    let h = c.args.view.now in
     let nodes = rw (c.from.ensures, c.nodes.ensures.count) at c.in_ok-put_count.ensures.wrote in
     let arcs = rw (c.from-2.ensures, c.arcs.ensures.count) at c.in_ok-put_count-2.ensures.wrote in
     let edges = rw (c.from-3.ensures, c.edges.ensures.count) at c.in_err-put_count-3.ensures.wrote in

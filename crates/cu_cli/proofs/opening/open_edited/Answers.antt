@@ -1,0 +1,21 @@
+use Rattle.std.proofs.Common.{inl, inr}
+use Rattle.cu_cli.specs.declared.stops.Role.TheVariants as role
+use Rattle.cu_cli.specs.Words.{FileAsked}
+use Rattle.cu_cli.proofs.LoadLaws.{loaded_behind, stops_behind}
+use Rattle.cu_cli.proofs.StopLaws.{err_is}
+use Rattle.cu_cli.proofs.opening.open_edited.Goals as goal
+
+pub returns-in_err-edits-clause-err : goal.returns-in_err-edits-clause-err
+returns-in_err-edits-clause-err g c =
+    let file : FileAsked = record { role = role.Edits; name = c.args.asked.edits.now } in
+    let stops = stops_behind (g.H.Shelf.state c.load_file-2.new.shelf) file _ c.in_ok-hierarchy.ensures.loads c.in_err-edits.ensures.err in
+    rw (err_is c.from_residual-in_err-edits.result c.in_err-edits.field-0.0 c.from_residual-in_err-edits.ensures.1)
+    (inl (inr (c.in_ok-hierarchy.hierarchy.items, c.in_ok-hierarchy.ensures.ok, inl stops)))
+
+pub returns-in_err-check_file-clause-err : goal.returns-in_err-check_file-clause-err
+returns-in_err-check_file-clause-err g c =
+    let file : FileAsked = record { role = role.Edits; name = c.args.asked.edits.now } in
+    let edits = loaded_behind file c.in_ok-edits.edits.items c.in_ok-hierarchy.ensures.loads c.in_ok-edits.ensures.ok in
+    let checks = rw c.deref.ensures.value at c.in_err-check_file.ensures.refused in
+    rw (err_is c.from_residual-in_err-check_file.result c.in_err-check_file.field-0.0 c.from_residual-in_err-check_file.ensures.1)
+    (inr (c.in_ok-hierarchy.hierarchy.items, c.in_ok-edits.edits.items, (c.in_ok-hierarchy.ensures.ok, (edits, tt)), checks))

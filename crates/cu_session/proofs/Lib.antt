@@ -1,0 +1,9 @@
+mod Outputs
+pub mod Legal
+mod SessionLaws
+mod EditingLaws
+mod RouteLaws
+mod RouterLaws
+mod RebuildingLaws
+mod EditLaws
+mod ArrivalLaws

@@ -1,0 +1,229 @@
+-- A script that is being answered, turn by turn.
+use Rattle.std.proofs.Common.{◌≡◌, ◌<◌, ◌≤◌, ◌++◌, ◌∙◌, ℕ, List, [], ◌∷◌, true, false, length, take, refl, sym, ap, subst, arith, inl, inr, length-append}
+use Rattle.std.specs.Prelude.{Bool, Option, Some, None, Result, Ok, Err, IfSome, IsErrAnd, codes, nat_lt}
+use Rattle.std.proofs.lemmas.Bool.{cases_Bool, ltb-true, lt-ltb}
+use Rattle.std.proofs.lemmas.List.{append-nil}
+use Rattle.cu_io.specs.Lines.{IsFirstLine, without_return, lines_of}
+use Rattle.cu_io.specs.LineReading.{ReaderState, TakesLine, Finds}
+use Rattle.cu_io.specs.Sinks.{SinkState, WroteLine}
+use Rattle.cu_io.specs.Sources.{SourceState}
+use Rattle.cu_io.specs.Transfers.{Appends, Takes}
+use Rattle.cu_io.specs.declared.line_reader.Found.TheVariants as found
+use Rattle.cu_io.proofs.Appending.{appends_nothing, appends_more, appends_then}
+use Rattle.cu_io.proofs.Cutting.{cut_none, cut_line, cut_end, cut_open}
+use Rattle.cu_io.proofs.Taking.{takes_more, takes_nothing}
+use Rattle.cu_interval.specs.Hierarchies.{HierarchyValue}
+use Rattle.cu_session.specs.declared.stops.SessionStop.{SessionStop}
+use Rattle.cu_session.specs.declared.stops.SessionStop.TheVariants as stop
+use Rattle.cu_session.specs.Held.{IsHeldOutput, IsHeldReply, IsHeldReplyTo}
+use Rattle.cu_session.specs.Replies.{asked_of, line_limit}
+use Rattle.cu_session.specs.Sessions.{AnswersBy, EndsSession, Leaves, session_status, take_limit}
+use Rattle.cu_session.specs.Steps.Turns.{Session, left_to_read}
+use Rattle.cu_session.proofs.Legal.{legal_where_built}
+use Rattle.cu_session.proofs.Outputs.{replied_more, front_lines}
+
+-- an error that is known
+pub err_is : {T E : Type 0} (r : Result T E) (e : E) → IsErrAnd r (λ d. d ≡ e) → r ≡ Err e
+err_is {T = T} {E = E} (Ok x) e h = absurd h
+err_is {T = T} {E = E} (Err d) e h = let f : E → Result T E = λ t. Err t in ap f h
+
+-- the reply to the text of a line within the limit
+pub text_reply : (h after : HierarchyValue) (line text reply : List ℕ) → length line ≤ line_limit → text ≡ without_return line → IsHeldReplyTo h (asked_of h.network text) reply after
+    → IsHeldReply h line reply after
+text_reply h after line text reply short is right =
+    let same = subst (λ (t : List ℕ). IsHeldReplyTo h (asked_of h.network t) reply after) is right in
+    elim (cases_Bool (nat_lt line_limit (length line))) [
+      | inl long ↦ absurd (omega (arith, short, ltb-true line_limit (length line) long))
+      | inr not_long ↦ rw not_long same
+    ]
+
+-- the reply to a longer line
+pub long_reply : (h : HierarchyValue) (line : List ℕ) → line_limit < length line → IsHeldReply h line (codes "refused: long") h
+long_reply h line long = rw (lt-ltb line_limit (length line) long) (refl, refl)
+
+-- a line that is handed out leaves fewer bytes
+pub falls_by : {r after : ReaderState} {s t : SourceState} {chunk : List ℕ} (line : List ℕ) → TakesLine r after s t chunk → IsFirstLine (r.held ++ chunk) after.shown line after.held
+    → left_to_read after < left_to_read r
+falls_by {r = r} {after = after} {chunk = chunk} line took (none, inl parts) =
+    let size = ap (λ (t : List ℕ). length t) parts in
+    omega (arith, size, length-append r.held chunk, length-append line (10 ∷ after.held), took.taken, took.within, took.take_limit)
+falls_by {r = r} {after = after} {chunk = chunk} line took (none, inr (over, some, parts, nil)) =
+    let size = ap (λ (t : List ℕ). length t) parts in
+    let empty = ap (λ (t : List ℕ). length t) nil in
+    omega (arith, size, empty, some, length-append r.held chunk, took.taken, took.within, took.take_limit)
+
+-- nothing was read, taken or written
+pub leaves_all : (script : Bool) (status : ℕ) (source : SourceState) (sink : SinkState) → (status ≡ 0 → ⊥) → (status ≡ 7 → ⊥) → (status ≡ 8 → ⊥) → Leaves script status source source sink sink
+leaves_all script status source sink some read wrote = record {
+  whole = λ _ zero. absurd (some zero);
+  flushed = λ other. inl refl;
+  source_fault = λ seven. absurd (read seven);
+  sink_fault = λ eight. absurd (wrote eight);
+  later = omega arith;
+  rises = omega arith;
+}
+
+-- how the answering ended; where the first hierarchy is built the replies are right by the network alone
+ends : (h : HierarchyValue) (why : Option SessionStop) (source_before source_now : SourceState) (sink_before sink_now : SinkState) (taken output : List ℕ)
+    → Takes source_before.left source_now.left taken → Appends sink_before.written sink_now.written output → AnswersBy (IsHeldOutput h) why taken output
+    → Leaves true (session_status why) source_before source_now sink_before sink_now → EndsSession h why source_before source_now sink_before sink_now
+ends h why source_before source_now sink_before sink_now taken output takes appends held leaves = record {
+  taken = taken;
+  output = output;
+  takes = takes;
+  appends = appends;
+  held = held;
+  legal = λ built. legal_where_built h built why taken output held;
+  leaves = leaves;
+}
+
+-- memory ran out before the script was read
+pub nothing_done : (h : HierarchyValue) (source : SourceState) (sink : SinkState) → EndsSession h (Some stop.NoMemory) source source sink sink
+nothing_done h source sink =
+    ends h (Some stop.NoMemory) source source sink sink [] [] (takes_nothing source.left) (appends_nothing sink.written) refl
+    (leaves_all true 9 source sink (λ e. cc e) (λ e. cc e) (λ e. cc e))
+
+-- nothing was read yet
+pub session_begins : (h : HierarchyValue) (reader : ReaderState) (source : SourceState) (sink : SinkState)
+    → reader ≡ (record { held = []; line = []; taken = 0; shown = false; over = false; line_limit = line_limit; take_limit = take_limit }) → Session h h source sink reader source sink
+session_begins h reader source sink is = rw is (record {
+  taken = [];
+  lines = [];
+  output = [];
+  cut = cut_none;
+  unspent = λ shown. absurd (cc shown);
+  whole = λ shown. absurd (cc shown);
+  takes = takes_nothing source.left;
+  count = refl;
+  within = omega arith;
+  line_limit = refl;
+  take_limit = refl;
+  replies = (refl, refl);
+  appends = appends_nothing sink.written;
+  flushed = inl refl;
+  source_later = omega arith;
+  sink_later = omega arith;
+  rises = omega arith;
+})
+
+module _ (first held : HierarchyValue) (source_before : SourceState) (sink_before : SinkState) (r after : ReaderState) (s t : SourceState) (k : SinkState) (h : Session first held source_before sink_before r s k) (chunk : List ℕ)
+    (took : TakesLine r after s t chunk) where
+  taken_now : List ℕ
+  taken_now = h.taken ++ chunk
+
+  takes_now : Takes source_before.left t.left (h.taken ++ chunk)
+  takes_now = takes_more source_before.left s.left t.left h.taken chunk h.takes took.takes
+
+  count_now : after.taken ≡ length (h.taken ++ chunk)
+  count_now = omega (arith, h.count, took.taken, length-append h.taken chunk)
+
+  within_now : after.taken ≤ take_limit
+  within_now = omega (arith, took.within, h.take_limit)
+
+  unspent_now : after.shown ≡ true → after.taken < take_limit
+  unspent_now shown = elim (cases_Bool r.shown) [
+    | inl before ↦ (let (still, same, nil) = took.rests before in omega (arith, h.unspent before, took.taken, ap (λ (t : List ℕ). length t) nil))
+    | inr before ↦ omega (arith, took.unspent before shown, took.take_limit, h.take_limit)
+  ]
+
+  whole_now : after.shown ≡ true → IfSome t.left (λ bytes. bytes ≡ [])
+  whole_now shown = elim (cases_Bool r.shown) [
+    | inl before ↦ (let (still, same, nil) = took.rests before in subst (λ (v : SourceState). IfSome v.left (λ bytes. bytes ≡ [])) (sym same) (h.whole before))
+    | inr before ↦ took.ends before shown
+  ]
+
+  -- a line was answered
+  pub answered : {T E : Type 0} {x : T} {now : SinkState} (next : HierarchyValue) (line reply : List ℕ) → IsFirstLine (r.held ++ chunk) after.shown line after.held → IsHeldReply held line reply next
+      → WroteLine {T = T} {E = E} k now (Ok x) reply → Session first next source_before sink_before after t now
+  answered {now = now} next line reply cut_off is wrote = record {
+    taken = h.taken ++ chunk;
+    lines = h.lines ++ line ∷ [];
+    output = h.output ++ (reply ++ 10 ∷ []);
+    cut = cut_line h.taken h.lines line h.cut took cut_off;
+    unspent = unspent_now;
+    whole = whole_now;
+    takes = takes_now;
+    count = count_now;
+    within = within_now;
+    line_limit = took.line_limit ∙ h.line_limit;
+    take_limit = took.take_limit ∙ h.take_limit;
+    replies = replied_more first held next h.lines line h.output reply h.replies is;
+    appends = appends_more sink_before.written k.written now.written h.output (reply ++ 10 ∷ []) h.appends wrote.wrote.ok;
+    flushed = inr wrote.flushed;
+    source_later = omega (arith, h.source_later, took.later);
+    sink_later = omega (arith, h.sink_later, wrote.wrote.later);
+    rises = omega (arith, h.rises, wrote.wrote.flushed);
+  }
+
+  -- a reply broke off
+  pub broke : {T E : Type 0} {e : E} {now : SinkState} (next : HierarchyValue) (line reply : List ℕ) → IsFirstLine (r.held ++ chunk) after.shown line after.held → IsHeldReply held line reply next
+      → WroteLine {T = T} {E = E} k now (Err e) reply → EndsSession first (Some stop.Sink) source_before t sink_before now
+  broke {now = now} next line reply cut_off is wrote =
+      let text = h.output ++ (reply ++ 10 ∷ []) in
+      let (count, within, app) = appends_then sink_before.written k.written now.written h.output (reply ++ 10 ∷ []) h.appends wrote.wrote.err in
+      let cut = cut_line h.taken h.lines line h.cut took cut_off in
+      let all = cut.cut [] (λ shown. refl) in
+      let lines : lines_of (h.taken ++ chunk) ≡ (h.lines ++ line ∷ []) ++ lines_of after.held =
+      ap (λ (t : List ℕ). lines_of t) (sym (append-nil (h.taken ++ chunk))) ∙ all ∙ ap (λ (t : List ℕ). (h.lines ++ line ∷ []) ++ lines_of t) (append-nil after.held) in
+      let front = ap (λ (t : List (List ℕ)). take (length (h.lines ++ line ∷ [])) t) lines ∙ front_lines (h.lines ++ line ∷ []) (lines_of after.held) in
+      let output : IsHeldOutput first (h.lines ++ line ∷ []) text = (next, replied_more first held next h.lines line h.output reply h.replies is) in
+      ends first (Some stop.Sink) source_before t sink_before now (h.taken ++ chunk) (take count text) takes_now app
+      (length (h.lines ++ line ∷ []), text, subst (λ (t : List (List ℕ)). IsHeldOutput first t text) (sym front) output, (count, refl))
+      (record {
+        whole = λ _ zero. absurd (cc zero);
+        flushed = λ broken. absurd (broken refl);
+        source_fault = λ source. absurd (cc source);
+        sink_fault = λ sink. omega (arith, h.sink_later, wrote.wrote.cause);
+        later = omega (arith, h.sink_later, wrote.wrote.later);
+        rises = omega (arith, h.rises, wrote.wrote.flushed);
+      })
+
+  -- the end of input was shown
+  pub finished : Finds r after s t chunk found.End → EndsSession first None source_before t sink_before k
+  finished (none, nil, shown) =
+      let lines = cut_end {a = r} {b = after} {s = s} {t = t} h.taken h.lines h.cut took (none, nil, shown) in
+      ends first None source_before t sink_before k (h.taken ++ chunk) h.output takes_now h.appends
+      (omega (arith, unspent_now shown, count_now), subst (λ (t : List (List ℕ)). IsHeldOutput first t h.output) (sym lines) (held, h.replies))
+      (record {
+        whole = λ _ zero. whole_left source_before.left t.left (h.taken ++ chunk) takes_now (whole_now shown);
+        flushed = λ other. h.flushed;
+        source_fault = λ source. absurd (cc source);
+        sink_fault = λ sink. absurd (cc sink);
+        later = h.sink_later;
+        rises = h.rises;
+      })
+    where
+      whole_left : (before now : Option (List ℕ)) (taken : List ℕ) → Takes before now taken → IfSome now (λ bytes. bytes ≡ []) → IfSome before (λ _. now ≡ Some [])
+      whole_left None now taken h k = tt
+      whole_left (Some bytes) None taken h k = absurd (cc h.1)
+      whole_left (Some bytes) (Some rest) taken h k = ap (λ (t : List ℕ). Some t) k
+
+  -- the source failed
+  pub failed : Finds r after s t chunk found.Fault → EndsSession first (Some stop.Source) source_before t sink_before k
+  failed (none, hidden, below, rose) =
+      let lines = cut_open {a = r} {b = after} {s = s} {t = t} h.taken h.lines h.cut took none hidden in
+      ends first (Some stop.Source) source_before t sink_before k (h.taken ++ chunk) h.output takes_now h.appends
+      (omega (arith, below, count_now, h.take_limit), subst (λ (t : List (List ℕ)). IsHeldOutput first t h.output) (sym lines) (held, h.replies))
+      (record {
+        whole = λ _ zero. absurd (cc zero);
+        flushed = λ other. h.flushed;
+        source_fault = λ source. omega (arith, h.source_later, rose);
+        sink_fault = λ sink. absurd (cc sink);
+        later = h.sink_later;
+        rises = h.rises;
+      })
+
+  -- as many bytes were taken as may be
+  pub spent : Finds r after s t chunk found.Spent → EndsSession first (Some stop.TakeLimit) source_before t sink_before k
+  spent (none, hidden, all) =
+      let lines = cut_open {a = r} {b = after} {s = s} {t = t} h.taken h.lines h.cut took none hidden in
+      ends first (Some stop.TakeLimit) source_before t sink_before k (h.taken ++ chunk) h.output takes_now h.appends
+      (omega (arith, all, count_now, h.take_limit), subst (λ (t : List (List ℕ)). IsHeldOutput first t h.output) (sym lines) (held, h.replies))
+      (record {
+        whole = λ _ zero. absurd (cc zero);
+        flushed = λ other. h.flushed;
+        source_fault = λ source. absurd (cc source);
+        sink_fault = λ sink. absurd (cc sink);
+        later = h.sink_later;
+        rises = h.rises;
+      })

@@ -1,0 +1,38 @@
+-- What queries and edits are answered from, and what an edit makes of it.
+use Rattle.std.specs.Prelude.{ℕ, List, Option, Some, None, ◌≡◌, length}
+use Rattle.cu_model.specs.declared.queries.Query.{Query}
+use Rattle.cu_model.specs.declared.roads.Edit.{Edit}
+use Rattle.cu_model.specs.Edits.{edited}
+use Rattle.cu_model.specs.Networks.{NetworkValue}
+use Rattle.cu_model.specs.Roads.{HasNoWalk, IsLeastArrival}
+use Rattle.cu_chordal.specs.Graphs.{ChordalValue}
+use Rattle.cu_elimtree.specs.SweepArcs.{parents_in}
+use Rattle.cu_interval.specs.Hierarchies.{HierarchyValue, IsBuilt, IsHierarchy, graph_of}
+use Rattle.cu_interval.specs.Touching.{NumbersTouched}
+use Rattle.cu_links.specs.Buckets.{BucketsValue}
+use Rattle.cu_sweep.specs.Desks.{DeskValue}
+
+-- the room beside the packed bytes of a hierarchy is made for it
+pub record HasRoom (h : HierarchyValue) (graph : ChordalValue) (parents : List (Option ℕ)) (queries : DeskValue) (walks : Option ℕ) (buckets : BucketsValue) : Type 0 where
+  pub chordal : graph ≡ graph_of h
+  pub tree : parents ≡ parents_in (graph_of h)
+  pub desk : queries.nodes ≡ h.network.nodes
+  pub work : walks ≡ Some h.network.nodes
+  pub ranks : buckets.ranks ≡ h.network.nodes
+  pub edges : length buckets.states ≡ length h.edges
+
+-- the least arrival of a query; none where there is no walk
+abbrev pub FindsArrival : NetworkValue → Query → Option ℕ → Type 0
+FindsArrival g query None = HasNoWalk g query.from query.to
+FindsArrival g query (Some arrival) = IsLeastArrival g query.from query.to query.second arrival
+
+-- an edit was made that touches so many edges, and the hierarchy is built anew
+pub record IsEdited (old : HierarchyValue) (edit : Edit) (new : HierarchyValue) (touches : ℕ) : Type 0 where
+  pub sound : IsHierarchy old
+  pub touched : List ℕ
+  pub numbers : NumbersTouched old edit touched
+  pub count : touches ≡ length touched
+  pub network : new.network ≡ edited old.network edit
+  pub order : new.order ≡ old.order
+  pub edges : new.edges ≡ old.edges
+  pub built : IsBuilt new

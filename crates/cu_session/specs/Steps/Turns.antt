@@ -1,0 +1,76 @@
+-- A script that is being answered.
+use Rattle.std.specs.Prelude.{ℕ, List, [], ◌++◌, ◌+◌, ◌<◌, IfSome, ◌-◌, ◌≡◌, ◌≤◌, Bool, true, false, Option, Some, None, Result, Ok, Err, length}
+use Rattle.cu_io.specs.LineReading.{ReaderState}
+use Rattle.cu_io.specs.Lines.{lines_of}
+use Rattle.cu_io.specs.steps.Cuts.{IsCut}
+use Rattle.cu_io.specs.Sinks.{SinkState, WroteLine}
+use Rattle.cu_io.specs.declared.sink.SinkFailed.{SinkFailed}
+use Rattle.cu_io.specs.Sources.{SourceState}
+use Rattle.cu_io.specs.Transfers.{Appends, Takes}
+use Rattle.cu_interval.specs.Hierarchies.{HierarchyValue}
+use Rattle.cu_session.specs.declared.stops.SessionStop.{SessionStop}
+use Rattle.cu_session.specs.declared.stops.SessionStop.TheVariants as stop
+use Rattle.cu_session.specs.Held.{AreDone, AreHeldReplies}
+use Rattle.cu_session.specs.Replies.{line_limit}
+use Rattle.cu_session.specs.Sessions.{EndsSession, IsFlushed, take_limit}
+
+-- why the answering stopped, if it did
+abbrev pub stop_of : {T : Type 0} → Result T SessionStop → Option SessionStop
+stop_of (Ok value) = None
+stop_of (Err why) = Some why
+
+-- The bytes taken so far are the lines that were answered, by which the first hierarchy became the one held now, and what the
+-- reader holds.
+pub record Session (h held : HierarchyValue) (source_before : SourceState) (sink_before : SinkState) (reader : ReaderState) (source : SourceState) (sink : SinkState) : Type 0 where
+  pub taken : List ℕ
+  pub lines : List (List ℕ)
+  pub output : List ℕ
+  pub cut : IsCut taken lines reader.held reader.shown
+  pub unspent : reader.shown ≡ true → reader.taken < take_limit
+  pub whole : reader.shown ≡ true → IfSome source.left (λ bytes. bytes ≡ [])
+  pub takes : Takes source_before.left source.left taken
+  pub count : reader.taken ≡ length taken
+  pub within : reader.taken ≤ take_limit
+  pub line_limit : reader.line_limit ≡ line_limit
+  pub take_limit : reader.take_limit ≡ take_limit
+  pub replies : AreHeldReplies h lines output held
+  pub appends : Appends sink_before.written sink.written output
+  pub flushed : IsFlushed sink_before sink
+  pub source_later : source_before.faults ≤ source.faults
+  pub sink_later : sink_before.faults ≤ sink.faults
+  pub rises : sink_before.flushed ≤ sink.flushed
+
+-- what one turn makes of a script: it goes on over this hierarchy, or the answering ended
+abbrev pub Turned : HierarchyValue → HierarchyValue → Result Bool SessionStop → SourceState → SinkState → ReaderState → SourceState → SinkState → Type 0
+Turned h held (Ok true) source_before sink_before reader source sink = Session h held source_before sink_before reader source sink × (reader.over ≡ false)
+Turned h held (Ok false) source_before sink_before reader source sink = EndsSession h None source_before source sink_before sink
+Turned h held (Err why) source_before sink_before reader source sink = EndsSession h (Some why) source_before source sink_before sink
+
+-- one turn, before which this hierarchy was held and after which that one is
+abbrev pub TakesTurn : HierarchyValue → HierarchyValue → Result Bool SessionStop → ReaderState → ReaderState → SourceState → SourceState → SinkState → SinkState → Type 0
+TakesTurn held next result reader after source left sink now =
+    (h : HierarchyValue) (source_before : SourceState) (sink_before : SinkState) → Session h held source_before sink_before reader source sink
+    → Turned h next result source_before sink_before after left now
+
+-- how many bytes are left to be handed out, at most
+abbrev pub left_to_read : ReaderState → ℕ
+left_to_read reader = (reader.take_limit - reader.taken) + length reader.held
+
+-- A line of edits was answered: this reply is right and was written; or the sink failed in it; or there was no memory for the edit,
+-- and nothing was made or written.
+abbrev pub AnswersEdit : HierarchyValue → HierarchyValue → (List ℕ → Type 0) → Result (Unit {0}) SessionStop → SinkState → SinkState → Type 0
+AnswersEdit held next Right (Ok value) sink now = (reply : List ℕ) × Right reply × WroteLine {T = Unit {0}} {E = SinkFailed} sink now (Ok tt) reply
+AnswersEdit held next Right (Err stop.Sink) sink now = (reply : List ℕ) × Right reply × ((failed : SinkFailed) × WroteLine {T = Unit {0}} {E = SinkFailed} sink now (Err failed) reply)
+AnswersEdit held next Right (Err stop.NoMemory) sink now = (next ≡ held) × (now ≡ sink)
+AnswersEdit held next Right (Err _) sink now = ⊥
+
+-- The first lines of a text were answered and made, by which the first hierarchy became the one held now; and this is left of the text.
+pub record Edits (before held : HierarchyValue) (text rest : List ℕ) (sink_before sink : SinkState) : Type 0 where
+  pub lines : List (List ℕ)
+  pub output : List ℕ
+  pub cut : lines_of text ≡ lines ++ lines_of rest
+  pub done : AreDone before lines output held
+  pub appends : Appends sink_before.written sink.written output
+  pub flushed : IsFlushed sink_before sink
+  pub later : sink_before.faults ≤ sink.faults
+  pub rises : sink_before.flushed ≤ sink.flushed

@@ -1,0 +1,97 @@
+//! The lines of a source, each answered before the next is read.
+
+ghost use Rattle.std.specs.Prelude.{◌≡◌, ◌<◌, Ok, Option, true, false};
+ghost use Rattle.cu_interval.specs.Hierarchies.{HierarchyValue};
+ghost use Rattle.cu_pack.specs.Checks.{Spells};
+ghost use Rattle.cu_session.specs.Replies.{line_limit};
+ghost use Rattle.cu_session.specs.declared.stops.SessionStop.{SessionStop};
+ghost use Rattle.cu_session.specs.Sessions.{EndsSession, session_status};
+ghost use Rattle.cu_session.specs.Steps.Turns.{TakesTurn, left_to_read, stop_of};
+
+use crate::replies::answer_line;
+use crate::router::Router;
+use crate::stops::SessionStop;
+use cu_io::{Line, LineReader, Sink, Source, put_line};
+use std::alloc::Global;
+
+/// The most bytes of a line before its end.
+pub(crate) const LINE_LIMIT: u32 = 4_194_304;
+
+/// The most bytes taken in a run, 2^40.
+const TAKE_LIMIT: u64 = 1 << 40;
+
+/// Answers the lines of the source over the packed bytes of a hierarchy. All that a query needs is made before the first
+/// reply. Edits change the hierarchy for the lines behind them.
+pub fn answer_script<S: Source, K: Sink>(
+    alloc: Global,
+    bytes: Vec<u8>,
+    source: &mut S,
+    sink: &mut K,
+) -> Result<(), SessionStop>
+    requires spelled { (h : HierarchyValue) × Spells bytes.items h }
+    ensures ended { (h : HierarchyValue) → Spells bytes.items h → EndsSession
+        h
+        (stop_of result)
+        (S.state source.old)
+        (S.state source.new)
+        (K.state sink.old)
+        (K.state sink.new) }
+{
+    let mut router = Router::new(alloc, bytes)?;
+    let mut reader = LineReader::open(alloc, LINE_LIMIT, TAKE_LIMIT)?;
+    'lines: while answer_next(alloc, &mut router, &mut reader, source, sink)? {}
+    Ok(())
+}
+
+/// Answers the script of the source over the packed bytes of a hierarchy, built or not, and writes the replies. The status: 0
+/// where the source was read to its end, 7 where it failed, 8 where the sink failed, 9 where memory ran out before the first
+/// reply, and 12 where 2^40 bytes were taken and the end wasn't seen.
+pub fn session<S: Source, K: Sink>(
+    alloc: Global,
+    bytes: Vec<u8>,
+    source: &mut S,
+    sink: &mut K,
+) -> u8
+    requires spelled { (h : HierarchyValue) × Spells bytes.items h }
+    ensures ended { (h : HierarchyValue) → Spells bytes.items h → (why : Option SessionStop)
+        × (result ≡ session_status why)
+        × EndsSession h why (S.state source.old) (S.state source.new) (K.state sink.old) (K.state sink.new) }
+{
+    match answer_script(alloc, bytes, source, sink) {
+        Ok(()) => 0,
+        Err(stop) => stop.status(),
+    }
+}
+
+// Answers the next line of the source; false at the end of input.
+fn answer_next<S: Source, K: Sink>(
+    alloc: Global,
+    router: &mut Router,
+    reader: &mut LineReader,
+    source: &mut S,
+    sink: &mut K,
+) -> Result<bool, SessionStop>
+    requires more { reader.old.over ≡ false }
+    requires limit { reader.old.line_limit ≡ line_limit }
+    ensures turn { TakesTurn
+        router.old
+        router.new
+        result
+        reader.old
+        reader.new
+        (S.state source.old)
+        (S.state source.new)
+        (K.state sink.old)
+        (K.state sink.new) }
+    ensures limit { reader.new.line_limit ≡ line_limit }
+    ensures falls { result ≡ Ok true → left_to_read reader.new < left_to_read reader.old }
+{
+    match reader.next_line(source) {
+        Line::Text(line) => answer_line(alloc, router, line, sink)?,
+        Line::Long => put_line(sink, b"refused: long")?,
+        Line::End => return Ok(false),
+        Line::Fault => return Err(SessionStop::Source),
+        Line::Spent => return Err(SessionStop::TakeLimit),
+    }
+    Ok(true)
+}

@@ -1,0 +1,248 @@
+//! What a script is answered from: the packed bytes of a hierarchy, and the room that queries and edits need beside them.
+
+ghost use Rattle.std.specs.Prelude.{◌≡◌, ◌≤◌, ◌<◌, ◌^◌, Some, IfOk, IfSome, OnErr, false, slice_get};
+ghost use Rattle.cu_io.specs.Sinks.{Wrote};
+ghost use Rattle.cu_model.specs.declared.limits.TheConstants.{DAY};
+ghost use Rattle.cu_model.specs.Answers.{arrive_text};
+ghost use Rattle.cu_model.specs.Edits.{IsEditInRange};
+ghost use Rattle.cu_elimtree.specs.SweepArcs.{parents_in};
+ghost use Rattle.cu_interval.specs.Hierarchies.{HierarchyValue, IsBuilt, IsHierarchy, IsHierarchyOf};
+ghost use Rattle.cu_pack.specs.Checks.{Spells};
+ghost use Rattle.cu_pack.specs.Reading.{decoded};
+ghost use Rattle.cu_sweep.specs.Desks.{AreArriving, roads_of};
+ghost use Rattle.cu_session.specs.Held.{IsHeldAnswer};
+ghost use Rattle.cu_session.specs.Steps.Routing.{FindsArrival, IsEdited};
+ghost use Rattle.cu_session.specs.Swept.{swept_reply};
+
+use crate::rebuilding::packed_anew;
+use crate::writing::put_damage;
+use cu_chordal::Chordal;
+use cu_edits::touched_edges;
+use cu_elimtree::Tree;
+use cu_interval::Ways;
+use cu_io::{Sink, SinkFailed, put_all, put_number};
+use cu_links::RankBuckets;
+use cu_model::{Edit, NoMemory, Query, Roads};
+use cu_pack::{PackedView, chordal_of};
+use cu_sweep::{Found, SweepDesk, route};
+use cu_unpack::{Unpacker, Work};
+use std::alloc::Global;
+use std::marker::Model;
+
+/// The packed bytes of a hierarchy, built or not, and the room for its queries and edits. Contracts see the hierarchy.
+#[derive(Drop)]
+pub struct Router {
+    bytes: Vec<u8>,
+    graph: Chordal,
+    tree: Tree,
+    desk: SweepDesk,
+    // There but while a query is answered: its unpacker owns it.
+    work: Option<Work>,
+    buckets: RankBuckets,
+}
+
+impl Model for Router {
+    ghost use Rattle.cu_interval.specs.Hierarchies.{HierarchyValue};
+    ghost use Rattle.cu_pack.specs.Checks.{Spells};
+    ghost use Rattle.cu_pack.specs.Reading.{decoded};
+    ghost use Rattle.cu_session.specs.Steps.Routing.{HasRoom};
+
+    ghost Value = { HierarchyValue };
+
+    ghost view = { λ router. decoded router.bytes.items };
+
+    ghost invariant = { λ router. Spells router.bytes.items (decoded router.bytes.items)
+        × HasRoom (decoded router.bytes.items) router.graph router.tree router.desk router.work
+        router.buckets };
+}
+
+impl Router {
+    /// Room for the queries and edits of the hierarchy whose packed file these bytes are.
+    pub fn new(alloc: Global, bytes: Vec<u8>) -> Result<Router, NoMemory>
+        requires spelled { (h : HierarchyValue) × Spells bytes.items h }
+        ensures held { IfOk result (λ router. Spells bytes.items router) }
+    {
+        let view = PackedView::adopt(&bytes);
+        let nodes = view.nodes();
+        let edges = view.edges();
+        let graph = chordal_of(alloc, &view)?;
+        let tree = Tree::of(alloc, &graph)?;
+        Ok(Router {
+            bytes,
+            graph,
+            tree,
+            desk: SweepDesk::new(alloc, nodes)?,
+            work: Some(Work::new(alloc, nodes)?),
+            buckets: RankBuckets::new(alloc, nodes, edges)?,
+        })
+    }
+
+    // The hierarchy over its bytes. Takes no memory.
+    pub(crate) fn view(&self) -> PackedView<'_>
+        ensures same { result ≡ self.now }
+        ensures sound { IsHierarchy self.now }
+    {
+        adopt(&self.bytes)
+    }
+
+    /// The packed bytes of the hierarchy as it is now.
+    pub fn bytes(&self) -> &[u8]
+        ensures spelled { Spells result.now self.now }
+    {
+        &self.bytes
+    }
+
+    /// Writes the reply to a query between nodes below the number of nodes, leaving at a second of the day. Takes no memory.
+    pub fn put_answer<K: Sink>(&mut self, query: Query, sink: &mut K) -> Result<(), SinkFailed>
+        requires from { query.from < self.old.network.nodes }
+        requires to { query.to < self.old.network.nodes }
+        requires second { query.second < DAY }
+        ensures answer { IsHeldAnswer self.old query (swept_reply self.old query) }
+        ensures wrote { Wrote (K.state sink.old) (K.state sink.new) result
+            (swept_reply self.old query) }
+        ensures stays { self.new ≡ self.old }
+    {
+        let Some(work) = self.work.take() else {
+            unreachable!()
+        };
+        let view = adopt(&self.bytes);
+        let from = view.rank(query.from);
+        let to = view.rank(query.to);
+        let mut unpacker = Unpacker::new(&view, work);
+        let tree = &self.tree;
+        let graph = &self.graph;
+        let desk = &mut self.desk;
+        let outcome = put_swept(tree, graph, desk, &mut unpacker, from, to, query, sink);
+        self.work = Some(unpacker.into_work());
+        outcome
+    }
+
+    /// The least arrival of a query between nodes below the number of nodes, leaving at a second of the day, in a built
+    /// hierarchy. None exactly where there is no walk. Takes no memory.
+    pub fn find(&mut self, query: Query) -> Option<u64>
+        requires built { IsBuilt self.old }
+        requires from { query.from < self.old.network.nodes }
+        requires to { query.to < self.old.network.nodes }
+        requires second { query.second < DAY }
+        ensures found { FindsArrival self.old.network query result }
+        ensures near { IfSome result (λ arrival. arrival ≤ 2 ^ 39) }
+        ensures stays { self.new ≡ self.old }
+    {
+        let Some(work) = self.work.take() else {
+            unreachable!()
+        };
+        let view = adopt(&self.bytes);
+        let from = view.rank(query.from);
+        let to = view.rank(query.to);
+        let mut unpacker = Unpacker::new(&view, work);
+        let tree = &self.tree;
+        let graph = &self.graph;
+        let desk = &mut self.desk;
+        let arrival = find_swept(tree, graph, desk, &mut unpacker, from, to, query);
+        self.work = Some(unpacker.into_work());
+        arrival
+    }
+
+    /// Makes an edit, whose numbers are in range, and answers how many edges it touches. The hierarchy is then the built one of
+    /// the edited network, under the same order. Where memory runs out nothing has changed.
+    pub fn edit(&mut self, alloc: Global, edit: Edit) -> Result<usize, NoMemory>
+        requires range { IsEditInRange self.old.network edit }
+        ensures edited { IfOk result (IsEdited self.old edit self.new) }
+        ensures kept { OnErr result (self.new ≡ self.old) }
+    {
+        let view = adopt(&self.bytes);
+        let touched = touched_edges(alloc, &view, &edit, &self.graph, &mut self.buckets)?;
+        let bytes = packed_anew(alloc, &view, edit)?;
+        self.bytes = bytes;
+        Ok(touched.len())
+    }
+}
+
+// The view of the packed bytes of a hierarchy: no two hierarchies have the same bytes.
+fn adopt(bytes: &[u8]) -> PackedView<'_>
+    requires spelled { Spells bytes.now (decoded bytes.now) }
+    ensures same { result ≡ decoded bytes.now }
+{
+    PackedView::adopt(bytes)
+}
+
+// Sweeps for the least arrival of a query between the ranks of its nodes, in a built hierarchy.
+fn find_swept(
+    tree: &Tree,
+    graph: &Chordal,
+    desk: &mut SweepDesk,
+    unpacker: &mut Unpacker<'_, PackedView<'_>>,
+    from: u32,
+    to: u32,
+    query: Query,
+) -> Option<u64>
+    requires built { IsBuilt unpacker.old }
+    requires graph { IsHierarchyOf graph.now unpacker.old }
+    requires tree { tree.now ≡ parents_in graph.now }
+    requires desk { desk.old.nodes ≡ graph.now.ranks }
+    requires start { slice_get unpacker.old.order.rank_of query.from ≡ Some from }
+    requires stop { slice_get unpacker.old.order.rank_of query.to ≡ Some to }
+    requires ranks { (from < graph.now.ranks) × (to < graph.now.ranks) }
+    requires second { query.second < DAY }
+    ensures found { FindsArrival unpacker.old.network query result }
+    ensures near { IfSome result (λ arrival. arrival ≤ 2 ^ 39) }
+    ensures desk { desk.new.nodes ≡ desk.old.nodes }
+    ensures stays { unpacker.new ≡ unpacker.old }
+{
+    match cu_sweep::query(tree, graph, desk, unpacker, from, to, query.second) {
+        Found::Arrive(arrival) => Some(arrival),
+        Found::NoWalk => None,
+        Found::Long { .. } => unreachable!(),
+    }
+}
+
+// Sweeps for a query between the ranks of its nodes, and writes what is found.
+fn put_swept<K: Sink>(
+    tree: &Tree,
+    graph: &Chordal,
+    desk: &mut SweepDesk,
+    unpacker: &mut Unpacker<'_, PackedView<'_>>,
+    from: u32,
+    to: u32,
+    query: Query,
+    sink: &mut K,
+) -> Result<(), SinkFailed>
+    requires graph { IsHierarchyOf graph.now unpacker.old }
+    requires tree { tree.now ≡ parents_in graph.now }
+    requires desk { desk.old.nodes ≡ graph.now.ranks }
+    requires start { slice_get unpacker.old.order.rank_of query.from ≡ Some from }
+    requires stop { slice_get unpacker.old.order.rank_of query.to ≡ Some to }
+    requires ranks { (from < graph.now.ranks) × (to < graph.now.ranks) }
+    requires second { query.second < DAY }
+    ensures answer { IsHeldAnswer unpacker.old query (swept_reply unpacker.old query) }
+    ensures wrote { Wrote (K.state sink.old) (K.state sink.new) result
+        (swept_reply unpacker.old query) }
+    ensures desk { desk.new.nodes ≡ desk.old.nodes }
+    ensures stays { unpacker.new ≡ unpacker.old }
+{
+    match cu_sweep::query(tree, graph, desk, unpacker, from, to, query.second) {
+        Found::Arrive(arrival) => put_arrival(arrival, desk, unpacker, sink),
+        Found::NoWalk => put_all(sink, b"unreachable"),
+        Found::Long { edge, dir, second } => put_damage(edge, dir, second, sink),
+    }
+}
+
+// Writes an arrival and the roads of the walk that the desk found.
+fn put_arrival<K: Sink>(
+    arrival: u64,
+    desk: &mut SweepDesk,
+    unpacker: &mut Unpacker<'_, PackedView<'_>>,
+    sink: &mut K,
+) -> Result<(), SinkFailed>
+    requires unturned { desk.old.turned ≡ false }
+    requires arriving { AreArriving unpacker.old desk.old.calls }
+    ensures wrote { Wrote (K.state sink.old) (K.state sink.new) result
+        (arrive_text arrival (roads_of unpacker.old desk.old.calls)) }
+    ensures desk { desk.new.nodes ≡ desk.old.nodes }
+    ensures stays { unpacker.new ≡ unpacker.old }
+{
+    put_all(sink, b"arrive=")?;
+    put_number(sink, arrival)?;
+    put_all(sink, b" arcs=")?;
+    route(desk, unpacker, sink)
+}
