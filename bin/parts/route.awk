@@ -44,7 +44,7 @@ function read_reply(line) {
   text[++replies] = line
   if (line ~ /^arrive=[0-9]+ arcs=([0-9]+( [0-9]+)*)?$/) {
     read_route(substr(line, index(line, "arcs=") + 5))
-  } else if (line !~ /^(unreachable|no memory|done [0-9]+|refused: [a-z]+( [0-9]+)*)$/) {
+  } else if (line !~ /^(unreachable|no memory|done [0-9]+|damaged [0-9]+ (up|down) [0-9]+|refused: [a-z]+( [0-9]+)*)$/) {
     gsub(/[^ -~]/, "?", line)
     refuse_reply("this is no reply: " substr(line, 1, 60))
   }
