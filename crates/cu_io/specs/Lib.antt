@@ -9,4 +9,5 @@ pub mod Lines
 pub mod LineReading
 pub mod Memory
 pub mod MemoryShelves
+pub mod Sure
 pub mod steps

@@ -136,7 +136,7 @@ fn store_file<R: Files>(
     name: &str,
     bytes: &[u8],
 ) -> Result<(), StoreFailed> {
-    if !is_link(files, name) {
+    if !stored(is_link(files, name))? {
         return store_at(alloc, files, name, bytes);
     }
     match files.canonicalize(alloc, name) {
@@ -146,10 +146,11 @@ fn store_file<R: Files>(
     }
 }
 
-fn is_link<R: Files>(files: &R, name: &str) -> bool {
+fn is_link<R: Files>(files: &R, name: &str) -> io::Result<bool> {
     match fs::symlink_metadata(files, name) {
-        Ok(metadata) => metadata.is_symlink(),
-        Err(_) => false,
+        Ok(metadata) => Ok(metadata.is_symlink()),
+        Err(error) if error.kind() == ErrorKind::NotFound => Ok(false),
+        Err(error) => Err(error),
     }
 }
 

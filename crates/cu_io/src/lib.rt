@@ -1,6 +1,6 @@
 //! What a program reads from, writes to and keeps its files on: sources, sinks and shelves, as traits whose meanings
-//! say which bytes moved and why a call failed; objects in memory that tell all they hold; and adapters over
-//! standard input, standard output and the file system, which tell nothing.
+//! say which bytes moved and why a call failed; objects in memory that tell all they hold, and such as never fail; and
+//! adapters over standard input, standard output and the file system, which tell nothing.
 //!
 //! Its promise to the crates above: a call answers a fault only where the object's own count of faults rose; a write of a
 //! text leaves all of it or first bytes of it (`Wrote` in `specs/Sinks.antt`); and a [`LineReader`] hands out the lines of
@@ -15,6 +15,7 @@ mod shelf;
 mod sink;
 mod source;
 mod standard;
+mod sure;
 mod text;
 
 pub use disk::DiskShelf;
@@ -24,6 +25,7 @@ pub use shelf::{LoadFailed, Shelf, StoreFailed};
 pub use sink::{Sink, SinkFailed, put_all};
 pub use source::{Source, SourceFailed};
 pub use standard::{StdSink, StdSource};
+pub use sure::{SureShelf, SureSink, SureSource};
 pub use text::{end_line, put_line, put_number, put_numbers};
 
 #[cfg(test)]

@@ -7,3 +7,4 @@ mod memory_source;
 pub use memory_shelf::MemoryShelf;
 pub use memory_sink::MemorySink;
 pub use memory_source::MemorySource;
+pub(crate) use memory_source::copy_front;

@@ -121,3 +121,32 @@ fn reader_and_writer_are_source_and_sink(rt: HostRuntime) {
     assert!(rt; takes_four(&mut room));
     assert_eq!(rt; room, *b"catc");
 }
+
+#[test]
+fn sure_source_gives_its_bytes(rt: HostRuntime) -> Result<(), Fail> {
+    let mut source = SureSource::of(Vec::from_slice(rt.alloc(), &[1, 2, 3])?);
+    let wanted = [(Ok(2), [1, 2]), (Ok(1), [3, 2]), (Ok(0), [3, 2])];
+    assert!(rt; gives(&mut source, &wanted));
+    Ok(())
+}
+
+#[test]
+fn sure_sink_takes_each_piece(rt: HostRuntime) -> Result<(), Fail> {
+    let mut sink = SureSink::new();
+    assert!(rt; put_all(&mut sink, b"abc").is_ok() && sink.flush().is_ok());
+    assert_eq!(rt; sink.write(b"de"), Ok(2));
+    Ok(())
+}
+
+#[test]
+fn sure_shelf_holds_what_was_stored(rt: HostRuntime) -> Result<(), Fail> {
+    let alloc = rt.alloc();
+    let mut shelf = SureShelf::new(alloc, 2);
+    assert_eq!(rt; shelf.limit(), 2);
+    assert!(rt; loads(&mut shelf, alloc, "a", Ok(b"")));
+    assert!(rt; shelf.store(alloc, "a", b"12").is_ok() && shelf.store(alloc, "b", b"345").is_ok());
+    assert!(rt; loads(&mut shelf, alloc, "a", Ok(b"12")));
+    assert!(rt; loads(&mut shelf, alloc, "b", Err(LoadFailed::TooLong)));
+    assert!(rt; loads(&mut shelf, alloc, "c", Ok(b"")));
+    Ok(())
+}

@@ -91,7 +91,7 @@ impl Source for MemorySource {
 }
 
 // Copies as many bytes as there are, up to `most`, and answers how many.
-fn copy_front(from: &[u8], into: &mut [u8], most: usize) -> usize
+pub(crate) fn copy_front(from: &[u8], into: &mut [u8], most: usize) -> usize
     requires { most ≤ length into.old }
     ensures count { result ≡ min (length from.now) most }
     ensures front { take result into.new ≡ take result from.now }

@@ -1,0 +1,124 @@
+//! A source, a sink and a shelf that never fail: what a program answers over them has no fault for its cause.
+ghost use Rattle.std.specs.Prelude.{◌≡◌, ℕ, List, [], None, Some};
+ghost use Rattle.cu_io.specs.Sure.{file_or_empty, sure_limit};
+
+use crate::memory::copy_front;
+use crate::shelf::{LoadFailed, Shelf, StoreFailed};
+use crate::sink::{Sink, SinkFailed};
+use crate::source::{Source, SourceFailed};
+use std::alloc::Global;
+use std::collections::BTreeMap;
+use std::marker::Model;
+
+/// A source of the bytes of a list. It tells them, and no read fails. Contracts see the bytes left.
+#[derive(Drop)]
+pub struct SureSource {
+    bytes: Vec<u8>,
+    taken: usize,
+}
+
+impl Model for SureSource {
+    ghost use Rattle.std.specs.Prelude.{ℕ, ◌≤◌, List, drop, length};
+
+    ghost Value = { List ℕ };
+
+    ghost view = { λ s. drop s.taken s.bytes.items };
+
+    ghost invariant = { λ s. s.taken ≤ length s.bytes.items };
+}
+
+impl SureSource {
+    /// A source of these bytes. Takes no memory.
+    pub fn of(bytes: Vec<u8>) -> SureSource
+        ensures { result ≡ bytes.items }
+    {
+        SureSource { bytes, taken: 0 }
+    }
+}
+
+impl Source for SureSource {
+    ghost state = { λ s. record { left = Some s; faults = 0 } };
+
+    fn read(&mut self, into: &mut [u8]) -> Result<usize, SourceFailed> {
+        let room = into.len();
+        let count = copy_front(&self.bytes[self.taken..], into, room);
+        self.taken += count;
+        Ok(count)
+    }
+}
+
+/// A sink that takes every piece whole and keeps nothing. It tells no bytes, and no write or flush fails.
+#[derive(Drop)]
+pub struct SureSink {}
+
+impl SureSink {
+    /// A sink. Takes no memory.
+    pub fn new() -> SureSink {
+        SureSink {}
+    }
+}
+
+impl Sink for SureSink {
+    ghost state = { λ _. record { written = None; flushed = 0; faults = 0 } };
+
+    fn write(&mut self, piece: &[u8]) -> Result<usize, SinkFailed> {
+        Ok(piece.len())
+    }
+
+    fn flush(&mut self) -> Result<(), SinkFailed> {
+        Ok(())
+    }
+}
+
+/// A shelf of files in memory. It tells them, and no load or store meets a fault: a name that nobody stored holds the
+/// empty file.
+#[derive(Drop)]
+pub struct SureShelf {
+    files: BTreeMap<String, Vec<u8>>,
+    limit: u64,
+}
+
+impl SureShelf {
+    /// A shelf whose files are all empty, of which none with more than `limit` bytes will be loaded. Takes no memory.
+    pub fn new(alloc: Global, limit: u64) -> SureShelf
+        ensures files { (name : List ℕ) → file_or_empty result name ≡ [] }
+        ensures limit { sure_limit result ≡ limit }
+    {
+        SureShelf {
+            files: BTreeMap::new(alloc),
+            limit,
+        }
+    }
+}
+
+impl Shelf for SureShelf {
+    ghost state = { λ s. record {
+      held = Some (λ name. Some (file_or_empty s name));
+      most = sure_limit s;
+      load_faults = λ _. 0;
+      store_faults = λ _. 0;
+    } };
+
+    fn limit(&self) -> u64 {
+        self.limit
+    }
+
+    fn load(&mut self, _alloc: Global, name: &str, into: &mut Vec<u8>) -> Result<(), LoadFailed> {
+        into.clear();
+        let Some(file) = self.files.get(name) else {
+            return Ok(());
+        };
+        if file.len() as u64 > self.limit {
+            return Err(LoadFailed::TooLong);
+        }
+        into.extend_from_slice(file.as_slice())?;
+        Ok(())
+    }
+
+    fn store(&mut self, alloc: Global, name: &str, bytes: &[u8]) -> Result<(), StoreFailed> {
+        let key = String::from_str(alloc, name)?;
+        let file = Vec::from_slice(alloc, bytes)?;
+        self.files.insert(key, file)?;
+        Ok(())
+    }
+}
