@@ -70,6 +70,15 @@ impl RunList {
         Ok(())
     }
 
+    /// A list of the same runs.
+    pub fn copy(&self, alloc: Global) -> Result<RunList, NoMemory>
+        ensures { IfOk result (λ copy. copy ≡ self.now) }
+    {
+        let mut packed = Vec::with_capacity(alloc, self.packed.len())?;
+        packed.extend_from_slice(&self.packed)?;
+        Ok(RunList { packed })
+    }
+
     /// Gives back the memory that the runs don't take. Where the smaller piece of memory isn't to be had it stays.
     pub fn shrink(&mut self)
         ensures { self.new ≡ self.old }

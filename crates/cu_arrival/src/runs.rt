@@ -77,6 +77,15 @@ impl Arrival {
         Ok(Arrival::of_runs(runs))
     }
 
+    /// A function of the same runs.
+    pub fn copy(&self, alloc: Global) -> Result<Arrival, NoMemory>
+        ensures same { IfOk result (λ copy. copy ≡ self.now) }
+        ensures sound { IsArrivalFunction self.now }
+    {
+        let runs = self.runs().copy(alloc)?;
+        Ok(Arrival { runs })
+    }
+
     /// Its runs, by rising second, the first from second 0: 1 to 86,400 of them.
     pub(crate) fn runs(&self) -> &RunList
         ensures all { result.now ≡ self.now }

@@ -42,9 +42,9 @@ fn rule_on(rule: RunRule, midnight: u64) -> RunRule
     }
 }
 
-// The second of the day from which the run after the one with this index holds, or the end of the day where that is the
-// last.
-fn next_begin(runs: &RunList, index: usize) -> u64
+/// The second of the day from which the run after the one with this index holds, or the end of the day where that is the
+/// last.
+pub fn next_begin(runs: &RunList, index: usize) -> u64
     requires { index < length runs.now }
     ensures { result ≡ until_next (slice_get runs.now (index + 1)) }
 {

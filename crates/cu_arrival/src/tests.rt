@@ -69,6 +69,30 @@ fn composition_of_two_roads(rt: HostRuntime) -> Result<(), Fail> {
 }
 
 #[test]
+fn a_tie_is_not_earlier(rt: HostRuntime) -> Result<(), Fail> {
+    let alloc = rt.alloc();
+    let first = road(alloc, vec![in alloc; travel(0, 60)]?)?;
+    let second = road(alloc, vec![in alloc; travel(0, 250)]?)?;
+    let tie = road(alloc, vec![in alloc; travel(0, 310)]?)?;
+    let late = road(alloc, vec![in alloc; travel(0, 310), travel(43_200, 311)]?)?;
+    assert!(rt; !is_earlier_through(&first, &second, &tie));
+    assert!(rt; is_earlier_through(&first, &second, &late));
+    Ok(())
+}
+
+#[test]
+fn travels_of_two_roads(rt: HostRuntime) -> Result<(), Fail> {
+    let both = both_roads(rt.alloc())?.copy(rt.alloc())?;
+    let wanted = Travels {
+        least: 160,
+        most: 360,
+    };
+    assert_eq!(rt; both.travels(), wanted);
+    assert_eq!(rt; both.value(28_740), 29_100);
+    Ok(())
+}
+
+#[test]
 fn lesser_of_a_road_and_two(rt: HostRuntime) -> Result<(), Fail> {
     let alloc = rt.alloc();
     let direct = road(alloc, vec![in alloc; travel(0, 250)]?)?;
