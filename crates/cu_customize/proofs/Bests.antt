@@ -21,6 +21,7 @@ use Rattle.cu_customize.specs.declared.settling.Settled.{Settled}
 use Rattle.cu_customize.specs.Functions.{FunctionsState}
 use Rattle.cu_customize.specs.Settling.{ArrivesBy}
 use Rattle.cu_customize.specs.Steps.Best.{IsBestOf, IsOpenAmong, IsOpenWay, IsWayFunction}
+use Rattle.cu_customize.specs.Steps.ByMiddles.{IsNeverBefore}
 use Rattle.cu_customize.specs.Steps.Choosing.{AreTurns, chosen, chosen_by, side}
 use Rattle.cu_customize.proofs.LowFunctions.{runs_by}
 
@@ -116,6 +117,42 @@ chosen_cases entries choices way first second s are lt =
 pub choices_turn : (first second : List Run) (choices : List Choice) → IsChoices first second choices → AreTurns choices
 choices_turn first second choices are = record { limits = are.limits; starts = are.starts; rises = are.rises }
 
+-- the first of some ways stays it where one more, that comes after them, isn't earlier
+first_stays : (edges : List Ends) (f : FunctionsState) (u v : ℕ) (ways : List Way) (way w : Way) (s : ℕ) (old : IsFirstEarliest (IsOpenAmong edges f u v ways) (ArrivesBy edges f u v s) w)
+    → All (λ (x : Way). GoesFirst x way) ways → ((later : ℕ) → ArrivesBy edges f u v s way later → old.arrival ≤ later)
+    → IsFirstEarliest (IsOpenAmong edges f u v (ways ++ way ∷ [])) (ArrivesBy edges f u v s) w
+first_stays edges f u v ways way w s old goes late = record {
+  candidate = among_more edges f u v ways way w old.candidate;
+  arrival = old.arrival;
+  arrives = old.arrives;
+  first = λ other later held at. elim (among_cases edges f u v ways way other held) [
+    | inl before ↦ old.first other later before at
+    | inr last ↦
+        let more = late later (subst (λ (x : Way). ArrivesBy edges f u v s x later) (sym last) at) in
+        elim (cases_lt old.arrival later) [
+          | inl less ↦ inl less
+          | inr tie ↦ inr (omega (arith, tie, more), inr (subst (λ (x : Way). GoesFirst w x) last (All-contains (λ (x : Way). GoesFirst x way) ways w goes old.candidate.0)))
+        ]
+  ];
+}
+
+-- a way that is nowhere earlier changes nothing
+pub best_never : (edges : List Ends) (f : FunctionsState) (u v : ℕ) (ways : List Way) (way : Way) (entries : List Entry) (function : Option (List Run))
+    → IsBestOf edges f u v ways (record { ways = entries; function = function }) → All (λ (x : Way). GoesFirst x way) ways → IsNeverBefore edges f u v way function
+    → IsBestOf edges f u v (ways ++ way ∷ []) (record { ways = entries; function = function })
+best_never edges f u v ways way entries None is goes closed = best_without edges f u v ways way (record { ways = entries; function = None }) is closed
+best_never edges f u v ways way entries (Some runs) is goes never = record {
+  runs = record {
+    spelled = is.runs.spelled;
+    first = λ s w lt e.
+        let old = is.runs.first s w lt e in
+        let same : old.arrival ≡ arrival_value runs s = arrives_once edges f u v s w old.arrival (arrival_value runs s) old.arrives (is.value.2 s w lt e) in
+        first_stays edges f u v ways way w s old goes (λ later at. let order = never s later lt at in omega (arith, same, order));
+    none = λ empty. absurd (is.value.0 empty);
+  };
+  value = is.value;
+}
+
 -- what is known of two functions, of the list by the first, and of the way by the second
 record AreTwo (edges : List Ends) (f : FunctionsState) (u v : ℕ) (ways : List Way) (way : Way) (entries : List Entry) (first second : List Run) (choices : List Choice) : Type 0 where
   runs : IsRunsOf (IsOpenAmong edges f u v ways) (ArrivesBy edges f u v) entries
@@ -159,20 +196,8 @@ module _ (edges : List Ends) (f : FunctionsState) (u v : ℕ) (ways : List Way) 
   first_old s w lt e more =
       let old = two.runs.first s w lt e in
       let same : old.arrival ≡ arrival_value first s = arrives_once edges f u v s w old.arrival (arrival_value first s) old.arrives (two.value s w lt e) in
-      record {
-        candidate = among_more edges f u v ways way w old.candidate;
-        arrival = old.arrival;
-        arrives = old.arrives;
-        first = λ other later held at. elim (among_cases edges f u v ways way other held) [
-          | inl before ↦ old.first other later before at
-          | inr last ↦
-              let is = later_of_last s later other lt last at in
-              elim (cases_lt old.arrival later) [
-                | inl less ↦ inl less
-                | inr tie ↦ inr (omega (arith, tie, is, same, more), inr (subst (λ (x : Way). GoesFirst w x) last (All-contains (λ (x : Way). GoesFirst x way) ways w two.before old.candidate.0)))
-              ]
-        ];
-      }
+      first_stays edges f u v ways way w s old two.before
+      (λ later at. let is = arrives_once edges f u v s way later (arrival_value second s) at (two.arrives s lt) in omega (arith, is, same, more))
 
   merged_first : (merged : List Entry) → ((t : ℕ) → t < day → way_in merged t ≡ chosen entries choices way t) → (s : ℕ) (w : Way) → s < day → way_in merged s ≡ Some w → IsFirst s w
   merged_first merged is s w lt e =

@@ -3,6 +3,7 @@ pub mod LowFunctions
 pub mod Fronts
 pub mod Bests
 pub mod Halves
+pub mod ByMiddles
 pub mod Loops
 pub mod Settles
 pub mod Lows

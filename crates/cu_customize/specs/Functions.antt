@@ -4,7 +4,9 @@ use Rattle.cu_model.specs.Networks.{NetworkValue}
 use Rattle.cu_model.specs.Orders.{OrderValue}
 use Rattle.cu_model.specs.Roads.{arc_value, is_closed_arc}
 use Rattle.cu_arrival.specs.declared.runs.Run.{Run}
+use Rattle.cu_arrival.specs.declared.travels.Travels.{Travels}
 use Rattle.cu_arrival.specs.Runs.{arrival_value, IsArrivalFunction}
+use Rattle.cu_arrival.specs.Travels.{AreTravels}
 use Rattle.cu_chordal.specs.declared.graph.Ends.{Ends}
 use Rattle.cu_interval.specs.declared.ways.Dir.{Dir}
 use Rattle.cu_interval.specs.Hierarchies.{end_of, start_of}
@@ -24,6 +26,13 @@ IsFunction None None = Unit {0}
 IsFunction (Some runs) (Some f) = IsArrivalFunction runs × ((t : ℕ) → arrival_value runs t ≡ f t)
 IsFunction None (Some f) = ⊥
 IsFunction (Some runs) None = ⊥
+
+-- how long a function takes, or none where there is none
+abbrev pub AreTravelsOf : Option Travels → Option (ℕ → ℕ) → Type 0
+AreTravelsOf None None = Unit {0}
+AreTravelsOf (Some travels) (Some f) = AreTravels f travels
+AreTravelsOf None (Some f) = ⊥
+AreTravelsOf (Some travels) None = ⊥
 
 -- the function of a road of a network: its value at every second, none where it is closed
 abbrev pub IsRoadFunction : NetworkValue → ℕ → Option (ℕ → ℕ) → Type 0

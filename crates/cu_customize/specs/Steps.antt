@@ -8,3 +8,4 @@ pub mod Building
 pub mod Linking
 pub mod Merging
 pub mod Triangles
+pub mod ByMiddles

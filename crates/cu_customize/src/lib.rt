@@ -13,12 +13,14 @@
 //!
 //! [`settle`] makes one list from whatever functions it is handed ([`Functions`]): its clauses say the list and its
 //! value by these functions (`specs/Settling.antt`), and that it is the built one where they are those of a network
-//! and order (`specs/Functions.antt`).
+//! and order (`specs/Functions.antt`). It asks how long the ways by middles take, and for the functions of those alone
+//! that aren't slower at each second than some candidate is.
 //!
 //! It stands on `cu_interval` and `cu_chordal`, for hierarchies, and on `cu_arrival`, for what a run says. How runs are
 //! packed and how lists are stepped through is private; what only that cites is in `specs/Steps`.
 #![tactic(auto)]
 
+mod by_middles;
 mod choosing;
 mod customizing;
 mod day_function;

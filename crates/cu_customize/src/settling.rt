@@ -6,9 +6,8 @@ ghost use Rattle.cu_model.specs.Networks.{NetworkValue, IsNetwork};
 ghost use Rattle.cu_model.specs.Orders.{OrderValue, IsOrder};
 ghost use Rattle.cu_chordal.specs.declared.graph.Ends.{Ends};
 ghost use Rattle.cu_chordal.specs.Edges.{IsClosureOf};
-ghost use Rattle.cu_chordal.specs.Graphs.{IsChordal};
 ghost use Rattle.cu_interval.specs.declared.ways.Way.{Way};
-ghost use Rattle.cu_interval.specs.declared.ways.Way.TheVariants.{Road, Via};
+ghost use Rattle.cu_interval.specs.declared.ways.Way.TheVariants.{Road};
 ghost use Rattle.cu_interval.specs.EdgeArcs.{AreEdgeArcs};
 ghost use Rattle.cu_interval.specs.FirstWays.{IsBuiltList};
 ghost use Rattle.cu_interval.specs.Hierarchies.{end_of, list_number, start_of};
@@ -17,9 +16,10 @@ ghost use Rattle.cu_customize.specs.Functions.{AreFunctionsOf, FunctionsState};
 ghost use Rattle.cu_customize.specs.Settling.{IsSettledList, IsValueOf, KnowsHalves};
 ghost use Rattle.cu_customize.specs.Steps.Best.{IsBestOf, IsWayFunction};
 
+use crate::by_middles::best_way;
 use crate::choosing::{choose_ways, list_of};
 use crate::functions::Functions;
-use cu_arrival::{Arrival, compose, lesser};
+use cu_arrival::{Arrival, lesser};
 use cu_chordal::{Chordal, Ends};
 use cu_interval::{Dir, EdgeArcs, Entry, Way, WayList};
 use cu_model::NoMemory;
@@ -59,8 +59,8 @@ fn one_way(alloc: Global, way: Way) -> Result<WayList, NoMemory>
     Ok(list_of(entries))
 }
 
-// The best of the ways so far and one more that comes after them, which has this function if any.
-fn with_way(
+/// The best of the ways so far and one more that comes after them, which has this function if any.
+pub fn with_way(
     alloc: Global,
     best: Settled,
     way: Way,
@@ -130,66 +130,6 @@ fn best_road<F: Functions>(
     let mut best = no_ways(alloc);
     for arc in arcs {
         best = with_road(alloc, best, *arc, functions)?;
-    }
-    Ok(best)
-}
-
-// The function of the way by a middle below both ends, if both halves have one.
-fn through<F: Functions>(
-    alloc: Global,
-    graph: &Chordal,
-    leg: Leg,
-    middle: u32,
-    functions: &mut F,
-) -> Result<Option<Arrival>, NoMemory>
-    requires sound { IsChordal graph.now }
-    requires ranks { (leg.from < graph.now.ranks) × (leg.to < graph.now.ranks) }
-    requires below { (middle < leg.from) × (middle < leg.to) }
-    requires halves { KnowsHalves graph.now.edges (F.state functions.old) leg.from leg.to }
-    ensures way { IfOk result (IsWayFunction graph.now.edges (F.state functions.old)
-        leg.from leg.to (Via middle)) }
-    ensures same { F.state functions.new ≡ F.state functions.old }
-{
-    let Some(first) = graph.edge(middle, leg.from) else {
-        return Ok(None)
-    };
-    let Some(second) = graph.edge(middle, leg.to) else {
-        return Ok(None)
-    };
-    let Some(to_middle) = functions.function(alloc, first, Dir::Down)? else {
-        return Ok(None)
-    };
-    let Some(onward) = functions.function(alloc, second, Dir::Up)? else {
-        return Ok(None)
-    };
-    Ok(Some(compose(alloc, &to_middle, &onward)?))
-}
-
-// The best of the ways so far and those by these middles, by rising rank, all of them below both ends.
-fn best_way<F: Functions>(
-    alloc: Global,
-    graph: &Chordal,
-    leg: Leg,
-    middles: &[u32],
-    roads: Settled,
-    functions: &mut F,
-) -> Result<Settled, NoMemory>
-    requires sound { IsChordal graph.now }
-    requires ranks { (leg.from < graph.now.ranks) × (leg.to < graph.now.ranks) }
-    requires rising { IsStrictlyIncreasing middles.now }
-    requires below { All (λ m. (m < leg.from) × (m < leg.to)) middles.now }
-    requires halves { KnowsHalves graph.now.edges (F.state functions.old) leg.from leg.to }
-    requires some { IfSome roads.function (λ _. roads.ways ≢ []) }
-    ensures best { (arcs : List ℕ)
-        → IsBestOf graph.now.edges (F.state functions.old) leg.from leg.to (map Road arcs) roads
-        → IfOk result (IsBestOf graph.now.edges (F.state functions.old) leg.from leg.to
-        (map Road arcs ++ map Via middles.now)) }
-    ensures same { F.state functions.new ≡ F.state functions.old }
-{
-    let mut best = roads;
-    for middle in middles {
-        let function = through(alloc, graph, leg, *middle, functions)?;
-        best = with_way(alloc, best, Way::Via(*middle), function)?;
     }
     Ok(best)
 }
