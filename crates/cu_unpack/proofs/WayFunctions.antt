@@ -1,5 +1,7 @@
 -- The functions of ways by those of their halves, and the least of them over a list.
-use Rattle.std.proofs.Common.{◌≡◌, ◌≢◌, ◌<◌, ◌+◌, ◌*◌, ◌/◌, ◌%◌, ◌^◌, ◌∙◌, ℕ, suc, List, [], ◌∷◌, ◌++◌, Option, Some, None, refl, sym, ap, subst, arith, min}
+use Rattle.std.proofs.Common.{◌≡◌, ◌≢◌, ◌<◌, ◌+◌, ◌*◌, ◌/◌, ◌%◌, ◌^◌, ◌∙◌, ℕ, zero, suc, List, [], ◌∷◌, ◌++◌, Option, Some, None, refl, sym, ap, subst, arith, min, take}
+use Rattle.std.proofs.lemmas.List.{take_more}
+use Rattle.std.proofs.lemmas.Option.{get_or_from_slice_get, slice_get_within}
 use Rattle.std.specs.Prelude.{option_map, slice_get}
 use Rattle.cu_model.specs.Days.{day}
 use Rattle.cu_model.specs.Roads.{arc_value}
@@ -18,7 +20,7 @@ use Rattle.cu_interval.proofs.Lookups.{list_from-edge}
 use Rattle.cu_interval.proofs.Rebuilding.{rebuilt-fuel}
 use Rattle.cu_unpack.specs.declared.rebuilding.Shortcut.{Shortcut}
 use Rattle.cu_unpack.specs.Rebuilds.{IsRebuiltFunction, Keeps}
-use Rattle.cu_unpack.specs.Steps.Rebuilding.{AreHalves, AreKept, HasSameValues, IsEarlier, IsLeastOf, IsWayFunction, IsWayOf, number_of, value_in, way_value, ways_of}
+use Rattle.cu_unpack.specs.Steps.Rebuilding.{AreHalves, AreKept, IsAmong, IsEarlier, IsLeastOf, IsWayFunction, IsWayOf, number_of, value_in, way_value, ways_of}
 
 pub road_function : (h : HierarchyValue) (shortcut : Shortcut) (road : ℕ) (runs : List Run) → ((t : ℕ) → arrival_value runs t ≡ arc_value h.network road t)
     → IsWayFunction h shortcut (Road road) runs
@@ -112,6 +114,50 @@ least_more h shortcut entries entry least runs next is way earlier = (
       ∙ earlier.1 t lt,
 )
 
+lesser_of-again : (a b : Option ℕ) → lesser_of a (lesser_of b a) ≡ lesser_of a b
+lesser_of-again None None = refl
+lesser_of-again None (Some y) = refl
+lesser_of-again (Some x) None = ap Some (omega arith)
+lesser_of-again (Some x) (Some y) = ap Some (omega arith)
+
+-- a way that was there already changes no least value
+least_in-again : (value : Way → Option ℕ) (entries : List Entry) (i j : ℕ) (first again : Entry) → i < j → slice_get entries i ≡ Some first → slice_get entries j ≡ Some again
+    → first.way ≡ again.way → least_in value (take (suc j) entries) ≡ least_in value (take j entries)
+least_in-again value [] i j first again lt there later same = absurd (cc there)
+least_in-again value (e ∷ entries) i zero first again lt there later same = absurd (omega (arith, lt))
+least_in-again value (e ∷ entries) zero (suc j) first again lt there later same =
+    let next : suc j ≡ j + 1 = omega arith in
+    let more : take (suc j) entries ≡ take j entries ++ again ∷ [] =
+    ap (λ (n : ℕ). take n entries) next ∙ take_more entries j again (slice_get_within entries j again later)
+    ∙ ap (λ (x : Entry). take j entries ++ x ∷ []) (get_or_from_slice_get entries j again again later) in
+    let is : e ≡ first = cc there in
+    let way : value again.way ≡ value e.way = ap value (sym same ∙ ap (λ (x : Entry). x.way) (sym is)) in
+    ap (λ (es : List Entry). lesser_of (value e.way) (least_in value es)) more
+    ∙ ap (λ (o : Option ℕ). lesser_of (value e.way) o) (least_in-more value (take j entries) again ∙ ap (λ (o : Option ℕ). lesser_of (least_in value (take j entries)) o) way)
+    ∙ lesser_of-again (value e.way) (least_in value (take j entries))
+least_in-again value (e ∷ entries) (suc i) (suc j) first again lt there later same =
+    ap (λ (o : Option ℕ). lesser_of (value e.way) o) (least_in-again value entries i j first again (omega (arith, lt)) there later same)
+
+least_once : (h : HierarchyValue) (shortcut : Shortcut) (entries : List Entry) (j : ℕ) (again : Entry) (least : Option (List Run)) → slice_get entries j ≡ Some again
+    → IsAmong entries j again.way → IsLeastOf h shortcut (take j entries) least → IsLeastOf h shortcut (take (suc j) entries) least
+least_once h shortcut [] j again least later among is = absurd (cc later)
+least_once h shortcut (e ∷ entries) zero again least later (i, first, lt, there, same) is = absurd (omega (arith, lt))
+least_once h shortcut (e ∷ entries) (suc j) again None later among is = absurd (cc is)
+least_once h shortcut (e ∷ entries) (suc j) again (Some runs) later (i, first, lt, there, same) is = (
+  λ none. absurd (cc none),
+  is.1,
+  λ ends at t within.
+      least_in-again (way_value h (start_of ends shortcut.dir) (end_of ends shortcut.dir) t) (e ∷ entries) i (suc j) first again lt there later same
+      ∙ is.2 ends at t within,
+)
+
+-- one more way that was there already
+pub least_again : (h : HierarchyValue) (shortcut : Shortcut) (entries : List Entry) (j : ℕ) (again : Entry) (least : Option (List Run)) → slice_get entries j ≡ Some again
+    → IsAmong entries j again.way → IsLeastOf h shortcut (take j entries) least → IsLeastOf h shortcut (take (j + 1) entries) least
+least_again h shortcut entries j again least later among is =
+    let next : suc j ≡ j + 1 = omega arith in
+    subst (λ (n : ℕ). IsLeastOf h shortcut (take n entries) least) next (least_once h shortcut entries j again least later among is)
+
 -- the values over the day, on every day
 pub every_day : (runs : List Run) → IsArrivalFunction runs → (t : ℕ) → day * (t / day) + arrival_value runs (t % day) ≡ arrival_value runs t
 every_day runs f t =
@@ -133,15 +179,4 @@ least_rebuilt h f shortcut (Some runs) is = (
       ap (λ (es : List Entry). option_map (λ (value : ℕ). day * (t / day) + value) (least_in (way_value h u v (t % day)) es)) (list_from-edge h f shortcut.edge shortcut.dir ends at)
       ∙ ap (λ (o : Option ℕ). option_map (λ (value : ℕ). day * (t / day) + value) o) (is.2 ends at (t % day) (omega arith))
       ∙ ap Some (every_day runs is.1 t),
-)
-
--- a copy is the function as well
-pub copy_rebuilt : (h : HierarchyValue) (edge : ℕ) (dir : Dir) (runs copy : List Run) → IsRebuiltFunction h edge dir (Some runs) → HasSameValues runs copy
-    → IsRebuiltFunction h edge dir (Some copy)
-copy_rebuilt h edge dir runs copy is same = (
-  is.0,
-  same.0,
-  λ ends at t.
-      let in_day : arrival_value runs (t % day) ≡ arrival_value copy (t % day) = cc (same.1 (t % day) (omega arith)) in
-      is.2 ends at t ∙ ap Some (sym (every_day runs is.1 t) ∙ ap (λ (a : ℕ). day * (t / day) + a) in_day ∙ every_day copy same.0 t),
 )

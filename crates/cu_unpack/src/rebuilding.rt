@@ -1,6 +1,6 @@
 //! Functions of shortcuts over the day, rebuilt from their ways. A hierarchy keeps the ways alone.
 
-ghost use Rattle.std.specs.Prelude.{◌≡◌, ◌≤◌, ◌<◌, ◌*◌, ◌↔◌, All, IfOk, IsTrue, OnErr, OnOk, Some, length, slice_get};
+ghost use Rattle.std.specs.Prelude.{◌≡◌, ◌≤◌, ◌<◌, ◌+◌, ◌*◌, ◌↔◌, All, IfOk, IsTrue, None, OnErr, OnOk, Some, length, slice_get, take};
 ghost use Rattle.cu_arrival.specs.Runs.{IsArrivalFunction};
 ghost use Rattle.cu_chordal.specs.declared.graph.TheConstants.{MAX_EDGES};
 ghost use Rattle.cu_chordal.specs.Graphs.{HasEdge};
@@ -8,7 +8,7 @@ ghost use Rattle.cu_interval.specs.declared.ways.Entry.{Entry};
 ghost use Rattle.cu_interval.specs.Hierarchies.{HierarchyValue, IsHierarchy};
 ghost use Rattle.cu_unpack.specs.Rebuilds.{IsRebuiltFunction, Keeps};
 ghost use Rattle.cu_unpack.specs.Steps.Legs.{IsMiddle};
-ghost use Rattle.cu_unpack.specs.Steps.Rebuilding.{AreHalves, AreKept, FindsHalf, FindsMissing, HasHalves, HasSameValues, HasWays, IsEarlier, IsKept, IsLeastOf, IsWayFunction, IsWayOf, KeepsOne, Takes, number_of, ways_of};
+ghost use Rattle.cu_unpack.specs.Steps.Rebuilding.{AreHalves, AreKept, FindsHalf, FindsMissing, HasHalves, HasWays, IsAmong, IsEarlier, IsKept, IsLeastOf, IsWayFunction, IsWayOf, KeepsOne, Takes, number_of, ways_of};
 
 use cu_arrival::{Arrival, compose, lesser};
 use cu_chordal::MAX_EDGES;
@@ -78,7 +78,7 @@ impl Rebuilt {
         }
         let shortcut = Shortcut { edge, dir };
         rebuild(alloc, ways, &mut self.kept, shortcut)?;
-        Ok(Some(copied(alloc, kept_function(&self.kept, shortcut))?))
+        Ok(Some(kept_function(&self.kept, shortcut).copy(alloc)?))
     }
 }
 
@@ -213,11 +213,51 @@ fn least_function<W: Ways>(
 {
     let mut least = None;
     for index in 0..ways.entries(shortcut.edge, shortcut.dir) {
-        let entry = ways.entry(shortcut.edge, shortcut.dir, index);
-        let function = way_function(alloc, ways, kept, shortcut, entry.way)?;
-        least = Some(earlier(alloc, least, function)?);
+        least = least_with(alloc, ways, kept, shortcut, least, index)?;
     }
     Ok(least)
+}
+
+// The least function of a shortcut's first ways and the one behind them, unless that is one of those, as in a list that turns
+// back to a way.
+fn least_with<W: Ways>(
+    alloc: Global,
+    ways: &W,
+    kept: &[Option<Arrival>],
+    shortcut: Shortcut,
+    least: Option<Arrival>,
+    index: u32,
+) -> Result<Option<Arrival>, NoMemory>
+    requires edge { shortcut.edge < length (W.hierarchy ways.now).edges }
+    requires kept { AreKept (W.hierarchy ways.now) kept.now }
+    requires halves { FindsMissing (W.hierarchy ways.now) kept.now shortcut
+        (ways_of (W.hierarchy ways.now) shortcut) None }
+    requires index { index < length (ways_of (W.hierarchy ways.now) shortcut) }
+    requires least { IsLeastOf (W.hierarchy ways.now) shortcut
+        (take index (ways_of (W.hierarchy ways.now) shortcut)) least }
+    ensures { IfOk result (IsLeastOf (W.hierarchy ways.now) shortcut
+        (take (index + 1) (ways_of (W.hierarchy ways.now) shortcut))) }
+{
+    let entry = ways.entry(shortcut.edge, shortcut.dir, index);
+    if is_among(ways, shortcut, index, entry.way) {
+        return Ok(least);
+    }
+    let function = way_function(alloc, ways, kept, shortcut, entry.way)?;
+    Ok(Some(earlier(alloc, least, function)?))
+}
+
+// Whether a way is one of a shortcut's first, so many of them.
+fn is_among<W: Ways>(ways: &W, shortcut: Shortcut, count: u32, way: Way) -> bool
+    requires edge { shortcut.edge < length (W.hierarchy ways.now).edges }
+    requires count { count ≤ length (ways_of (W.hierarchy ways.now) shortcut) }
+    ensures { IsTrue result → IsAmong (ways_of (W.hierarchy ways.now) shortcut) count way }
+{
+    for index in 0..count {
+        if ways.entry(shortcut.edge, shortcut.dir, index).way == way {
+            return true;
+        }
+    }
+    false
 }
 
 // The earlier of two functions at each second, or the second alone.
@@ -303,12 +343,4 @@ fn list_number(shortcut: Shortcut) -> usize
         Dir::Up => 2 * shortcut.edge as usize,
         Dir::Down => 2 * shortcut.edge as usize + 1,
     }
-}
-
-// A function with the same values: the earlier of it and itself.
-fn copied(alloc: Global, function: &Arrival) -> Result<Arrival, NoMemory>
-    ensures { IfOk result (HasSameValues function.now) }
-{
-    let (copy, _choices) = lesser(alloc, function, function)?;
-    Ok(copy)
 }

@@ -94,6 +94,10 @@ IsLeastOf h shortcut entries (Some runs) = (entries ≢ []) × IsArrivalFunction
     × ((ends : Ends) → slice_get h.edges shortcut.edge ≡ Some ends
     → HasValues runs (λ t. least_in (way_value h (start_of ends shortcut.dir) (end_of ends shortcut.dir) t) entries))
 
+-- a way is one of the first so many entries'
+abbrev pub IsAmong : List Entry → ℕ → Way → Type 0
+IsAmong entries count way = (index : ℕ) × (entry : Entry) × (index < count) × (slice_get entries index ≡ Some entry) × (entry.way ≡ way)
+
 -- the value of a function, if there is one
 abbrev pub value_in : Option (List Run) → ℕ → Option ℕ
 value_in function t = option_map (λ runs. arrival_value runs t) function
@@ -101,7 +105,3 @@ value_in function t = option_map (λ runs. arrival_value runs t) function
 -- the earlier of two functions, or the second alone
 abbrev pub IsEarlier : Option (List Run) → List Run → List Run → Type 0
 IsEarlier first second earlier = IsArrivalFunction earlier × HasValues earlier (λ t. lesser_of (value_in first t) (Some (arrival_value second t)))
-
--- a function with the values of another
-abbrev pub HasSameValues : List Run → List Run → Type 0
-HasSameValues function copy = IsArrivalFunction copy × HasValues copy (λ t. Some (arrival_value function t))
