@@ -40,3 +40,4 @@ pub mod Rewritten
 pub mod SetItems
 pub mod Edited
 pub mod Whole
+pub mod InForce

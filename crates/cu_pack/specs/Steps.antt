@@ -1,3 +1,4 @@
+pub mod Begins
 pub mod Columns
 pub mod Cursors
 pub mod Cuts

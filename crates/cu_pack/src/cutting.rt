@@ -15,6 +15,8 @@ use cu_interval::Entry;
 use cu_model::{Piece, RoadArc, Rule};
 use std::marker::Model;
 
+pub mod in_force;
+
 /// The bytes of a file whose counts are within their limits and whose length is the one that they ask for. Contracts see
 /// the bytes.
 #[derive(Drop)]

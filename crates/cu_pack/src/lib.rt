@@ -4,7 +4,8 @@
 //! packed file of a hierarchy, and refuses all others by the first check that fails ([`PackRefusal`],
 //! `specs/Checks.antt`). [`PackedView::adopt`] takes bytes that are known to be such a file, and checks nothing. A
 //! view stands for the hierarchy (`Roads`, `Ways`), and each look-up reads the borrowed bytes: [`WaySlice`] is a
-//! way list in them. [`order_of`] and [`chordal_of`] copy the order and the graph. [`repack`] gives the file of a
+//! way list in them. [`WayInForce`] and [`RuleInForce`] say a way or a rule with the seconds at which it holds
+//! (`specs/InForce.antt`). [`order_of`] and [`chordal_of`] copy the order and the graph. [`repack`] gives the file of a
 //! view's hierarchy with its network edited and the way lists of some edges replaced: whatever stays is copied as it
 //! lies, so that an edit which touches little costs little more than a copy of the file and its digest.
 //!
@@ -47,6 +48,7 @@ mod tests;
 mod view;
 mod way_slices;
 
+pub use cutting::in_force::RuleInForce;
 pub use laws::{file_is_read_back, file_of_one_hierarchy};
 pub use layout::{Counts, Layout};
 pub use packing::pack;
@@ -55,3 +57,4 @@ pub use repacking::repack;
 pub use view::PackedView;
 pub use view::copies::{chordal_of, order_of};
 pub use way_slices::WaySlice;
+pub use way_slices::in_force::WayInForce;

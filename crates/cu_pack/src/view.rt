@@ -11,6 +11,7 @@ use std::marker::Model;
 
 pub mod copies;
 mod hierarchy;
+mod in_force;
 mod parts;
 mod roads;
 #[cfg(test)]

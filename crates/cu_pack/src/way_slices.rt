@@ -10,6 +10,8 @@ use cu_interval::{Entry, Way};
 use cu_model::DAY;
 use std::marker::Model;
 
+pub mod in_force;
+
 /// A way list in the bytes of a packed file. Contracts see its entries.
 #[derive(Drop)]
 pub struct WaySlice<'a> {
