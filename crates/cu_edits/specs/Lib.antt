@@ -1,2 +1,3 @@
 pub mod EditLines
+pub mod Settling
 pub mod Steps

@@ -36,7 +36,11 @@ fn copy_profiles<N: Roads>(alloc: Global, roads: &N) -> Result<Vec<Profile>, NoM
 }
 
 // The profile with this number, below the number of profiles.
-fn copy_profile<N: Roads>(alloc: Global, roads: &N, profile: u32) -> Result<Profile, NoMemory>
+pub(crate) fn copy_profile<N: Roads>(
+    alloc: Global,
+    roads: &N,
+    profile: u32,
+) -> Result<Profile, NoMemory>
     requires { profile < length (N.network roads.now).profiles }
     ensures { IfOk result (λ copy.
         slice_get (N.network roads.now).profiles profile ≡ Some copy) }

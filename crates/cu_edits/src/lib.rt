@@ -3,25 +3,36 @@
 //! [`check_edit`] accepts exactly the lines that make an edit, refuses each other line for the first check that it fails, and
 //! [`EditLine::take`] gives the edit (`edit_of` in `specs/EditLines.antt`). [`touched_edges`] answers exactly the edges whose
 //! lists an edit may change (`NumbersTouched` in `specs/Touching.antt` of `cu_interval`): those of the changed roads, and those
-//! over a lower triangle with a touched side. [`rebuild`] makes the edit in a built hierarchy.
+//! over a lower triangle with a touched side.
 //!
-//! A law speaks of the definitions alone, [`resettled_is_built`]: a built hierarchy that is resettled by an edit (`IsResettled`
-//! in `specs/Resettling.antt` of `cu_interval`) is the built one of the edited network.
+//! [`touch`] makes an edit of any hierarchy by its touched edges alone (`IsResettled` in `specs/Resettling.antt` of
+//! `cu_interval`). [`recustomize`] settles them, each after the touched edges of its lower triangles, by a [`Settler`];
+//! [`EditSettler`] is the one that [`touch`] takes. [`copy_network`] copies the network of whatever stands for one.
 //!
-//! It stands on `cu_model`, `cu_tables`, `cu_profile`, `cu_links`, `cu_chordal`, `cu_interval` and `cu_customize`. `specs/Steps`
-//! is cited by private functions alone.
+//! A law speaks of the definitions alone, [`resettled_is_built`]: a built hierarchy that is resettled by an edit is the built one
+//! of the edited network.
+//!
+//! It stands on `cu_model`, `cu_tables`, `cu_profile`, `cu_links`, `cu_arrival`, `cu_chordal`, `cu_interval`, `cu_customize` and
+//! `cu_unpack`. `specs/Steps` is cited by private functions alone.
 #![tactic(auto)]
 
 mod copying;
+mod edit_settler;
+mod known;
 mod laws;
+mod learning;
 mod lines;
-mod rebuilding;
+mod recustomizing;
+mod road_functions;
+mod settler;
 #[cfg(test)]
 mod tests;
 mod touching;
 
 pub use copying::copy_network;
+pub use edit_settler::EditSettler;
 pub use laws::resettled_is_built;
 pub use lines::{EditLine, EditRefusal, MAX_EDIT_LINE, check_edit};
-pub use rebuilding::rebuild;
+pub use recustomizing::{Touched, recustomize, touch};
+pub use settler::Settler;
 pub use touching::touched_edges;

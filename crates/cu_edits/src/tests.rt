@@ -2,14 +2,13 @@
 
 ghost use Rattle.std.specs.Prelude.{◌≡◌, ◌<◌, [], IfOk, length};
 ghost use Rattle.cu_chordal.specs.Edges.{IsClosureOf};
-ghost use Rattle.cu_interval.specs.Hierarchies.{IsBuilt};
 ghost use Rattle.cu_model.specs.Edits.{IsEditInRange};
 ghost use Rattle.cu_model.specs.Profiles.{IsProfile};
 
-use crate::{copy_network, rebuild, touched_edges};
+use crate::{Touched, copy_network, touch, touched_edges};
 use cu_chordal::{Chordal, close};
 use cu_customize::customize;
-use cu_interval::{Dir, Hierarchy, Way, WayList, Ways};
+use cu_interval::{Dir, EdgeArcs, Entry, Hierarchy, TouchedEdge, Way, WayList, Ways};
 use cu_links::RankBuckets;
 use cu_model::{Edit, Network, Order, Piece, Profile, RoadArc, Roads, Rule};
 use std::alloc::Global;
@@ -127,14 +126,11 @@ fn setting_touches_the_edges_of_roads_and_those_above(rt: HostRuntime) -> Result
     Ok(())
 }
 
-// The built hierarchy of the network with node 1 below the others: nodes 1, 0 and 2 have the ranks 0, 1 and 2.
-fn built(alloc: Global) -> Result<Hierarchy, Fail>
-    ensures roads { IfOk result (λ hierarchy. length hierarchy.network.arcs ≡ 4) }
-    ensures profiles { IfOk result (λ hierarchy. length hierarchy.network.profiles ≡ 3) }
-    ensures nodes { IfOk result (λ hierarchy. hierarchy.network.nodes ≡ 3) }
-    ensures built { IfOk result IsBuilt }
+// The built hierarchy of a network of three nodes with node 1 below the others: nodes 1, 0 and 2 have the ranks 0, 1 and 2.
+fn built(alloc: Global, network: Network) -> Result<Hierarchy, Fail>
+    requires { network.nodes ≡ 3 }
+    ensures { IfOk result (λ hierarchy. hierarchy.network ≡ network) }
 {
-    let network = network(alloc)?;
     let order = Order::of(alloc, vec![in alloc; 1, 0, 2]?)?;
     let graph = close(alloc, &network, &order)?;
     Ok(customize(alloc, network, order, graph)?)
@@ -156,20 +152,56 @@ fn a_copy_is_made(rt: HostRuntime) -> Result<(), Fail> {
     Ok(())
 }
 
+// What the edit touches in this hierarchy.
+fn touch_once(alloc: Global, hierarchy: &Hierarchy, edit: Edit) -> Result<Touched, Fail>
+    requires { IsEditInRange hierarchy.now.network edit }
+{
+    let mut buckets = RankBuckets::new(alloc, hierarchy.nodes(), hierarchy.edges())?;
+    let graph = hierarchy.graph();
+    let arcs = EdgeArcs::of(alloc, hierarchy, hierarchy.order(), graph)?;
+    Ok(touch(alloc, hierarchy, edit, graph, &arcs, &mut buckets)?)
+}
+
+// Is it this edge, with these lists?
+fn has_lists(touched: &TouchedEdge, edge: u32, up: &[Entry], down: &[Entry]) -> bool {
+    touched.edge == edge && touched.up.entries() == up && touched.down.entries() == down
+}
+
+fn all_day(way: Way) -> Entry {
+    Entry { from: 0, way }
+}
+
 #[test]
-fn rebuilt_lists_follow_the_edits(rt: HostRuntime) -> Result<(), Fail> {
+fn touching_settles_the_touched_edges(rt: HostRuntime) -> Result<(), Fail> {
     let alloc = rt.alloc();
-    let mut hierarchy = built(alloc)?;
+    let mut network = network(alloc)?;
+    // Road 2 takes 250 seconds, and a minute each along roads 0 and 1 is less.
+    let pieces = always(alloc, Rule::Travel(250))?;
+    network.apply(Edit::Set { profile: 2, pieces });
+    network.apply(Edit::Assign { arc: 2, profile: 2 });
+    let hierarchy = built(alloc, network)?;
+    assert_eq!(rt; way(&hierarchy), Some(Way::Via(0)));
+    // Road 0 takes 200 seconds, and 260 along both is more.
+    let pieces = always(alloc, Rule::Travel(200))?;
+    let touched = touch_once(alloc, &hierarchy, Edit::Set { profile: 0, pieces })?;
+    assert!(rt; touched.lists.len() == 2);
+    let road = [all_day(Way::Road(0))];
+    assert!(rt; has_lists(&touched.lists[0], 0, &[], &road));
+    let road = [all_day(Way::Road(2))];
+    assert!(rt; has_lists(&touched.lists[1], 2, &road, &[]));
+    Ok(())
+}
+
+#[test]
+fn closing_roads_empties_their_lists(rt: HostRuntime) -> Result<(), Fail> {
+    let alloc = rt.alloc();
+    let hierarchy = built(alloc, network(alloc)?)?;
     assert_eq!(rt; way(&hierarchy), Some(Way::Road(2)));
     // Roads 1 and 2 are closed.
-    let closed = Edit::Set {
-        profile: 1,
-        pieces: always(alloc, Rule::Closed(0))?,
-    };
-    rebuild(alloc, &mut hierarchy, closed)?;
-    assert_eq!(rt; way(&hierarchy), None);
-    // Road 1 takes a minute, as road 0 does.
-    rebuild(alloc, &mut hierarchy, Edit::Assign { arc: 1, profile: 0 })?;
-    assert_eq!(rt; way(&hierarchy), Some(Way::Via(0)));
+    let pieces = always(alloc, Rule::Closed(0))?;
+    let touched = touch_once(alloc, &hierarchy, Edit::Set { profile: 1, pieces })?;
+    assert!(rt; touched.lists.len() == 2);
+    assert!(rt; has_lists(&touched.lists[0], 1, &[], &[]));
+    assert!(rt; has_lists(&touched.lists[1], 2, &[], &[]));
     Ok(())
 }

@@ -1,5 +1,5 @@
 use Rattle.cu_model.specs.Roads.{pieces_of}
-use Rattle.cu_edits.proofs.Copied.{pieces_there, take_next}
+use Rattle.cu_edits.proofs.Copied.{take_next}
 use Rattle.cu_edits.proofs.copying.copy_pieces.Goals as goal
 
 pub loop-index-preserved : goal.loop-index-preserved

@@ -1,4 +1,3 @@
-use Rattle.std.proofs.Common.{◌≡◌, sym}
 use Rattle.cu_model.proofs.FaultLaws.{piece_fault_none_from}
 use Rattle.cu_edits.proofs.copying.copy_profile.Goals as goal
 

@@ -1,0 +1,153 @@
+-- The lists of a hierarchy after those of some edges were replaced.
+use Rattle.std.proofs.Common.{◌≡◌, ◌≢◌, ◌<◌, ◌+◌, ◌*◌, ◌/◌, ◌%◌, ◌∙◌, ◌⊎◌, ℕ, suc, List, [], ◌∷◌, ◌++◌, Some, refl, ap, sym, subst, arith, inl, inr, length}
+use Rattle.std.specs.Prelude.{slice_get, slice_set}
+use Rattle.std.specs.List.{AllPairs, Contains}
+use Rattle.std.proofs.lemmas.Bool.{cases_eq}
+use Rattle.std.proofs.lemmas.List.Elements.{All-contains}
+use Rattle.cu_model.specs.declared.roads.Edit.{Edit}
+use Rattle.cu_links.proofs.Links.{get_here, get_other, set_long}
+use Rattle.cu_chordal.proofs.Members.{here, member_cases, none_in_nil, pairs_head, pairs_tail, there}
+use Rattle.cu_interval.specs.declared.ways.Dir.{Dir}
+use Rattle.cu_interval.specs.declared.ways.Dir.TheVariants.{Up, Down}
+use Rattle.cu_interval.specs.declared.ways.Entry.{Entry}
+use Rattle.cu_interval.specs.declared.ways.TouchedEdge.{TouchedEdge}
+use Rattle.cu_interval.specs.Hierarchies.{HierarchyValue, entries_or_none, list_number, list_of}
+use Rattle.cu_interval.specs.Replacing.{hierarchy_with, replaced, replaced_by}
+use Rattle.cu_edits.specs.Settling.{list_in, numbers_of}
+
+-- different edges
+abbrev pub AreApart : List TouchedEdge → Type 0
+AreApart edges = AllPairs (λ (first second : TouchedEdge). first.edge ≢ second.edge) edges
+
+numbers_apart : (e f : ℕ) (d c : Dir) → e ≢ f → list_number e d ≢ list_number f c
+numbers_apart e f Up Up ne same = ne (omega (arith, same))
+numbers_apart e f Up Down ne same = omega (arith, same)
+numbers_apart e f Down Up ne same = omega (arith, same)
+numbers_apart e f Down Down ne same = ne (omega (arith, same))
+
+pub replaced_by_long : (lists : List (List Entry)) (t : TouchedEdge) → length (replaced_by lists t) ≡ length lists
+replaced_by_long lists t = set_long (slice_set lists (list_number t.edge Up) t.up) (list_number t.edge Down) t.down ∙ set_long lists (list_number t.edge Up) t.up
+
+pub replaced_by_other : (lists : List (List Entry)) (t : TouchedEdge) (e : ℕ) (d : Dir) → t.edge ≢ e → slice_get (replaced_by lists t) (list_number e d) ≡ slice_get lists (list_number e d)
+replaced_by_other lists t e d ne =
+    get_other (slice_set lists (list_number t.edge Up) t.up) (list_number t.edge Down) (list_number e d) t.down (numbers_apart t.edge e Down d ne)
+    ∙ get_other lists (list_number t.edge Up) (list_number e d) t.up (numbers_apart t.edge e Up d ne)
+
+pub replaced_by_here : (lists : List (List Entry)) (t : TouchedEdge) (d : Dir) → 2 * t.edge + 1 < length lists → slice_get (replaced_by lists t) (list_number t.edge d) ≡ Some (list_in t d)
+replaced_by_here lists t Up lt =
+    get_other (slice_set lists (list_number t.edge Up) t.up) (list_number t.edge Down) (list_number t.edge Up) t.down (λ same. omega (arith, same))
+    ∙ get_here lists (list_number t.edge Up) t.up (omega (arith, lt))
+replaced_by_here lists t Down lt =
+    let long = set_long lists (list_number t.edge Up) t.up in
+    get_here (slice_set lists (list_number t.edge Up) t.up) (list_number t.edge Down) t.down (omega (arith, lt, long))
+
+pub replaced_long : (edges : List TouchedEdge) (lists : List (List Entry)) → length (replaced lists edges) ≡ length lists
+replaced_long [] lists = refl
+replaced_long (t ∷ edges) lists = replaced_long edges (replaced_by lists t) ∙ replaced_by_long lists t
+
+pub replaced_push : (edges : List TouchedEdge) (lists : List (List Entry)) (t : TouchedEdge) → replaced lists (edges ++ (t ∷ [])) ≡ replaced_by (replaced lists edges) t
+replaced_push [] lists t = refl
+replaced_push (x ∷ edges) lists t = replaced_push edges (replaced_by lists x) t
+
+-- who is among the numbers is the number of an edge
+pub number_of_one : (edges : List TouchedEdge) (e : ℕ) → Contains (numbers_of edges) e → (t : TouchedEdge) × Contains edges t × (t.edge ≡ e)
+number_of_one [] e c = absurd (none_in_nil e c)
+number_of_one (x ∷ edges) e c = elim (member_cases x.edge (numbers_of edges) e c) [
+  | inl first ↦ (x, here x edges, first)
+  | inr later ↦ let (t, in_rest, same) = number_of_one edges e later in (t, there x edges t in_rest, same)
+]
+
+pub number_among : (edges : List TouchedEdge) (t : TouchedEdge) → Contains edges t → Contains (numbers_of edges) t.edge
+number_among [] t c = absurd (none_in_nil t c)
+number_among (x ∷ edges) t c = elim (member_cases x edges t c) [
+  | inl first ↦ subst (λ (y : TouchedEdge). Contains (numbers_of (x ∷ edges)) y.edge) first (here x.edge (numbers_of edges))
+  | inr later ↦ there x.edge (numbers_of edges) t.edge (number_among edges t later)
+]
+
+pub replaced_other : (edges : List TouchedEdge) (lists : List (List Entry)) (e : ℕ) (d : Dir) → (Contains (numbers_of edges) e → ⊥)
+    → slice_get (replaced lists edges) (list_number e d) ≡ slice_get lists (list_number e d)
+replaced_other [] lists e d not_in = refl
+replaced_other (t ∷ edges) lists e d not_in =
+    replaced_other edges (replaced_by lists t) e d (λ c. not_in (there t.edge (numbers_of edges) e c))
+    ∙ replaced_by_other lists t e d (λ same. not_in (subst (Contains (numbers_of (t ∷ edges))) same (here t.edge (numbers_of edges))))
+
+pub replaced_here : (edges : List TouchedEdge) (lists : List (List Entry)) (t : TouchedEdge) (d : Dir) → AreApart edges → Contains edges t → 2 * t.edge + 1 < length lists
+    → slice_get (replaced lists edges) (list_number t.edge d) ≡ Some (list_in t d)
+replaced_here [] lists t d apart c lt = absurd (none_in_nil t c)
+replaced_here (x ∷ edges) lists t d apart c lt = elim (member_cases x edges t c) [
+  | inl first ↦
+      let once : Contains (numbers_of edges) t.edge → ⊥ = λ again.
+      let (other, in_rest, same) = number_of_one edges t.edge again in
+      head_apart other in_rest (ap (λ (y : TouchedEdge). y.edge) first ∙ sym same) in
+      replaced_other edges (replaced_by lists x) t.edge d once
+      ∙ subst (λ (y : TouchedEdge). slice_get (replaced_by lists x) (list_number y.edge d) ≡ Some (list_in y d)) first
+      (replaced_by_here lists x d (let same = ap (λ (y : TouchedEdge). y.edge) first in omega (arith, lt, same)))
+  | inr later ↦
+      let long = replaced_by_long lists x in
+      replaced_here edges (replaced_by lists x) t d (pairs_tail (λ (first second : TouchedEdge). first.edge ≢ second.edge) x edges apart) later (omega (arith, lt, long))
+]
+  where
+    head_apart : (other : TouchedEdge) → Contains edges other → x.edge ≢ other.edge
+    head_apart other c = All-contains (λ (y : TouchedEdge). x.edge ≢ y.edge) edges other (pairs_head (λ (first second : TouchedEdge). first.edge ≢ second.edge) x edges apart) c
+
+-- the list of an edge that wasn't replaced, and of one that was
+pub list_kept : (h : HierarchyValue) (edit : Edit) (edges : List TouchedEdge) (e : ℕ) (d : Dir) → (Contains (numbers_of edges) e → ⊥)
+    → list_of (hierarchy_with h edit edges) e d ≡ list_of h e d
+list_kept h edit edges e d not_in = ap entries_or_none (replaced_other edges h.lists e d not_in)
+
+pub list_replaced : (h : HierarchyValue) (edit : Edit) (edges : List TouchedEdge) (t : TouchedEdge) (d : Dir) → AreApart edges → Contains edges t → 2 * t.edge + 1 < length h.lists
+    → list_of (hierarchy_with h edit edges) t.edge d ≡ list_in t d
+list_replaced h edit edges t d apart c lt = ap entries_or_none (replaced_here edges h.lists t d apart c lt)
+
+-- one more edge
+pub list_pushed : (h : HierarchyValue) (edit : Edit) (edges : List TouchedEdge) (t : TouchedEdge) (e : ℕ) (d : Dir) → t.edge ≢ e
+    → list_of (hierarchy_with h edit (edges ++ (t ∷ []))) e d ≡ list_of (hierarchy_with h edit edges) e d
+list_pushed h edit edges t e d ne =
+    ap (λ (lists : List (List Entry)). entries_or_none (slice_get lists (list_number e d))) (replaced_push edges h.lists t)
+    ∙ ap entries_or_none (replaced_by_other (replaced h.lists edges) t e d ne)
+
+-- every list has the number of some edge and direction
+pub number_parts : (n : ℕ) → (e : ℕ) × (d : Dir) × (list_number e d ≡ n)
+number_parts n = elim (cases_eq (n % 2) 0) [
+  | inl even ↦ (n / 2, Up, omega (arith, even))
+  | inr odd ↦ (n / 2, Down, omega (arith, odd))
+]
+
+same_items : {X : Type 0} (xs ys : List X) → ((i : ℕ) → slice_get xs i ≡ slice_get ys i) → xs ≡ ys
+same_items [] [] same = refl
+same_items [] (y ∷ ys) same = absurd (cc (same 0))
+same_items (x ∷ xs) [] same = absurd (cc (same 0))
+same_items {X} (x ∷ xs) (y ∷ ys) same =
+    let first : x ≡ y = cc (same 0) in
+    ap (λ (z : X). z ∷ xs) first ∙ ap (λ (zs : List X). y ∷ zs) (same_items xs ys (λ i. same (suc i)))
+
+pub among_or_not : (xs : List ℕ) (e : ℕ) → Contains xs e ⊎ (Contains xs e → ⊥)
+among_or_not [] e = inr (λ c. none_in_nil e c)
+among_or_not (x ∷ xs) e = elim (cases_eq x e) [
+  | inl same ↦ inl (subst (Contains (x ∷ xs)) same (here x xs))
+  | inr other ↦ elim (among_or_not xs e) [
+    | inl later ↦ inl (there x xs e later)
+    | inr not_later ↦ inr (λ c. elim (member_cases x xs e c) [
+      | inl same ↦ other same
+      | inr later ↦ not_later later
+    ])
+  ]
+]
+
+-- the order in which lists are replaced doesn't matter
+pub replaced_same : (first second : List TouchedEdge) (lists : List (List Entry)) → AreApart first → AreApart second → ((t : TouchedEdge) → Contains first t → Contains second t)
+    → ((t : TouchedEdge) → Contains second t → Contains first t) → ((t : TouchedEdge) → Contains first t → 2 * t.edge + 1 < length lists)
+    → replaced lists first ≡ replaced lists second
+replaced_same first second lists apart differ there_too back within =
+    same_items (replaced lists first) (replaced lists second) (λ i.
+    let (e, d, is) = number_parts i in
+    subst (λ (n : ℕ). slice_get (replaced lists first) n ≡ slice_get (replaced lists second) n) is
+    (elim (among_or_not (numbers_of first) e) [
+      | inl c ↦
+          let (t, among, same) = number_of_one first e c in
+          subst (λ (n : ℕ). slice_get (replaced lists first) (list_number n d) ≡ slice_get (replaced lists second) (list_number n d)) same
+          (replaced_here first lists t d apart among (within t among) ∙ sym (replaced_here second lists t d differ (there_too t among) (within t among)))
+      | inr n ↦
+          replaced_other first lists e d n
+          ∙ sym (replaced_other second lists e d (λ c. let (t, among, same) = number_of_one second e c in n (subst (Contains (numbers_of first)) same (number_among first t (back t among)))))
+    ]))

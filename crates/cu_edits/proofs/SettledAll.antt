@@ -1,0 +1,187 @@
+-- Where all touched edges are settled the hierarchy is the resettled one.
+use Rattle.std.proofs.Common.{◌≡◌, ◌≢◌, ◌∙◌, ℕ, List, [], Some, refl, ap, sym, subst, arith, inl, inr, get_or, eqb, true, false}
+use Rattle.std.specs.Prelude.{All, slice_get}
+use Rattle.std.specs.List.{AllPairs}
+use Rattle.std.specs.List.Sorted.{IsNonDecreasing, IsNonDecreasingBy, IsPermutation, IsStrictlyIncreasing}
+use Rattle.std.proofs.lemmas.Bool.{cases_eq}
+use Rattle.std.proofs.lemmas.Bool.Decides.{Decides-eqb}
+use Rattle.std.proofs.lemmas.List.{get_or-map, length-map}
+use Rattle.std.proofs.lemmas.List.Kept.{AllPairs-from_increasing}
+use Rattle.std.proofs.lemmas.List.Sorted.{Contains-permutation, IsPermutation-map, IsPermutation-sym}
+use Rattle.std.proofs.lemmas.Map.Keys.{IsDistinct-IsPermutation, IsStrictlyIncreasing-from_distinct}
+use Rattle.std.proofs.lemmas.Map.Made.{IsDistinct-from_AllPairs}
+use Rattle.std.proofs.lemmas.Option.{slice_get-get_or, slice_get_within}
+use Rattle.cu_model.specs.Edits.{IsEditInRange, edited}
+use Rattle.cu_model.proofs.RoadLaws.{all_at}
+use Rattle.cu_chordal.specs.declared.graph.Ends.{Ends}
+use Rattle.cu_chordal.specs.Graphs.{IsChordal}
+use Rattle.cu_interval.specs.declared.ways.Dir.{Dir}
+use Rattle.cu_interval.specs.declared.ways.Way.{Way}
+use Rattle.cu_interval.specs.declared.ways.Way.TheVariants.{Road, Via}
+use Rattle.cu_interval.specs.declared.ways.Entry.{Entry}
+use Rattle.cu_interval.specs.declared.ways.TouchedEdge.{TouchedEdge}
+use Rattle.cu_interval.specs.Hierarchies.{IsHierarchy, IsWellFormed, end_of, entries_or_none, graph_of, list_number, list_of, start_of}
+use Rattle.cu_interval.specs.Replacing.{hierarchy_with}
+use Rattle.cu_interval.specs.Resettling.{ArrivesIn, IsCandidateIn, IsResettled, IsResettledList}
+use Rattle.cu_interval.specs.Touching.{IsTouchedEdge}
+use Rattle.cu_interval.specs.WayLists.{IsWayList}
+use Rattle.cu_edits.specs.Settling.{IsSettled, SettlingValue, list_in, numbers_of, settled_so_far}
+use Rattle.cu_edits.specs.Steps.Known.{IsEditSound}
+use Rattle.cu_edits.specs.Steps.Settled.{AreSettled}
+use Rattle.cu_edits.proofs.Frames.{candidates_alone}
+use Rattle.cu_edits.proofs.Replaced.{AreApart, among_or_not, number_among, number_of_one, number_parts, replaced_long, replaced_other, replaced_same}
+use Rattle.cu_edits.proofs.SettledFrames.{all_so, leads_touched, settled_list, untouched_frame, untouched_list, untouched_sides}
+use Rattle.cu_edits.proofs.Sides.{LeadsOver, edge_down, edge_up, halves_good, over}
+use Rattle.cu_edits.proofs.Unchanged.{edited_network, leads_joins, leads_still}
+use Rattle.cu_edits.proofs.Unmoved.{closure_edited, nodes_edited}
+
+-- every touched edge was settled
+abbrev pub AllSettled : SettlingValue → Type 0
+AllSettled s = (e : ℕ) → IsTouchedEdge s.before s.edit e → IsSettled s e
+
+pub all_resettled : (s : SettlingValue) → AreSettled s → AllSettled s → IsResettled s.before s.edit (settled_so_far s)
+all_resettled s are all = record {
+  network = refl;
+  order = refl;
+  edges = refl;
+  lists = replaced_long s.settled s.before.lists;
+  kept = λ e d untouched. untouched_list s are e d untouched;
+  resettled = λ e d ends at touched.
+      let now = settled_so_far s in
+      let (t, among, same) = number_of_one s.settled e (all e touched) in
+      subst (λ (k : ℕ). IsResettledList now (start_of ends d) (end_of ends d) (list_of now k d)) same
+      (subst (IsResettledList now (start_of ends d) (end_of ends d)) (sym (settled_list s are t d among))
+      (are.lists t among d ends (subst (λ (k : ℕ). slice_get s.before.edges k ≡ Some ends) (sym same) at)));
+}
+
+-- each list is a way list
+spelled_at : (s : SettlingValue) → AreSettled s → (e : ℕ) (d : Dir) (entries : List Entry) → slice_get (settled_so_far s).lists (list_number e d) ≡ Some entries → IsWayList entries
+spelled_at s are e d entries at = elim (among_or_not (numbers_of s.settled) e) [
+  | inl c ↦
+      let (t, among, same) = number_of_one s.settled e c in
+      let (ends, there, touched) = are.touched e c in
+      let runs = are.lists t among d ends (subst (λ (k : ℕ). slice_get s.before.edges k ≡ Some ends) (sym same) there) in
+      let list : list_in t d ≡ entries = sym (settled_list s are t d among) ∙ subst (λ (k : ℕ). list_of (settled_so_far s) k d ≡ entries) (sym same) (ap entries_or_none at) in
+      subst IsWayList list runs.spelled
+  | inr n ↦ all_at IsWayList s.before.lists (list_number e d) entries are.sound.spelled (sym (replaced_other s.settled s.before.lists e d n) ∙ at)
+]
+
+all_spelled : (s : SettlingValue) → AreSettled s → All IsWayList (settled_so_far s).lists
+all_spelled s are = λ k d lt.
+    let lists = (settled_so_far s).lists in
+    let (e, dir, is) = number_parts k in
+    spelled_at s are e dir (get_or lists k d) (subst (λ (n : ℕ). slice_get lists n ≡ Some (get_or lists k d)) (sym is) (slice_get-get_or lists k d lt))
+
+-- each way is well formed
+candidate_formed : (s : SettlingValue) (u v : ℕ) (way : Way) → IsCandidateIn (settled_so_far s) u v way → IsWellFormed (settled_so_far s) u v way
+candidate_formed s u v (Road road) c = c
+candidate_formed s u v (Via m) (to, on, first, second) = (to, on, edge_down (settled_so_far s) u m to first, edge_up (settled_so_far s) m v on second, first, second)
+
+untouched_formed : (s : SettlingValue) → AreSettled s → (edge : ℕ) (dir : Dir) (u v : ℕ) (way : Way) → LeadsOver s.before.edges edge dir u v
+    → (IsTouchedEdge s.before s.edit edge → ⊥) → IsWellFormed s.before u v way → IsWellFormed (settled_so_far s) u v way
+untouched_formed s are edge dir u v (Road road) leads untouched formed =
+    leads_still s.before.network s.before.order s.edit road u v
+    (λ changed. untouched (leads_touched s.before are.sound s.edit edge dir u v road leads (leads_joins s.before.network s.before.order road u v formed).0 changed)) formed
+untouched_formed s are edge dir u v (Via m) leads untouched (to, on, first, second, some, more) =
+    let halves = halves_good s.before.edges (λ e. IsTouchedEdge s.before s.edit e → ⊥) edge dir u v m leads (untouched_sides s are.sound edge untouched) first second in
+    let frame = untouched_frame s are in (
+      to,
+      on,
+      first,
+      second,
+      subst (λ (es : List Entry). es ≢ []) (frame.lists u m halves.0) some,
+      subst (λ (es : List Entry). es ≢ []) (frame.lists m v halves.1) more,
+    )
+
+formed_at : (s : SettlingValue) → AreSettled s → AllSettled s → (edge : ℕ) (dir : Dir) (ends : Ends) → slice_get s.before.edges edge ≡ Some ends
+    → All (λ (entry : Entry). IsWellFormed (settled_so_far s) (start_of ends dir) (end_of ends dir) entry.way) (list_of (settled_so_far s) edge dir)
+formed_at s are all edge dir ends at =
+    let now = settled_so_far s in
+    let u = start_of ends dir in
+    let v = end_of ends dir in
+    elim (among_or_not (numbers_of s.settled) edge) [
+      | inl c ↦
+          let (t, among, same) = number_of_one s.settled edge c in
+          let runs = are.lists t among dir ends (subst (λ (k : ℕ). slice_get s.before.edges k ≡ Some ends) (sym same) at) in
+          let list : list_of now edge dir ≡ list_in t dir = subst (λ (k : ℕ). list_of now k dir ≡ list_in t dir) same (settled_list s are t dir among) in
+          subst (All (λ (entry : Entry). IsWellFormed now u v entry.way)) (sym list)
+          (all_so (λ (entry : Entry). IsCandidateIn now u v entry.way) (λ (entry : Entry). IsWellFormed now u v entry.way) (list_in t dir) (λ entry. candidate_formed s u v entry.way)
+          (candidates_alone (IsCandidateIn now u v) (ArrivesIn now u v) (list_in t dir) runs))
+      | inr n ↦
+          let untouched : IsTouchedEdge s.before s.edit edge → ⊥ = λ touched. n (all edge touched) in
+          subst (All (λ (entry : Entry). IsWellFormed now u v entry.way)) (sym (untouched_list s are edge dir untouched))
+          (all_so (λ (entry : Entry). IsWellFormed s.before u v entry.way) (λ (entry : Entry). IsWellFormed now u v entry.way) (list_of s.before edge dir)
+          (λ entry. untouched_formed s are edge dir u v entry.way (over s.before.edges edge dir ends at) untouched) (are.sound.formed edge dir ends at))
+    ]
+
+pub all_sound : (s : SettlingValue) → AreSettled s → AllSettled s → IsEditInRange s.before.network s.edit → IsEditSound s.edit → IsHierarchy (settled_so_far s)
+all_sound s are all range sets =
+    let g = s.before.network in
+    let nodes = nodes_edited g s.edit in
+    let sound = are.sound in
+    record {
+      network = edited_network g s.edit sound.network range sets;
+      order = sound.order;
+      same = sound.same ∙ sym nodes;
+      graph = subst (λ (n : ℕ). IsChordal (record { ranks = n; edges = s.before.edges })) (sym nodes) sound.graph;
+      edges = (closure_edited g s.before.order s.edit (graph_of s.before) nodes (record { ranks = refl; edges = sound.edges })).edges;
+      lists = replaced_long s.settled s.before.lists ∙ sound.lists;
+      spelled = all_spelled s are;
+      formed = λ edge dir ends at. formed_at s are all edge dir ends at;
+    }
+
+-- the edges in another order
+no_edge : TouchedEdge
+no_edge = record { edge = 0; up = []; down = [] }
+
+numbers_differ : (edges : List TouchedEdge) → AreApart edges → AllPairs (λ x y. x ≢ y) (numbers_of edges)
+numbers_differ edges apart = λ i j d lt inside.
+    let number : TouchedEdge → ℕ = λ (t : TouchedEdge). t.edge in
+    let long = length-map edges number in
+    let first = get_or-map number edges i no_edge d (omega (arith, lt, inside, long)) in
+    let second = get_or-map number edges j no_edge d (omega (arith, inside, long)) in
+    λ same. apart i j no_edge lt (omega (arith, inside, long)) (sym first ∙ same ∙ second)
+
+edges_differ : (edges : List TouchedEdge) → IsStrictlyIncreasing (numbers_of edges) → AreApart edges
+edges_differ edges rising = λ i j d lt inside.
+    let number : TouchedEdge → ℕ = λ (t : TouchedEdge). t.edge in
+    let long = length-map edges number in
+    let less = AllPairs-from_increasing (numbers_of edges) rising i j 0 lt (omega (arith, inside, long)) in
+    let first = get_or-map number edges i d 0 (omega (arith, lt, inside)) in
+    let second = get_or-map number edges j d 0 inside in
+    λ same. omega (arith, less, first, second, same)
+
+numbers_rise : (edges : List TouchedEdge) → IsNonDecreasingBy (λ (t : TouchedEdge). t.edge) edges → IsNonDecreasing (numbers_of edges)
+numbers_rise edges up = λ i j d le inside.
+    let number : TouchedEdge → ℕ = λ (t : TouchedEdge). t.edge in
+    let long = length-map edges number in
+    let first = get_or-map number edges i no_edge d (omega (arith, le, inside, long)) in
+    let second = get_or-map number edges j no_edge d (omega (arith, inside, long)) in
+    let step = up i j no_edge le (omega (arith, inside, long)) in
+    omega (arith, step, first, second)
+
+flips : (x y : ℕ) → eqb x y ≡ eqb y x
+flips x y = elim (cases_eq x y) [
+  | inl same ↦ let one : eqb x y ≡ true = grind (arith, same) in let two : eqb y x ≡ true = grind (arith, same) in one ∙ sym two
+  | inr other ↦ let one : eqb x y ≡ false = grind (arith, other) in let two : eqb y x ≡ false = grind (arith, other) in one ∙ sym two
+]
+
+pub sorted_numbers : (settled sorted : List TouchedEdge) → AreApart settled → IsPermutation settled sorted → IsNonDecreasingBy (λ (t : TouchedEdge). t.edge) sorted
+    → IsStrictlyIncreasing (numbers_of sorted)
+sorted_numbers settled sorted apart moved up =
+    IsStrictlyIncreasing-from_distinct (numbers_of sorted) (numbers_rise sorted up)
+    (IsDistinct-IsPermutation eqb flips (numbers_of settled) (numbers_of sorted) (IsPermutation-map (λ (t : TouchedEdge). t.edge) settled sorted moved)
+    (IsDistinct-from_AllPairs Decides-eqb (numbers_of settled) (numbers_differ settled apart)))
+
+pub sorted_same : (s : SettlingValue) → AreSettled s → (sorted : List TouchedEdge) → IsPermutation s.settled sorted → IsStrictlyIncreasing (numbers_of sorted)
+    → settled_so_far s ≡ hierarchy_with s.before s.edit sorted
+sorted_same s are sorted moved rising =
+    let back = IsPermutation-sym s.settled sorted moved in
+    let same = replaced_same s.settled sorted s.before.lists are.once (edges_differ sorted rising) (λ t c. Contains-permutation s.settled sorted t moved c)
+    (λ t c. Contains-permutation sorted s.settled t back c)
+    (λ t c.
+    let (ends, at, touched) = are.touched t.edge (number_among s.settled t c) in
+    let inside = slice_get_within s.before.edges t.edge ends at in
+    let long = are.sound.lists in
+    omega (arith, inside, long)) in
+    ap (λ (lists : List (List Entry)). record s.before { network = edited s.before.network s.edit; lists = lists }) same
