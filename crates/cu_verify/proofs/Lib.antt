@@ -1,0 +1,3 @@
+pub mod OneBuilt
+pub mod Parted
+pub mod Agreeing
