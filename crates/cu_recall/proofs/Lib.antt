@@ -1,0 +1,12 @@
+pub mod ListEnds
+pub mod DayWalks
+pub mod Joining
+pub mod Keeping
+pub mod RoadDrives
+pub mod Entries
+pub mod Working
+pub mod Parting
+pub mod Turning
+pub mod Answering
+pub mod Tops
+pub mod Unpacks

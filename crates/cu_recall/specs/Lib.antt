@@ -1,0 +1,4 @@
+pub mod Spans
+pub mod Windows
+pub mod Rooms
+pub mod Steps

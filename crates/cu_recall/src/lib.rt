@@ -1,0 +1,27 @@
+//! Relaxations that remember: what driving a list of ways took is kept, and isn't found anew until the hierarchy changes.
+//!
+//! A [`Row`] keeps, for one list, up to four [`Span`]s, over each of which the list's walk takes as long over as many roads,
+//! and the entry that was [`Met`] last. Each is a fact of the hierarchy alone (`Knows` in `specs/Spans.antt`), so no query
+//! makes it wrong, and it doesn't matter which span is written over. [`travels_add`] is the law that it rests on: near a
+//! second the walk by a middle is those of both halves joined, so that travels and roads add.
+//!
+//! It stands on `cu_model`, `cu_chordal`, `cu_interval`, `cu_unpack` and `cu_pack`, and its tests on `cu_customize`.
+//! `specs/Steps` is cited by private functions alone.
+#![tactic(auto)]
+
+mod driving;
+mod laws;
+mod looking;
+mod pending;
+mod recall;
+mod remembering;
+mod room;
+mod spans;
+#[cfg(test)]
+mod tests;
+mod unpacking;
+
+pub use laws::travels_add;
+pub use recall::Recall;
+pub use room::Room;
+pub use spans::{Driven, Met, Parts, Row, Span};

@@ -1,0 +1,182 @@
+//! Looking a list up: in what is known, or else in the bytes, and then it is known.
+
+ghost use Rattle.std.specs.Prelude.{◌≡◌, ◌≤◌, ◌<◌, ◌-◌, ◌*◌, ◌/◌, ◌↔◌, ℕ, IfSome, IsTrue, Some, length, slice_get};
+ghost use Rattle.cu_chordal.specs.Graphs.{HasEdge};
+ghost use Rattle.cu_interval.specs.Hierarchies.{HierarchyValue, IsHierarchy, start_of, end_of};
+ghost use Rattle.cu_unpack.specs.Steps.Legs.{IsMiddle};
+ghost use Rattle.cu_recall.specs.Spans.{AreHalvesAt, HasSecond, IsListFrom, Knows, dir_of};
+ghost use Rattle.cu_recall.specs.declared.spans.Parts.TheVariants as part;
+ghost use Rattle.cu_recall.specs.Windows.{HoldsDriven};
+ghost use Rattle.cu_recall.specs.Steps.Looks.{Finds, HoldsPartsOf, IsAsked, IsMetAt};
+
+use crate::driving::drive;
+use crate::pending::{Asked, Found, Parted};
+use crate::remembering::{meet, remember};
+use crate::spans::{Driven, Met, Parts, Row, Span};
+use cu_chordal::Ends;
+use cu_interval::{Dir, Way, Ways};
+use cu_pack::PackedView;
+
+/// What driving a list takes, where that is known or its way is a road; else the halves of the way in force.
+pub fn look(view: &PackedView<'_>, rows: &mut [Row], asked: Asked) -> Found
+    requires asked { IsAsked view.now asked }
+    requires size { length rows.old ≡ 2 * length view.now.edges }
+    requires knows { Knows view.now rows.old }
+    ensures finds { Finds view.now asked result }
+    ensures knows { Knows view.now rows.new }
+{
+    if let Some(driven) = known(rows, asked) {
+        return Found::Driven(driven);
+    }
+    let met = met_at(view, rows, asked);
+    match met.parts {
+        Parts::Road(road) => Found::Driven(drive_met(view, rows, asked, met, road)),
+        Parts::Halves { first, second } => Found::Parted(Parted {
+            back: asked.second - met.from,
+            ahead: met.until - asked.second,
+            first,
+            rest: second,
+        }),
+    }
+}
+
+/// What driving a list takes, as far as that is known.
+pub fn known(rows: &[Row], asked: Asked) -> Option<Driven>
+    requires list { asked.list < length rows.now }
+    ensures holds { (h : HierarchyValue) → Knows h rows.now
+        → IfSome result (λ driven. HoldsDriven h asked.list asked.second driven) }
+{
+    let span = rows[asked.list as usize].at(asked.second)?;
+    Some(over_span(span, asked.second))
+}
+
+// A span, said around one of its seconds.
+fn over_span(span: Span, second: u32) -> Driven
+    requires inside { HasSecond span second }
+    ensures { result ≡ record {
+      back = second - span.from;
+      ahead = span.seconds - (second - span.from);
+      travel = span.travel;
+      roads = span.roads;
+    } }
+{
+    let back = second - span.from;
+    Driven {
+        back,
+        ahead: u32::from(span.seconds) - back,
+        travel: u64::from(span.travel),
+        roads: u32::from(span.roads),
+    }
+}
+
+// Drives the road of an entry that was met, and keeps what that took.
+fn drive_met(view: &PackedView<'_>, rows: &mut [Row], asked: Asked, met: Met, road: u32) -> Driven
+    requires asked { IsAsked view.now asked }
+    requires size { length rows.old ≡ 2 * length view.now.edges }
+    requires knows { Knows view.now rows.old }
+    requires met { IsMetAt view.now asked met }
+    requires road { met.parts ≡ part.Road road }
+    requires sound { IsHierarchy view.now }
+    ensures holds { HoldsDriven view.now asked.list asked.second result }
+    ensures knows { Knows view.now rows.new }
+{
+    let back = asked.second - met.from;
+    let ahead = met.until - asked.second;
+    let driven = drive(view, road, asked.second, back, ahead);
+    remember(rows, asked.list, asked.second, driven);
+    driven
+}
+
+// The entry of a list in force at a second: the one that was met last, or by the bytes, and then it is the one met last.
+fn met_at(view: &PackedView<'_>, rows: &mut [Row], asked: Asked) -> Met
+    requires asked { IsAsked view.now asked }
+    requires size { length rows.old ≡ 2 * length view.now.edges }
+    requires knows { Knows view.now rows.old }
+    ensures met { IsMetAt view.now asked result }
+    ensures sound { IsHierarchy view.now }
+    ensures knows { Knows view.now rows.new }
+{
+    let _edges = view.edges();
+    let met = rows[asked.list as usize].met;
+    if met.from <= asked.second && asked.second < met.until {
+        return met;
+    }
+    let met = look_up(view, asked);
+    meet(rows, asked.list, met);
+    met
+}
+
+// The entry by the bytes.
+fn look_up(view: &PackedView<'_>, asked: Asked) -> Met
+    requires asked { IsAsked view.now asked }
+    ensures met { IsMetAt view.now asked result }
+{
+    let edge = asked.list / 2;
+    let dir = direction(asked.list);
+    let Some(found) = view.ways(edge, dir).in_force(asked.second) else {
+        unreachable!()
+    };
+    let parts = match found.way {
+        Way::Road(road) => Parts::Road(road),
+        Way::Via(middle) => halves(view, edge, dir, middle),
+    };
+    Met {
+        from: found.from,
+        until: found.until,
+        parts,
+    }
+}
+
+// The direction in which a list leads.
+fn direction(list: u32) -> Dir
+    ensures { result ≡ dir_of list }
+{
+    if list % 2 == 0 { Dir::Up } else { Dir::Down }
+}
+
+// The halves of a list at a middle.
+fn halves(view: &PackedView<'_>, edge: u32, dir: Dir, middle: u32) -> Parts
+    requires sound { IsHierarchy view.now }
+    requires middle { IsMiddle view.now edge dir middle }
+    ensures halves { HoldsPartsOf view.now edge dir middle result }
+{
+    let ends = view.ends(edge);
+    let first = edge_to(view, middle, rank_from(ends, dir));
+    let second = edge_to(view, middle, rank_to(ends, dir));
+    Parts::Halves {
+        first: 2 * first + 1,
+        second: 2 * second,
+    }
+}
+
+// The rank from which an edge leads in a direction.
+fn rank_from(ends: Ends, dir: Dir) -> u32
+    ensures { result ≡ start_of ends dir }
+{
+    match dir {
+        Dir::Up => ends.low,
+        Dir::Down => ends.high,
+    }
+}
+
+// The rank to which it leads.
+fn rank_to(ends: Ends, dir: Dir) -> u32
+    ensures { result ≡ end_of ends dir }
+{
+    match dir {
+        Dir::Up => ends.high,
+        Dir::Down => ends.low,
+    }
+}
+
+// The edge between two ranks, which there is.
+fn edge_to(view: &PackedView<'_>, low: u32, high: u32) -> u32
+    requires sound { IsHierarchy view.now }
+    requires there { HasEdge view.now.edges low high }
+    ensures { slice_get view.now.edges result ≡ Some (record { low = low; high = high }) }
+{
+    let Some(edge) = view.edge(low, high) else {
+        unreachable!()
+    };
+    edge
+}

@@ -1,0 +1,141 @@
+//! Relaxations over a packed file that remember.
+
+ghost use Rattle.std.specs.Prelude.{◌≡◌, ◌≤◌, ◌<◌, ◌+◌, ◌%◌, ◌^◌, ℕ, None, length};
+ghost use Rattle.cu_model.specs.Days.{day};
+ghost use Rattle.cu_chordal.specs.declared.graph.TheConstants.{MAX_EDGES};
+ghost use Rattle.cu_interval.specs.Calls.{Adds, IfAt};
+ghost use Rattle.cu_interval.specs.Hierarchies.{IsHierarchy, list_number};
+ghost use Rattle.cu_interval.specs.Unpacking.{relaxed};
+ghost use Rattle.cu_unpack.specs.Answers.{IsLowWhereBuilt};
+ghost use Rattle.cu_recall.specs.Rooms.{Fits};
+ghost use Rattle.cu_recall.specs.Windows.{HoldsDriven};
+ghost use Rattle.cu_recall.specs.Steps.Looks.{edge_asked};
+
+use crate::looking::known;
+use crate::pending::Asked;
+use crate::room::Room;
+use crate::spans::Driven;
+use crate::unpacking::unpack;
+use cu_interval::{Dir, Relaxed, Relaxer, Ways};
+use cu_model::{DAY, Roads};
+use cu_pack::PackedView;
+use std::marker::Model;
+
+/// Relaxes the shortcuts of a packed file, with room of its own, in which it keeps what it learnt. Contracts see the
+/// hierarchy. It doesn't tell its calls.
+#[derive(Drop)]
+pub struct Recall<'a> {
+    view: &'a PackedView<'a>,
+    room: Room,
+}
+
+impl<'a> Model for Recall<'a> {
+    ghost use Rattle.cu_interval.specs.Hierarchies.{HierarchyValue};
+    ghost use Rattle.cu_recall.specs.Rooms.{Fits};
+
+    ghost Value = { HierarchyValue };
+
+    ghost view = { λ recall. recall.view.now };
+
+    ghost invariant = { λ recall. Fits recall.view.now recall.room };
+}
+
+impl<'a> Recall<'a> {
+    /// Relaxations over this file, with room that was made for as many nodes and edges, and knows nothing but what is so of
+    /// its hierarchy. Takes no memory.
+    pub fn new(view: &'a PackedView<'a>, room: Room) -> Recall<'a>
+        requires fits { Fits view.now room }
+        ensures view { result ≡ view.now }
+    {
+        Recall { view, room }
+    }
+
+    /// Gives the room back, for the next relaxations. Takes no memory.
+    pub fn into_room(self) -> Room
+        ensures fits { Fits self.entry result }
+    {
+        self.room
+    }
+}
+
+impl<'a> Relaxer for Recall<'a> {
+    ghost hierarchy = { λ recall. recall };
+
+    ghost calls = { λ recall. None };
+
+    fn relax(&mut self, edge: u32, dir: Dir, at: u64) -> Relaxed
+        requires edge { edge < length self.old.edges }
+        requires time { at < 2 ^ 61 }
+        ensures answer { result ≡ relaxed self.old edge dir at }
+        ensures near { IfAt result (λ (arrival : ℕ). (at ≤ arrival) × (arrival ≤ at + 2 ^ 38)) }
+        ensures sound { IsHierarchy self.old }
+        ensures stays { self.new ≡ self.old }
+        ensures told { Adds None None (record { edge = edge; dir = dir; second = at }) }
+        ensures built { IsLowWhereBuilt self.old edge dir at result }
+    {
+        let view = self.view;
+        let room = &mut self.room;
+        relax_over(view, room, edge, dir, at)
+    }
+}
+
+// The answer of a relaxation, by what is known or else by unpacking.
+fn relax_over(view: &PackedView<'_>, room: &mut Room, edge: u32, dir: Dir, at: u64) -> Relaxed
+    requires edge { edge < length view.now.edges }
+    requires time { at < 2 ^ 61 }
+    requires fits { Fits view.now room.old }
+    ensures answer { result ≡ relaxed view.now edge dir at }
+    ensures near { IfAt result (λ (arrival : ℕ). (at ≤ arrival) × (arrival ≤ at + 2 ^ 38)) }
+    ensures sound { IsHierarchy view.now }
+    ensures fits { Fits view.now room.new }
+{
+    let _edges = view.edges();
+    let asked = asked_of(edge, dir, at);
+    if let Some(driven) = known(&room.rows, asked) {
+        return answer(view, edge, dir, at, driven);
+    }
+    if view.entries(edge, dir) == 0 {
+        return Relaxed::NoWay;
+    }
+    match unpack(view, &mut room.rows, &mut room.pending, asked) {
+        Some(driven) => answer(view, edge, dir, at, driven),
+        None => Relaxed::Long,
+    }
+}
+
+// The list of an edge in a direction, asked at the second of the day of an absolute second.
+fn asked_of(edge: u32, dir: Dir, at: u64) -> Asked
+    requires edge { edge < MAX_EDGES }
+    ensures { result ≡ edge_asked edge dir at }
+{
+    Asked {
+        list: number_of(edge, dir),
+        second: (at % u64::from(DAY)) as u32,
+    }
+}
+
+// The number of the list of an edge in a direction.
+fn number_of(edge: u32, dir: Dir) -> u32
+    requires edge { edge < MAX_EDGES }
+    ensures { result ≡ list_number edge dir }
+{
+    match dir {
+        Dir::Up => 2 * edge,
+        Dir::Down => 2 * edge + 1,
+    }
+}
+
+// The answer of a list that takes this.
+fn answer(view: &PackedView<'_>, edge: u32, dir: Dir, at: u64, driven: Driven) -> Relaxed
+    requires edge { edge < length view.now.edges }
+    requires time { at < 2 ^ 61 }
+    requires driven { HoldsDriven view.now (list_number edge dir) (at % day) driven }
+    requires sound { IsHierarchy view.now }
+    ensures answer { result ≡ relaxed view.now edge dir at }
+    ensures near { IfAt result (λ (arrival : ℕ). (at ≤ arrival) × (arrival ≤ at + 2 ^ 38)) }
+{
+    if driven.roads >= view.nodes() {
+        return Relaxed::Long;
+    }
+    Relaxed::At(at + driven.travel)
+}

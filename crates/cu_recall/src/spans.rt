@@ -1,0 +1,165 @@
+//! What is known of one list.
+
+ghost use Rattle.std.specs.Prelude.{◌≡◌, ◌≤◌, ◌<◌, ◌↔◌, ℕ, IfSome, IsTrue};
+ghost use Rattle.cu_interval.specs.Hierarchies.{HierarchyValue};
+ghost use Rattle.cu_recall.specs.Spans.{HasSecond, HoldsMet, HoldsRow, HoldsSpan};
+ghost use Rattle.cu_recall.specs.Windows.{HoldsDriven, IsWindow};
+
+/// Seconds of the day, `seconds` of them from `from` on, at each of which a list's walk takes `travel` seconds over `roads`
+/// roads. Where there are none it says nothing.
+#[derive(Clone, Copy, Debug, PartialEq, Eq)]
+pub struct Span {
+    pub from: u32,
+    pub seconds: u16,
+    pub roads: u16,
+    pub travel: u32,
+}
+
+/// What a way consists of: one road, by its number, or two halves, by the numbers of their lists, in the order driven.
+#[derive(Clone, Copy, Debug, PartialEq, Eq)]
+pub enum Parts {
+    Road(u32),
+    Halves { first: u32, second: u32 },
+}
+
+/// The parts of the way in force at each second of the day from `from` until before `until`. Where there is no such second
+/// it says nothing.
+#[derive(Clone, Copy, Debug, PartialEq, Eq)]
+pub struct Met {
+    pub from: u32,
+    pub until: u32,
+    pub parts: Parts,
+}
+
+/// What is known of one list: the latest span, the widest that was met in each third of the day, and the entry met last.
+#[derive(Clone, Copy, Debug, PartialEq, Eq)]
+pub struct Row {
+    pub latest: Span,
+    pub early: Span,
+    pub noon: Span,
+    pub late: Span,
+    pub met: Met,
+}
+
+/// What driving a list from a second of the day takes, and for how many seconds before it, and how many from it on, that
+/// stays the same.
+#[derive(Clone, Copy, Debug, PartialEq, Eq)]
+pub struct Driven {
+    pub back: u32,
+    pub ahead: u32,
+    pub travel: u64,
+    pub roads: u32,
+}
+
+impl Span {
+    const NOTHING: Span = Span {
+        from: 0,
+        seconds: 0,
+        roads: 0,
+        travel: 0,
+    };
+
+    /// Whether it has this second of the day.
+    pub fn has(&self, second: u32) -> bool
+        ensures { IsTrue result ↔ HasSecond self.now second }
+    {
+        self.from <= second && second - self.from < u32::from(self.seconds)
+    }
+}
+
+impl Row {
+    /// A row that says nothing.
+    pub const NOTHING: Row = Row {
+        latest: Span::NOTHING,
+        early: Span::NOTHING,
+        noon: Span::NOTHING,
+        late: Span::NOTHING,
+        met: Met {
+            from: 0,
+            until: 0,
+            parts: Parts::Road(0),
+        },
+    };
+
+    /// The span that has this second of the day.
+    pub fn at(&self, second: u32) -> Option<Span>
+        ensures inside { IfSome result (λ span. HasSecond span second) }
+        ensures holds { (h : HierarchyValue) (list : ℕ) → HoldsRow h list self.now
+            → IfSome result (λ span. HoldsSpan h list span) }
+    {
+        if self.latest.has(second) {
+            return Some(self.latest);
+        }
+        if self.early.has(second) {
+            return Some(self.early);
+        }
+        if self.noon.has(second) {
+            return Some(self.noon);
+        }
+        if self.late.has(second) {
+            return Some(self.late);
+        }
+        None
+    }
+
+    /// Keeps a span that was met at this second of the day: as the latest, and for its third of the day where it is wider
+    /// than the one there.
+    pub fn keep(&mut self, second: u32, span: Span)
+        ensures holds { (h : HierarchyValue) (list : ℕ) → HoldsRow h list self.old
+            → HoldsSpan h list span → HoldsRow h list self.new }
+    {
+        self.latest = span;
+        if second < 28_800 {
+            self.early = wider(self.early, span);
+        } else if second < 57_600 {
+            self.noon = wider(self.noon, span);
+        } else {
+            self.late = wider(self.late, span);
+        }
+    }
+
+    /// Keeps an entry that was met.
+    pub fn meet(&mut self, met: Met)
+        ensures holds { (h : HierarchyValue) (list : ℕ) → HoldsRow h list self.old
+            → HoldsMet h list met → HoldsRow h list self.new }
+    {
+        self.met = met;
+    }
+}
+
+// The wider of two spans.
+fn wider(span: Span, other: Span) -> Span
+    ensures holds { (h : HierarchyValue) (list : ℕ) → HoldsSpan h list span
+        → HoldsSpan h list other → HoldsSpan h list result }
+{
+    if span.seconds < other.seconds {
+        other
+    } else {
+        span
+    }
+}
+
+impl Driven {
+    /// What is kept of it, driven from this second of the day: of the seconds before and after, 32,767 each at most. None
+    /// where its travel or its roads find no room in a span.
+    pub fn span(&self, second: u32) -> Option<Span>
+        requires window { IsWindow second self.now.back self.now.ahead }
+        ensures holds { (h : HierarchyValue) (list : ℕ) → HoldsDriven h list second self.now
+            → IfSome result (λ span. HoldsSpan h list span) }
+    {
+        if self.roads > 65_535 {
+            return None;
+        }
+        if self.travel > 4_294_967_295 {
+            return None;
+        }
+        let back = self.back.min(32_767);
+        let ahead = self.ahead.min(32_767);
+        Some(Span {
+            from: second - back,
+            seconds: (back + ahead) as u16,
+            roads: self.roads as u16,
+            travel: self.travel as u32,
+        })
+    }
+}
