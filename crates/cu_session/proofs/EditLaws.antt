@@ -15,9 +15,8 @@ module _ (old new : HierarchyValue) (edit : Edit) (count : ℕ) (made : IsEdited
     count = count;
     touches = record { edges = old.edges; listed = made.sound.edges; touched = made.touched; rising = made.numbers.rising; exact = made.numbers.exact; counted = made.count };
     said = refl;
-    network = made.network;
-    order = made.order;
-    edges = made.edges;
+    resettled = made.resettled;
+    sound = made.after;
     built = made.built;
   }
 

@@ -24,13 +24,13 @@ stays_built h after built same = rw same (built, refl)
 
 legal_reply_to : (h after : HierarchyValue) (asked : Asked) (reply : List ℕ) → IsBuilt h → IsHeldReplyTo h asked reply after → IsReplyTo h.network h.order asked reply after.network
 legal_reply_to h after (AsksQuery query) reply built (answer, same) = (answer.least built, (h, refl, refl, built, answer.swept), same_network h after same)
-legal_reply_to h after (AsksEdit edit) reply built (inl done) = inl (done.count, done.touches, done.said, done.network)
+legal_reply_to h after (AsksEdit edit) reply built (inl done) = inl (done.count, done.touches, done.said, done.resettled.network)
 legal_reply_to h after (AsksEdit edit) reply built (inr (none, same)) = inr (none, same_network h after same)
 legal_reply_to h after (Fails words) reply built (is, same) = (is, same_network h after same)
 
 built_behind : (h after : HierarchyValue) (asked : Asked) (reply : List ℕ) → IsBuilt h → IsHeldReplyTo h asked reply after → IsBuiltUnder h after
 built_behind h after (AsksQuery query) reply built (answer, same) = stays_built h after built same
-built_behind h after (AsksEdit edit) reply built (inl done) = (done.built, done.order)
+built_behind h after (AsksEdit edit) reply built (inl done) = (done.built built, done.resettled.order)
 built_behind h after (AsksEdit edit) reply built (inr (none, same)) = stays_built h after built same
 built_behind h after (Fails words) reply built (is, same) = stays_built h after built same
 
@@ -76,7 +76,7 @@ legal_where_built h built (Some stop.NoMemory) taken output none = none
 
 edits_behind : (h after : HierarchyValue) (asked : Asked) (reply : List ℕ) → IsBuilt h → IsDoneReplyTo h asked reply after → IsBuilt after
 edits_behind h after (AsksQuery query) reply built is = absurd is
-edits_behind h after (AsksEdit edit) reply built done = done.built
+edits_behind h after (AsksEdit edit) reply built done = done.built built
 edits_behind h after (Fails words) reply built (is, same) = (stays_built h after built same).0
 
 edits_match : (long : Bool) (h after : HierarchyValue) (asked : Asked) (reply : List ℕ) → IsBuilt h

@@ -4,6 +4,5 @@ mod SessionLaws
 mod EditingLaws
 mod RouteLaws
 mod RouterLaws
-mod RebuildingLaws
 mod EditLaws
 mod ArrivalLaws

@@ -4,12 +4,12 @@ use Rattle.std.specs.Bool.{MatchBool}
 use Rattle.cu_model.specs.declared.queries.Query.{Query}
 use Rattle.cu_model.specs.declared.roads.Edit.{Edit}
 use Rattle.cu_model.specs.Answers.{IsAnswer, arrive_text}
-use Rattle.cu_model.specs.Edits.{edited}
 use Rattle.cu_model.specs.Networks.{NetworkValue}
 use Rattle.cu_model.specs.Roads.{IsWalk, drive}
 use Rattle.cu_io.specs.Lines.{without_return}
 use Rattle.cu_interval.specs.declared.ways.Dir.{Dir}
-use Rattle.cu_interval.specs.Hierarchies.{HierarchyValue, IsBuilt}
+use Rattle.cu_interval.specs.Hierarchies.{HierarchyValue, IsBuilt, IsHierarchy}
+use Rattle.cu_interval.specs.Resettling.{IsResettled}
 use Rattle.cu_edits.specs.EditLines.{edit_of}
 use Rattle.cu_session.specs.Replies.{Asked, AsksQuery, AsksEdit, Fails, Touches, asked_by_edit, asked_of, line_limit}
 use Rattle.cu_session.specs.Swept.{damaged_text, swept_reply}
@@ -29,16 +29,14 @@ pub record IsHeldAnswer (h : HierarchyValue) (query : Query) (reply : List ℕ) 
   pub real : IsRealReply h.network query reply
   pub least : IsBuilt h → IsAnswer h.network query reply
 
--- An edit is made: the reply counts the touched edges, and the hierarchy is the built one of the edited network, under the same order and
--- with the same edges, whatever lists were held before.
+-- an edit is made: the reply counts the touched edges, and the hierarchy is resettled
 pub record IsHeldDone (h : HierarchyValue) (edit : Edit) (reply : List ℕ) (after : HierarchyValue) : Type 0 where
   pub count : ℕ
   pub touches : Touches h.network h.order edit count
   pub said : reply ≡ codes "done " ++ decimal count
-  pub network : after.network ≡ edited h.network edit
-  pub order : after.order ≡ h.order
-  pub edges : after.edges ≡ h.edges
-  pub built : IsBuilt after
+  pub resettled : IsResettled h edit after
+  pub sound : IsHierarchy after
+  pub built : IsBuilt h → IsBuilt after
 
 -- an edit's reply: it is made, or there was no memory for it, and nothing has changed
 abbrev pub IsHeldEditReply : HierarchyValue → Edit → List ℕ → HierarchyValue → Type 0

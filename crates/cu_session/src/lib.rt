@@ -1,20 +1,18 @@
 //! Scripts and edits answered over the packed bytes of a hierarchy.
 //!
-//! [`session`] answers the script of a source (`EndsSession` in `specs/Sessions.antt`): each query by the two sweeps over
-//! the hierarchy that the bytes spell, each edit by building anew, after which the bytes are those of the built hierarchy
-//! of the edited network (`specs/Held.antt`). Where the first hierarchy is built, the replies are right over all walks of
-//! the network as edited so far (`specs/Replies.antt`), and no clause of those speaks of a hierarchy but for the choice
-//! among equal walks and the number of touched edges. [`answer_edits`] makes the lines of a file of edits. [`Router`] is
-//! what both answer from: it adopts its bytes anew for each line, and takes no memory for a query.
+//! [`session`] answers the script of a source (`EndsSession` in `specs/Sessions.antt`): each query by the two sweeps over the
+//! hierarchy that the bytes spell, each edit by the touched edges, after which the bytes are those of the resettled hierarchy
+//! (`specs/Held.antt`). Where the first hierarchy is built, the replies are right over all walks of the network as edited so
+//! far (`specs/Replies.antt`), and no clause of those speaks of a hierarchy but for the choice among equal walks and the number of
+//! touched edges. [`answer_edits`] makes the lines of a file of edits. [`Router`] is what both answer from: it adopts its
+//! bytes anew for each line, takes no memory for a query, and keeps what queries learn of the hierarchy until the next edit.
 //!
-//! It stands on `cu_model` and `cu_io` for lines, queries and sinks, on `cu_pack` for the bytes, on `cu_sweep`, `cu_unpack`,
-//! `cu_elimtree` and `cu_links` for queries, and on `cu_edits` and `cu_customize` for edits. `specs/Steps` is cited by
-//! private functions alone.
+//! It stands on `cu_model` and `cu_io` for lines, queries and sinks, on `cu_pack` for the bytes, on `cu_sweep`, `cu_recall`,
+//! `cu_unpack`, `cu_elimtree` and `cu_links` for queries, and on `cu_edits` for edits. `specs/Steps` is cited by private functions alone.
 #![tactic(auto)]
 
 mod answering;
 mod editing;
-mod rebuilding;
 mod replies;
 mod router;
 mod stops;

@@ -1,6 +1,6 @@
 //! What a script is answered from: the packed bytes of a hierarchy, and the room that queries and edits need beside them.
 
-ghost use Rattle.std.specs.Prelude.{◌≡◌, ◌≤◌, ◌<◌, ◌^◌, Some, IfOk, IfSome, OnErr, false, slice_get};
+ghost use Rattle.std.specs.Prelude.{◌≡◌, ◌≤◌, ◌<◌, ◌^◌, Some, IfOk, IfSome, OnErr, false, length, slice_get};
 ghost use Rattle.cu_io.specs.Sinks.{Wrote};
 ghost use Rattle.cu_model.specs.declared.limits.TheConstants.{DAY};
 ghost use Rattle.cu_model.specs.Answers.{arrive_text};
@@ -11,19 +11,19 @@ ghost use Rattle.cu_pack.specs.Checks.{Spells};
 ghost use Rattle.cu_pack.specs.Reading.{decoded};
 ghost use Rattle.cu_sweep.specs.Desks.{AreArriving, roads_of};
 ghost use Rattle.cu_session.specs.Held.{IsHeldAnswer};
-ghost use Rattle.cu_session.specs.Steps.Routing.{FindsArrival, IsEdited};
+ghost use Rattle.cu_session.specs.Steps.Routing.{FindsArrival, FitsSome, IsEdited};
 ghost use Rattle.cu_session.specs.Swept.{swept_reply};
 
-use crate::rebuilding::packed_anew;
 use crate::writing::put_damage;
 use cu_chordal::Chordal;
-use cu_edits::touched_edges;
+use cu_edits::touch;
 use cu_elimtree::Tree;
-use cu_interval::Ways;
+use cu_interval::{EdgeArcs, Ways};
 use cu_io::{Sink, SinkFailed, put_all, put_number};
 use cu_links::RankBuckets;
 use cu_model::{Edit, NoMemory, Query, Roads};
-use cu_pack::{PackedView, chordal_of};
+use cu_pack::{PackedView, chordal_of, order_of, repack};
+use cu_recall::{Recall, Room};
 use cu_sweep::{Found, SweepDesk, route};
 use cu_unpack::{Unpacker, Work};
 use std::alloc::Global;
@@ -35,8 +35,11 @@ pub struct Router {
     bytes: Vec<u8>,
     graph: Chordal,
     tree: Tree,
+    arcs: EdgeArcs,
     desk: SweepDesk,
-    // There but while a query is answered: its unpacker owns it.
+    // Both are there but while a query is answered: what relaxes for it and what writes its walk own them. The room keeps
+    // what queries learn of the hierarchy until the next edit.
+    room: Option<Room>,
     work: Option<Work>,
     buckets: RankBuckets,
 }
@@ -52,8 +55,8 @@ impl Model for Router {
     ghost view = { λ router. decoded router.bytes.items };
 
     ghost invariant = { λ router. Spells router.bytes.items (decoded router.bytes.items)
-        × HasRoom (decoded router.bytes.items) router.graph router.tree router.desk router.work
-        router.buckets };
+        × HasRoom (decoded router.bytes.items) router.graph router.tree router.arcs router.desk
+        router.room router.work router.buckets };
 }
 
 impl Router {
@@ -66,12 +69,16 @@ impl Router {
         let nodes = view.nodes();
         let edges = view.edges();
         let graph = chordal_of(alloc, &view)?;
+        let order = order_of(alloc, &view)?;
+        let arcs = EdgeArcs::of(alloc, &view, &order, &graph)?;
         let tree = Tree::of(alloc, &graph)?;
         Ok(Router {
             bytes,
             graph,
             tree,
+            arcs,
             desk: SweepDesk::new(alloc, nodes)?,
+            room: Some(Room::new(alloc, nodes, edges)?),
             work: Some(Work::new(alloc, nodes)?),
             buckets: RankBuckets::new(alloc, nodes, edges)?,
         })
@@ -102,17 +109,32 @@ impl Router {
             (swept_reply self.old query) }
         ensures stays { self.new ≡ self.old }
     {
+        let Some(room) = self.room.take() else {
+            unreachable!()
+        };
         let Some(work) = self.work.take() else {
             unreachable!()
         };
         let view = adopt(&self.bytes);
         let from = view.rank(query.from);
         let to = view.rank(query.to);
+        let mut recall = Recall::new(&view, room);
         let mut unpacker = Unpacker::new(&view, work);
         let tree = &self.tree;
         let graph = &self.graph;
         let desk = &mut self.desk;
-        let outcome = put_swept(tree, graph, desk, &mut unpacker, from, to, query, sink);
+        let outcome = put_swept(
+            tree,
+            graph,
+            desk,
+            &mut recall,
+            &mut unpacker,
+            from,
+            to,
+            query,
+            sink,
+        );
+        self.room = Some(recall.into_room());
         self.work = Some(unpacker.into_work());
         outcome
     }
@@ -128,33 +150,41 @@ impl Router {
         ensures near { IfSome result (λ arrival. arrival ≤ 2 ^ 39) }
         ensures stays { self.new ≡ self.old }
     {
-        let Some(work) = self.work.take() else {
+        let Some(room) = self.room.take() else {
             unreachable!()
         };
         let view = adopt(&self.bytes);
         let from = view.rank(query.from);
         let to = view.rank(query.to);
-        let mut unpacker = Unpacker::new(&view, work);
+        let mut recall = Recall::new(&view, room);
         let tree = &self.tree;
         let graph = &self.graph;
         let desk = &mut self.desk;
-        let arrival = find_swept(tree, graph, desk, &mut unpacker, from, to, query);
-        self.work = Some(unpacker.into_work());
+        let arrival = find_swept(tree, graph, desk, &mut recall, from, to, query);
+        self.room = Some(recall.into_room());
         arrival
     }
 
-    /// Makes an edit, whose numbers are in range, and answers how many edges it touches. The hierarchy is then the built one of
-    /// the edited network, under the same order. Where memory runs out nothing has changed.
+    /// Makes an edit, whose numbers are in range, and answers how many edges it touches. Where memory runs out nothing has
+    /// changed.
     pub fn edit(&mut self, alloc: Global, edit: Edit) -> Result<usize, NoMemory>
         requires range { IsEditInRange self.old.network edit }
         ensures edited { IfOk result (IsEdited self.old edit self.new) }
         ensures kept { OnErr result (self.new ≡ self.old) }
     {
         let view = adopt(&self.bytes);
-        let touched = touched_edges(alloc, &view, &edit, &self.graph, &mut self.buckets)?;
-        let bytes = packed_anew(alloc, &view, edit)?;
+        let touched = touch(
+            alloc,
+            &view,
+            edit,
+            &self.graph,
+            &self.arcs,
+            &mut self.buckets,
+        )?;
+        let bytes = repack(alloc, &view, &touched.edit, &touched.lists)?;
         self.bytes = bytes;
-        Ok(touched.len())
+        forget(&mut self.room);
+        Ok(touched.lists.len())
     }
 }
 
@@ -166,30 +196,41 @@ fn adopt(bytes: &[u8]) -> PackedView<'_>
     PackedView::adopt(bytes)
 }
 
+// Forgets what was learnt of the hierarchy before an edit. Takes no memory.
+fn forget(room: &mut Option<Room>)
+    ensures fits { (before after : HierarchyValue) → FitsSome before room.old
+        → after.network.nodes ≡ before.network.nodes → length after.edges ≡ length before.edges
+        → FitsSome after room.new }
+{
+    if let Some(room) = room {
+        room.forget();
+    }
+}
+
 // Sweeps for the least arrival of a query between the ranks of its nodes, in a built hierarchy.
 fn find_swept(
     tree: &Tree,
     graph: &Chordal,
     desk: &mut SweepDesk,
-    unpacker: &mut Unpacker<'_, PackedView<'_>>,
+    recall: &mut Recall<'_>,
     from: u32,
     to: u32,
     query: Query,
 ) -> Option<u64>
-    requires built { IsBuilt unpacker.old }
-    requires graph { IsHierarchyOf graph.now unpacker.old }
+    requires built { IsBuilt recall.old }
+    requires graph { IsHierarchyOf graph.now recall.old }
     requires tree { tree.now ≡ parents_in graph.now }
     requires desk { desk.old.nodes ≡ graph.now.ranks }
-    requires start { slice_get unpacker.old.order.rank_of query.from ≡ Some from }
-    requires stop { slice_get unpacker.old.order.rank_of query.to ≡ Some to }
+    requires start { slice_get recall.old.order.rank_of query.from ≡ Some from }
+    requires stop { slice_get recall.old.order.rank_of query.to ≡ Some to }
     requires ranks { (from < graph.now.ranks) × (to < graph.now.ranks) }
     requires second { query.second < DAY }
-    ensures found { FindsArrival unpacker.old.network query result }
+    ensures found { FindsArrival recall.old.network query result }
     ensures near { IfSome result (λ arrival. arrival ≤ 2 ^ 39) }
     ensures desk { desk.new.nodes ≡ desk.old.nodes }
-    ensures stays { unpacker.new ≡ unpacker.old }
+    ensures stays { recall.new ≡ recall.old }
 {
-    match cu_sweep::query(tree, graph, desk, unpacker, from, to, query.second) {
+    match cu_sweep::query(tree, graph, desk, recall, from, to, query.second) {
         Found::Arrive(arrival) => Some(arrival),
         Found::NoWalk => None,
         Found::Long { .. } => unreachable!(),
@@ -201,26 +242,28 @@ fn put_swept<K: Sink>(
     tree: &Tree,
     graph: &Chordal,
     desk: &mut SweepDesk,
+    recall: &mut Recall<'_>,
     unpacker: &mut Unpacker<'_, PackedView<'_>>,
     from: u32,
     to: u32,
     query: Query,
     sink: &mut K,
 ) -> Result<(), SinkFailed>
-    requires graph { IsHierarchyOf graph.now unpacker.old }
+    requires same { unpacker.old ≡ recall.old }
+    requires graph { IsHierarchyOf graph.now recall.old }
     requires tree { tree.now ≡ parents_in graph.now }
     requires desk { desk.old.nodes ≡ graph.now.ranks }
-    requires start { slice_get unpacker.old.order.rank_of query.from ≡ Some from }
-    requires stop { slice_get unpacker.old.order.rank_of query.to ≡ Some to }
+    requires start { slice_get recall.old.order.rank_of query.from ≡ Some from }
+    requires stop { slice_get recall.old.order.rank_of query.to ≡ Some to }
     requires ranks { (from < graph.now.ranks) × (to < graph.now.ranks) }
     requires second { query.second < DAY }
-    ensures answer { IsHeldAnswer unpacker.old query (swept_reply unpacker.old query) }
+    ensures answer { IsHeldAnswer recall.old query (swept_reply recall.old query) }
     ensures wrote { Wrote (K.state sink.old) (K.state sink.new) result
-        (swept_reply unpacker.old query) }
+        (swept_reply recall.old query) }
     ensures desk { desk.new.nodes ≡ desk.old.nodes }
-    ensures stays { unpacker.new ≡ unpacker.old }
+    ensures stays { (recall.new ≡ recall.old) × (unpacker.new ≡ recall.old) }
 {
-    match cu_sweep::query(tree, graph, desk, unpacker, from, to, query.second) {
+    match cu_sweep::query(tree, graph, desk, recall, from, to, query.second) {
         Found::Arrive(arrival) => put_arrival(arrival, desk, unpacker, sink),
         Found::NoWalk => put_all(sink, b"unreachable"),
         Found::Long { edge, dir, second } => put_damage(edge, dir, second, sink),

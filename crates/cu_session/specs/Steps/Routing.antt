@@ -2,21 +2,31 @@
 use Rattle.std.specs.Prelude.{ℕ, List, Option, Some, None, ◌≡◌, length}
 use Rattle.cu_model.specs.declared.queries.Query.{Query}
 use Rattle.cu_model.specs.declared.roads.Edit.{Edit}
-use Rattle.cu_model.specs.Edits.{edited}
 use Rattle.cu_model.specs.Networks.{NetworkValue}
 use Rattle.cu_model.specs.Roads.{HasNoWalk, IsLeastArrival}
 use Rattle.cu_chordal.specs.Graphs.{ChordalValue}
 use Rattle.cu_elimtree.specs.SweepArcs.{parents_in}
+use Rattle.cu_interval.specs.EdgeArcs.{AreEdgeArcs}
 use Rattle.cu_interval.specs.Hierarchies.{HierarchyValue, IsBuilt, IsHierarchy, graph_of}
+use Rattle.cu_interval.specs.Resettling.{IsResettled}
 use Rattle.cu_interval.specs.Touching.{NumbersTouched}
 use Rattle.cu_links.specs.Buckets.{BucketsValue}
+use Rattle.cu_recall.specs.Rooms.{Fits, RoomValue}
 use Rattle.cu_sweep.specs.Desks.{DeskValue}
 
+-- there is room that fits a hierarchy, and knows only what is so of it
+abbrev pub FitsSome : HierarchyValue → Option RoomValue → Type 0
+FitsSome h None = ⊥
+FitsSome h (Some room) = Fits h room
+
 -- the room beside the packed bytes of a hierarchy is made for it
-pub record HasRoom (h : HierarchyValue) (graph : ChordalValue) (parents : List (Option ℕ)) (queries : DeskValue) (walks : Option ℕ) (buckets : BucketsValue) : Type 0 where
+pub record HasRoom (h : HierarchyValue) (graph : ChordalValue) (parents : List (Option ℕ)) (arcs : List (List ℕ)) (queries : DeskValue)
+    (known : Option RoomValue) (walks : Option ℕ) (buckets : BucketsValue) : Type 0 where
   pub chordal : graph ≡ graph_of h
   pub tree : parents ≡ parents_in (graph_of h)
+  pub listed : AreEdgeArcs h.network h.order h.edges arcs
   pub desk : queries.nodes ≡ h.network.nodes
+  pub room : FitsSome h known
   pub work : walks ≡ Some h.network.nodes
   pub ranks : buckets.ranks ≡ h.network.nodes
   pub edges : length buckets.states ≡ length h.edges
@@ -26,13 +36,12 @@ abbrev pub FindsArrival : NetworkValue → Query → Option ℕ → Type 0
 FindsArrival g query None = HasNoWalk g query.from query.to
 FindsArrival g query (Some arrival) = IsLeastArrival g query.from query.to query.second arrival
 
--- an edit was made that touches so many edges, and the hierarchy is built anew
+-- an edit was made that touches so many edges
 pub record IsEdited (old : HierarchyValue) (edit : Edit) (new : HierarchyValue) (touches : ℕ) : Type 0 where
   pub sound : IsHierarchy old
   pub touched : List ℕ
   pub numbers : NumbersTouched old edit touched
   pub count : touches ≡ length touched
-  pub network : new.network ≡ edited old.network edit
-  pub order : new.order ≡ old.order
-  pub edges : new.edges ≡ old.edges
-  pub built : IsBuilt new
+  pub resettled : IsResettled old edit new
+  pub after : IsHierarchy new
+  pub built : IsBuilt old → IsBuilt new

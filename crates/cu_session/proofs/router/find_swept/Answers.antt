@@ -5,7 +5,7 @@ use Rattle.cu_session.proofs.router.find_swept.Goals as goal
 
 pub returns-in-Arrive-clause-found : goal.returns-in-Arrive-clause-found
 returns-in-Arrive-clause-found c =
-    let h = c.args.unpacker.now in
+    let h = c.args.recall.now in
     let placed = c.requires.built.sound.order.placed in
     let u = placed c.args.query.from c.args.from c.requires.start in
     let v = placed c.args.query.to c.args.to c.requires.stop in
@@ -14,7 +14,7 @@ returns-in-Arrive-clause-found c =
 
 pub returns-in-Arrive-clause-near : goal.returns-in-Arrive-clause-near
 returns-in-Arrive-clause-near c =
-    let h = c.args.unpacker.now in
+    let h = c.args.recall.now in
     let sound = c.requires.built.sound in
     let u = sound.order.placed c.args.query.from c.args.from c.requires.start in
     let v = sound.order.placed c.args.query.to c.args.to c.requires.stop in
