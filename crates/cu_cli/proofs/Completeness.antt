@@ -16,6 +16,7 @@ use Rattle.cu_pack.specs.Spelling.{spelling}
 use Rattle.cu_roads.specs.NetworkTexts.{NetworkRead, network_of}
 use Rattle.cu_roads.specs.Written.{written_network}
 use Rattle.cu_roads.specs.declared.refusals.RoadRefusal.{RoadRefusal}
+use Rattle.cu_cli.specs.declared.stops.Difference.{Difference}
 use Rattle.cu_cli.specs.declared.stops.Stop.{Stop}
 use Rattle.cu_cli.specs.declared.stops.Stop.TheVariants as stop
 use Rattle.cu_cli.specs.Preparing.{IsLoaded, StopsLoad, AreLoaded, StopsLoading, IsOrderOf, IsOrderRefused, Names, StopsNetwork, StopsOrder, StopsPreparing, StopsTables, StopsTexts, StopsReading, ordering_files}
@@ -25,11 +26,11 @@ use Rattle.cu_session.specs.Held.{IsHeldOutput}
 use Rattle.cu_session.specs.Replies.{IsOutput}
 use Rattle.cu_session.specs.Sessions.{AnswersBy, Leaves, take_limit}
 use Rattle.cu_cli.specs.Opening.{StopsChecks, StopsOpening, StopsOpeningEdits}
-use Rattle.cu_cli.specs.Runs.{Answers, Ending, EndsAsk, EndsBuild, EndsEdit, EndsEditing, EndsMake, EndsOrder, EndsPacking, EndsServe, EndsStoring, EndsTrial, EndsWork, IsBuilding, IsEditable, IsOpenable, IsOrderable, IsServable, IsShort, IsTriable, IsWorkable, MeetsNoFault, built_text, ending_of, has_script, made_text, order_files_made, ordered_text, packed_file, stored_text, tables_made}
+use Rattle.cu_cli.specs.Runs.{Answers, Ending, EndsAsk, EndsBuild, EndsEdit, EndsEditing, EndsMake, EndsOrder, EndsPacking, EndsServe, EndsStoring, EndsTrial, EndsVerify, EndsWork, IsBuilding, IsEditable, IsOpenable, IsOrderable, IsServable, IsShort, IsTriable, IsVerifying, IsWorkable, MeetsNoFault, built_text, ending_of, has_script, made_text, order_files_made, ordered_text, packed_file, stored_text, tables_made}
 use Rattle.cu_cli.specs.Storing.{FileMade, FileStored, StopsStore, StopsStoring}
 use Rattle.cu_cli.specs.Stops.{status_of}
 use Rattle.cu_cli.specs.Steps.Outcomes.{Refuses, SaysStop, Works}
-use Rattle.cu_cli.specs.Words.{Command, Serve, Order, Make, Build, Ask, Edit, Trial, BuildingAsked, EditingAsked, FileAsked, MakingAsked, OrderAsked, OrderingAsked, TablesAsked, TrialAsked, editing_files, grid_read, hierarchy_file, table_files}
+use Rattle.cu_cli.specs.Words.{Command, Serve, Order, Make, Build, Ask, Edit, Verify, Trial, BuildingAsked, EditingAsked, FileAsked, MakingAsked, OrderAsked, OrderingAsked, TablesAsked, TrialAsked, editing_files, grid_read, hierarchy_file, table_files}
 
 -- a file of a shelf that tells has one text
 one_text : (a : ShelfState) (files : List ℕ → Option (List ℕ)) (file : FileAsked) (text other : List ℕ) → a.held ≡ Some files → IsLoaded a file text → IsLoaded a file other → other ≡ text
@@ -257,6 +258,26 @@ ask_stops a b s t k mid now name why can short fine later done = ends done.ended
         let same : other ≡ why = cc (before.0, done.stop) in
         sym same ∙ opening_stops a b name other can fine.loads stops
 
+-- a hierarchy isn't the built one
+abbrev IsDifferent : Stop → Type 0
+IsDifferent why = (found : Difference) × (why ≡ stop.Differs found)
+
+-- of the comparison of a packed file: want of memory, or a hierarchy that isn't the built one
+verify_stops : (a b : ShelfState) (s t : SourceState) (k mid now : SinkState) (name : List ℕ) (why : Stop) → IsOpenable a name → MeetsNoFault a b s t k now → mid.faults ≤ now.faults
+    → Works false (Some why) (EndsVerify a b name) a b s t k mid → (why ≡ stop.NoMemory) ⊎ IsDifferent why
+verify_stops a b s t k mid now name why can fine later done = ends done.ended
+  where
+    ends : EndsVerify a b name done.work → (why ≡ stop.NoMemory) ⊎ IsDifferent why
+    ends (inl (h, opens, inl (built, inl (none, said), taken, stored))) = absurd (cc (none, done.stop))
+    ends (inl (h, opens, inl (built, inr (failed, front), taken, stored))) =
+        let same : why ≡ stop.Sink = cc (failed, done.stop) in
+        absurd (no_sink a b s t k mid now false why fine later done.leaves same)
+    ends (inl (h, opens, inr (inl (found, differs, before)))) = inr (found, cc (before.0, done.stop))
+    ends (inl (h, opens, inr (inr before))) = inl (cc (before.0, done.stop))
+    ends (inr (other, stops, before)) =
+        let same : other ≡ why = cc (before.0, done.stop) in
+        inl (sym same ∙ opening_stops a b name other can fine.loads stops)
+
 -- and likewise of a packed file and its edits
 opening_edits_stops : (a b : ShelfState) (asked : EditingAsked) (why : Stop) → IsEditable a asked → ((name : List ℕ) → Rose (a.load_faults name) (b.load_faults name) → ⊥) → StopsOpeningEdits a b asked why → why ≡ stop.NoMemory
 opening_edits_stops a b asked why can fine (inl loading) =
@@ -289,12 +310,20 @@ edit_stops a b s t k mid now asked why can fine later done = ends done.ended
         let same : other ≡ why = cc (before.0, done.stop) in
         inl (sym same ∙ opening_edits_stops a b asked other can fine.loads stops)
 
-or_large : (why : Stop) → (why ≡ stop.NoMemory) ⊎ IsTooLarge why → (why ≡ stop.NoMemory) ⊎ (Unit {0} × IsTooLarge why)
+-- what stops a command that can be done, where nothing fails
+abbrev Stops : Option Command → Stop → Type 0
+Stops command why = (why ≡ stop.NoMemory) ⊎ (IsBuilding command × IsTooLarge why) ⊎ (IsVerifying command × IsDifferent why)
+
+or_large : {Other : Type 0} (why : Stop) → (why ≡ stop.NoMemory) ⊎ IsTooLarge why → (why ≡ stop.NoMemory) ⊎ (Unit {0} × IsTooLarge why) ⊎ Other
 or_large why (inl none) = inl none
-or_large why (inr large) = inr (tt, large)
+or_large why (inr large) = inr (inl (tt, large))
+
+or_different : {Other : Type 0} (why : Stop) → (why ≡ stop.NoMemory) ⊎ IsDifferent why → (why ≡ stop.NoMemory) ⊎ Other ⊎ (Unit {0} × IsDifferent why)
+or_different why (inl none) = inl none
+or_different why (inr found) = inr (inr (tt, found))
 
 work_stops : (a b : ShelfState) (s t : SourceState) (k mid now : SinkState) (command : Option Command) (why : Stop) → IsWorkable a command → IsShort s → MeetsNoFault a b s t k now → mid.faults ≤ now.faults
-    → Works (has_script command) (Some why) (EndsWork a b command) a b s t k mid → (why ≡ stop.NoMemory) ⊎ (IsBuilding command × IsTooLarge why)
+    → Works (has_script command) (Some why) (EndsWork a b command) a b s t k mid → Stops command why
 work_stops a b s t k mid now None why can short fine later done = absurd can
 work_stops a b s t k mid now (Some (Serve tables)) why can short fine later done = inl (serve_stops a b s t k mid now tables why can short fine later done)
 work_stops a b s t k mid now (Some (Order asked)) why can short fine later done = inl (ordering_stops a b s t k mid now asked why can fine later done)
@@ -303,9 +332,11 @@ work_stops a b s t k mid now (Some (Trial asked)) why can short fine later done 
 work_stops a b s t k mid now (Some (Build asked)) why can short fine later done = or_large why (building_stops a b s t k mid now asked why can fine later done)
 work_stops a b s t k mid now (Some (Ask name)) why can short fine later done = inl (ask_stops a b s t k mid now name why can short fine later done)
 work_stops a b s t k mid now (Some (Edit asked)) why can short fine later done = or_large why (edit_stops a b s t k mid now asked why can fine later done)
+work_stops a b s t k mid now (Some (Verify name)) why can short fine later done = or_different why (verify_stops a b s t k mid now name why can fine later done)
 
 pub completes : (a b : ShelfState) (s t : SourceState) (k mid now : SinkState) (command : Option Command) (why : Stop) (status : ℕ) → IsWorkable a command → IsShort s → MeetsNoFault a b s t k now
-    → Works (has_script command) (Some why) (EndsWork a b command) a b s t k mid → Refuses why mid now status → (status ≡ 0) ⊎ (status ≡ 9) ⊎ (IsBuilding command × (status ≡ 13))
+    → Works (has_script command) (Some why) (EndsWork a b command) a b s t k mid → Refuses why mid now status
+    → (status ≡ 0) ⊎ (status ≡ 9) ⊎ (IsBuilding command × (status ≡ 13)) ⊎ (IsVerifying command × (status ≡ 10))
 completes a b s t k mid now command why status can short fine done refuses = by (work_stops a b s t k mid now command why can short fine refuses.later done)
   where
     says : (other : Stop) → why ≡ other → SaysStop other mid now status
@@ -319,6 +350,11 @@ completes a b s t k mid now command why status can short fine done refuses = by 
     thirteen bytes (inl said) = said.0
     thirteen bytes (inr (eight, some, more, rose)) = absurd (fine.sink (omega (arith, done.leaves.later, rose)))
 
-    by : (why ≡ stop.NoMemory) ⊎ (IsBuilding command × IsTooLarge why) → (status ≡ 0) ⊎ (status ≡ 9) ⊎ (IsBuilding command × (status ≡ 13))
+    ten : (found : Difference) → SaysStop (stop.Differs found) mid now status → status ≡ 10
+    ten found (inl said) = said.0
+    ten found (inr (eight, some, more, rose)) = absurd (fine.sink (omega (arith, done.leaves.later, rose)))
+
+    by : Stops command why → (status ≡ 0) ⊎ (status ≡ 9) ⊎ (IsBuilding command × (status ≡ 13)) ⊎ (IsVerifying command × (status ≡ 10))
     by (inl is) = inr (inl (nine (says stop.NoMemory is)))
-    by (inr (building, (bytes, is))) = inr (inr (building, thirteen bytes (says (stop.TooLarge bytes) is)))
+    by (inr (inl (building, (bytes, is)))) = inr (inr (inl (building, thirteen bytes (says (stop.TooLarge bytes) is))))
+    by (inr (inr (verifying, (found, is)))) = inr (inr (inr (verifying, ten found (says (stop.Differs found) is))))

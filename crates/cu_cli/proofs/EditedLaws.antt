@@ -1,5 +1,5 @@
 -- Edits of a packed file made, and the file after them stored.
-use Rattle.std.proofs.Common.{◌≡◌, ◌<◌, ◌≤◌, ◌∷◌, [], ℕ, List, length, refl, sym, subst, inl, inr, false}
+use Rattle.std.proofs.Common.{◌<◌, ◌≤◌, ◌∷◌, [], ℕ, List, length, refl, inl, inr, false}
 use Rattle.std.specs.Prelude.{Option, Some, None}
 use Rattle.cu_io.specs.Shelves.{ShelfState}
 use Rattle.cu_io.specs.Sinks.{SinkState}

@@ -7,3 +7,5 @@ mod Completeness
 mod OpeningLaws
 mod EditedLaws
 mod TrialLaws
+mod Faultless
+mod VerifyLaws

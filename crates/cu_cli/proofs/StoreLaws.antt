@@ -9,13 +9,13 @@ use Rattle.cu_io.proofs.Appending.{appends_more}
 use Rattle.cu_io.proofs.Taking.{takes_nothing}
 use Rattle.cu_cli.specs.declared.stops.Stop.{Stop}
 use Rattle.cu_cli.specs.declared.stops.Stop.TheVariants as stop
-use Rattle.cu_cli.specs.Runs.{EndsStoring}
+use Rattle.cu_cli.specs.Runs.{Ending, EndsStoring, SaysDone}
 use Rattle.cu_cli.specs.Stops.{line_of}
 use Rattle.cu_cli.specs.Storing.{FileMade, FileStored, StopsStore, StopsStoring, Stores, all_stored}
 use Rattle.cu_cli.specs.Steps.Loading.{OnlyLoads}
 use Rattle.cu_cli.specs.Steps.Outcomes.{IsBeforeScript, Works}
 use Rattle.cu_cli.specs.Steps.Storing.{StoresInTurn}
-use Rattle.cu_cli.proofs.WorkLaws.{Behind, leaves_behind}
+use Rattle.cu_cli.proofs.WorkLaws.{Behind, behind_nothing, ends_so, leaves_behind}
 
 -- one file was stored
 pub stored_one : {a b : ShelfState} (file : FileMade) → Holds b.held file.name file.bytes → KeepsOthers a.held b.held file.name
@@ -166,3 +166,30 @@ storing_unsaid {k = k} {mid = mid} {now = now} {replies = replies} {text = text}
         rises = omega (arith, behind.rises, line.wrote.flushed);
       };
     }
+
+-- nothing was stored
+nothing_stored : {T : Type 0} {a b : ShelfState} → OnlyLoads a b → (x : T) → StoresInTurn a b [] (Ok x)
+nothing_stored {a = a} {b = b} loads x = record {
+  stored = [];
+  stores = loads.held;
+  whole = refl;
+  stopped = tt;
+  early = tt;
+  later = λ name. let same : b.store_faults name ≡ a.store_faults name = ap (λ (counts : List ℕ → ℕ). counts name) loads.stores in omega (arith, same);
+}
+
+-- a line was said, and nothing stored before
+line_said : (a b : ShelfState) (text : List ℕ) (work : Ending) → EndsStoring a b [] [] text work → SaysDone [] text work × (work.taken ≡ []) × (work.stored ≡ [])
+line_said a b text work (taken, inl (stored, said)) = (said, taken, stored)
+line_said a b text work (taken, inr (why, stops, rest, more)) = absurd stops
+
+pub said_alone : {S E : Type 0} {y : S} {Ends : Ending → Type 0} {a b : ShelfState} (s : SourceState) {k now : SinkState} {text : List ℕ} → OnlyLoads a b → WroteLine {T = S} {E = E} k now (Ok y) text
+    → ((work : Ending) → SaysDone [] text work × (work.taken ≡ []) × (work.stored ≡ []) → Ends work) → Works false None Ends a b s s k now
+said_alone {a = a} {b = b} s {text = text} loads line ends =
+    ends_so (λ work done. ends work (line_said a b text work done)) (storing_said s (behind_nothing _) (nothing_stored {T = Unit {0}} loads tt) line)
+
+-- the sink failed in the line
+pub unsaid_alone : {S E : Type 0} {e : E} {Ends : Ending → Type 0} {a b : ShelfState} (s : SourceState) {k now : SinkState} {text : List ℕ} → OnlyLoads a b → WroteLine {T = S} {E = E} k now (Err e) text
+    → ((work : Ending) → SaysDone [] text work × (work.taken ≡ []) × (work.stored ≡ []) → Ends work) → Works false (Some stop.Sink) Ends a b s s k now
+unsaid_alone {a = a} {b = b} s {text = text} loads line ends =
+    ends_so (λ work done. ends work (line_said a b text work done)) (storing_unsaid s (behind_nothing _) (nothing_stored {T = Unit {0}} loads tt) line)

@@ -1,6 +1,6 @@
 -- Trials step by step: what is drawn, how much is counted, and what is said.
 use Rattle.std.proofs.Common.{◌≡◌, ◌≤◌, ◌<◌, ◌+◌, ◌*◌, ◌^◌, ◌∙◌, ℕ, List, [], ◌++◌, suc, length, take, get_or, refl, sym, ap, subst, arith, inl, inr, false, append_assoc}
-use Rattle.std.specs.Prelude.{Option, Some, None, Ok, Err, slice_get}
+use Rattle.std.specs.Prelude.{Option, Some, slice_get}
 use Rattle.std.specs.List.{sum_by}
 use Rattle.std.proofs.lemmas.Bool.{eqb-true}
 use Rattle.std.proofs.lemmas.Bool.Decides.{Decides-eqb}
@@ -12,7 +12,7 @@ use Rattle.std.proofs.lemmas.Map.Views.{Contains-from_any}
 use Rattle.std.proofs.lemmas.Nat.{mul-le}
 use Rattle.std.proofs.lemmas.Option.{slice_get-get_or, slice_get_within}
 use Rattle.cu_io.specs.Shelves.{ShelfState}
-use Rattle.cu_io.specs.Sinks.{SinkState, WroteLine}
+use Rattle.cu_io.specs.Sinks.{SinkState}
 use Rattle.cu_io.specs.Sources.{SourceState}
 use Rattle.cu_model.specs.declared.queries.Query.{Query}
 use Rattle.cu_model.specs.declared.roads.Edit.{Edit}
@@ -37,14 +37,12 @@ use Rattle.cu_cli.specs.declared.commands.trial.Tally.{Tally}
 use Rattle.cu_cli.specs.declared.stops.Stop.{Stop}
 use Rattle.cu_cli.specs.declared.stops.Stop.TheVariants as stop
 use Rattle.cu_session.specs.Steps.Routing.{IsEdited}
-use Rattle.cu_cli.specs.Runs.{Ending, EndsStoring, EndsTrial, SaysDone}
+use Rattle.cu_cli.specs.Runs.{EndsTrial}
 use Rattle.cu_cli.specs.Trials.{IsEditedBy, IsGridOrder, IsTrial, IsTried, IsTurn, TrialValue, drawn_edit, drawn_query, edits_text, hierarchy_text, queries_text}
 use Rattle.cu_cli.specs.Words.{GridAsked, TrialAsked, grid_read}
 use Rattle.cu_cli.specs.Steps.Outcomes.{Works}
-use Rattle.cu_cli.specs.Steps.Storing.{StoresInTurn}
 use Rattle.cu_cli.specs.Steps.Trials.{IsDrawable, StopsGrid, standing}
-use Rattle.cu_cli.proofs.StoreLaws.{storing_said, storing_unsaid}
-use Rattle.cu_cli.proofs.WorkLaws.{behind_nothing, ends_so, stopped_before}
+use Rattle.cu_cli.proofs.WorkLaws.{stopped_before}
 
 -- bytes are the packed file of one hierarchy
 pub spelled_once : (bytes : List ℕ) (h other : HierarchyValue) → Spells bytes h → Spells bytes other → h ≡ other
@@ -109,7 +107,7 @@ pub edit_counted : (old new : HierarchyValue) (count : ℕ) (before now : Tally)
 edit_counted old new count before now made draws touched edits reached sum = record {
   count = count;
   touches = record { edges = old.edges; listed = made.sound.edges; touched = made.touched; rising = made.numbers.rising; exact = made.numbers.exact; counted = made.count };
-  network = made.network;
+  network = made.resettled.network;
   state = draws;
   touched = touched;
   edits = edits;
@@ -183,19 +181,3 @@ grid_stopped a s k asked _ h = absurd h
 -- four texts in two pairs, and four more
 pub pairs_then : (a b c d e f x y : List ℕ) → a ++ b ++ (c ++ d) ++ (e ++ f ++ x ++ y) ≡ a ++ b ++ c ++ d ++ e ++ f ++ x ++ y
 pairs_then a b c d e f x y = simp append_assoc
-
-nothing_stored : {T : Type 0} (a : ShelfState) (x : T) → StoresInTurn a a [] (Ok x)
-nothing_stored a x = record { stored = []; stores = refl; whole = refl; stopped = tt; early = tt; later = λ name. omega arith }
-
--- a line was said, and nothing stored before
-line_said : (a : ShelfState) (text : List ℕ) (work : Ending) → EndsStoring a a [] [] text work → SaysDone [] text work × (work.taken ≡ []) × (work.stored ≡ [])
-line_said a text work (taken, inl (stored, said)) = (said, taken, stored)
-line_said a text work (taken, inr (why, stops, rest, more)) = absurd stops
-
-pub said_alone : {S E : Type 0} {y : S} {Ends : Ending → Type 0} (a : ShelfState) (s : SourceState) {k now : SinkState} {text : List ℕ} → WroteLine {T = S} {E = E} k now (Ok y) text
-    → ((work : Ending) → SaysDone [] text work × (work.taken ≡ []) × (work.stored ≡ []) → Ends work) → Works false None Ends a a s s k now
-said_alone a s {text = text} line ends = ends_so (λ work done. ends work (line_said a text work done)) (storing_said s (behind_nothing _) (nothing_stored {T = Unit {0}} a tt) line)
-
-pub unsaid_alone : {S E : Type 0} {e : E} {Ends : Ending → Type 0} (a : ShelfState) (s : SourceState) {k now : SinkState} {text : List ℕ} → WroteLine {T = S} {E = E} k now (Err e) text
-    → ((work : Ending) → SaysDone [] text work × (work.taken ≡ []) × (work.stored ≡ []) → Ends work) → Works false (Some stop.Sink) Ends a a s s k now
-unsaid_alone a s {text = text} line ends = ends_so (λ work done. ends work (line_said a text work done)) (storing_unsaid s (behind_nothing _) (nothing_stored {T = Unit {0}} a tt) line)

@@ -15,7 +15,7 @@ use Rattle.cu_cli.specs.declared.stops.Stop.{Stop}
 use Rattle.cu_cli.specs.declared.stops.Stop.TheVariants as stop
 use Rattle.cu_roads.specs.NetworkTexts.{NetworkRead}
 use Rattle.cu_roads.specs.Written.{written_network}
-use Rattle.cu_cli.specs.Preparing.{IsOrderGiven, Prepares, ReadsTables, StopsOrdering, StopsPreparing}
+use Rattle.cu_cli.specs.Preparing.{IsOrderGiven, ReadsTables, StopsOrdering, StopsPreparing}
 use Rattle.cu_session.specs.declared.stops.SessionStop.{SessionStop}
 use Rattle.cu_session.specs.declared.stops.SessionStop.TheVariants as session
 use Rattle.cu_session.specs.Sessions.{EndsSession, IsFlushed, Leaves, session_status}
@@ -38,6 +38,7 @@ early (stop.File refusal) h = ((λ e. cc e), (λ e. cc e), (λ e. cc e))
 early stop.NoMemory h = ((λ e. cc e), (λ e. cc e), (λ e. cc e))
 early stop.TooManyEdges h = ((λ e. cc e), (λ e. cc e), (λ e. cc e))
 early (stop.TooLarge bytes) h = ((λ e. cc e), (λ e. cc e), (λ e. cc e))
+early (stop.Differs found) h = ((λ e. cc e), (λ e. cc e), (λ e. cc e))
 early _ h = absurd h
 
 -- replies were written, and flushed where there are any

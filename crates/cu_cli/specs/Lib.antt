@@ -4,5 +4,6 @@ pub mod Preparing
 pub mod Opening
 pub mod Storing
 pub mod Trials
+pub mod Sure
 pub mod Runs
 pub mod Steps

@@ -1,5 +1,5 @@
 -- A packed hierarchy that a command loads; or what stops the run there.
-use Rattle.std.specs.Prelude.{List, ℕ, [], ◌∷◌, ◌≡◌, ◌≢◌, ◌⊎◌}
+use Rattle.std.specs.Prelude.{List, ℕ, [], ◌∷◌, ◌≢◌, ◌⊎◌}
 use Rattle.cu_io.specs.Shelves.{ShelfState}
 use Rattle.cu_interval.specs.Hierarchies.{HierarchyValue}
 use Rattle.cu_pack.specs.Checks.{IsRefused, Spells}

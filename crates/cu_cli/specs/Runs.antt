@@ -1,5 +1,5 @@
 -- What a run answers, writes, takes and stores, by its words, its files and its input.
-use Rattle.std.specs.Prelude.{ℕ, List, [], ◌∷◌, ◌++◌, ◌*◌, ◌≡◌, ◌≢◌, ◌<◌, ◌≤◌, ◌⊎◌, ◌^◌, Bool, true, false, Option, Some, None, IfSome, codes, decimal, length, map, take}
+use Rattle.std.specs.Prelude.{ℕ, List, [], ◌∷◌, ◌++◌, ◌*◌, ◌≡◌, ◌≢◌, ◌<◌, ◌≤◌, ◌⊎◌, Bool, true, false, Option, Some, None, codes, decimal, length, map, take}
 use Rattle.csv.proofs.RoundTrip.{rows_text}
 use Rattle.cu_io.specs.Counts.{Rose}
 use Rattle.cu_io.specs.Shelves.{ShelfState}
@@ -17,10 +17,13 @@ use Rattle.cu_pack.specs.Spelling.{spelling}
 use Rattle.cu_roads.specs.NetworkTexts.{NetworkRead, network_of}
 use Rattle.cu_roads.specs.Written.{ThreeTexts, written_network}
 use Rattle.cu_roads.specs.declared.places.Place.{Place}
+use Rattle.cu_verify.specs.declared.verdicts.Verdict.TheVariants.{Differs}
+use Rattle.cu_verify.specs.Verdicts.{IsVerdict}
+use Rattle.cu_cli.specs.declared.stops.Difference.{Difference}
 use Rattle.cu_cli.specs.declared.stops.Role.TheVariants as role
 use Rattle.cu_cli.specs.declared.stops.Stop.{Stop}
 use Rattle.cu_cli.specs.declared.stops.Stop.TheVariants as stop
-use Rattle.cu_cli.specs.Words.{Command, Serve, Order, Make, Build, Ask, Edit, Trial, Dissected, BuildingAsked, EditingAsked, GridAsked, MakingAsked, OrderingAsked, TablesAsked, TrialAsked}
+use Rattle.cu_cli.specs.Words.{Command, Serve, Order, Make, Build, Ask, Edit, Verify, Trial, Dissected, BuildingAsked, EditingAsked, GridAsked, MakingAsked, OrderingAsked, TablesAsked, TrialAsked}
 use Rattle.cu_cli.specs.Words.{command_of, grid_read, table_files}
 use Rattle.cu_cli.specs.Stops.{line_of, said_at}
 use Rattle.cu_cli.specs.Preparing.{AreLoaded, Prepares, StopsPreparing, IsOrderGiven, IsOrderOf, IsOrderRefused, Names, ReadsTables, StopsOrdering, ordering_files}
@@ -29,7 +32,7 @@ use Rattle.cu_session.specs.declared.stops.SessionStop.{SessionStop}
 use Rattle.cu_session.specs.declared.stops.SessionStop.TheVariants as session
 use Rattle.cu_session.specs.Held.{AreDone, IsHeldOutput}
 use Rattle.cu_session.specs.Replies.{IsOutput}
-use Rattle.cu_session.specs.Sessions.{AnswersBy, IsFrontOf, Leaves, take_limit}
+use Rattle.cu_session.specs.Sessions.{AnswersBy, IsFrontOf, take_limit}
 use Rattle.cu_cli.specs.Opening.{Opens, OpensEdits, StopsOpening, StopsOpeningEdits}
 use Rattle.cu_cli.specs.Trials.{IsGridOrder, IsTrial}
 
@@ -172,6 +175,23 @@ EndsEdit before now asked work =
     ((h : HierarchyValue) × (text : List ℕ) × OpensEdits before asked h text × EndsEditing before now asked.out h text work)
     ⊎ ((why : Stop) × StopsOpeningEdits before now asked why × StopsBefore why work)
 
+-- the hierarchy isn't the built one of its network and order, and this is where it first differs from it
+abbrev pub IsDifference : HierarchyValue → Difference → Type 0
+IsDifference h found = IsVerdict h (Differs found.edge found.dir found.second found.stored found.built)
+
+-- the hierarchy is the built one, and that is said; or it isn't, and where it first differs stops the work; or memory ran out
+abbrev pub EndsVerdict : HierarchyValue → Ending → Type 0
+EndsVerdict h work =
+    (IsBuilt h × SaysDone [] (codes "same") work × (work.taken ≡ []) × (work.stored ≡ []))
+    ⊎ ((found : Difference) × IsDifference h found × StopsBefore (stop.Differs found) work)
+    ⊎ StopsBefore stop.NoMemory work
+
+-- `verify`: the hierarchy of the loaded file is compared with the built one; or the load or a check stopped it
+abbrev pub EndsVerify : ShelfState → ShelfState → List ℕ → Ending → Type 0
+EndsVerify before now name work =
+    ((h : HierarchyValue) × Opens before name h × EndsVerdict h work)
+    ⊎ ((why : Stop) × StopsOpening before now name why × StopsBefore why work)
+
 -- `trial`: its line is said; or the graph has too many edges, or memory ran out
 abbrev pub EndsTrial : TrialAsked → Ending → Type 0
 EndsTrial asked work =
@@ -189,6 +209,7 @@ EndsWork before now (Some (Make asked)) work = EndsMake before now asked work
 EndsWork before now (Some (Build asked)) work = EndsBuild before now asked work
 EndsWork before now (Some (Ask name)) work = EndsAsk before now name work
 EndsWork before now (Some (Edit asked)) work = EndsEdit before now asked work
+EndsWork before now (Some (Verify name)) work = EndsVerify before now name work
 EndsWork before now (Some (Trial asked)) work = EndsTrial asked work
 
 -- whether a command answers the script of the source
@@ -267,6 +288,7 @@ IsWorkable before (Some (Make asked)) = Unit {0}
 IsWorkable before (Some (Build asked)) = IsServable before asked.tables
 IsWorkable before (Some (Ask name)) = IsOpenable before name
 IsWorkable before (Some (Edit asked)) = IsEditable before asked
+IsWorkable before (Some (Verify name)) = IsOpenable before name
 IsWorkable before (Some (Trial asked)) = IsTriable asked
 
 -- the command stores a packed file, which may be too large
@@ -274,6 +296,11 @@ abbrev pub IsBuilding : Option Command → Type 0
 IsBuilding (Some (Build asked)) = Unit {0}
 IsBuilding (Some (Edit asked)) = Unit {0}
 IsBuilding _ = ⊥
+
+-- the command compares a hierarchy with the built one, which it may not be
+abbrev pub IsVerifying : Option Command → Type 0
+IsVerifying (Some (Verify name)) = Unit {0}
+IsVerifying _ = ⊥
 
 -- the source tells fewer bytes than a run takes
 abbrev pub IsShort : SourceState → Type 0

@@ -1,4 +1,5 @@
 pub mod Asks
+pub mod Differing
 pub mod Loading
 pub mod Storing
 pub mod Outcomes

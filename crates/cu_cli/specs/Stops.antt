@@ -1,5 +1,9 @@
 -- Why a run stops before all is done: the one line that says it, and the status that goes with it.
 use Rattle.std.specs.Prelude.{ℕ, List, [], ◌∷◌, ◌++◌, Option, Some, None, codes, decimal}
+use Rattle.cu_interval.specs.declared.ways.Dir.{Dir}
+use Rattle.cu_interval.specs.declared.ways.Way.{Way}
+use Rattle.cu_interval.specs.declared.ways.Way.TheVariants.{Road, Via}
+use Rattle.cu_cli.specs.declared.stops.Difference.{Difference}
 use Rattle.cu_cli.specs.declared.stops.Role.{Role}
 use Rattle.cu_cli.specs.declared.stops.Role.TheVariants as role
 use Rattle.cu_cli.specs.declared.stops.Stop.{Stop}
@@ -98,6 +102,21 @@ file_fault_words pack.NoMemory = []
 abbrev pub file_fault : PackRefusal → List ℕ
 file_fault refusal = codes "file: " ++ file_fault_words refusal
 
+-- the way that a list takes, if it isn't empty
+abbrev pub way_words : Option Way → List ℕ
+way_words None = codes "none"
+way_words (Some (Road arc)) = codes "road " ++ decimal arc
+way_words (Some (Via rank)) = codes "via " ++ decimal rank
+
+-- the first list that differs, and the second from which on it does
+abbrev pub place_words : ℕ → Dir → ℕ → List ℕ
+place_words edge dir second = codes "differs " ++ decimal edge ++ codes " " ++ dir_word dir ++ codes " " ++ decimal second
+
+-- the line of a hierarchy that isn't the built one
+abbrev pub difference_text : Difference → List ℕ
+difference_text found =
+    place_words found.edge found.dir found.second ++ (codes " " ++ way_words found.stored) ++ (codes " " ++ way_words found.built)
+
 abbrev pub role_word : Role → List ℕ
 role_word role.Nodes = codes "nodes"
 role_word role.Roads = codes "roads"
@@ -120,6 +139,7 @@ said_of (stop.Order refusal) = line_of (order_fault refusal)
 said_of (stop.File refusal) = line_of (file_fault refusal)
 said_of stop.TooManyEdges = line_of (codes "too many shortcuts")
 said_of (stop.TooLarge bytes) = line_of (codes "too large " ++ decimal bytes)
+said_of (stop.Differs found) = line_of (difference_text found)
 said_of stop.Source = []
 said_of stop.Sink = []
 said_of stop.NoMemory = []
@@ -136,6 +156,7 @@ status_of (stop.File refusal) = 6
 status_of stop.Source = 7
 status_of stop.Sink = 8
 status_of stop.NoMemory = 9
+status_of (stop.Differs found) = 10
 status_of stop.TooManyEdges = 11
 status_of stop.TakeLimit = 12
 status_of (stop.TooLarge bytes) = 13

@@ -69,6 +69,7 @@ pub data Command : Type 0 where
   Build : (asked : BuildingAsked) → Command
   Ask : (hierarchy : List ℕ) → Command
   Edit : (asked : EditingAsked) → Command
+  Verify : (hierarchy : List ℕ) → Command
   Trial : (asked : TrialAsked) → Command
 
 -- the order of a word; `./identity` and `./dissect` are files
@@ -135,6 +136,11 @@ abbrev pub editing_of : List (List ℕ) → Option Command
 editing_of (hierarchy ∷ edits ∷ out ∷ []) = Some (Edit (record { hierarchy = hierarchy; edits = edits; out = out }))
 editing_of _ = None
 
+-- the command behind the word `verify`
+abbrev pub verify_of : List (List ℕ) → Option Command
+verify_of (hierarchy ∷ []) = Some (Verify hierarchy)
+verify_of _ = None
+
 -- the trial of a grid and a number of turns, where both are there
 abbrev pub trial_by : Option GridAsked → (turns : Option ℕ) → Option Command
 trial_by (Some grid) (Some turns) = Some (Trial (record { grid = grid; turns = turns }))
@@ -155,6 +161,7 @@ command_of (word ∷ words) =
     else if bytes_eq word (codes "build") then building_of words
     else if bytes_eq word (codes "ask") then ask_of words
     else if bytes_eq word (codes "edit") then editing_of words
+    else if bytes_eq word (codes "verify") then verify_of words
     else if bytes_eq word (codes "trial") then trial_of words
     else None
 

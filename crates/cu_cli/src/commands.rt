@@ -7,3 +7,4 @@ pub mod make;
 pub mod order;
 pub mod serve;
 pub mod trial;
+pub mod verify;

@@ -2,8 +2,10 @@
 
 ghost use Rattle.std.specs.Prelude.{◌≡◌, ◌++◌, codes, decimal};
 ghost use Rattle.cu_io.specs.Sinks.{Wrote, WroteLine};
-ghost use Rattle.cu_cli.specs.Stops.{field_word, file_fault, file_fault_words, file_word, network_fault, order_fault, order_fault_words, profile_fault, road_fault, row_fault};
+ghost use Rattle.cu_cli.specs.Stops.{difference_text, field_word, file_fault, file_fault_words, file_word, network_fault, order_fault, order_fault_words, place_words, profile_fault, road_fault, row_fault, way_words};
 
+use crate::stops::Difference;
+use cu_interval::{Dir, Way};
 use cu_io::{Sink, SinkFailed, end_line, put_all, put_number};
 use cu_order::OrderRefusal;
 use cu_pack::{Field, PackRefusal};
@@ -165,6 +167,40 @@ fn put_word_and_two<K: Sink>(
 {
     put_word_and_long(sink, word, first)?;
     put_word_and_long(sink, b" ", second)
+}
+
+/// Writes and ends the line of a hierarchy that isn't the built one.
+pub fn put_difference_line<K: Sink>(sink: &mut K, found: Difference) -> Result<(), SinkFailed>
+    ensures wrote { WroteLine (K.state sink.old) (K.state sink.new) result
+        (difference_text found) }
+{
+    put_place(sink, found.edge, found.dir, found.second)?;
+    put_way(sink, found.stored)?;
+    put_way(sink, found.built)?;
+    end_line(sink)
+}
+
+// Writes which list differs, and from which second on.
+fn put_place<K: Sink>(sink: &mut K, edge: u32, dir: Dir, second: u32) -> Result<(), SinkFailed>
+    ensures wrote { Wrote (K.state sink.old) (K.state sink.new) result
+        (place_words edge dir second) }
+{
+    put_word_and_number(sink, b"differs ", edge)?;
+    put_all(sink, b" ")?;
+    put_dir(sink, dir)?;
+    put_word_and_number(sink, b" ", second)
+}
+
+// Writes a blank and the way that a list takes.
+fn put_way<K: Sink>(sink: &mut K, way: Option<Way>) -> Result<(), SinkFailed>
+    ensures wrote { Wrote (K.state sink.old) (K.state sink.new) result
+        (codes " " ++ way_words way) }
+{
+    match way {
+        None => put_all(sink, b" none"),
+        Some(Way::Road(arc)) => put_word_and_number(sink, b" road ", arc),
+        Some(Way::Via(rank)) => put_word_and_number(sink, b" via ", rank),
+    }
 }
 
 fn field_text(field: Field) -> &'static [u8]

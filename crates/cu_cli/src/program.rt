@@ -1,7 +1,7 @@
 //! The program but for its edge: words, files, script and replies, over any shelf, source and sink.
 
 ghost use Rattle.std.specs.Prelude.{◌≡◌, ◌⊎◌, map, string_bytes};
-ghost use Rattle.cu_cli.specs.Runs.{EndsRun, EndsWork, Ending, IsBuilding, IsShort, IsWorkable, MeetsNoFault, Moves, has_script};
+ghost use Rattle.cu_cli.specs.Runs.{EndsRun, EndsWork, Ending, IsBuilding, IsShort, IsVerifying, IsWorkable, MeetsNoFault, Moves, has_script};
 ghost use Rattle.cu_cli.specs.Steps.Outcomes.{Works, stop_of};
 ghost use Rattle.cu_cli.specs.Stops.{status_at};
 ghost use Rattle.cu_cli.specs.Storing.{Stores};
@@ -15,6 +15,7 @@ use crate::commands::make::make;
 use crate::commands::order::order;
 use crate::commands::serve::serve;
 use crate::commands::trial::trial;
+use crate::commands::verify::verify;
 use crate::stops::{Stop, refuse};
 use crate::words::{Command, parse_words};
 use cu_io::{Shelf, Sink, Source};
@@ -44,14 +45,15 @@ pub fn run<H: Shelf, S: Source, K: Sink>(
         (K.state sink.new) }
 
     // Where the words ask for what can be done with the files, nothing fails and the input has fewer than 2^40 bytes,
-    // all is done but for want of memory, or for a packed file past the limit.
+    // all is done but for want of memory, for a packed file past the limit, or for a hierarchy that isn't the built one.
     ensures complete { IsWorkable (H.state shelf.old)
         (command_of (map string_bytes words.now.items))
         → IsShort (S.state source.old)
         → MeetsNoFault (H.state shelf.old) (H.state shelf.new) (S.state source.old)
         (S.state source.new) (K.state sink.old) (K.state sink.new)
         → (result ≡ 0) ⊎ (result ≡ 9)
-        ⊎ (IsBuilding (command_of (map string_bytes words.now.items)) × (result ≡ 13)) }
+        ⊎ (IsBuilding (command_of (map string_bytes words.now.items)) × (result ≡ 13))
+        ⊎ (IsVerifying (command_of (map string_bytes words.now.items)) × (result ≡ 10)) }
 {
     match perform(alloc, words, shelf, source, sink) {
         Ok(()) => 0,
@@ -87,6 +89,7 @@ fn perform<H: Shelf, S: Source, K: Sink>(
         Some(Command::Build(asked)) => build(alloc, asked, shelf, sink),
         Some(Command::Ask(name)) => ask(alloc, name, shelf, source, sink),
         Some(Command::Edit(asked)) => edit(alloc, asked, shelf, sink),
+        Some(Command::Verify(name)) => verify(alloc, name, shelf, sink),
         Some(Command::Trial(asked)) => trial(alloc, asked, sink),
     }
 }

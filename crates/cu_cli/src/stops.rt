@@ -5,8 +5,9 @@ ghost use Rattle.cu_io.specs.Sinks.{WroteLine};
 ghost use Rattle.cu_cli.specs.Stops.{role_word, said_of, status_of};
 ghost use Rattle.cu_cli.specs.Steps.Outcomes.{Refuses, Said};
 
-use crate::faults::{put_file_line, put_network_line, put_order_line};
+use crate::faults::{put_difference_line, put_file_line, put_network_line, put_order_line};
 use cu_chordal::CloseRefusal;
+use cu_interval::{Dir, Way};
 use cu_io::{Sink, SinkFailed, end_line, put_all, put_line};
 use cu_model::NoMemory;
 use cu_order::OrderRefusal;
@@ -42,6 +43,17 @@ impl Role {
     }
 }
 
+/// Where a hierarchy first differs from the built one: in the list of this edge in this direction, from this second of the day on,
+/// at which it takes the way `stored` and the built one the way `built`; none where the list is empty.
+#[derive(Clone, Copy, Debug, PartialEq, Eq)]
+pub struct Difference {
+    pub edge: u32,
+    pub dir: Dir,
+    pub second: u32,
+    pub stored: Option<Way>,
+    pub built: Option<Way>,
+}
+
 /// Why a run stops before all is done.
 #[derive(Clone, Copy, Debug, PartialEq, Eq)]
 pub enum Stop {
@@ -69,6 +81,8 @@ pub enum Stop {
     TakeLimit,
     /// A packed file would have so many bytes, more than the shelf's limit.
     TooLarge(u64),
+    /// A hierarchy isn't the built one.
+    Differs(Difference),
 }
 
 impl Stop {
@@ -85,6 +99,7 @@ impl Stop {
             Stop::Source => 7,
             Stop::Sink => 8,
             Stop::NoMemory => 9,
+            Stop::Differs(_) => 10,
             Stop::TooManyEdges => 11,
             Stop::TakeLimit => 12,
             Stop::TooLarge(_) => 13,
@@ -212,6 +227,7 @@ fn say<K: Sink>(stop: Stop, sink: &mut K) -> Result<(), SinkFailed>
         Stop::File(refusal) => put_file_line(sink, refusal),
         Stop::TooManyEdges => put_line(sink, b"too many shortcuts"),
         Stop::TooLarge(bytes) => put_large_line(sink, bytes),
+        Stop::Differs(found) => put_difference_line(sink, found),
         Stop::Source | Stop::Sink | Stop::NoMemory | Stop::TakeLimit => Ok(()),
     }
 }

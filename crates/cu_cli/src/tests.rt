@@ -8,13 +8,18 @@ use std::alloc::Global;
 
 mod asking;
 mod commands;
+mod damage;
+mod deep;
 mod editing;
 mod edits;
+mod failing;
 mod packed;
 mod serving;
 mod stars;
+mod sure;
 mod talk;
 mod trials;
+mod verifying;
 
 const NODES: &[u8] = b"node,x,y\n0,0,0\n1,50,10\n2,100,0\n";
 
@@ -27,9 +32,9 @@ const RUSH: &[u8] =
 // An order by which node 1 has the lowest rank.
 const RANKS: &[u8] = b"1\n0\n2\n";
 
-// A run: its words, with blanks between them; the bytes of six files, each under its field's name, and the script; the most bytes of
-// a file, and of a read; and the calls that fail, by number: of the shelf, behind the stores of the six files, of the source and of
-// the sink.
+// A run: its words, with blanks between them; the bytes of six files, each under its field's name,
+// and the script; the most bytes of a file, of a read and of all that is written; and the calls that
+// fail, by number: of the shelf, from the run's first on, of the source and of the sink.
 #[derive(Clone, Copy)]
 struct Run<'a> {
     words: &'a str,
@@ -42,6 +47,7 @@ struct Run<'a> {
     script: &'a str,
     limit: u64,
     most: usize,
+    room: usize,
     shelf: &'a [u64],
     source: &'a [u64],
     sink: &'a [u64],
@@ -59,6 +65,7 @@ const PLAIN: Run<'static> = Run {
     script: "",
     limit: 1 << 20,
     most: 1 << 20,
+    room: 1 << 16,
     shelf: &[],
     source: &[],
     sink: &[],
@@ -72,12 +79,20 @@ struct Ended {
     out: Vec<u8>,
 }
 
+// The files that a shelf holds before a run.
+const FILES: u64 = 6;
+
 fn perform(alloc: Global, asked: Run<'_>) -> Result<Ended, NoMemory> {
     let mut shelf = shelf_of(alloc, asked)?;
+    perform_over(alloc, asked, &mut shelf)
+}
+
+// A run over a shelf that holds what it holds.
+fn perform_over(alloc: Global, asked: Run<'_>, shelf: &mut MemoryShelf) -> Result<Ended, NoMemory> {
     let mut source = source_of(alloc, asked)?;
-    let mut sink = MemorySink::new(alloc, 1 << 16, Vec::from_slice(alloc, asked.sink)?)?;
+    let mut sink = MemorySink::new(alloc, asked.room, Vec::from_slice(alloc, asked.sink)?)?;
     let words = words_of(alloc, asked.words)?;
-    let status = run(alloc, &words, &mut shelf, &mut source, &mut sink);
+    let status = run(alloc, &words, shelf, &mut source, &mut sink);
     let said = Vec::from_slice(alloc, sink.bytes())?;
     let mut out = Vec::new(alloc);
     let _outcome = shelf.load(alloc, "out", &mut out);
@@ -85,7 +100,11 @@ fn perform(alloc: Global, asked: Run<'_>) -> Result<Ended, NoMemory> {
 }
 
 fn shelf_of(alloc: Global, asked: Run<'_>) -> Result<MemoryShelf, NoMemory> {
-    let mut shelf = MemoryShelf::new(alloc, asked.limit, Vec::from_slice(alloc, asked.shelf)?);
+    let mut fails = Vec::new(alloc);
+    for call in asked.shelf {
+        fails.push(call.saturating_add(FILES))?;
+    }
+    let mut shelf = MemoryShelf::new(alloc, asked.limit, fails);
     let is_filled = shelf.store(alloc, "nodes", asked.nodes).is_ok()
         && shelf.store(alloc, "roads", asked.roads).is_ok()
         && shelf.store(alloc, "profiles", asked.profiles).is_ok()

@@ -4,7 +4,7 @@ ghost use Rattle.std.specs.Prelude.{◌≡◌, ◌≤◌, IfSome, map, string_by
 ghost use Rattle.cu_roads.specs.Grids.{IsSide};
 ghost use Rattle.cu_roads.specs.declared.grids.TheConstants.{MAX_SIDE};
 ghost use Rattle.cu_cli.specs.Steps.Asks.{AsksFor, AsksForGrid, order_asked};
-ghost use Rattle.cu_cli.specs.Words.{ask_of, building_of, command_of, editing_of, grid_of, making_of, number_within, order_of_word, ordering_of, serve_of, trial_of};
+ghost use Rattle.cu_cli.specs.Words.{ask_of, building_of, command_of, editing_of, grid_of, making_of, number_within, order_of_word, ordering_of, serve_of, trial_of, verify_of};
 
 use cu_model::{Number, parse_number};
 use cu_roads::MAX_SIDE;
@@ -83,6 +83,8 @@ pub enum Command<'a> {
     Ask(&'a str),
     /// `edit HIERARCHY EDITS OUT`
     Edit(EditingWords<'a>),
+    /// `verify HIERARCHY`
+    Verify(&'a str),
     /// `trial START WIDTH HEIGHT TURNS`
     Trial(TrialWords),
 }
@@ -99,6 +101,7 @@ pub fn parse_words(words: &Vec<String>) -> Option<Command<'_>>
         "build" => parse_building(words),
         "ask" => parse_ask(words),
         "edit" => parse_editing(words),
+        "verify" => parse_verify(words),
         "trial" => parse_trial(words),
         _ => None,
     }
@@ -194,6 +197,15 @@ fn parse_editing(words: &[String]) -> Option<Command<'_>>
         edits: edits.as_str(),
         out: out.as_str(),
     }))
+}
+
+fn parse_verify(words: &[String]) -> Option<Command<'_>>
+    ensures { AsksFor (verify_of (map string_bytes words.now)) result }
+{
+    let [hierarchy] = words else {
+        return None;
+    };
+    Some(Command::Verify(hierarchy.as_str()))
 }
 
 fn parse_trial(words: &[String]) -> Option<Command<'_>>

@@ -11,7 +11,7 @@ use Rattle.cu_cli.specs.declared.words.OrderingWords.{OrderingWords}
 use Rattle.cu_cli.specs.declared.words.TableWords.{TableWords}
 use Rattle.cu_cli.specs.declared.words.trial.TrialWords.{TrialWords}
 use Rattle.cu_cli.specs.declared.words.Command as words
-use Rattle.cu_cli.specs.Words.{Command, Serve, Order, Make, Build, Ask, Edit, Trial, OrderAsked, Identity, Dissected, Named}
+use Rattle.cu_cli.specs.Words.{Command, Serve, Order, Make, Build, Ask, Edit, Verify, Trial, OrderAsked, Identity, Dissected, Named}
 use Rattle.cu_cli.specs.Words.{BuildingAsked, EditingAsked, GridAsked, MakingAsked, OrderingAsked, TablesAsked, TrialAsked}
 
 -- the order that the program takes a word for
@@ -52,6 +52,7 @@ command_asked (command.Make asked) = Make (making_asked asked)
 command_asked (command.Build asked) = Build (building_asked asked)
 command_asked (command.Ask hierarchy) = Ask hierarchy.now
 command_asked (command.Edit asked) = Edit (editing_asked asked)
+command_asked (command.Verify hierarchy) = Verify hierarchy.now
 command_asked (command.Trial asked) = Trial (trial_asked asked)
 
 -- the program takes the words for this command, or for none

@@ -1,8 +1,7 @@
 //! Commands that store files. The numbers were worked out by hand, or by another program over the same grid.
 
-use super::{PLAIN, Run, leaves, perform, says, shelf_of, source_of, words_of};
-use crate::run;
-use cu_io::{MemoryShelf, MemorySink, Shelf};
+use super::{Ended, PLAIN, Run, leaves, perform, perform_over, says, shelf_of};
+use cu_io::MemoryShelf;
 use cu_model::NoMemory;
 use std::alloc::Global;
 use std::test::Fail;
@@ -38,6 +37,11 @@ fn orders_are_stored(rt: HostRuntime) -> Result<(), Fail> {
             b"0\n1\n2\n3\n5\n6\n7\n8\n4\n"
         )
     );
+    let refused = Run {
+        words: "order roads roads profiles out",
+        ..ORDER
+    };
+    assert!(rt; says(alloc, refused, 4, b"network: nodes header\n"));
     Ok(())
 }
 
@@ -79,48 +83,6 @@ fn grids_are_stored(rt: HostRuntime) -> Result<(), Fail> {
     for (words, said, front) in rows {
         assert!(rt; makes(rt.alloc(), words, said, front));
     }
-    Ok(())
-}
-
-#[test]
-fn commands_stop_at_the_first_refusal(rt: HostRuntime) -> Result<(), Fail> {
-    let rows: [(&str, &[u64], u8, &[u8]); 6] = [
-        (
-            "order nodes roads profiles out",
-            &[7],
-            3,
-            b"shelf: fault roads\n",
-        ),
-        (
-            "order nodes roads profiles out",
-            &[9],
-            3,
-            b"shelf: fault out\n",
-        ),
-        (
-            "order roads roads profiles out",
-            &[],
-            4,
-            b"network: nodes header\n",
-        ),
-        ("make 7 1 1 out b c", &[6], 3, b"shelf: fault nodes\n"),
-        ("make 7 1 1 a out c", &[7], 3, b"shelf: fault roads\n"),
-        ("make 7 1 1 a b out", &[8], 3, b"shelf: fault profiles\n"),
-    ];
-    for (words, shelf, status, said) in rows {
-        let asked = Run {
-            words,
-            shelf,
-            ..PLAIN
-        };
-        assert!(rt; says(rt.alloc(), asked, status, said));
-    }
-    // The order is stored before the sink fails in the line.
-    let unsaid = Run {
-        sink: &[0],
-        ..ORDER
-    };
-    assert!(rt; leaves(rt.alloc(), unsaid, 8, b"", b"0\n1\n2\n"));
     Ok(())
 }
 
@@ -200,41 +162,56 @@ fn lines_between(alloc: Global, text: &[u8], from: u32, to: u32) -> Result<Vec<u
     Ok(lines)
 }
 
-// What these words write over a shelf.
-fn talk(
-    alloc: Global,
-    words: &str,
-    shelf: &mut MemoryShelf,
-    script: &str,
-) -> Result<Vec<u8>, NoMemory> {
-    let mut source = source_of(alloc, Run { script, ..PLAIN })?;
-    let mut sink = MemorySink::new(alloc, 1 << 16, Vec::new(alloc))?;
-    let words = words_of(alloc, words)?;
-    let _status = run(alloc, &words, shelf, &mut source, &mut sink);
-    Ok(Vec::from_slice(alloc, sink.bytes())?)
+// A shelf with the tables of a grid of 32 by 32 nodes.
+fn grid(alloc: Global) -> Result<MemoryShelf, NoMemory> {
+    let mut shelf = shelf_of(alloc, PLAIN)?;
+    let asked = Run {
+        words: "make 7 32 32 nodes roads profiles",
+        ..PLAIN
+    };
+    perform_over(alloc, asked, &mut shelf)?;
+    Ok(shelf)
 }
 
-// What `serve` says over the roads of a grid of 32 by 32 nodes: of journeys, of a slower profile and the same journeys, of the old profile
-// and the same journeys, and of two others.
-fn served(alloc: Global) -> Result<Vec<u8>, NoMemory> {
-    let mut shelf = shelf_of(alloc, PLAIN)?;
-    let _said = talk(alloc, "make 7 32 32 nodes roads profiles", &mut shelf, "")?;
+// Journeys, an edit to a slower profile and the same journeys, an edit back to the old profile and
+// the same journeys, and two others.
+fn forty_lines(alloc: Global) -> Result<String, NoMemory> {
     let slower = "s,5,0,travel,900\n";
     let back = "s,5,0,travel,115,25200,travel,191,32400,until,32591,32476,travel,115\n";
     let others = "q,992,31,0\nq,37,500,86399\n";
-    let script = format!(in alloc; "{JOURNEYS}{slower}{JOURNEYS}{back}{JOURNEYS}{others}")?;
-    talk(
-        alloc,
-        "serve nodes roads profiles dissect",
-        &mut shelf,
-        script.as_str(),
-    )
+    Ok(format!(in alloc; "{JOURNEYS}{slower}{JOURNEYS}{back}{JOURNEYS}{others}")?)
+}
+
+// What `serve` says of the forty lines over a grid; and how it ends where the first read stops in the
+// middle of the twentieth line, and the second fails.
+fn served(alloc: Global) -> Result<(Vec<u8>, Ended), NoMemory> {
+    let mut shelf = grid(alloc)?;
+    let script = forty_lines(alloc)?;
+    let asked = Run {
+        words: "serve nodes roads profiles dissect",
+        script: script.as_str(),
+        ..PLAIN
+    };
+    let whole = perform_over(alloc, asked, &mut shelf)?;
+    let cut = Run {
+        most: 294,
+        source: &[1],
+        ..asked
+    };
+    let cut = perform_over(alloc, cut, &mut shelf)?;
+    Ok((whole.said, cut))
+}
+
+// Whether a run ended at a fault of the source behind the first nineteen of these replies.
+fn is_cut_short(alloc: Global, cut: &Ended, replies: &[u8]) -> Result<bool, NoMemory> {
+    let nineteen = lines_between(alloc, replies, 0, 19)?;
+    Ok(cut.status == 7 && cut.said.as_slice() == nineteen.as_slice())
 }
 
 #[test]
 fn a_grid_is_served(rt: HostRuntime) -> Result<(), Fail> {
     let alloc = rt.alloc();
-    let replies = served(alloc)?;
+    let (replies, cut) = served(alloc)?;
     let arrivals = format!(in alloc;
         "{ARRIVALS}done\n{LATER}done\n{ARRIVALS}arrive=2637\narrive=87645\n"
     )?;
@@ -247,5 +224,6 @@ fn a_grid_is_served(rt: HostRuntime) -> Result<(), Fail> {
     let done = lines_between(alloc, replies.as_slice(), 12, 13)?;
     let undone = lines_between(alloc, replies.as_slice(), 25, 26)?;
     assert_eq!(rt; undone.as_slice(), done.as_slice());
+    assert!(rt; is_cut_short(alloc, &cut, replies.as_slice())?);
     Ok(())
 }

@@ -1,5 +1,6 @@
 //! `edit` of a packed file.
 
+use super::asking::FORGED;
 use super::packed::BUILT;
 use super::{PLAIN, Run, leaves, perform};
 use cu_model::NoMemory;
@@ -15,6 +16,12 @@ const SLOW: &[u8] = b"s,0,0,travel,200\n";
 
 // And back again.
 const THERE_AND_BACK: &[u8] = b"s,0,0,travel,200\ns,0,0,travel,60\n";
+
+// The digest of the forged file where the shortcut from rank 2 to 3 takes its road, hashed by another program.
+const SETTLED_DIGEST: [u8; 32] = [
+    0xf8, 0xb4, 0xf7, 0x32, 0xa6, 0xf5, 0xbb, 0xc3, 0x25, 0xb6, 0x9c, 0xfe, 0x61, 0xd8, 0xbb, 0x5e,
+    0xaa, 0x8f, 0x08, 0xba, 0x31, 0x79, 0xcf, 0x2a, 0xce, 0x99, 0x27, 0xeb, 0xb5, 0x77, 0x9b, 0x4e,
+];
 
 // Whether `edit` of this file by these lines, with the limit and the faults of this run, has this status, says this and stores these
 // bytes.
@@ -73,23 +80,14 @@ fn edited_files_are_stored(rt: HostRuntime) -> Result<(), Fail> {
     Ok(())
 }
 
+// An edit of the road from rank 2 to 3 settles that shortcut, and leaves the two other forged ways.
 #[test]
-fn refused_edits_store_nothing(rt: HostRuntime) -> Result<(), Fail> {
-    let rows: [(u64, &[u64], &[u64], u8, &[u8]); 5] = [
-        (391, &[], &[], 3, b"shelf: long hierarchy\n"),
-        (392, &[6], &[], 3, b"shelf: fault hierarchy\n"),
-        (392, &[7], &[], 3, b"shelf: fault edits\n"),
-        (392, &[8], &[], 3, b"done 2\nshelf: fault out\n"),
-        (392, &[], &[0], 8, b""),
-    ];
-    for (limit, shelf, sink, status, said) in rows {
-        let how = Run {
-            limit,
-            shelf,
-            sink,
-            ..PLAIN
-        };
-        assert!(rt; edits(rt.alloc(), &BUILT, SLOW, how, status, said, b""));
-    }
+fn untouched_ways_are_stored_as_they_were(rt: HostRuntime) -> Result<(), Fail> {
+    let mut after = FORGED;
+    after[528] = 0;
+    after[532] = 8;
+    after[548..].copy_from_slice(&SETTLED_DIGEST);
+    let said = b"done 1\nstored 580\n";
+    assert!(rt; edits(rt.alloc(), &FORGED, b"a,8,0\n", PLAIN, 0, said, &after));
     Ok(())
 }

@@ -109,45 +109,6 @@ fn refused_tables_are_named(rt: HostRuntime) -> Result<(), Fail> {
     Ok(())
 }
 
-#[test]
-fn faults_end_the_run(rt: HostRuntime) -> Result<(), Fail> {
-    let asked = Run {
-        script: "q,0,2,0\nq,1",
-        ..SERVE
-    };
-    let rows: [(Run<'_>, u8, &[u8]); 4] = [
-        (
-            Run {
-                shelf: &[7],
-                ..asked
-            },
-            3,
-            b"shelf: fault roads\n",
-        ),
-        (Run { limit: 30, ..asked }, 3, b"shelf: long nodes\n"),
-        (
-            Run {
-                sink: &[0],
-                ..asked
-            },
-            8,
-            b"",
-        ),
-        (
-            Run {
-                source: &[1],
-                ..asked
-            },
-            7,
-            b"arrive=160 arcs=0 1\n",
-        ),
-    ];
-    for (asked, status, said) in rows {
-        assert!(rt; says(rt.alloc(), asked, status, said));
-    }
-    Ok(())
-}
-
 // Whether `serve` by this order has this status and says this of a query.
 fn serves_by(alloc: Global, ranks: &[u8], status: u8, said: &[u8]) -> bool {
     let asked = Run {

@@ -1,6 +1,6 @@
 use Rattle.std.specs.Prelude.{map, string_bytes}
 use Rattle.cu_cli.specs.Steps.Asks.{building_asked, editing_asked, making_asked, ordering_asked, tables_asked, trial_asked}
-use Rattle.cu_cli.specs.Words.{Serve, Order, Make, Build, Ask, Edit, Trial}
+use Rattle.cu_cli.specs.Words.{Serve, Order, Make, Build, Ask, Edit, Verify, Trial}
 use Rattle.cu_cli.proofs.WorkLaws.{commanded, no_command}
 use Rattle.cu_cli.proofs.program.perform.Goals as goal
 
@@ -36,6 +36,11 @@ pub returns-in-Some-Edit : goal.returns-in-Some-Edit
 returns-in-Some-Edit g c =
     let is = rw c.in-Some-Edit.field-0-is at c.in-Some-Edit.ensures in
     record { works = commanded (map string_bytes c.args.words.now.items) (Edit (editing_asked c.in-Some-Edit.asked)) is (c.edit.ensures.works _) }
+
+pub returns-in-Some-Verify : goal.returns-in-Some-Verify
+returns-in-Some-Verify g c =
+    let is = rw c.in-Some-Verify.field-0-is at c.in-Some-Verify.ensures in
+    record { works = commanded (map string_bytes c.args.words.now.items) (Verify c.in-Some-Verify.name.now) is (c.verify.ensures.works _) }
 
 pub returns-in-Some-Trial : goal.returns-in-Some-Trial
 returns-in-Some-Trial g c =

@@ -1,4 +1,4 @@
-use Rattle.std.proofs.Common.{◌∙◌, ap, ℕ}
+use Rattle.std.proofs.Common.{◌∙◌, ap}
 use Rattle.cu_interval.specs.Hierarchies.{HierarchyValue}
 use Rattle.cu_cli.proofs.TrialLaws.{spelled_once}
 use Rattle.cu_cli.proofs.commands.trial.count_nodes.Goals as goal
