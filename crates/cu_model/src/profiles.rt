@@ -125,6 +125,14 @@ impl Profile {
         }
     }
 
+    // Takes over the pieces of another profile.
+    pub(crate) fn replace(&mut self, other: Profile)
+        ensures taken { self.new ≡ other }
+        ensures valid { IsProfile other }
+    {
+        self.pieces = other.pieces;
+    }
+
     /// When it arrives, leaving at an absolute second of at most 2^62; it isn't closed. It never arrives before it leaves,
     /// and leaving later never arrives earlier, over midnight and on later days as well.
     pub fn arrive(&self, second: u64) -> u64

@@ -148,8 +148,7 @@ impl Network {
         ensures { self.new
             ≡ record self.old { profiles = slice_set self.old.profiles profile pieces } }
     {
-        let _pieces = pieces.pieces();
-        self.profiles[profile as usize] = pieces;
+        self.profiles[profile as usize].replace(pieces);
     }
 
     fn assign(&mut self, arc: u32, profile: u32)
