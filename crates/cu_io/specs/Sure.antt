@@ -1,5 +1,5 @@
 -- What a shelf that never fails holds.
-use Rattle.std.specs.Prelude.{ℕ, List, [], Option, None, Some, string_bytes}
+use Rattle.std.specs.Prelude.{ℕ, List, [], Option, None, Some}
 use Rattle.std.specs.Option.{option_map}
 use Rattle.std.specs.BTreeMap.{get_by_text}
 use Rattle.cu_io.specs.declared.sure.SureShelf.{SureShelf}

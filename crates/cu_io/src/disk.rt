@@ -1,7 +1,9 @@
 //! A shelf of the files of a file system.
-ghost use Rattle.std.specs.Prelude.{◌≡◌, ℕ, ◌+◌, ◌^◌, ◌<◌, ◌≤◌, List, ◌++◌, length, None, IfSome, OnOk};
+ghost use Rattle.std.specs.Prelude.{◌≡◌, ℕ, ◌+◌, ◌^◌, ◌<◌, ◌≤◌, List, [], ◌++◌, length, is_some, Ok, IfOk, IfSome, OnOk, OnErr};
 ghost use Rattle.std.specs.Io.KnownBytes.{Appends};
-ghost use Rattle.cu_io.specs.Holdings.{OnTooLong};
+ghost use Rattle.cu_io.specs.Adapters.{SomeGives, SomeGivesMore, SomeTakes, disk_state};
+ghost use Rattle.cu_io.specs.Counts.{Rose};
+ghost use Rattle.cu_io.specs.Holdings.{Holds, HoldsMore, KeepsOthers, OnTooLong, OnLoadFault, OnStoreFault, UnlessLoadFault, UnlessStoreFault};
 
 use crate::shelf::{LoadFailed, Shelf, StoreFailed};
 use crate::standard::read_some;
@@ -43,18 +45,34 @@ impl<R: Files + Drop> DiskShelf<R> {
 }
 
 impl<R: Files + Drop> Shelf for DiskShelf<R> {
-    ghost state = { λ s. record {
-      held = None;
-      most = 2 ^ 32;
-      load_faults = λ name. s.load_faults;
-      store_faults = λ name. s.store_faults;
-    } };
+    ghost state = { disk_state };
 
-    fn limit(&self) -> u64 {
+    fn limit(&self) -> u64
+        ensures { result ≡ (disk_state self.now).most }
+    {
         LIMIT
     }
 
-    fn load(&mut self, _alloc: Global, name: &str, into: &mut Vec<u8>) -> Result<(), LoadFailed> {
+    /// No clause says that the file under the name is the one that is opened: the system's calls promise nothing of names.
+    fn load(&mut self, _alloc: Global, name: &str, into: &mut Vec<u8>) -> Result<(), LoadFailed>
+        ensures limit { (disk_state self.new).most ≡ (disk_state self.old).most }
+        ensures files { (disk_state self.new).held ≡ (disk_state self.old).held }
+        ensures stores { (disk_state self.new).store_faults ≡ (disk_state self.old).store_faults }
+        ensures ok { OnOk result (Holds (disk_state self.old).held name.now into.new.items) }
+        ensures short { OnOk result (length into.new.items ≤ (disk_state self.old).most) }
+        ensures long { OnTooLong result (HoldsMore (disk_state self.old).held name.now
+            (disk_state self.old).most) }
+        ensures empty { OnErr result (into.new.items ≡ []) }
+        ensures later { (other : List ℕ) → (disk_state self.old).load_faults other
+            ≤ (disk_state self.new).load_faults other }
+        ensures counts { UnlessLoadFault result
+            ((disk_state self.new).load_faults ≡ (disk_state self.old).load_faults) }
+        ensures cause { OnLoadFault result
+            (Rose ((disk_state self.old).load_faults name.now)
+            ((disk_state self.new).load_faults name.now)) }
+        ensures given { OnOk result (SomeGives R.File.remaining into.new.items) }
+        ensures over { OnTooLong result (SomeGivesMore R.File.remaining (2 ^ 32)) }
+    {
         let loaded = load_file(&self.files, name, into);
         if loaded.is_err() {
             into.clear();
@@ -71,11 +89,27 @@ impl<R: Files + Drop> Shelf for DiskShelf<R> {
     /// renamed, it is removed. A link stays as it is, and what it leads to is replaced. Anything else, as a device, a
     /// pipe or a link to nothing, is written in place.
     ///
-    /// No clause says any of this. The order of these steps, that mode and links stay, and what a name holds after a
-    /// store that met no fault are tested. What each step does is trusted to the system: so the fresh file belongs to
-    /// who runs the program, other hard links to the old file keep the old bytes, and an old file that may not be
-    /// written is replaced too, where its folder may be written.
-    fn store(&mut self, alloc: Global, name: &str, bytes: &[u8]) -> Result<(), StoreFailed> {
+    /// Of all this a clause says that some opened file took the bytes. The order of these steps, that mode and links
+    /// stay, and what a name holds after a store that met no fault are tested. What each step does is trusted to the
+    /// system: so the fresh file belongs to who runs the program, other hard links to the old file keep the old bytes,
+    /// and an old file that may not be written is replaced too, where its folder may be written.
+    fn store(&mut self, alloc: Global, name: &str, bytes: &[u8]) -> Result<(), StoreFailed>
+        ensures limit { (disk_state self.new).most ≡ (disk_state self.old).most }
+        ensures loads { (disk_state self.new).load_faults ≡ (disk_state self.old).load_faults }
+        ensures tells { is_some (disk_state self.new).held
+            ≡ is_some (disk_state self.old).held }
+        ensures ok { OnOk result (Holds (disk_state self.new).held name.now bytes.now) }
+        ensures others { KeepsOthers (disk_state self.old).held
+            (disk_state self.new).held name.now }
+        ensures later { (other : List ℕ) → (disk_state self.old).store_faults other
+            ≤ (disk_state self.new).store_faults other }
+        ensures counts { UnlessStoreFault result
+            ((disk_state self.new).store_faults ≡ (disk_state self.old).store_faults) }
+        ensures cause { OnStoreFault result
+            (Rose ((disk_state self.old).store_faults name.now)
+            ((disk_state self.new).store_faults name.now)) }
+        ensures taken { OnOk result (SomeTakes R.File.contents bytes.now) }
+    {
         let stored = store_file(alloc, &self.files, name, bytes);
         if stored == Err(StoreFailed::Fault) {
             self.store_faults = self.store_faults.saturating_add(1);
@@ -86,7 +120,9 @@ impl<R: Files + Drop> Shelf for DiskShelf<R> {
 
 // Replaces `into` by the bytes of a file.
 fn load_file<R: Files>(files: &R, name: &str, into: &mut Vec<u8>) -> Result<(), LoadFailed>
-    ensures { OnOk result (length into.new.items ≤ 2 ^ 32) }
+    ensures short { OnOk result (length into.new.items ≤ 2 ^ 32) }
+    ensures given { OnOk result (SomeGives R.File.remaining into.new.items) }
+    ensures over { OnTooLong result (SomeGivesMore R.File.remaining (2 ^ 32)) }
 {
     into.clear();
     let Ok(mut file) = fs::open(files, name) else {
@@ -121,7 +157,9 @@ fn read_whole<R: Read>(reader: &mut R, into: &mut Vec<u8>) -> Result<(), LoadFai
 }
 
 // What a file system answers, as a store answers it.
-fn stored<T: Drop>(answer: io::Result<T>) -> Result<T, StoreFailed> {
+fn stored<T: Drop>(answer: io::Result<T>) -> Result<T, StoreFailed>
+    ensures { IfOk result (λ value. answer ≡ Ok value) }
+{
     match answer {
         Ok(value) => Ok(value),
         Err(error) if error.kind() == ErrorKind::OutOfMemory => Err(StoreFailed::NoMemory),
@@ -135,13 +173,15 @@ fn store_file<R: Files>(
     files: &R,
     name: &str,
     bytes: &[u8],
-) -> Result<(), StoreFailed> {
+) -> Result<(), StoreFailed>
+    ensures { OnOk result (SomeTakes R.File.contents bytes.now) }
+{
     if !stored(is_link(files, name))? {
         return store_at(alloc, files, name, bytes);
     }
     match files.canonicalize(alloc, name) {
         Ok(path) => store_at(alloc, files, path.as_str(), bytes),
-        Err(error) if error.kind() == ErrorKind::NotFound => stored(fs::write(files, name, bytes)),
+        Err(error) if error.kind() == ErrorKind::NotFound => stored(write(files, name, bytes)),
         Err(error) => stored(Err(error)),
     }
 }
@@ -173,17 +213,22 @@ fn place_of<R: Files>(files: &R, name: &str) -> io::Result<Place> {
 }
 
 // Sets the bytes under a name that is no link.
-fn store_at<R: Files>(
-    alloc: Global,
-    files: &R,
-    name: &str,
-    bytes: &[u8],
-) -> Result<(), StoreFailed> {
+fn store_at<R: Files>(alloc: Global, files: &R, name: &str, bytes: &[u8]) -> Result<(), StoreFailed>
+    ensures { OnOk result (SomeTakes R.File.contents bytes.now) }
+{
     match stored(place_of(files, name))? {
         Place::Nothing => replace(alloc, files, name, None, bytes),
         Place::File(permissions) => replace(alloc, files, name, Some(permissions), bytes),
-        Place::Other => stored(fs::write(files, name, bytes)),
+        Place::Other => stored(write(files, name, bytes)),
     }
+}
+
+// Writes the bytes in place.
+fn write<R: Files>(files: &R, name: &str, bytes: &[u8]) -> io::Result<()>
+    ensures { OnOk result (SomeTakes R.File.contents bytes.now) }
+{
+    let mut file = fs::create(files, name)?;
+    file.write_all(bytes)
 }
 
 // Writes a new file beside `name`, and lets it take that name.
@@ -193,19 +238,33 @@ fn replace<R: Files>(
     name: &str,
     permissions: Option<Permissions>,
     bytes: &[u8],
-) -> Result<(), StoreFailed> {
+) -> Result<(), StoreFailed>
+    ensures { OnOk result (SomeTakes R.File.contents bytes.now) }
+{
     let folder = folder_of(name);
     let (mut file, beside) = new_file(alloc, files, folder)?;
-    let filled = fill(&mut file, permissions, bytes);
-    let renamed = match filled {
-        Ok(()) => fs::rename(files, beside.as_str(), name),
-        Err(error) => Err(error),
-    };
-    if renamed.is_err() {
-        let _ = fs::remove_file(files, beside.as_str());
-        return stored(renamed);
+    let path = beside.as_str();
+    let moved = fill_and_rename(files, &mut file, permissions, bytes, path, name);
+    if let Err(error) = moved {
+        let _ = fs::remove_file(files, path);
+        return stored(Err(error));
     }
     stored(sync_folder(files, folder))
+}
+
+// Fills a new file, and lets it take a name.
+fn fill_and_rename<R: Files>(
+    files: &R,
+    file: &mut R::File,
+    permissions: Option<Permissions>,
+    bytes: &[u8],
+    path: &str,
+    name: &str,
+) -> io::Result<()>
+    ensures { OnOk result (SomeTakes R.File.contents bytes.now) }
+{
+    fill(file, permissions, bytes)?;
+    fs::rename(files, path, name)
 }
 
 // The text of the folder that a name stands in, up to its last slash; empty where it has none.
