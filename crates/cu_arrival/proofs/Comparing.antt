@@ -1,5 +1,5 @@
 -- One step of a comparison of a composition with a standing function.
-use Rattle.std.proofs.Common.{◌≡◌, ◌≤◌, ◌<◌, ◌∙◌, ℕ, List, Bool, true, false, sym, ap, arith, inl, inr, min, ltb}
+use Rattle.std.proofs.Common.{◌≡◌, ◌≤◌, ◌<◌, ◌∙◌, ℕ, List, true, false, sym, arith, inl, inr, min}
 use Rattle.std.proofs.lemmas.Bool.{cases_lt, ltb-false, ltb-true}
 use Rattle.cu_model.specs.Days.{day}
 use Rattle.cu_arrival.specs.declared.composition.Linked.{Linked}

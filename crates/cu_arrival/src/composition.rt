@@ -58,6 +58,7 @@ pub fn compose(alloc: Global, first: &Arrival, second: &Arrival) -> Result<Arriv
 }
 
 /// The rule of the composition at a second at which both stretches are reached, and until when it holds.
+#[inline(always)]
 pub fn link_stretches(first: Stretch, second: Stretch, at: u64) -> Linked
     requires now { at < first.end }
     requires day { first.end ≤ DAY }
@@ -83,6 +84,7 @@ pub fn link_stretches(first: Stretch, second: Stretch, at: u64) -> Linked
 }
 
 // The same where the first rule shifts by so many seconds.
+#[inline(always)]
 fn shifted(seconds: u64, second: RunRule, at: u64, end: u64) -> Linked
     requires now { at < end }
     requires day { end ≤ DAY }
@@ -100,6 +102,7 @@ fn shifted(seconds: u64, second: RunRule, at: u64, end: u64) -> Linked
 }
 
 // A shift by so many seconds, by the last second: what would arrive after it arrives then.
+#[inline(always)]
 fn capped(seconds: u64, at: u64, end: u64) -> Linked
     requires now { at < end }
     requires day { end ≤ DAY }

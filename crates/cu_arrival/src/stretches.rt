@@ -21,6 +21,7 @@ pub struct Stretch {
 }
 
 /// When a rule in absolute seconds arrives, leaving at an absolute second.
+#[inline(always)]
 pub fn arrive_by(rule: RunRule, second: u64) -> u64
     requires { second + rule_number rule < 2 ^ 64 }
     ensures { result ≡ arrives rule second }
@@ -32,6 +33,7 @@ pub fn arrive_by(rule: RunRule, second: u64) -> u64
 }
 
 // The rule in absolute seconds, on the day that begins at this second.
+#[inline(always)]
 fn rule_on(rule: RunRule, midnight: u64) -> RunRule
     requires { midnight + rule_number rule < 2 ^ 64 }
     ensures { result ≡ on_day rule midnight }
@@ -44,6 +46,7 @@ fn rule_on(rule: RunRule, midnight: u64) -> RunRule
 
 /// The second of the day from which the run after the one with this index holds, or the end of the day where that is the
 /// last.
+#[inline(always)]
 pub fn next_begin(runs: &RunList, index: usize) -> u64
     requires { index < length runs.now }
     ensures { result ≡ until_next (slice_get runs.now (index + 1)) }
@@ -56,6 +59,7 @@ pub fn next_begin(runs: &RunList, index: usize) -> u64
 }
 
 /// The stretch of the run with this index, on the day that begins at this second.
+#[inline(always)]
 pub fn stretch_of(runs: &RunList, index: usize, midnight: u64) -> Stretch
     requires valid { IsArrivalFunction runs.now }
     requires within { index < length runs.now }
@@ -88,6 +92,7 @@ pub fn stretch_at(runs: &RunList, second: u64) -> Stretch
 }
 
 // The stretch that begins where one ends: the next run's, or the first one's of the next day.
+#[inline(always)]
 fn following(runs: &RunList, last: Stretch) -> Stretch
     requires valid { IsArrivalFunction runs.now }
     requires stretch { IsStretch runs.now last last.end }
@@ -103,6 +108,7 @@ fn following(runs: &RunList, last: Stretch) -> Stretch
 }
 
 /// The stretch in which an absolute second lies, from one that begins no later.
+#[inline(always)]
 pub fn reach(runs: &RunList, from: Stretch, second: u64) -> Stretch
     requires valid { IsArrivalFunction runs.now }
     requires stretch { IsStretch runs.now from second }

@@ -1,5 +1,4 @@
-use Rattle.std.proofs.Common.{◌≡◌, ◌≤◌, ◌<◌, ◌^◌, ℕ, List, arith, min, rules, subst, sym}
-use Rattle.cu_model.specs.Days.{day}
+use Rattle.std.proofs.Common.{◌≤◌, ◌<◌, ℕ, List, arith, rules, subst}
 use Rattle.cu_arrival.specs.declared.runs.Run.{Run}
 use Rattle.cu_arrival.specs.Runs.{IsArrivalFunction, arrival_value}
 use Rattle.cu_arrival.specs.Steps.TwoRules.{IsEarlier}
