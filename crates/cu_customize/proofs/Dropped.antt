@@ -1,38 +1,35 @@
 -- Functions that are dropped once no later list takes a half from them.
-use Rattle.std.proofs.Common.{◌≡◌, ◌≢◌, ◌≤◌, ◌<◌, ◌+◌, ◌-◌, ◌*◌, ◌∙◌, ◌++◌, ◌⊎◌, ℕ, zero, suc, List, [], ◌∷◌, Option, Some, None, refl, sym, ap, subst, arith, inl, inr, length, get_or, set}
+use Rattle.std.proofs.Common.{◌≡◌, ◌≢◌, ◌≤◌, ◌<◌, ◌+◌, ◌∙◌, ◌++◌, ◌↔◌, ℕ, zero, suc, List, [], ◌∷◌, Option, Some, None, refl, sym, ap, subst, arith, inl, inr, length, get_or}
 use Rattle.std.specs.Prelude.{IsSome, nat_lt, slice_get}
 use Rattle.std.specs.List.{Contains}
-use Rattle.std.specs.List.Sorted.{IsStrictlyIncreasing}
 use Rattle.std.proofs.lemmas.Bool.{cases_eq, cases_lt}
 use Rattle.std.proofs.lemmas.Bool.Decides.{nat_tests}
-use Rattle.std.proofs.lemmas.List.{length_push}
-use Rattle.std.proofs.lemmas.List.Kept.{AllPairs-from_increasing}
-use Rattle.std.proofs.lemmas.Option.{get_or_from_slice_get, slice_get_past, slice_get_within}
+use Rattle.std.proofs.lemmas.List.{get_or_default, length_push}
+use Rattle.std.proofs.lemmas.Option.{slice_get-get_or, slice_get_past, slice_get_within}
 use Rattle.cu_model.specs.Networks.{NetworkValue}
-use Rattle.cu_model.proofs.RoadLaws.{all_at}
 use Rattle.cu_arrival.specs.declared.runs.Run.{Run}
 use Rattle.cu_arrival.specs.Runs.{arrival_value}
 use Rattle.cu_chordal.specs.declared.graph.Ends.{Ends}
-use Rattle.cu_chordal.specs.Graphs.{ChordalValue, ComesBefore, HasEdge, IsChordal, IsRising, first_edge_of, one_if, up_of}
-use Rattle.cu_chordal.proofs.Layouts.{up_increasing}
-use Rattle.cu_chordal.proofs.Members.{all_from_members, member_at, pairs_tail, place_of}
-use Rattle.cu_chordal.proofs.Tables.{after_first, first_none, up_of_from_edge}
+use Rattle.cu_chordal.specs.Graphs.{ChordalValue, ComesBefore, HasEdge, IsChordal, IsRising, first_edge_of, one_if}
+use Rattle.cu_chordal.proofs.Members.{member_at, pairs_tail, place_of}
+use Rattle.cu_chordal.proofs.Tables.{after_first}
 use Rattle.cu_interval.specs.declared.ways.Dir.{Dir}
 use Rattle.cu_interval.specs.declared.ways.Dir.TheVariants.{Up, Down}
 use Rattle.cu_interval.specs.declared.ways.Entry.{Entry}
 use Rattle.cu_interval.specs.declared.ways.Way.{Way}
 use Rattle.cu_interval.specs.declared.ways.Way.TheVariants.{Road, Via}
 use Rattle.cu_interval.specs.Hierarchies.{end_of, list_number, start_of}
+use Rattle.cu_interval.proofs.Lookups.{number_finds}
 use Rattle.cu_customize.specs.Functions.{FunctionsState}
 use Rattle.cu_customize.specs.Settling.{ArrivesBy, IsCandidateBy, IsSettledList, function_from, through, value_at}
-use Rattle.cu_customize.specs.Steps.Kept.{IsLastButOne, IsMiddleFrom, Keeps, StaysBut, kept_state, value_kept}
-use Rattle.cu_customize.proofs.Filing.{get_set_other}
+use Rattle.cu_customize.specs.Steps.Kept.{AreDropped, DropsEdge, Keeps, kept_state, value_kept}
 use Rattle.cu_customize.proofs.Halves.{first_is, second_is}
-use Rattle.cu_customize.proofs.Keeping.{push_before, push_last, same_number}
+use Rattle.cu_customize.proofs.Keeping.{number_below, push_before, push_last}
 use Rattle.cu_customize.proofs.LowFunctions.{down_edge, runs_by, up_edge}
 use Rattle.cu_customize.proofs.Lows.{IsDailyValueOf}
+use Rattle.cu_customize.proofs.Settles.{leads_over}
 
--- an edge from below a rank has one of the first numbers, and one from the rank or above it a later one
+-- the first edge has the lowest lower end
 lows_rise : (e : Ends) (es : List Ends) → IsRising (e ∷ es) → (x : Ends) → Contains es x → e.low ≤ x.low
 lows_rise e es rising x held = elim (after_first e es rising x held) [ inl less ↦ omega (arith, less) | inr same ↦ let is = same.0 in omega (arith, is) ]
 
@@ -42,9 +39,7 @@ below_one x r m k lt less = grind (arith, nat_tests)
 some_below : (x r m : ℕ) → x < r → 0 < one_if (nat_lt x r) + m
 some_below x r m lt = grind (arith, nat_tests)
 
-one_more : (x r m k : ℕ) → m ≤ k → one_if (nat_lt x r) + m ≤ suc k
-one_more x r m k le = grind (arith, nat_tests)
-
+-- an edge up from below a rank has one of the first numbers
 pub number_before : (edges : List Ends) → IsRising edges → (k r : ℕ) (ends : Ends) → slice_get edges k ≡ Some ends → ends.low < r → k < first_edge_of edges r
 number_before [] rising k r ends at lt = absurd (cc at)
 number_before (e ∷ es) rising zero r ends at lt =
@@ -54,156 +49,100 @@ number_before (e ∷ es) rising (suc k) r ends at lt =
     let le = lows_rise e es rising ends (member_at es ends k at) in
     below_one e.low r (first_edge_of es r) k (omega (arith, le, lt)) (number_before es (pairs_tail ComesBefore e es rising) k r ends at lt)
 
-pub number_behind : (edges : List Ends) → IsRising edges → (k r : ℕ) (ends : Ends) → slice_get edges k ≡ Some ends → r ≤ ends.low → first_edge_of edges r ≤ k
-number_behind [] rising k r ends at le = absurd (cc at)
-number_behind (e ∷ es) rising zero r ends at le =
-    let same : e ≡ ends = cc at in
-    let here : r ≤ e.low = subst (λ (x : Ends). r ≤ x.low) (sym same) le in
-    let none = first_none (e ∷ es) r (all_from_members (λ (x : Ends). r ≤ x.low) (e ∷ es) (λ x held. elim (head_or e es x held) [
-      | inl is ↦ subst (λ (y : Ends). r ≤ y.low) is here
-      | inr more ↦ let later = lows_rise e es rising x more in omega (arith, later, here)
-    ])) in
-    omega (arith, none)
+-- an edge with these ends has one number
+number_one : (edges : List Ends) → IsRising edges → (e d : ℕ) (ends : Ends) → slice_get edges e ≡ Some ends → slice_get edges d ≡ Some ends → e ≡ d
+number_one edges rising e d ends at there =
+    let one = number_finds edges rising ends.low ends.high (Some e) at in
+    let two = number_finds edges rising ends.low ends.high (Some d) there in
+    cc (one, two)
+
+-- what is kept stays so where an edge to the last settled rank is dropped
+pub keeps_dropped : (edges : List Ends) → IsRising edges → (edge middle rank : ℕ) (whole old new : List (Option (List Run))) → slice_get edges edge ≡ Some (record { low = middle; high = rank })
+    → length new ≡ length old → DropsEdge edge old new → Keeps edges (first_edge_of edges (rank + 1)) whole old → Keeps edges (first_edge_of edges (rank + 1)) whole new
+keeps_dropped edges rising edge middle rank whole old new at long drops keeps = record {
+  long = long ∙ keeps.long;
+  same = λ e dir ends next there next_at low.
+      let above : rank < next.low = elim (cases_lt next.low (rank + 1)) [
+        | inl less ↦ absurd (let before = number_before edges rising (first_edge_of edges (rank + 1)) (rank + 1) next next_at less in omega (arith, before))
+        | inr more ↦ omega (arith, more)
+      ] in
+      let apart : e ≢ edge = λ same. absurd (let high = high_of e same ends there in omega (arith, high, above, low)) in
+      drops.same e dir apart ∙ keeps.same e dir ends next there next_at low;
+}
   where
-    head_or : (x : Ends) (xs : List Ends) (y : Ends) → Contains (x ∷ xs) y → (x ≡ y) ⊎ Contains xs y
-    head_or x xs y (zero, h, is) = inl is
-    head_or x xs y (suc i, h, is) = inr (i, omega (arith, h), is)
-number_behind (e ∷ es) rising (suc k) r ends at le = one_more e.low r (first_edge_of es r) k (number_behind es (pairs_tail ComesBefore e es rising) k r ends at le)
+    high_of : (e : ℕ) → e ≡ edge → (ends : Ends) → slice_get edges e ≡ Some ends → ends.high ≡ rank
+    high_of e same ends there =
+        let here = subst (λ (k : ℕ). slice_get edges k ≡ Some ends) same there in
+        let is : ends ≡ record { low = middle; high = rank } = cc (here, at) in
+        ap (λ (x : Ends). x.high) is
 
-pub first_rises : (edges : List Ends) (a b : ℕ) → a ≤ b → first_edge_of edges a ≤ first_edge_of edges b
-first_rises [] a b le = omega arith
-first_rises (e ∷ es) a b le = both e.low (first_edge_of es a) (first_edge_of es b) (first_rises es a b le)
-  where
-    both : (x m n : ℕ) → m ≤ n → one_if (nat_lt x a) + m ≤ one_if (nat_lt x b) + n
-    both x m n h = grind (arith, nat_tests)
+-- no function is kept of the edges to a rank from the first so many of these middles
+abbrev pub AreDroppedTo : List Ends → ℕ → List ℕ → ℕ → List (Option (List Run)) → Type 0
+AreDroppedTo edges rank middles count kept = (i e : ℕ) (dir : Dir) → i < count → slice_get edges e ≡ Some (record { low = get_or middles i 0; high = rank })
+    → slice_get kept (list_number e dir) ≡ Some None
 
--- a middle of a later edge has two higher neighbours above the ranks whose edges have the first numbers
-middle_ends : (graph : ChordalValue) → IsChordal graph → (r middle : ℕ) → IsMiddleFrom graph.edges (first_edge_of graph.edges r) middle
-    → (low high : ℕ) × HasEdge graph.edges middle low × HasEdge graph.edges middle high × (r ≤ low) × (low < high)
-middle_ends graph is r middle (later, ends, from, at, one, two) =
-    let range = all_at (λ (e : Ends). (e.low < e.high) × (e.high < graph.ranks)) graph.edges later ends is.in_range at in
-    let over : r ≤ ends.low = elim (cases_lt ends.low r) [
-      | inl less ↦ absurd (let before = number_before graph.edges is.rising later r ends at less in omega (arith, before, from))
-      | inr more ↦ more
-    ] in
-    (ends.low, ends.high, one, two, over, range.0)
-
--- of numbers that rise the greater stands behind
-stands_behind : (xs : List ℕ) → IsStrictlyIncreasing xs → (i j x y : ℕ) → slice_get xs i ≡ Some x → slice_get xs j ≡ Some y → x < y → i < j
-stands_behind xs rising i j x y one two less =
-    let first : get_or xs i 0 ≡ x = get_or_from_slice_get xs i x 0 one in
-    let second : get_or xs j 0 ≡ y = get_or_from_slice_get xs j y 0 two in
-    elim (cases_lt i j) [
-      | inl lt ↦ lt
-      | inr ge ↦ elim (cases_eq i j) [
-        | inl same ↦ absurd (let equal : get_or xs i 0 ≡ get_or xs j 0 = ap (λ (k : ℕ). get_or xs k 0) same in omega (arith, equal, first, second, less))
-        | inr apart ↦ absurd (let falls = AllPairs-from_increasing xs rising j i 0 (omega (arith, ge, apart)) (slice_get_within xs i x one) in omega (arith, falls, first, second, less))
+pub dropped_more : (edges : List Ends) → IsRising edges → (rank : ℕ) (middles : List ℕ) (count edge : ℕ) (old new : List (Option (List Run)))
+    → slice_get edges edge ≡ Some (record { low = get_or middles count 0; high = rank }) → DropsEdge edge old new → AreDroppedTo edges rank middles count old
+    → AreDroppedTo edges rank middles (count + 1) new
+dropped_more edges rising rank middles count edge old new at drops so_far i e dir lt there =
+    elim (cases_eq e edge) [
+      | inl same ↦ subst (λ (k : ℕ). slice_get new (list_number k dir) ≡ Some None) (sym same) (drops.dropped dir)
+      | inr apart ↦ elim (cases_lt i count) [
+        | inl less ↦ drops.same e dir apart ∙ so_far i e dir less there
+        | inr more ↦
+            let last : i ≡ count = omega (arith, lt, more) in
+            let here = subst (λ (k : ℕ). slice_get edges e ≡ Some (record { low = get_or middles k 0; high = rank })) last there in
+            absurd (apart (number_one edges rising e edge (record { low = get_or middles count 0; high = rank }) here at))
       ]
     ]
 
-module _ (graph : ChordalValue) (is : IsChordal graph) (middle : ℕ) where
-  abbrev highs : List ℕ
-  highs = up_of graph.edges middle
+-- the edges from all lower neighbours are all that lead to the rank
+pub dropped_all : (edges : List Ends) (rank : ℕ) (middles : List ℕ) (kept : List (Option (List Run))) → ((x : ℕ) → Contains middles x ↔ HasEdge edges x rank)
+    → AreDroppedTo edges rank middles (length middles) kept → AreDropped edges rank kept
+dropped_all edges rank middles kept members so_far e dir ends at to =
+    let there : slice_get edges e ≡ Some (record { low = ends.low; high = rank }) = subst (λ (y : ℕ). slice_get edges e ≡ Some (record { low = ends.low; high = y })) to at in
+    let (i, inside, is) = (members ends.low).1 (member_at edges (record { low = ends.low; high = rank }) e there) in
+    let same : ends.low ≡ get_or middles i 0 = sym is ∙ get_or_default middles i ends.low 0 inside in
+    so_far i e dir inside (subst (λ (x : ℕ). slice_get edges e ≡ Some (record { low = x; high = rank })) same there)
 
-  high_place : (y : ℕ) → HasEdge graph.edges middle y → (i : ℕ) × (slice_get highs i ≡ Some y)
-  high_place y edge = place_of highs y (up_of_from_edge graph.edges middle y edge)
-
-  -- who has one higher neighbour is no middle
-  pub lone_middle : (edge : ℕ) → length highs < 2 → IsMiddleFrom graph.edges edge middle → ⊥
-  lone_middle edge few (later, ends, from, at, one, two) =
-      let range = all_at (λ (e : Ends). (e.low < e.high) × (e.high < graph.ranks)) graph.edges later ends is.in_range at in
-      let (i, low) = high_place ends.low one in
-      let (j, high) = high_place ends.high two in
-      let order = stands_behind highs (up_increasing graph is middle) i j ends.low ends.high low high range.0 in
-      let inside = slice_get_within highs j ends.high high in
-      omega (arith, order, inside, few)
-
-  -- whose last higher neighbour but one is a rank is no middle of an edge up from a later one
-  pub last_middle : (rank : ℕ) → IsLastButOne highs rank → IsMiddleFrom graph.edges (first_edge_of graph.edges (rank + 1)) middle → ⊥
-  last_middle rank (some, at) later =
-      let (low, high, one, two, over, less) = middle_ends graph is (rank + 1) middle later in
-      let (i, low_at) = high_place low one in
-      let (j, high_at) = high_place high two in
-      let first = stands_behind highs (up_increasing graph is middle) (length highs - 2) i rank low at low_at (omega (arith, over)) in
-      let second = stands_behind highs (up_increasing graph is middle) i j low high low_at high_at less in
-      let inside = slice_get_within highs j high high_at in
-      omega (arith, first, second, inside, some)
-
--- the numbers of the lists of another rank's edges are outside
-number_outside : (edges : List Ends) → IsRising edges → (e : ℕ) (dir : Dir) (ends : Ends) (rank : ℕ) → slice_get edges e ≡ Some ends → ends.low ≢ rank
-    → (list_number e dir < 2 * first_edge_of edges rank) ⊎ (2 * first_edge_of edges (rank + 1) ≤ list_number e dir)
-number_outside edges rising e dir ends rank at apart =
-    elim (cases_lt ends.low rank) [
-      | inl less ↦ inl (let before = number_before edges rising e rank ends at less in number_low e (first_edge_of edges rank) dir before)
-      | inr more ↦ inr (let behind = number_behind edges rising e (rank + 1) ends at (omega (arith, more, apart)) in number_high e (first_edge_of edges (rank + 1)) dir behind)
-    ]
-  where
-    number_low : (k n : ℕ) (d : Dir) → k < n → list_number k d < 2 * n
-    number_low k n Up lt = omega (arith, lt)
-    number_low k n Down lt = omega (arith, lt)
-
-    number_high : (k n : ℕ) (d : Dir) → n ≤ k → 2 * n ≤ list_number k d
-    number_high k n Up le = omega (arith, le)
-    number_high k n Down le = omega (arith, le)
-
--- one more number may change
-pub stays_more : (start number : ℕ) (old now : List (Option (List Run))) → start ≤ number → StaysBut start number old now → StaysBut start (number + 1) old (set now number None)
-stays_more start number old now le stays n outside =
-    let (apart, so) = both n outside in
-    get_set_other now number n None apart ∙ stays n so
-  where
-    both : (n : ℕ) → (n < start) ⊎ (number + 1 ≤ n) → (n ≢ number) × ((n < start) ⊎ (number ≤ n))
-    both n (inl before) = (λ e. absurd (omega (arith, e, before, le)), inl before)
-    both n (inr behind) = (λ e. absurd (omega (arith, e, behind)), inr (omega (arith, behind)))
-
--- what is kept stays so where the lists of one are dropped who is no middle any more
-pub keeps_dropped : (edges : List Ends) → IsRising edges → (edge middle : ℕ) (whole old new : List (Option (List Run))) → (IsMiddleFrom edges edge middle → ⊥) → length new ≡ length old
-    → StaysBut (2 * first_edge_of edges middle) (2 * first_edge_of edges (middle + 1)) old new → Keeps edges edge whole old → Keeps edges edge whole new
-keeps_dropped edges rising edge middle whole old new none long stays keeps = record {
-  long = long ∙ keeps.long;
-  same = λ e dir ends at later.
-      let apart : ends.low ≢ middle = λ is. none (subst (λ (m : ℕ). IsMiddleFrom edges edge m) is later) in
-      stays (list_number e dir) (number_outside edges rising e dir ends middle at apart) ∙ keeps.same e dir ends at later;
-}
-
--- one more is kept, unless it is no middle's
-pub keeps_pushed : (edges : List Ends) (edge : ℕ) (dir : Dir) (ends : Ends) (whole kept : List (Option (List Run))) (function one : Option (List Run)) → slice_get edges edge ≡ Some ends
-    → length whole ≡ list_number edge dir → (IsMiddleFrom edges edge ends.low → one ≡ function) → Keeps edges edge whole kept → Keeps edges edge (whole ++ function ∷ []) (kept ++ one ∷ [])
-keeps_pushed edges edge dir ends whole kept function one at long is keeps =
+-- one more is kept
+pub keeps_pushed : (edges : List Ends) (edge : ℕ) (whole kept : List (Option (List Run))) (function : Option (List Run)) → Keeps edges edge whole kept
+    → Keeps edges edge (whole ++ function ∷ []) (kept ++ function ∷ [])
+keeps_pushed edges edge whole kept function keeps =
     let size = length_push whole function in
-    let kept_size = length_push kept one in
-    let same_long = keeps.long in
+    let kept_size = length_push kept function in
+    let long = keeps.long in
     record {
-      long = omega (arith, size, kept_size, same_long);
-      same = λ e d other there later.
-          elim (cases_eq (list_number e d) (list_number edge dir)) [
-            | inl number ↦
-                let (same, same_dir) = same_number edge e dir d number in
-                let same_ends : other ≡ ends = let here = subst (λ (x : ℕ). slice_get edges x ≡ Some ends) same at in cc (here, there) in
-                let function_is = is (subst (λ (x : Ends). IsMiddleFrom edges edge x.low) same_ends later) in
-                push_last kept one (list_number e d) (omega (arith, number, long, same_long)) ∙ ap Some function_is ∙ sym (push_last whole function (list_number e d) (omega (arith, number, long)))
-            | inr apart ↦ elim (cases_lt (list_number e d) (length whole)) [
-              | inl less ↦ push_before kept one (list_number e d) (omega (arith, less, same_long)) ∙ keeps.same e d other there later ∙ sym (push_before whole function (list_number e d) less)
-              | inr more ↦ past_both (list_number e d) (omega (arith, more, apart, long))
+      long = omega (arith, size, kept_size, long);
+      same = λ e dir ends next at next_at low.
+          let number = list_number e dir in
+          elim (cases_lt number (length whole)) [
+            | inl less ↦ push_before kept function number (omega (arith, less, long)) ∙ keeps.same e dir ends next at next_at low ∙ sym (push_before whole function number less)
+            | inr more ↦ elim (cases_eq number (length whole)) [
+              | inl last ↦ push_last kept function number (omega (arith, last, long)) ∙ sym (push_last whole function number last)
+              | inr apart ↦
+                  slice_get_past (kept ++ function ∷ []) number (omega (arith, more, apart, kept_size, long))
+                  ∙ sym (slice_get_past (whole ++ function ∷ []) number (omega (arith, more, apart, size)))
             ]
           ];
     }
-  where
-    past_both : (n : ℕ) → length whole < n → slice_get (kept ++ one ∷ []) n ≡ slice_get (whole ++ function ∷ []) n
-    past_both n over =
-        let size = length_push whole function in
-        let kept_size = length_push kept one in
-        let same_long = keeps.long in
-        slice_get_past (kept ++ one ∷ []) n (omega (arith, over, kept_size, same_long)) ∙ sym (slice_get_past (whole ++ function ∷ []) n (omega (arith, over, size)))
 
 pub keeps_none : (edges : List Ends) (edge : ℕ) → Keeps edges edge [] []
-keeps_none edges edge = record { long = refl; same = λ e dir ends at later. refl }
+keeps_none edges edge = record { long = refl; same = λ e dir ends next at next_at low. refl }
 
 -- a later edge asks for fewer
-pub keeps_later : (edges : List Ends) (edge later : ℕ) (whole kept : List (Option (List Run))) → edge ≤ later → Keeps edges edge whole kept → Keeps edges later whole kept
-keeps_later edges edge later whole kept le keeps = record {
+pub keeps_later : (edges : List Ends) → IsRising edges → (edge later : ℕ) (whole kept : List (Option (List Run))) → edge ≤ later → Keeps edges edge whole kept → Keeps edges later whole kept
+keeps_later edges rising edge later whole kept le keeps = record {
   long = keeps.long;
-  same = λ e dir ends at (k, others, from, there, one, two). keeps.same e dir ends at (k, others, omega (arith, le, from), there, one, two);
+  same = λ e dir ends next at next_at low.
+      let inside = slice_get_within edges later next next_at in
+      let first = get_or edges edge next in
+      let first_at : slice_get edges edge ≡ Some first = slice_get-get_or edges edge next (omega (arith, inside, le)) in
+      let rises : first.low ≤ next.low = elim (cases_lt next.low first.low) [
+        | inl less ↦ absurd (let falls = number_below edges rising later edge next first next_at first_at less in omega (arith, falls, le))
+        | inr more ↦ more
+      ] in
+      keeps.same e dir ends first at first_at (omega (arith, rises, low));
 }
 
 -- two states that give the same functions for the lists from u to v
@@ -267,23 +206,21 @@ daily_alike edges arcs f b u v alike entries (Some runs) settled (some, daily, a
 )
 
 -- what is kept for an edge is all that its lists take halves from
-pub kept_alike : (g : NetworkValue) (edges : List Ends) → IsRising edges → (edge : ℕ) (dir : Dir) (ends : Ends) (whole kept : List (Option (List Run))) → slice_get edges edge ≡ Some ends
-    → Keeps edges edge whole kept → AreAlike edges (kept_state g kept) (kept_state g whole) (start_of ends dir) (end_of ends dir)
-kept_alike g edges rising edge dir ends whole kept at keeps = record {
-  roads = λ a. refl;
-  halves = λ m mu mv one two.
-      let later = is_later dir m one two in
-      let u = start_of ends dir in
-      let v = end_of ends dir in
-      let (e, first) = place_of edges (record { low = m; high = u }) one in
-      let (d, second) = place_of edges (record { low = m; high = v }) two in (
-        first_is edges (kept_state g kept) u v m rising (mu, mv) e first ∙ ap value_kept (keeps.same e Down (record { low = m; high = u }) first later)
-            ∙ sym (first_is edges (kept_state g whole) u v m rising (mu, mv) e first),
-        second_is edges (kept_state g kept) u v m rising (mu, mv) d second ∙ ap value_kept (keeps.same d Up (record { low = m; high = v }) second later)
-            ∙ sym (second_is edges (kept_state g whole) u v m rising (mu, mv) d second),
-      );
-}
-  where
-    is_later : (d : Dir) (m : ℕ) → HasEdge edges m (start_of ends d) → HasEdge edges m (end_of ends d) → IsMiddleFrom edges edge m
-    is_later Up m low high = (edge, ends, omega arith, at, low, high)
-    is_later Down m high low = (edge, ends, omega arith, at, low, high)
+pub kept_alike : (g : NetworkValue) (graph : ChordalValue) → IsChordal graph → (edge : ℕ) (dir : Dir) (ends : Ends) (whole kept : List (Option (List Run))) → slice_get graph.edges edge ≡ Some ends
+    → Keeps graph.edges edge whole kept → AreAlike graph.edges (kept_state g kept) (kept_state g whole) (start_of ends dir) (end_of ends dir)
+kept_alike g graph is edge dir ends whole kept at keeps =
+    let edges = graph.edges in
+    let u = start_of ends dir in
+    let v = end_of ends dir in
+    let over = leads_over graph is edge ends dir u v at refl refl in
+    record {
+      roads = λ a. refl;
+      halves = λ m mu mv one two.
+          let (e, first) = place_of edges (record { low = m; high = u }) one in
+          let (d, second) = place_of edges (record { low = m; high = v }) two in (
+            first_is edges (kept_state g kept) u v m is.rising (mu, mv) e first ∙ ap value_kept (keeps.same e Down (record { low = m; high = u }) ends first at over.from)
+                ∙ sym (first_is edges (kept_state g whole) u v m is.rising (mu, mv) e first),
+            second_is edges (kept_state g kept) u v m is.rising (mu, mv) d second ∙ ap value_kept (keeps.same d Up (record { low = m; high = v }) ends second at over.to)
+                ∙ sym (second_is edges (kept_state g whole) u v m is.rising (mu, mv) d second),
+          );
+    }

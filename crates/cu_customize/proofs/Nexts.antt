@@ -167,7 +167,7 @@ module _ (task : Task) (o : OrderValue) (lists : List (List ℕ)) (edge : ℕ) (
 
   -- the functions that are kept settle what all of them do
   next_alike : AreAlike task.graph.now.edges (kept_state task.network.now functions) (kept_state task.network.now whole) (start_of ends dir) (end_of ends dir)
-  next_alike = kept_alike task.network.now task.graph.now.edges chordal.rising edge dir ends whole functions at keeps
+  next_alike = kept_alike task.network.now task.graph.now chordal edge dir ends whole functions at keeps
 
   -- the functions and the ends by other names
   abbrev Ready : List (Option (List Run)) → ℕ → ℕ → Type 0

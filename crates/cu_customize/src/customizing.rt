@@ -8,7 +8,7 @@ ghost use Rattle.cu_customize.specs.Steps.Kept.{AreBuilt, IsBuilding, IsBuilding
 ghost use Rattle.cu_customize.specs.Steps.Triangles.{AreTrianglesOf};
 
 use crate::day_function::DayFunction;
-use crate::dropping::{drop_last, if_middle};
+use crate::dropping::drop_edges_to;
 use crate::gathering::Gatherer;
 use crate::pulling::pull;
 use crate::settling::leg_of;
@@ -71,8 +71,7 @@ fn settle_next(
     };
     gatherer.gather(&task)?;
     let pulled = pull(alloc, &task, &gatherer.merger)?;
-    let function = if_middle(parts.graph, ends.low, pulled.function);
-    building.functions.push(function)?;
+    building.functions.push(pulled.function)?;
     building.lists.push(pulled.ways)?;
     Ok(())
 }
@@ -101,7 +100,7 @@ fn settle_edge(
     Ok(())
 }
 
-// Settles the lists of all edges up from the next rank.
+// Settles the lists of all edges up from the next rank, and drops the functions that no later list takes a half from.
 fn settle_rank(
     alloc: Global,
     parts: &Parts<'_>,
@@ -135,7 +134,7 @@ fn settle_rank(
             building,
         )?;
     }
-    drop_last(parts.graph, rank, &mut building.functions);
+    drop_edges_to(parts.graph, rank, &mut building.functions);
     Ok(())
 }
 

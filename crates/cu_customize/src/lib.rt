@@ -4,8 +4,8 @@
 //! has the maximal runs, over the seconds of a day, of the first way that arrives earliest. It settles list after
 //! list, by rising lower rank: the lower triangles of all edges up from a rank are found at once; the roads of a list
 //! and the middles of its triangles are gathered in a merger, but middles that are slower at each second than some
-//! candidate ever is; and from the merger the list and its function are pulled. The function goes once no later list
-//! takes a half from it.
+//! candidate ever is; and from the merger the list and its function are pulled. The functions of an edge go once all
+//! edges up from its higher end are settled: no later list takes a half from them.
 //!
 //! For that stand here functions of the seconds of a day, word by word, their composition ([`link`]), and the least of
 //! several compositions at each second with the number of the first candidate that has it ([`Merger`]). Their promise:

@@ -1,5 +1,5 @@
 -- Functions that are kept by list number, those of roads made anew; and what is built so far.
-use Rattle.std.specs.Prelude.{ℕ, Bool, true, false, List, Option, Some, None, ◌≡◌, ◌≤◌, ◌<◌, ◌-◌, ◌*◌, ◌⊎◌, nat_lt, length, slice_get}
+use Rattle.std.specs.Prelude.{ℕ, Bool, true, false, List, Option, Some, None, ◌≡◌, ◌≢◌, ◌≤◌, ◌<◌, ◌*◌, nat_lt, length, slice_get}
 use Rattle.std.specs.Option.{option_map}
 use Rattle.cu_model.specs.Networks.{NetworkValue}
 use Rattle.cu_model.specs.Orders.{OrderValue}
@@ -7,7 +7,7 @@ use Rattle.cu_model.specs.Roads.{arc_value, is_closed_arc}
 use Rattle.cu_arrival.specs.declared.runs.Run.{Run}
 use Rattle.cu_arrival.specs.Runs.{arrival_value}
 use Rattle.cu_chordal.specs.declared.graph.Ends.{Ends}
-use Rattle.cu_chordal.specs.Graphs.{HasEdge, first_edge_of}
+use Rattle.cu_chordal.specs.Graphs.{first_edge_of}
 use Rattle.cu_interval.specs.declared.ways.Dir.{Dir}
 use Rattle.cu_interval.specs.declared.ways.Entry.{Entry}
 use Rattle.cu_interval.specs.FirstWays.{IsBuiltList}
@@ -45,17 +45,13 @@ pub record IsBuiltTo (g : NetworkValue) (o : OrderValue) (edges : List Ends) (co
   pub built : (edge : ℕ) (dir : Dir) (ends : Ends) (entries : List Entry) → slice_get edges edge ≡ Some ends → list_number edge dir < count
       → slice_get lists (list_number edge dir) ≡ Some entries → IsBuiltList g o (start_of ends dir) (end_of ends dir) entries
 
--- a middle of this edge or of one with a higher number: joined to both ends
-abbrev pub IsMiddleFrom : List Ends → ℕ → ℕ → Type 0
-IsMiddleFrom edges edge middle = (later : ℕ) × (ends : Ends) × (edge ≤ later) × (slice_get edges later ≡ Some ends) × HasEdge edges middle ends.low × HasEdge edges middle ends.high
-
--- of all these functions those are kept whose edge's lower end is such a middle
+-- of all these functions those are kept whose edge's higher end is at least the lower end of the edge that is next
 pub record Keeps (edges : List Ends) (edge : ℕ) (whole kept : List (Option (List Run))) : Type 0 where
   pub long : length kept ≡ length whole
-  pub same : (e : ℕ) (dir : Dir) (ends : Ends) → slice_get edges e ≡ Some ends → IsMiddleFrom edges edge ends.low
+  pub same : (e : ℕ) (dir : Dir) (ends next : Ends) → slice_get edges e ≡ Some ends → slice_get edges edge ≡ Some next → next.low ≤ ends.high
       → slice_get kept (list_number e dir) ≡ slice_get whole (list_number e dir)
 
--- the lists with the first numbers are built, and of their functions those are kept that this edge or a later one takes a half from
+-- the lists with the first numbers are built, and of their functions those are kept that this edge, which is next, or a later one may take a half from
 abbrev pub IsBuilding : NetworkValue → OrderValue → List Ends → ℕ → ℕ → List (Option (List Run)) → List (List Entry) → Type 0
 IsBuilding g o edges edge count functions lists = (whole : List (Option (List Run))) × IsBuiltTo g o edges count whole lists × Keeps edges edge whole functions
 
@@ -67,10 +63,11 @@ IsBuildingFrom g o edges rank functions lists = IsBuilding g o edges (first_edge
 abbrev pub AreBuilt : NetworkValue → OrderValue → List Ends → List (List Entry) → Type 0
 AreBuilt g o edges lists = (whole : List (Option (List Run))) × IsBuiltTo g o edges (2 * length edges) whole lists
 
--- the highest of these ranks but one
-abbrev pub IsLastButOne : List ℕ → ℕ → Type 0
-IsLastButOne ranks rank = (2 ≤ length ranks) × (slice_get ranks (length ranks - 2) ≡ Some rank)
+-- of the edges to this rank no function is kept
+abbrev pub AreDropped : List Ends → ℕ → List (Option (List Run)) → Type 0
+AreDropped edges rank kept = (e : ℕ) (dir : Dir) (ends : Ends) → slice_get edges e ≡ Some ends → ends.high ≡ rank → slice_get kept (list_number e dir) ≡ Some None
 
--- nothing changes but at these numbers
-abbrev pub StaysBut : ℕ → ℕ → List (Option (List Run)) → List (Option (List Run)) → Type 0
-StaysBut start end old new = (number : ℕ) → (number < start) ⊎ (end ≤ number) → slice_get new number ≡ slice_get old number
+-- both functions of this edge are dropped, and no others change
+pub record DropsEdge (edge : ℕ) (old new : List (Option (List Run))) : Type 0 where
+  pub dropped : (dir : Dir) → slice_get new (list_number edge dir) ≡ Some None
+  pub same : (e : ℕ) (dir : Dir) → e ≢ edge → slice_get new (list_number e dir) ≡ slice_get old (list_number e dir)

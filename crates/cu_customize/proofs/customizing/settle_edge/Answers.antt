@@ -10,5 +10,5 @@ returns c =
     let next : (2 * c.args.edge + 1) + 1 ≡ 2 * (c.args.edge + 1) = omega arith in (
       whole,
       subst (λ (i : ℕ). IsBuiltTo c.args.parts.now.network.now c.args.parts.now.order.now edges i whole c.settle_next-2.new.building.lists.items) next built,
-      keeps_later edges c.args.edge (c.args.edge + 1) whole c.settle_next-2.new.building.functions.items (omega arith) keeps,
+      keeps_later edges c.requires.parts.chordal.rising c.args.edge (c.args.edge + 1) whole c.settle_next-2.new.building.functions.items (omega arith) keeps,
     )

@@ -1,15 +1,12 @@
-use Rattle.std.proofs.Common.{◌≡◌, ◌+◌, ◌++◌, ◌∷◌, [], List, Option, arith, inl, inr, length, refl, sym, subst}
-use Rattle.std.proofs.lemmas.Bool.{cases_lt}
+use Rattle.std.proofs.Common.{◌≡◌, ◌+◌, ◌++◌, ◌∷◌, [], List, Option, arith, refl, sym, subst}
 use Rattle.std.proofs.lemmas.Slice.{pushed}
 use Rattle.cu_arrival.specs.declared.runs.Run.{Run}
-use Rattle.cu_chordal.specs.Graphs.{up_of}
 use Rattle.cu_interval.specs.Hierarchies.{list_number}
 use Rattle.cu_interval.specs.declared.ways.Entry.{Entry}
-use Rattle.cu_customize.specs.Steps.Kept.{IsBuiltTo, IsMiddleFrom, Keeps}
+use Rattle.cu_customize.specs.Steps.Kept.{IsBuiltTo, Keeps}
 use Rattle.cu_customize.proofs.Gathers.{gathered_within}
 use Rattle.cu_customize.proofs.Keeping.{number_within}
-use Rattle.cu_customize.proofs.Dropped.{keeps_pushed, lone_middle}
-use Rattle.cu_customize.proofs.Settles.{leads_over}
+use Rattle.cu_customize.proofs.Dropped.{keeps_pushed}
 use Rattle.cu_customize.proofs.Nexts.{next_step, next_task}
 use Rattle.cu_customize.proofs.customizing.settle_next.Goals as goal
 
@@ -42,13 +39,6 @@ pull-requires-clause-task c =
 pub pull-requires-clause-held : goal.pull-requires-clause-held
 pull-requires-clause-held c = λ some. gathered_within _ _ _ c.in_ok-gather.ensures some
 
-pub if_middle-function-requires : goal.if_middle-function-requires
-if_middle-function-requires c =
-    let over = leads_over c.args.parts.now.graph.now c.requires.parts.chordal c.args.edge c.ends-ends.result c.args.dir _ _ c.ends-ends.ensures.there refl refl in
-    let low = over.from in
-    let inside = over.start_in in
-    omega (arith, low, inside)
-
 pub returns : goal.returns
 returns c =
     let p = c.requires.parts in
@@ -66,15 +56,10 @@ returns c =
     (c.requires.triangles c.ends-ends.result c.ends-ends.ensures.there) whole functions lists built keeps c.deref.ensures.value c.leg_of.ensures.from c.leg_of.ensures.to c.gather.new.self.merger
     c.in_ok-pulled.pulled.ways c.in_ok-pulled.pulled.function ready c.in_ok-gather.ensures c.in_ok-pulled.ensures in
     let function = c.in_ok-pulled.pulled.function in
-    let one = c.if_middle-function.result in
-    let is : IsMiddleFrom edges c.args.edge c.ends-ends.result.low → one ≡ function = λ later. elim (cases_lt (length (up_of edges c.ends-ends.result.low)) 2) [
-      | inl few ↦ absurd (lone_middle c.args.parts.now.graph.now p.chordal c.ends-ends.result.low c.args.edge few later)
-      | inr some ↦ c.if_middle-function.ensures.kept some
-    ] in
-    let kept = keeps_pushed edges c.args.edge c.args.dir c.ends-ends.result whole functions function one c.ends-ends.ensures.there built.functions_long is keeps in
+    let kept = keeps_pushed edges c.args.edge whole functions function keeps in
     let same_functions : functions ≡ functions = refl in
     let same_lists : lists ≡ lists = refl in
-    let functions_is = pushed (one ∷ []) same_functions c.in_ok-push.was c.push.ensures.items in
+    let functions_is = pushed (function ∷ []) same_functions c.in_ok-push.was c.push.ensures.items in
     let lists_is = pushed (c.in_ok-pulled.pulled.ways ∷ []) same_lists c.in_ok-push-2.was c.push-2.ensures.items in (
       whole ++ function ∷ [],
       subst (λ (ls : List (List Entry)). IsBuiltTo c.args.parts.now.network.now c.args.parts.now.order.now edges (list_number c.args.edge c.args.dir + 1) (whole ++ function ∷ []) ls)

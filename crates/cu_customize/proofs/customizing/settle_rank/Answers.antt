@@ -43,8 +43,8 @@ loop-place-preserved c =
     IsBuilding c.args.parts.now.network.now c.args.parts.now.order.now c.args.parts.now.graph.now.edges i (2 * i) c.settle_edge.new.building.functions.items c.settle_edge.new.building.lists.items)
     next c.in_ok-settle_edge.ensures
 
-pub drop_last-requires-clause-settled : goal.drop_last-requires-clause-settled
-drop_last-requires-clause-settled c =
+pub drop_edges_to-requires-clause-settled : goal.drop_edges_to-requires-clause-settled
+drop_edges_to-requires-clause-settled c =
     let edges = c.args.parts.now.graph.now.edges in
     let size = ap (λ (xs : List ℕ). length xs) c.up-place-end.ensures.exact in
     let next = first_next edges c.args.rank in
@@ -68,7 +68,7 @@ returns-clause-built c =
     c.loop-place.invariant in
     let value = c.deref_mut.ensures.value in
     let long = ap (λ (fs : List (Option (List Run))). length fs) value in
-    let dropped = c.drop_last.auto.functions in
-    let left = c.drop_last.ensures whole (subst (λ (fs : List (Option (List Run))). Keeps edges last whole fs) (sym value) keeps) in
-    let kept = take_at c.drop_last.new.functions _ c.loop-place.building.functions.len (omega (arith, long, dropped, c.loop-place.building.functions.ok.0)) in
+    let dropped = c.drop_edges_to.auto.functions in
+    let left = c.drop_edges_to.ensures.keeps whole (subst (λ (fs : List (Option (List Run))). Keeps edges last whole fs) (sym value) keeps) in
+    let kept = take_at c.drop_edges_to.new.functions _ c.loop-place.building.functions.len (omega (arith, long, dropped, c.loop-place.building.functions.ok.0)) in
     (whole, built, subst (λ (fs : List (Option (List Run))). Keeps edges last whole fs) (sym kept) left)
