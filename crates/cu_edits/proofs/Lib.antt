@@ -17,7 +17,6 @@ pub mod TakingOut
 pub mod Unchanged
 pub mod LinePieceLaws
 pub mod LineLaws
-pub mod Hollow
 pub mod Unmoved
 pub mod Copied
 pub mod RebuiltBelow

@@ -1,14 +1,13 @@
 //! What no clause says: that calls succeed, and edits whose touched edges were found by hand.
 
-ghost use Rattle.std.specs.Prelude.{◌≡◌, ◌<◌, [], IfOk, length};
-ghost use Rattle.cu_chordal.specs.Edges.{IsClosureOf};
+ghost use Rattle.std.specs.Prelude.{◌≡◌, ◌<◌, IfOk, length};
 ghost use Rattle.cu_model.specs.Edits.{IsEditInRange};
 ghost use Rattle.cu_model.specs.Profiles.{IsProfile};
 
 use crate::{Touched, copy_network, touch, touched_edges};
-use cu_chordal::{Chordal, close};
+use cu_chordal::close;
 use cu_customize::customize;
-use cu_interval::{Dir, EdgeArcs, Entry, Hierarchy, TouchedEdge, Way, WayList, Ways};
+use cu_interval::{Dir, EdgeArcs, Entry, Hierarchy, TouchedEdge, Way, Ways};
 use cu_links::RankBuckets;
 use cu_model::{Edit, Network, Order, Piece, Profile, RoadArc, Roads, Rule};
 use std::alloc::Global;
@@ -49,32 +48,7 @@ fn network(alloc: Global) -> Result<Network, Fail>
     Ok(Network::of(3, arcs, profiles))
 }
 
-// A list without ways.
-fn empty(alloc: Global) -> WayList
-    ensures { result ≡ [] }
-{
-    let Some(list) = WayList::of(Vec::new(alloc)) else {
-        unreachable!()
-    };
-    list
-}
-
-// The hierarchy of these, whose lists are without ways.
-fn hollow(alloc: Global, network: Network, order: Order, graph: Chordal) -> Result<Hierarchy, Fail>
-    requires same { length order.node_at ≡ network.nodes }
-    requires closed { IsClosureOf network order graph }
-    ensures network { IfOk result (λ hierarchy. hierarchy.network ≡ network) }
-{
-    prove_eq!(network.nodes(), order.nodes());
-    prove_eq!(order.nodes(), graph.ranks());
-    let mut lists = Vec::new(alloc);
-    'lists: for _number in 0..2 * graph.edges() {
-        lists.push(empty(alloc))?;
-    }
-    Ok(Hierarchy::of(network, order, graph, lists))
-}
-
-// The hierarchy of the network with the nodes in their own order. Its edges are 0 of ranks 0 and 1, 1 of ranks 0 and 2, and
+// The built hierarchy of the network with the nodes in their own order. Its edges are 0 of ranks 0 and 1, 1 of ranks 0 and 2, and
 // 2 of ranks 1 and 2.
 fn hierarchy(alloc: Global) -> Result<Hierarchy, Fail>
     ensures roads { IfOk result (λ hierarchy. length hierarchy.network.arcs ≡ 4) }
@@ -83,7 +57,7 @@ fn hierarchy(alloc: Global) -> Result<Hierarchy, Fail>
     let network = network(alloc)?;
     let order = Order::identity(alloc, 3)?;
     let graph = close(alloc, &network, &order)?;
-    hollow(alloc, network, order, graph)
+    Ok(customize(alloc, network, order, graph)?)
 }
 
 // Does the edit touch exactly these edges?

@@ -6,7 +6,6 @@ pub mod Driving
 pub mod OnWay
 pub mod Texts
 pub mod Built
-pub mod Hollow
 pub mod WayFunctions
 pub mod KeptFunctions
 pub mod HalvesFirst

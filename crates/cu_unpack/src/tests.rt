@@ -1,15 +1,14 @@
-//! What no clause says: that calls succeed, over lists without ways, and a function that was worked by hand. Hierarchies that
-//! are customized are unpacked in the crates above.
+//! What no clause says: that calls succeed, over lists without ways, and a function that was worked by hand. Walks are
+//! unpacked in the crates above.
 
-ghost use Rattle.std.specs.Prelude.{◌≡◌, [], IfOk, length};
-ghost use Rattle.cu_chordal.specs.Edges.{IsClosureOf};
+ghost use Rattle.std.specs.Prelude.{◌≡◌, IfOk};
 
 use crate::{
     Counted, CountedWays, Listed, Rebuilt, Relaxed, Relaxer, Unpacker, Work, relax_counted,
 };
-use cu_chordal::{Chordal, close};
+use cu_chordal::close;
 use cu_customize::customize;
-use cu_interval::{Call, Dir, Hierarchy, WayList, Ways};
+use cu_interval::{Call, Dir, Ways};
 use cu_model::{Network, Order, Piece, Profile, RoadArc, Roads, Rule};
 use std::alloc::Global;
 use std::test::Fail;
@@ -24,42 +23,17 @@ fn road(tail: u32, head: u32, profile: u32) -> RoadArc
     }
 }
 
-// Three nodes with the roads 0 -> 1, 1 -> 2 and 0 -> 2, each of a minute.
+fn piece(from: u32, rule: Rule) -> Piece {
+    Piece { from, rule }
+}
+
+// Three nodes with the roads 0 -> 1, 1 -> 2 and 0 -> 2, all of them closed.
 fn triangle(alloc: Global) -> Result<Network, Fail>
     ensures { IfOk result (λ network. network.nodes ≡ 3) }
 {
-    let minute = Piece {
-        from: 0,
-        rule: Rule::Travel(60),
-    };
-    let profile = Profile::of(vec![in alloc; minute]?)?;
+    let profile = Profile::of(vec![in alloc; piece(0, Rule::Closed(0))]?)?;
     let arcs = vec![in alloc; road(0, 1, 0), road(1, 2, 0), road(0, 2, 0)]?;
     Ok(Network::of(3, arcs, vec![in alloc; profile]?))
-}
-
-// A list without ways.
-fn empty(alloc: Global) -> WayList
-    ensures { result ≡ [] }
-{
-    let Some(list) = WayList::of(Vec::new(alloc)) else {
-        unreachable!()
-    };
-    list
-}
-
-// The hierarchy of these, whose lists are without ways.
-fn hollow(alloc: Global, network: Network, order: Order, graph: Chordal) -> Result<Hierarchy, Fail>
-    requires same { length order.node_at ≡ network.nodes }
-    requires closed { IsClosureOf network order graph }
-    ensures network { IfOk result (λ hierarchy. hierarchy.network ≡ network) }
-{
-    prove_eq!(network.nodes(), order.nodes());
-    prove_eq!(order.nodes(), graph.ranks());
-    let mut lists = Vec::new(alloc);
-    'lists: for _number in 0..2 * graph.edges() {
-        lists.push(empty(alloc))?;
-    }
-    Ok(Hierarchy::of(network, order, graph, lists))
 }
 
 #[test]
@@ -68,7 +42,7 @@ fn asks_lists_without_ways(rt: HostRuntime) -> Result<(), Fail> {
     let network = triangle(alloc)?;
     let order = Order::identity(alloc, 3)?;
     let graph = close(alloc, &network, &order)?;
-    let hierarchy = hollow(alloc, network, order, graph)?;
+    let hierarchy = customize(alloc, network, order, graph)?;
     assert!(rt; hierarchy.edges() == 3);
     let mut work = Work::new(alloc, 3)?;
     let mut counted = Counted::of(&hierarchy);
@@ -89,10 +63,6 @@ fn asks_lists_without_ways(rt: HostRuntime) -> Result<(), Fail> {
     assert_eq!(rt; listed.relax(2, Dir::Down, 7), Relaxed::NoWay);
     assert_eq!(rt; listed.calls(), None);
     Ok(())
-}
-
-fn piece(from: u32, rule: Rule) -> Piece {
-    Piece { from, rule }
 }
 
 // The same three roads: a minute; 100 seconds, but 300 from 8:00 and closed from 9:56:40 to 10:01:40; and 250 seconds.
