@@ -1,13 +1,16 @@
 -- Keeping what was met: rows stay true of their lists.
-use Rattle.std.proofs.Common.{◌≡◌, ◌≤◌, ◌+◌, ◌-◌, ◌⊎◌, ℕ, zero, suc, List, [], ◌∷◌, Some, All, refl, sym, ap, subst, arith, inl, inr, ◌∙◌, replicate}
+use Rattle.std.proofs.Common.{◌≡◌, ◌≤◌, ◌+◌, ◌-◌, ◌*◌, ◌⊎◌, ℕ, zero, suc, List, [], ◌∷◌, Some, All, refl, sym, ap, subst, arith, inl, inr, ◌∙◌, replicate}
 use Rattle.std.specs.Prelude.{slice_get, slice_set}
 use Rattle.std.proofs.lemmas.List.Elements.{All-replicate}
 use Rattle.std.proofs.lemmas.Option.{get_or_from_slice_get, slice_get_within}
 use Rattle.cu_interval.specs.Hierarchies.{HierarchyValue}
 use Rattle.cu_recall.specs.declared.spans.Driven.{Driven}
+use Rattle.cu_recall.specs.declared.spans.Met.{Met}
+use Rattle.cu_recall.specs.declared.spans.Parts.{Parts}
+use Rattle.cu_recall.specs.declared.spans.Parts.TheVariants as part
 use Rattle.cu_recall.specs.declared.spans.Row.{Row}
 use Rattle.cu_recall.specs.declared.spans.Span.{Span}
-use Rattle.cu_recall.specs.Spans.{HasSecond, HoldsRow, HoldsSpan, Knows, WalkTakes}
+use Rattle.cu_recall.specs.Spans.{HasSecond, HoldsMet, HoldsParts, HoldsRow, HoldsSpan, Knows, WalkTakes}
 use Rattle.cu_recall.specs.Windows.{HoldsDriven, IsWindow}
 
 -- what stands in a list after a write was written, or stood there before
@@ -61,6 +64,21 @@ span_driven h list second span driven has back ahead travel roads holds u v is =
           let takes = holds.1 u v t is (omega (arith, first, back, low), omega (arith, last, ahead, low, high)) in
           subst (λ n. WalkTakes h u v t driven.travel n) (sym roads) (subst (λ n. WalkTakes h u v t n span.roads) (sym travel) takes);
     }
+
+-- the parts of the way in force over some seconds are those over the first of them
+parts_over_first : (h : HierarchyValue) (u v from until first : ℕ) (parts : Parts) → first ≤ until → HoldsParts h u v from until parts → HoldsParts h u v from first parts
+parts_over_first h u v from until first (part.Road road) le taken = λ t low high. taken t low (omega (arith, high, le))
+parts_over_first h u v from until first (part.Halves one two) le (m, both, taken) = (m, both, λ t low high. taken t low (omega (arith, high, le)))
+
+-- an entry that holds does so over an even number of its seconds
+pub evenly_met : (h : HierarchyValue) (list : ℕ) (met : Met) (pairs : ℕ) (parts : Parts) → met.parts ≡ parts → met.from + 2 * pairs ≤ met.until → HoldsMet h list met
+    → HoldsMet h list (record { from = met.from; until = met.from + 2 * pairs; parts = parts })
+evenly_met h list met pairs parts same le (early, holds) = (
+  omega (arith, le, early),
+  λ u v is some.
+      parts_over_first h u v met.from met.until (met.from + 2 * pairs) parts le
+      (subst (λ (p : Parts). HoldsParts h u v met.from met.until p) same (holds u v is (omega (arith, some, le)))),
+)
 
 -- a row that says nothing is true of each list, and so are as many of it as there are lists
 pub nothing_known : (h : HierarchyValue) (n : ℕ) (row : Row) (rows : List Row) → ((list : ℕ) → HoldsRow h list row) → rows ≡ replicate n row → Knows h rows

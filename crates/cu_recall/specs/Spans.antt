@@ -1,5 +1,5 @@
 -- What may be known of a list of ways. Each of these is a fact of the hierarchy alone, so it stays true from one query to the next.
-use Rattle.std.specs.Prelude.{ℕ, List, Option, None, Some, ◌≡◌, ◌≢◌, ◌≤◌, ◌<◌, ◌+◌, ◌/◌, ◌%◌, ◌==◌, [], if◌then◌else◌, length, slice_get}
+use Rattle.std.specs.Prelude.{ℕ, List, Option, None, Some, ◌≡◌, ◌≢◌, ◌≤◌, ◌<◌, ◌+◌, ◌*◌, ◌/◌, ◌%◌, ◌==◌, [], if◌then◌else◌, length, slice_get}
 use Rattle.cu_model.specs.Days.{day}
 use Rattle.cu_model.specs.Roads.{drive}
 use Rattle.cu_chordal.specs.declared.graph.Ends.{Ends}
@@ -9,6 +9,8 @@ use Rattle.cu_interval.specs.declared.ways.Way.{Way}
 use Rattle.cu_interval.specs.declared.ways.Way.TheVariants as way
 use Rattle.cu_interval.specs.Hierarchies.{HierarchyValue, start_of, end_of, list_from, way_from}
 use Rattle.cu_interval.specs.Unpacking.{unpacked_walk}
+use Rattle.cu_recall.specs.declared.kept.Kept.{Kept}
+use Rattle.cu_recall.specs.declared.kept.Kept.TheVariants as kept
 use Rattle.cu_recall.specs.declared.spans.Met.{Met}
 use Rattle.cu_recall.specs.declared.spans.Parts.{Parts}
 use Rattle.cu_recall.specs.declared.spans.Parts.TheVariants as part
@@ -59,12 +61,21 @@ abbrev pub HoldsMet : HierarchyValue → ℕ → Met → Type 0
 HoldsMet h list met =
     (met.until ≤ day) × ((u v : ℕ) → IsListFrom h list u v → met.from < met.until → HoldsParts h u v met.from met.until met.parts)
 
+-- a second at which the entry is in force
+abbrev pub HasMoment : Met → ℕ → Type 0
+HasMoment met second = (met.from ≤ second) × (second < met.until)
+
+-- an entry that is kept, as it was met: at twice so many seconds from one on
+abbrev pub met_of : Kept → Met
+met_of (kept.Road pairs from road) = record { from = from; until = from + 2 * pairs; parts = part.Road road }
+met_of (kept.Halves pairs from first second) = record { from = from; until = from + 2 * pairs; parts = part.Halves first second }
+
 pub record HoldsRow (h : HierarchyValue) (list : ℕ) (row : Row) : Type 0 where
   pub latest : HoldsSpan h list row.latest
   pub early : HoldsSpan h list row.early
   pub noon : HoldsSpan h list row.noon
   pub late : HoldsSpan h list row.late
-  pub met : HoldsMet h list row.met
+  pub met : HoldsMet h list (met_of row.met)
 
 -- each row says only what is so of the list with its number
 abbrev pub Knows : HierarchyValue → List Row → Type 0

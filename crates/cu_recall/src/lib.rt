@@ -10,6 +10,7 @@
 #![tactic(auto)]
 
 mod driving;
+mod kept;
 mod laws;
 mod looking;
 mod pending;
@@ -21,6 +22,7 @@ mod spans;
 mod tests;
 mod unpacking;
 
+pub use kept::Kept;
 pub use laws::travels_add;
 pub use recall::Recall;
 pub use room::Room;

@@ -1,8 +1,8 @@
 //! Looking a list up: in what is known, or else in the bytes, and then it is known.
 
 ghost use Rattle.std.specs.Prelude.{◌≡◌, ◌≤◌, ◌<◌, ◌-◌, ◌*◌, ◌/◌, ◌↔◌, ℕ, IfSome, IsTrue, Some, length, slice_get};
-ghost use Rattle.cu_chordal.specs.Graphs.{HasEdge};
-ghost use Rattle.cu_interval.specs.Hierarchies.{HierarchyValue, IsHierarchy, start_of, end_of};
+ghost use Rattle.cu_chordal.specs.Graphs.{HasEdge, IsChordal};
+ghost use Rattle.cu_interval.specs.Hierarchies.{HierarchyValue, IsHierarchy, graph_of, start_of, end_of};
 ghost use Rattle.cu_unpack.specs.Steps.Legs.{IsMiddle};
 ghost use Rattle.cu_recall.specs.Spans.{AreHalvesAt, HasSecond, IsListFrom, Knows, dir_of};
 ghost use Rattle.cu_recall.specs.declared.spans.Parts.TheVariants as part;
@@ -13,22 +13,24 @@ use crate::driving::drive;
 use crate::pending::{Asked, Found, Parted};
 use crate::remembering::{meet, remember};
 use crate::spans::{Driven, Met, Parts, Row, Span};
-use cu_chordal::Ends;
-use cu_interval::{Dir, Way, Ways};
+use cu_chordal::{Chordal, Ends};
+use cu_interval::{Dir, Way};
 use cu_pack::PackedView;
 
 /// What driving a list takes, where that is known or its way is a road; else the halves of the way in force.
-pub fn look(view: &PackedView<'_>, rows: &mut [Row], asked: Asked) -> Found
+pub fn look(view: &PackedView<'_>, graph: &Chordal, rows: &mut [Row], asked: Asked) -> Found
+    requires graph { graph.now ≡ graph_of view.now }
     requires asked { IsAsked view.now asked }
     requires size { length rows.old ≡ 2 * length view.now.edges }
     requires knows { Knows view.now rows.old }
+    requires sound { IsHierarchy view.now }
     ensures finds { Finds view.now asked result }
     ensures knows { Knows view.now rows.new }
 {
     if let Some(driven) = known(rows, asked) {
         return Found::Driven(driven);
     }
-    let met = met_at(view, rows, asked);
+    let met = met_at(view, graph, rows, asked);
     match met.parts {
         Parts::Road(road) => Found::Driven(drive_met(view, rows, asked, met, road)),
         Parts::Halves { first, second } => Found::Parted(Parted {
@@ -41,6 +43,7 @@ pub fn look(view: &PackedView<'_>, rows: &mut [Row], asked: Asked) -> Found
 }
 
 /// What driving a list takes, as far as that is known.
+#[inline(always)]
 pub fn known(rows: &[Row], asked: Asked) -> Option<Driven>
     requires list { asked.list < length rows.now }
     ensures holds { (h : HierarchyValue) → Knows h rows.now
@@ -51,6 +54,7 @@ pub fn known(rows: &[Row], asked: Asked) -> Option<Driven>
 }
 
 // A span, said around one of its seconds.
+#[inline(always)]
 fn over_span(span: Span, second: u32) -> Driven
     requires inside { HasSecond span second }
     ensures { result ≡ record {
@@ -88,26 +92,26 @@ fn drive_met(view: &PackedView<'_>, rows: &mut [Row], asked: Asked, met: Met, ro
 }
 
 // The entry of a list in force at a second: the one that was met last, or by the bytes, and then it is the one met last.
-fn met_at(view: &PackedView<'_>, rows: &mut [Row], asked: Asked) -> Met
+fn met_at(view: &PackedView<'_>, graph: &Chordal, rows: &mut [Row], asked: Asked) -> Met
+    requires graph { graph.now ≡ graph_of view.now }
     requires asked { IsAsked view.now asked }
     requires size { length rows.old ≡ 2 * length view.now.edges }
     requires knows { Knows view.now rows.old }
     ensures met { IsMetAt view.now asked result }
-    ensures sound { IsHierarchy view.now }
     ensures knows { Knows view.now rows.new }
 {
-    let _edges = view.edges();
-    let met = rows[asked.list as usize].met;
-    if met.from <= asked.second && asked.second < met.until {
+    if let Some(met) = rows[asked.list as usize].met.at(asked.second) {
         return met;
     }
-    let met = look_up(view, asked);
+    let met = look_up(view, graph, asked);
     meet(rows, asked.list, met);
     met
 }
 
 // The entry by the bytes.
-fn look_up(view: &PackedView<'_>, asked: Asked) -> Met
+#[inline(never)]
+fn look_up(view: &PackedView<'_>, graph: &Chordal, asked: Asked) -> Met
+    requires graph { graph.now ≡ graph_of view.now }
     requires asked { IsAsked view.now asked }
     ensures met { IsMetAt view.now asked result }
 {
@@ -118,7 +122,7 @@ fn look_up(view: &PackedView<'_>, asked: Asked) -> Met
     };
     let parts = match found.way {
         Way::Road(road) => Parts::Road(road),
-        Way::Via(middle) => halves(view, edge, dir, middle),
+        Way::Via(middle) => halves(graph, edge, dir, middle),
     };
     Met {
         from: found.from,
@@ -135,14 +139,15 @@ fn direction(list: u32) -> Dir
 }
 
 // The halves of a list at a middle.
-fn halves(view: &PackedView<'_>, edge: u32, dir: Dir, middle: u32) -> Parts
-    requires sound { IsHierarchy view.now }
-    requires middle { IsMiddle view.now edge dir middle }
-    ensures halves { HoldsPartsOf view.now edge dir middle result }
+fn halves(graph: &Chordal, edge: u32, dir: Dir, middle: u32) -> Parts
+    requires middle { (h : HierarchyValue) × (h.edges ≡ graph.now.edges)
+        × IsMiddle h edge dir middle }
+    ensures halves { (h : HierarchyValue) → h.edges ≡ graph.now.edges
+        → HoldsPartsOf h edge dir middle result }
 {
-    let ends = view.ends(edge);
-    let first = edge_to(view, middle, rank_from(ends, dir));
-    let second = edge_to(view, middle, rank_to(ends, dir));
+    let ends = graph.ends(edge);
+    let first = edge_to(graph, middle, rank_from(ends, dir));
+    let second = edge_to(graph, middle, rank_to(ends, dir));
     Parts::Halves {
         first: 2 * first + 1,
         second: 2 * second,
@@ -170,12 +175,12 @@ fn rank_to(ends: Ends, dir: Dir) -> u32
 }
 
 // The edge between two ranks, which there is.
-fn edge_to(view: &PackedView<'_>, low: u32, high: u32) -> u32
-    requires sound { IsHierarchy view.now }
-    requires there { HasEdge view.now.edges low high }
-    ensures { slice_get view.now.edges result ≡ Some (record { low = low; high = high }) }
+fn edge_to(graph: &Chordal, low: u32, high: u32) -> u32
+    requires sound { IsChordal graph.now }
+    requires there { HasEdge graph.now.edges low high }
+    ensures { slice_get graph.now.edges result ≡ Some (record { low = low; high = high }) }
 {
-    let Some(edge) = view.edge(low, high) else {
+    let Some(edge) = graph.edge(low, high) else {
         unreachable!()
     };
     edge

@@ -4,7 +4,7 @@ ghost use Rattle.std.specs.Prelude.{◌≡◌, ◌≤◌, ◌<◌, ◌+◌, ◌%
 ghost use Rattle.cu_model.specs.Days.{day};
 ghost use Rattle.cu_chordal.specs.declared.graph.TheConstants.{MAX_EDGES};
 ghost use Rattle.cu_interval.specs.Calls.{Adds, IfAt};
-ghost use Rattle.cu_interval.specs.Hierarchies.{IsHierarchy, list_number};
+ghost use Rattle.cu_interval.specs.Hierarchies.{IsHierarchy, IsHierarchyOf, graph_of, list_number};
 ghost use Rattle.cu_interval.specs.Unpacking.{relaxed};
 ghost use Rattle.cu_unpack.specs.Answers.{IsLowWhereBuilt};
 ghost use Rattle.cu_recall.specs.Rooms.{Fits};
@@ -16,6 +16,7 @@ use crate::pending::Asked;
 use crate::room::Room;
 use crate::spans::Driven;
 use crate::unpacking::unpack;
+use cu_chordal::Chordal;
 use cu_interval::{Dir, Relaxed, Relaxer, Ways};
 use cu_model::{DAY, Roads};
 use cu_pack::PackedView;
@@ -26,28 +27,31 @@ use std::marker::Model;
 #[derive(Drop)]
 pub struct Recall<'a> {
     view: &'a PackedView<'a>,
+    graph: &'a Chordal,
     room: Room,
 }
 
 impl<'a> Model for Recall<'a> {
-    ghost use Rattle.cu_interval.specs.Hierarchies.{HierarchyValue};
+    ghost use Rattle.cu_interval.specs.Hierarchies.{HierarchyValue, IsHierarchyOf};
     ghost use Rattle.cu_recall.specs.Rooms.{Fits};
 
     ghost Value = { HierarchyValue };
 
     ghost view = { λ recall. recall.view.now };
 
-    ghost invariant = { λ recall. Fits recall.view.now recall.room };
+    ghost invariant = { λ recall. IsHierarchyOf recall.graph.now recall.view.now
+        × Fits recall.view.now recall.room };
 }
 
 impl<'a> Recall<'a> {
-    /// Relaxations over this file, with room that was made for as many nodes and edges, and knows nothing but what is so of
-    /// its hierarchy. Takes no memory.
-    pub fn new(view: &'a PackedView<'a>, room: Room) -> Recall<'a>
+    /// Relaxations over this file, whose graph this is, with room that was made for as many nodes and edges, and knows nothing
+    /// but what is so of its hierarchy. Takes no memory.
+    pub fn new(view: &'a PackedView<'a>, graph: &'a Chordal, room: Room) -> Recall<'a>
+        requires graph { IsHierarchyOf graph.now view.now }
         requires fits { Fits view.now room }
         ensures view { result ≡ view.now }
     {
-        Recall { view, room }
+        Recall { view, graph, room }
     }
 
     /// Gives the room back, for the next relaxations. Takes no memory.
@@ -74,22 +78,30 @@ impl<'a> Relaxer for Recall<'a> {
         ensures built { IsLowWhereBuilt self.old edge dir at result }
     {
         let view = self.view;
+        let graph = self.graph;
         let room = &mut self.room;
-        relax_over(view, room, edge, dir, at)
+        relax_over(view, graph, room, edge, dir, at)
     }
 }
 
 // The answer of a relaxation, by what is known or else by unpacking.
-fn relax_over(view: &PackedView<'_>, room: &mut Room, edge: u32, dir: Dir, at: u64) -> Relaxed
+fn relax_over(
+    view: &PackedView<'_>,
+    graph: &Chordal,
+    room: &mut Room,
+    edge: u32,
+    dir: Dir,
+    at: u64,
+) -> Relaxed
+    requires graph { graph.now ≡ graph_of view.now }
     requires edge { edge < length view.now.edges }
     requires time { at < 2 ^ 61 }
     requires fits { Fits view.now room.old }
+    requires sound { IsHierarchy view.now }
     ensures answer { result ≡ relaxed view.now edge dir at }
     ensures near { IfAt result (λ (arrival : ℕ). (at ≤ arrival) × (arrival ≤ at + 2 ^ 38)) }
-    ensures sound { IsHierarchy view.now }
     ensures fits { Fits view.now room.new }
 {
-    let _edges = view.edges();
     let asked = asked_of(edge, dir, at);
     if let Some(driven) = known(&room.rows, asked) {
         return answer(view, edge, dir, at, driven);
@@ -97,7 +109,7 @@ fn relax_over(view: &PackedView<'_>, room: &mut Room, edge: u32, dir: Dir, at: u
     if view.entries(edge, dir) == 0 {
         return Relaxed::NoWay;
     }
-    match unpack(view, &mut room.rows, &mut room.pending, asked) {
+    match unpack(view, graph, &mut room.rows, &mut room.pending, asked) {
         Some(driven) => answer(view, edge, dir, at, driven),
         None => Relaxed::Long,
     }

@@ -1,11 +1,13 @@
 //! Keeping what was met, row by row.
 
-ghost use Rattle.std.specs.Prelude.{◌≡◌, ◌<◌, length};
+ghost use Rattle.std.specs.Prelude.{◌≡◌, ◌≤◌, ◌<◌, length};
 ghost use Rattle.cu_interval.specs.Hierarchies.{HierarchyValue};
 ghost use Rattle.cu_recall.specs.Spans.{HoldsMet, Knows};
 ghost use Rattle.cu_recall.specs.Windows.{HoldsDriven, IsWindow};
 
+use crate::kept::Kept;
 use crate::spans::{Driven, Met, Row};
+use cu_model::DAY;
 
 /// Keeps what driving a list from a second of the day took, where it finds room.
 pub fn remember(rows: &mut [Row], list: u32, second: u32, driven: Driven)
@@ -22,8 +24,10 @@ pub fn remember(rows: &mut [Row], list: u32, second: u32, driven: Driven)
 /// Keeps an entry of a list.
 pub fn meet(rows: &mut [Row], list: u32, met: Met)
     requires list { list < length rows.old }
+    requires order { met.from ≤ met.until }
+    requires day { met.until ≤ DAY }
     ensures knows { (h : HierarchyValue) → Knows h rows.old → HoldsMet h list met
         → Knows h rows.new }
 {
-    rows[list as usize].meet(met);
+    rows[list as usize].meet(Kept::of(met));
 }

@@ -2,8 +2,11 @@
 
 ghost use Rattle.std.specs.Prelude.{◌≡◌, ◌≤◌, ◌<◌, ◌↔◌, ℕ, IfSome, IsTrue};
 ghost use Rattle.cu_interval.specs.Hierarchies.{HierarchyValue};
-ghost use Rattle.cu_recall.specs.Spans.{HasSecond, HoldsMet, HoldsRow, HoldsSpan};
+ghost use Rattle.cu_recall.specs.Spans.{HasSecond, HoldsMet, HoldsRow, HoldsSpan, met_of};
 ghost use Rattle.cu_recall.specs.Windows.{HoldsDriven, IsWindow};
+
+use crate::kept::Kept;
+use std::mem::size_of;
 
 /// Seconds of the day, `seconds` of them from `from` on, at each of which a list's walk takes `travel` seconds over `roads`
 /// roads. Where there are none it says nothing.
@@ -32,13 +35,16 @@ pub struct Met {
 }
 
 /// What is known of one list: the latest span, the widest that was met in each third of the day, and the entry met last.
+///
+/// It has as many bytes as a line of the processor's cache. The C library lets a large table begin 16 bytes behind the start
+/// of a line, so the spans, which most calls need alone, come first: all four are then on one line.
 #[derive(Clone, Copy, Debug, PartialEq, Eq)]
 pub struct Row {
     pub latest: Span,
     pub early: Span,
     pub noon: Span,
     pub late: Span,
-    pub met: Met,
+    pub met: Kept,
 }
 
 /// What driving a list from a second of the day takes, and for how many seconds before it, and how many from it on, that
@@ -51,6 +57,13 @@ pub struct Driven {
     pub roads: u32,
 }
 
+// Where the second and the last third of the day begin.
+const SECOND_THIRD: u32 = 28_800;
+
+const LAST_THIRD: u32 = 57_600;
+
+const _: () = prove!(size_of::<Row>() == 64);
+
 impl Span {
     const NOTHING: Span = Span {
         from: 0,
@@ -60,6 +73,7 @@ impl Span {
     };
 
     /// Whether it has this second of the day.
+    #[inline(always)]
     pub fn has(&self, second: u32) -> bool
         ensures { IsTrue result ↔ HasSecond self.now second }
     {
@@ -74,15 +88,40 @@ impl Row {
         early: Span::NOTHING,
         noon: Span::NOTHING,
         late: Span::NOTHING,
-        met: Met {
-            from: 0,
-            until: 0,
-            parts: Parts::Road(0),
-        },
+        met: Kept::NOTHING,
     };
 
-    /// The span that has this second of the day.
+    /// A span that has this second of the day, if one does: first the one of its third of the day, which most often has it.
+    #[inline(always)]
     pub fn at(&self, second: u32) -> Option<Span>
+        ensures inside { IfSome result (λ span. HasSecond span second) }
+        ensures holds { (h : HierarchyValue) (list : ℕ) → HoldsRow h list self.now
+            → IfSome result (λ span. HoldsSpan h list span) }
+    {
+        let widest = self.widest(second);
+        if widest.has(second) {
+            return Some(widest);
+        }
+        self.any(second)
+    }
+
+    // The span of this second's third of the day.
+    #[inline(always)]
+    fn widest(&self, second: u32) -> Span
+        ensures holds { (h : HierarchyValue) (list : ℕ) → HoldsRow h list self.now
+            → HoldsSpan h list result }
+    {
+        if second < SECOND_THIRD {
+            self.early
+        } else if second < LAST_THIRD {
+            self.noon
+        } else {
+            self.late
+        }
+    }
+
+    // A span that has this second of the day, if one does.
+    fn any(&self, second: u32) -> Option<Span>
         ensures inside { IfSome result (λ span. HasSecond span second) }
         ensures holds { (h : HierarchyValue) (list : ℕ) → HoldsRow h list self.now
             → IfSome result (λ span. HoldsSpan h list span) }
@@ -109,9 +148,9 @@ impl Row {
             → HoldsSpan h list span → HoldsRow h list self.new }
     {
         self.latest = span;
-        if second < 28_800 {
+        if second < SECOND_THIRD {
             self.early = wider(self.early, span);
-        } else if second < 57_600 {
+        } else if second < LAST_THIRD {
             self.noon = wider(self.noon, span);
         } else {
             self.late = wider(self.late, span);
@@ -119,9 +158,9 @@ impl Row {
     }
 
     /// Keeps an entry that was met.
-    pub fn meet(&mut self, met: Met)
+    pub fn meet(&mut self, met: Kept)
         ensures holds { (h : HierarchyValue) (list : ℕ) → HoldsRow h list self.old
-            → HoldsMet h list met → HoldsRow h list self.new }
+            → HoldsMet h list (met_of met) → HoldsRow h list self.new }
     {
         self.met = met;
     }

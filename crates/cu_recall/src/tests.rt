@@ -8,7 +8,7 @@ use cu_chordal::close;
 use cu_customize::customize;
 use cu_interval::{Dir, Hierarchy, Relaxed, Relaxer, Ways};
 use cu_model::{Network, Order, Piece, Profile, RoadArc, Roads, Rule};
-use cu_pack::{PackedView, pack};
+use cu_pack::{PackedView, chordal_of, pack};
 use cu_unpack::{Unpacker, Work};
 use std::alloc::Global;
 use std::test::Fail;
@@ -69,8 +69,9 @@ fn remembers_what_is_so(rt: HostRuntime) -> Result<(), Fail> {
     let alloc = rt.alloc();
     let bytes = pack(alloc, &hierarchy(alloc)?)?;
     let view = PackedView::open(alloc, &bytes)?;
+    let graph = chordal_of(alloc, &view)?;
     let edges = view.edges();
-    let mut recall = Recall::new(&view, Room::new(alloc, view.nodes(), edges)?);
+    let mut recall = Recall::new(&view, &graph, Room::new(alloc, view.nodes(), edges)?);
     let mut unpacker = Unpacker::new(&view, Work::new(alloc, view.nodes())?);
     let rows: [(u32, Dir, u32, Relaxed); 12] = [
         (4, Dir::Up, 0, Relaxed::At(220)),
@@ -96,7 +97,7 @@ fn remembers_what_is_so(rt: HostRuntime) -> Result<(), Fail> {
     }
     let mut room = recall.into_room();
     room.forget();
-    let mut recall = Recall::new(&view, room);
+    let mut recall = Recall::new(&view, &graph, room);
     assert_eq!(rt;
         ask(&mut recall, edges, 4, Dir::Up, 28_740),
         Some(Relaxed::At(29_140))

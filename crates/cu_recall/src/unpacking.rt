@@ -3,7 +3,7 @@
 
 ghost use Rattle.std.specs.Prelude.{◌≡◌, ◌≤◌, ◌<◌, ◌+◌, ◌*◌, ◌%◌, ◌^◌, length, min};
 ghost use Rattle.cu_model.specs.Days.{day};
-ghost use Rattle.cu_interval.specs.Hierarchies.{IsHierarchy};
+ghost use Rattle.cu_interval.specs.Hierarchies.{IsHierarchy, graph_of};
 ghost use Rattle.cu_recall.specs.declared.pending.Half.TheVariants as half;
 ghost use Rattle.cu_recall.specs.Spans.{Knows, low_of_list};
 ghost use Rattle.cu_recall.specs.Windows.{HoldsDriven};
@@ -14,29 +14,32 @@ use crate::looking::look;
 use crate::pending::{After, Asked, Found, Half, Parted, Pending, Spot};
 use crate::remembering::remember;
 use crate::spans::{Driven, Row};
-use cu_interval::Ways;
+use cu_chordal::Chordal;
 use cu_model::{DAY, Roads};
 use cu_pack::PackedView;
 
 /// What driving a list takes; None where its walk has as many roads as there are nodes.
+#[inline(never)]
 pub fn unpack(
     view: &PackedView<'_>,
+    graph: &Chordal,
     rows: &mut [Row],
     pending: &mut [Pending],
     whole: Asked,
 ) -> Option<Driven>
+    requires graph { graph.now ≡ graph_of view.now }
     requires asked { IsAsked view.now whole }
     requires size { length rows.old ≡ 2 * length view.now.edges }
     requires room { length pending.old ≡ view.now.network.nodes }
     requires knows { Knows view.now rows.old }
+    requires sound { IsHierarchy view.now }
     ensures unpacks { Unpacks view.now whole result }
     ensures knows { Knows view.now rows.new }
 {
-    let _edges = view.edges();
     let nodes = view.nodes();
     let mut spot = start(whole);
     'parts: loop {
-        let (next, driven) = go_down(view, rows, pending, spot);
+        let (next, driven) = go_down(view, graph, rows, pending, spot);
         if driven.roads >= nodes - next.roads {
             return None;
         }
@@ -62,10 +65,12 @@ fn start(whole: Asked) -> Spot
 // Parts the list that is next at its middle, and its first half, and so on, until what driving one takes is found.
 fn go_down(
     view: &PackedView<'_>,
+    graph: &Chordal,
     rows: &mut [Row],
     pending: &mut [Pending],
     spot: Spot,
 ) -> (Spot, Driven)
+    requires graph { graph.now ≡ graph_of view.now }
     requires somewhere { IsSomewhere view.now pending.old spot }
     requires size { length rows.old ≡ 2 * length view.now.edges }
     requires room { length pending.old ≡ view.now.network.nodes }
@@ -79,7 +84,7 @@ fn go_down(
 {
     let mut spot = spot;
     'parts: loop {
-        match look(view, rows, spot.next) {
+        match look(view, graph, rows, spot.next) {
             Found::Driven(driven) => return (spot, driven),
             Found::Parted(parted) => spot = part(view, pending, spot, parted),
         }

@@ -118,10 +118,10 @@ impl Router {
         let view = adopt(&self.bytes);
         let from = view.rank(query.from);
         let to = view.rank(query.to);
-        let mut recall = Recall::new(&view, room);
-        let mut unpacker = Unpacker::new(&view, work);
         let tree = &self.tree;
         let graph = &self.graph;
+        let mut recall = Recall::new(&view, graph, room);
+        let mut unpacker = Unpacker::new(&view, work);
         let desk = &mut self.desk;
         let outcome = put_swept(
             tree,
@@ -156,9 +156,9 @@ impl Router {
         let view = adopt(&self.bytes);
         let from = view.rank(query.from);
         let to = view.rank(query.to);
-        let mut recall = Recall::new(&view, room);
         let tree = &self.tree;
         let graph = &self.graph;
+        let mut recall = Recall::new(&view, graph, room);
         let desk = &mut self.desk;
         let arrival = find_swept(tree, graph, desk, &mut recall, from, to, query);
         self.room = Some(recall.into_room());

@@ -19,12 +19,12 @@ answer-requires-clause-driven c =
 
 pub returns-then-entries-eq0-clause-answer : goal.returns-then-entries-eq0-clause-answer
 returns-then-entries-eq0-clause-answer c =
-    sym (empty_none c.args.view.now c.edges-edges.ensures.sound c.args.edge c.args.dir c.args.at c.requires.edge (omega (arith, c.entries.ensures.count, c.if-entries-eq0.true)))
+    sym (empty_none c.args.view.now c.requires.sound c.args.edge c.args.dir c.args.at c.requires.edge (omega (arith, c.entries.ensures.count, c.if-entries-eq0.true)))
 
 pub unpack-requires-clause-asked : goal.unpack-requires-clause-asked
 unpack-requires-clause-asked c =
     let h = c.args.view.now in
-    let some = edge_is_asked h c.edges-edges.ensures.sound c.args.edge c.args.dir c.args.at c.requires.edge (omega (arith, c.entries.ensures.count, c.if-entries-eq0.false)) in
+    let some = edge_is_asked h c.requires.sound c.args.edge c.args.dir c.args.at c.requires.edge (omega (arith, c.entries.ensures.count, c.if-entries-eq0.false)) in
     subst (IsAsked h) (sym c.asked_of-asked.ensures) some
 
 pub unpack-requires-clause-knows : goal.unpack-requires-clause-knows
@@ -44,7 +44,7 @@ returns-clause-answer c =
       | in-None w ↦
           let long = subst (Unpacks h c.asked_of-asked.result) w.in-None.is c.unpack.ensures.unpacks in
           let edge = subst (λ (asked : Asked). Unpacks h asked None) c.asked_of-asked.ensures long in
-          w.result-is ∙ sym (unpacked_long h c.edges-edges.ensures.sound c.args.edge c.args.dir c.args.at c.requires.edge (omega (arith, c.entries.ensures.count, c.if-entries-eq0.false)) edge)
+          w.result-is ∙ sym (unpacked_long h c.requires.sound c.args.edge c.args.dir c.args.at c.requires.edge (omega (arith, c.entries.ensures.count, c.if-entries-eq0.false)) edge)
     ]
 
 pub returns-clause-fits : goal.returns-clause-fits

@@ -5,6 +5,7 @@ use Rattle.cu_recall.proofs.tests.remembers_what_is_so.Goals as goal
 
 pub new-recall-requires : goal.new-recall-requires
 new-recall-requires g c = record {
+  graph = (c.in_ok-graph.ensures.same, c.edges-edges.ensures.sound);
   fits = record {
     nodes = c.in_ok-new.ensures.nodes ∙ c.nodes.ensures.count;
     lists = omega (arith, c.in_ok-new.ensures.lists, c.edges-edges.ensures.count);
@@ -17,6 +18,7 @@ new-recall-requires-2 g c =
     let same = c.rows.invariant.recall ∙ c.new-recall.ensures.view in
     let held = subst (λ (h : HierarchyValue). Fits h c.into_room-room.result) same c.into_room-room.ensures.fits in
     record {
+      graph = (c.in_ok-graph.ensures.same, c.edges-edges.ensures.sound);
       fits = record {
         nodes = c.forget.ensures.nodes ∙ held.nodes;
         lists = c.forget.ensures.lists ∙ held.lists;
