@@ -253,6 +253,25 @@ fn disk_keeps_whole_files(rt: HostRuntime) -> Result<(), Fail> {
     Ok(())
 }
 
+// Leaves files in a folder, as crashes do, under the names that a store there tries first.
+fn leave_behind(rt: &HostRuntime, count: u32) -> Result<(), Fail> {
+    fs::create_dir(rt, "crashed")?;
+    for number in 0..count {
+        let name = format!(in rt.alloc(); "crashed/.stored-{number}")?;
+        fs::write(rt, name.as_str(), "left")?;
+    }
+    Ok(())
+}
+
+#[test]
+fn leftovers_of_crashes_keep_no_file_out(rt: HostRuntime) -> Result<(), Fail> {
+    leave_behind(&rt, 20)?;
+    assert!(rt; keeps(&rt, "crashed/file", b"text"));
+    assert!(rt; holds(&rt, "crashed/.stored-19", b"left"));
+    fs::remove_dir_all(&rt, "crashed")?;
+    Ok(())
+}
+
 // Whether a store under a link leaves the link, and replaces what it leads to, which keeps its mode.
 fn follows_link(rt: &HostRuntime) -> io::Result<bool> {
     fs::write(rt, "target", "old")?;
