@@ -77,6 +77,18 @@ impl Arrival {
         Ok(Arrival::of_runs(runs))
     }
 
+    /// The function of these runs.
+    pub fn from_runs(alloc: Global, runs: &[Run]) -> Result<Arrival, NoMemory>
+        requires { IsArrivalFunction runs.now }
+        ensures { IfOk result (λ arrival. arrival ≡ runs.now) }
+    {
+        let mut list = RunList::with_capacity(alloc, runs.len())?;
+        for run in runs {
+            list.push(*run)?;
+        }
+        Ok(Arrival { runs: list })
+    }
+
     /// A function of the same runs.
     pub fn copy(&self, alloc: Global) -> Result<Arrival, NoMemory>
         ensures same { IfOk result (λ copy. copy ≡ self.now) }
