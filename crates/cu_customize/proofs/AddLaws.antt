@@ -2,6 +2,7 @@
 use Rattle.std.proofs.Common.{◌≡◌, ◌≤◌, ◌<◌, ◌+◌, ◌-◌, ◌++◌, ◌∙◌, ℕ, zero, suc, List, [], ◌∷◌, Some, refl, sym, ap, subst, arith, inl, inr, length, get_or, min, take}
 use Rattle.std.specs.Prelude.{slice_get, slice_set}
 use Rattle.std.specs.Option.{option_map}
+use Rattle.std.specs.Global.{Vec}
 use Rattle.std.specs.List.{zip}
 use Rattle.std.proofs.lemmas.Bool.{cases_lt}
 use Rattle.std.proofs.lemmas.List.{length_push}
@@ -19,9 +20,9 @@ use Rattle.cu_model.proofs.Tiling.{IsTiled}
 use Rattle.cu_customize.specs.declared.merging.Least.{Least}
 use Rattle.cu_customize.specs.declared.merging.Next.{Next}
 use Rattle.cu_customize.specs.Words.{IsDayList, IsFunctionWords, composed, end_run}
-use Rattle.cu_customize.specs.Least.{Held, held_from, held_at, least_arrival, least_way, way_with, KeepsDayOrder}
+use Rattle.cu_customize.specs.Least.{Held, held_from, held_at, least_arrival, least_way, tie_with, way_with, KeepsDayOrder}
 use Rattle.cu_customize.specs.declared.merging.TheConstants.{MOST, NOBODY}
-use Rattle.cu_customize.specs.Steps.Merging.{least_held, next_held, IsHeld, IsLeast, IsNext, IsMerging, IsMerged, SaysMerged}
+use Rattle.cu_customize.specs.Steps.Merging.{least_held, next_held, IsHeld, IsNext, IsMerging, IsMerged, SaysMerged}
 use Rattle.cu_customize.proofs.DayLists.{two_words, repeats, item_from}
 use Rattle.cu_customize.proofs.LinkLaws.{tiled_closed, last_pushed}
 use Rattle.cu_customize.proofs.MergeLaws.{zip_push, length_zip, not_below}
@@ -71,7 +72,7 @@ merged_arrival l m arrival way merged t h =
     let chosen : least_way (least_held m) t ≡ held.1 = rw here refl in
     (value ∙ said.0, chosen ∙ said.1)
 
--- where nothing was put the candidate is nowhere earlier
+-- where nothing was put the candidate wins nowhere
 pub nothing_put : (l : Least) (arrival : ℕ → ℕ) (way : ℕ) (n : Next) → n.words.items ≡ [] → IsMerging l arrival way n day → (t : ℕ) → t < day
     → (least_arrival (least_held l) t ≡ min (least_arrival (least_held l) t) (arrival t)) × (least_way (least_held l) t ≡ way_with (least_held l) (arrival t) way t)
 nothing_put l arrival way n none merging t h =
@@ -82,7 +83,7 @@ nothing_put l arrival way n none merging t h =
       | inr ge ↦ omega (arith, ge)
     ] in
     let later = merging.held t (omega (arith, start)) h in
-    let test = not_below (arrival t) (least_arrival (least_held l) t) later in
+    let test = not_below (arrival t) (least_arrival (least_held l) t + tie_with (least_held l) way t) later in
     (omega (arith, later), sym (rw test refl))
 
 -- the composition of two functions keeps order
@@ -137,13 +138,20 @@ restarted l n is even index done =
       in_day = omega (arith, done);
     }
 
+-- the lists that have been swapped in are the finished ones
+pub merged_lists : (l : Least) (arrival : ℕ → ℕ) (way : ℕ) (n : Next) (words : Vec Run) (ways : Vec ℕ) → words ≡ n.words → ways ≡ n.ways
+    → IsMerged l arrival way n.words.items n.ways.items → IsMerged l arrival way words.items ways.items
+merged_lists l arrival way n words ways same_words same_ways merged = rw (same_words, same_ways) merged
+
 -- a merger stays one
-pub still_least : (l m : Least) (arrival : ℕ → ℕ) (way : ℕ) (first second : List Run) → IsFunctionWords first → IsFunctionWords second → IsLeast l
-    → ((t : ℕ) → t < day → arrival t ≡ composed first second t) → IsMerged l arrival way m.words.items m.ways.items → IsLeast m
-still_least l m arrival way first second f g is value merged = record {
-  held = record { over_day = merged.over_day; even = merged.even };
-  order = lesser_order (least_arrival (least_held l)) (least_arrival (least_held m)) (composed first second) is.order (composed_order first second f g)
-      (λ t h. let both = merged_arrival l m arrival way merged t h in let same = value t h in omega (arith, both.0, same));
+pub still_held : (l m : Least) (arrival : ℕ → ℕ) (way : ℕ) → IsMerged l arrival way m.words.items m.ways.items → IsHeld m
+still_held l m arrival way merged = record { over_day = merged.over_day; even = merged.even }
+
+-- where nobody arrives no later departure arrives earlier
+pub none_order : (f : ℕ → ℕ) → ((t : ℕ) → t < day → f t ≡ MOST) → KeepsDayOrder f
+none_order f none = record {
+  in_day = λ s h. let here = none s (omega (arith, h)) in let next = none (s + 1) h in omega (arith, here, next);
+  midnight = let here = none (day - 1) (omega arith) in let next = none 0 (omega arith) in omega (arith, here, next);
 }
 
 -- the run that says that there is no candidate
@@ -162,22 +170,14 @@ none_held last t h =
 
 -- a merger with no candidate
 pub cleared : (l : Least) (last : ℕ) → l.words.items ≡ no_run ∷ end_run ∷ [] → l.ways.items ≡ NOBODY ∷ last ∷ []
-    → IsLeast l × ((t : ℕ) → t < day → (least_arrival (least_held l) t ≡ MOST) × (least_way (least_held l) t ≡ NOBODY))
+    → IsHeld l × ((t : ℕ) → t < day → (least_arrival (least_held l) t ≡ MOST) × (least_way (least_held l) t ≡ NOBODY))
 cleared l last words ways =
     let over_day : IsDayList (no_run ∷ end_run ∷ []) = record { starts = refl; rises = none_rises; ends = refl } in
     let held : IsHeld l = record { over_day = subst IsDayList (sym words) over_day; even = rw (words, ways) refl } in
     let same : least_held l ≡ zip (no_run ∷ end_run ∷ []) (NOBODY ∷ last ∷ []) = rw (words, ways) refl in
     let said : (t : ℕ) → t < day → (least_arrival (least_held l) t ≡ MOST) × (least_way (least_held l) t ≡ NOBODY) =
-    λ t h. let here : held_at (least_held l) t ≡ Some (no_run, NOBODY) = ap (λ (hs : List Held). held_at hs t) same ∙ none_held last t h in (rw here refl, rw here refl) in (
-      record {
-        held = held;
-        order = record {
-          in_day = λ s h. let here = said s (omega (arith, h)) in let next = said (s + 1) h in omega (arith, here.0, next.0);
-          midnight = let here = said (day - 1) (omega arith) in let next = said 0 (omega arith) in omega (arith, here.0, next.0);
-        };
-      },
-      said,
-    )
+    λ t h. let here : held_at (least_held l) t ≡ Some (no_run, NOBODY) = ap (λ (hs : List Held). held_at hs t) same ∙ none_held last t h in (rw here refl, rw here refl) in
+    (held, said)
 
 -- the two items of a list that is cut and written over
 pub two_set : {A : Type 0} (xs : List A) (a b : A) → 1 < length xs → slice_set (slice_set (take 2 xs) 0 a) 1 b ≡ a ∷ b ∷ []
@@ -193,7 +193,7 @@ run_is run from rule is_from is_rule =
 pub cut : (l m : Least) (words : List Run) (ways : List ℕ) (start end : Run) → IsHeld l → words ≡ take 2 l.words.items → ways ≡ take 2 l.ways.items
     → start.from ≡ 0 → start.rule ≡ Fixed MOST → end ≡ end_run
     → m.words.items ≡ slice_set (slice_set words 0 start) 1 end → m.ways.items ≡ slice_set (slice_set ways 0 NOBODY) 1 NOBODY
-    → IsLeast m × ((t : ℕ) → t < day → (least_arrival (least_held m) t ≡ MOST) × (least_way (least_held m) t ≡ NOBODY))
+    → IsHeld m × ((t : ℕ) → t < day → (least_arrival (least_held m) t ≡ MOST) × (least_way (least_held m) t ≡ NOBODY))
 cut l m words ways start end is cut_words cut_ways starts rule is_end is_words is_ways =
     let two = two_words l.words.items is.over_day in
     let first = run_is start 0 (Fixed MOST) starts rule in

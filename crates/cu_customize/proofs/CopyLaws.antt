@@ -8,7 +8,7 @@ use Rattle.cu_model.proofs.Tiling.{IsTiled}
 use Rattle.cu_customize.specs.declared.merging.Least.{Least}
 use Rattle.cu_customize.specs.declared.merging.Next.{Next}
 use Rattle.cu_customize.specs.Words.{IsDayList}
-use Rattle.cu_customize.specs.Least.{Held, held_from, least_arrival}
+use Rattle.cu_customize.specs.Least.{Held, held_from, least_arrival, tie_with}
 use Rattle.cu_customize.specs.Steps.Merging.{least_held, next_held, IsHeld, IsMerging, IsBefore, CopiesBehind, SaysMerged, Puts}
 use Rattle.cu_customize.proofs.DayLists.{next_from, has_next}
 use Rattle.cu_customize.proofs.MergeLaws.{old_at, says_old, tiled_put}
@@ -16,7 +16,7 @@ use Rattle.cu_customize.proofs.MergeLaws.{old_at, says_old, tiled_put}
 -- what is copied behind the run of an index, up to the run behind that of another or until a second
 abbrev pub CopiesTo : Least → ℕ → ℕ → Next → Next → ℕ → Type 0
 CopiesTo least first until old new index = (arrival : ℕ → ℕ) (way : ℕ) (next after : Run) → slice_get least.words.items (first + 1) ≡ Some next → slice_get least.words.items (index + 1) ≡ Some after
-    → ((s : ℕ) → next.from ≤ s → s < until → least_arrival (least_held least) s ≤ arrival s)
+    → ((s : ℕ) → next.from ≤ s → s < until → least_arrival (least_held least) s + tie_with (least_held least) way s ≤ arrival s)
     → IsTiled held_from (SaysMerged least arrival way) (next_held old) (min next.from until) → (next.from ≤ after.from) × IsTiled held_from (SaysMerged least arrival way) (next_held new) (min after.from until)
 
 -- the run of the next index is from later

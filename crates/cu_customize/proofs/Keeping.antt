@@ -24,9 +24,9 @@ use Rattle.cu_interval.specs.FirstWays.{IsBuiltList}
 use Rattle.cu_interval.specs.Hierarchies.{end_of, list_number, number_from, start_of}
 use Rattle.cu_interval.specs.Low.{IsLeastLowDrive}
 use Rattle.cu_interval.proofs.Lookups.{number_found}
-use Rattle.cu_customize.specs.Functions.{AreFunctionsOf, IsLowFunction, IsRoadFunction}
+use Rattle.cu_customize.specs.Functions.{AreFunctionsOf, IsLowFunction, IsRoadFunction, kept_state, road_if, value_kept}
 use Rattle.cu_customize.specs.Settling.{IsSettledList, KnowsHalves}
-use Rattle.cu_customize.specs.Steps.Kept.{IsBuiltTo, kept_state, road_if, value_kept}
+use Rattle.cu_customize.specs.Steps.Kept.{IsBuiltTo}
 use Rattle.cu_customize.proofs.Lows.{HasLeastBelow, IsDailyValueOf, settled_low}
 use Rattle.cu_customize.proofs.LowFunctions.{low_edge, low_edge_back, settled_built}
 use Rattle.cu_customize.proofs.Settles.{setting_at}

@@ -11,12 +11,12 @@ use Rattle.cu_arrival.specs.declared.runs.RunRule.TheVariants.{Shift, Fixed}
 use Rattle.cu_arrival.specs.Runs.{run_at, run_value, rule_value, rule_number, arrival_value}
 use Rattle.cu_arrival.proofs.RunLaws.{value_in_day}
 use Rattle.cu_arrival.specs.Steps.Stretches.{arrives}
-use Rattle.cu_model.proofs.Tiling.{IsTiled, tiled_push, tiled_none}
+use Rattle.cu_model.proofs.Tiling.{IsTiled, tiled_push}
 use Rattle.cu_customize.specs.declared.linking.Place.{Place}
-use Rattle.cu_customize.specs.Words.{IsDayList, IsFunctionWords, end_run, after_shift, after_arrival, composed, is_fixed}
+use Rattle.cu_customize.specs.Words.{IsDayList, end_run, after_shift, after_arrival, is_fixed}
 use Rattle.cu_customize.specs.declared.words.TheConstants.{MAX_NUMBER}
 use Rattle.cu_customize.specs.Steps.Linking.{IsPlace, IsSaid, Says, Continues}
-use Rattle.cu_customize.proofs.DayLists.{has_next, two_words, starts_from, next_from, from_in_day, value_after, value_in_force}
+use Rattle.cu_customize.proofs.DayLists.{next_from, value_after}
 
 -- an item that is there is the same by any other
 pub get_or-same : {A : Type 0} (xs : List A) (i : ℕ) (d e : A) → i < length xs → get_or xs i d ≡ get_or xs i e
@@ -117,50 +117,6 @@ pub read_limit : (words : List Run) (i : ℕ) (read : Run) → All (λ (run : Ru
     → read ≡ get_or words i read → rule_number read.rule ≤ MAX_NUMBER
 read_limit words i read limits inside same = subst (λ (run : Run). rule_number run.rule ≤ MAX_NUMBER) (sym same) (limits i read inside)
 
--- what the composition has come to at a second: the first function's run of this index begins here, and the second's place holds its arrival
-pub record IsComposing (first second linked : List Run) (reached : Place) (index at : ℕ) : Type 0 where
-  pub inside : index < length first
-  pub from : (d : Run) → (get_or first index d).from ≡ at
-  pub place : IsPlace second reached (arrival_value first at)
-  pub said : IsSaid (composed first second) linked at
-
-module _ (first : List Run) (f : IsFunctionWords first) (index at until : ℕ) (run next : Run) (inside : index + 1 < length first)
-    (is_run : run ≡ get_or first index run) (is_next : next ≡ get_or first (index + 1) next) (from : (d : Run) → (get_or first index d).from ≡ at) (is_until : until ≡ next.from) where
-  next_begins : until ≡ (get_or first (index + 1) run).from
-  next_begins =
-      let other : get_or first (index + 1) run ≡ next = get_or-same first (index + 1) run next inside ∙ sym is_next in
-      is_until ∙ sym (ap (λ (r : Run). r.from) other)
-
-  pub step_order : (at < until) × (until ≤ day)
-  step_order =
-      let order = next_from first f.over_day index run inside in
-      let end = from_in_day first f.over_day (index + 1) run inside in
-      let start = from run in
-      let stop = next_begins in
-      (omega (arith, order, start, stop), omega (arith, end, stop))
-
-  -- the run's arrivals are the function's
-  pub step_value : (s : ℕ) → at ≤ s → s < until → arrival_value first s ≡ arrives run.rule s
-  step_value s late early =
-      let start = from run in
-      let stop = next_begins in
-      value_in_force first f.over_day index s run inside (omega (arith, start, late)) (omega (arith, stop, early)) ∙ ap (λ (r : Run). arrives r.rule s) (sym is_run)
-
-  pub step_preserved : (second old new : List Run) (place last : Place) → IsComposing first second old place index at → IsPlace second last (arrives run.rule (until - 1))
-      → Continues second (arrives run.rule) at until old new → IsComposing first second new last (index + 1) until
-  step_preserved second old new place last composing arrived continued =
-      let order = step_order in
-      let before : arrival_value first (until - 1) ≡ arrives run.rule (until - 1) = step_value (until - 1) (omega (arith, order.0)) (omega (arith, order.0)) in
-      let rise = f.fifo (until - 1) (omega (arith, order.0, order.1)) in
-      let is_until : until - 1 + 1 ≡ until = omega (arith, order.0) in
-      let never_falls = subst (λ (s : ℕ). arrival_value first (until - 1) ≤ arrival_value first s) is_until rise in
-      record {
-        inside = inside;
-        from = λ d. ap (λ (r : Run). r.from) (get_or-same first (index + 1) d run inside) ∙ sym next_begins;
-        place = place_later second last (arrives run.rule (until - 1)) (arrival_value first until) arrived (omega (arith, before, never_falls));
-        said = continued (composed first second) composing.said (λ s late early. ap (arrival_value second) (step_value s late early));
-      }
-
 -- at the end of the day the list is closed by an item that is never in force
 pub tiled_closed : {A : Type 0} (from : A → ℕ) (says : A → ℕ → Type 0) (xs : List A) (x : A) → IsTiled from says xs day → from x ≡ day
     → IsTiled from (λ y s. s < day → says y s) (xs ++ x ∷ []) (day + 1)
@@ -199,37 +155,3 @@ closed f xs said =
           let of_run : run_value (run_at (xs ++ end_run ∷ []) t) 0 t ≡ rule_value run.rule 0 t = rw last refl in
           value_in_day (xs ++ end_run ∷ []) t h ∙ of_run ∙ rule_at_once run.rule t ∙ says h,
     )
-
--- before the first run
-pub composing_none : (first second linked : List Run) (place : Place) (read : Run) → IsFunctionWords first → linked ≡ [] → read ≡ get_or first 0 read
-    → IsPlace second place (arrives read.rule 0) → IsComposing first second linked place 0 0
-composing_none first second linked place read f none is_read is_place =
-    let two = two_words first f.over_day in
-    let next = next_from first f.over_day 0 read two in
-    let value : arrival_value first 0 ≡ arrives read.rule 0 =
-    value_in_force first f.over_day 0 0 read two (omega (arith, starts_from first f.over_day read)) (omega (arith, next)) ∙ ap (λ (r : Run). arrives r.rule 0) (sym is_read) in
-    record {
-      inside = omega (arith, two);
-      from = λ d. starts_from first f.over_day d;
-      place = subst (λ (t : ℕ). IsPlace second place t) (sym value) is_place;
-      said = subst (λ (xs : List Run). IsSaid (composed first second) xs 0) (sym none) (tiled_none (λ (run : Run). run.from) (Says (composed first second)));
-    }
-
--- while the day lasts there is a further run
-pub composing_next : (first second linked : List Run) (place : Place) (index at : ℕ) → IsFunctionWords first → IsComposing first second linked place index at
-    → at < day → index + 1 < length first
-composing_next first second linked place index at f composing before =
-    let d : Run = end_run in
-    has_next first f.over_day index d composing.inside (omega (arith, composing.from d, before))
-
--- and after it the list is closed
-pub composing_closed : (first second linked new : List Run) (place : Place) (index at : ℕ) (end : Run) → IsFunctionWords first → IsComposing first second linked place index at
-    → day ≤ at → end ≡ end_run → new ≡ linked ++ end ∷ []
-    → IsDayList new × ((t : ℕ) → t < day → arrival_value new t ≡ composed first second t)
-composing_closed first second linked new place index at end f composing late is_end is_new =
-    let d : Run = end_run in
-    let last = from_in_day first f.over_day index d composing.inside in
-    let is_day : at ≡ day = omega (arith, last, late, composing.from d) in
-    let done = closed (composed first second) linked (subst (λ (t : ℕ). IsSaid (composed first second) linked t) is_day composing.said) in
-    let same : new ≡ linked ++ end_run ∷ [] = is_new ∙ ap (λ (x : Run). linked ++ x ∷ []) is_end in
-    subst (λ (xs : List Run). IsDayList xs × ((t : ℕ) → t < day → arrival_value xs t ≡ composed first second t)) (sym same) done

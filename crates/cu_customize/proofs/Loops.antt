@@ -73,7 +73,7 @@ lower_below graph is rank downs members i inside =
     (edge, edge_rises graph is (get_or downs i 0) rank edge)
 
 -- one more is taken
-pub map_taken : (f : ℕ → Way) (xs : List ℕ) (i d : ℕ) → i < length xs → map f (take i xs) ++ f (get_or xs i d) ∷ [] ≡ map f (take (i + 1) xs)
+pub map_taken : {A : Type 0} (f : A → Way) (xs : List A) (i : ℕ) (d : A) → i < length xs → map f (take i xs) ++ f (get_or xs i d) ∷ [] ≡ map f (take (i + 1) xs)
 map_taken f xs i d inside =
     let sum : suc i ≡ i + 1 = omega arith in
     let more : take (i + 1) xs ≡ take i xs ++ get_or xs i d ∷ [] = subst (λ (k : ℕ). take k xs ≡ take i xs ++ get_or xs i d ∷ []) sum (take-suc xs i d inside) in

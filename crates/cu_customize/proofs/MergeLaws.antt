@@ -1,6 +1,6 @@
 -- Merging a candidate: what the old list says, and what a further run adds to the new one.
-use Rattle.std.proofs.Common.{◌≡◌, ◌≤◌, ◌<◌, ◌+◌, ◌-◌, ◌++◌, ◌∙◌, ℕ, zero, suc, List, [], ◌∷◌, Some, refl, sym, ap, subst, arith, inl, inr, length, get_or, true, false}
-use Rattle.std.specs.Prelude.{slice_get, nat_lt}
+use Rattle.std.proofs.Common.{◌≡◌, ◌≤◌, ◌<◌, ◌+◌, ◌-◌, ◌++◌, ◌∙◌, Bool, ℕ, zero, suc, List, [], ◌∷◌, Some, refl, sym, ap, subst, arith, inl, inr, length, get_or, true, false}
+use Rattle.std.specs.Prelude.{slice_get, nat_lt, if◌then◌else◌}
 use Rattle.std.specs.List.{zip}
 use Rattle.std.proofs.lemmas.Bool.{cases_lt}
 use Rattle.std.proofs.lemmas.Bool.Decides.{nat_tests}
@@ -14,7 +14,7 @@ use Rattle.cu_arrival.specs.Steps.Stretches.{arrives}
 use Rattle.cu_model.proofs.Tiling.{IsTiled, tiled_push, tiled_keep}
 use Rattle.cu_customize.specs.declared.merging.Least.{Least}
 use Rattle.cu_customize.specs.declared.merging.Next.{Next}
-use Rattle.cu_customize.specs.Least.{Held, held_from, held_at, least_arrival, least_way}
+use Rattle.cu_customize.specs.Least.{Held, held_from, held_at, least_arrival, least_way, tie_with}
 use Rattle.cu_customize.specs.Steps.Merging.{least_held, next_held, IsHeld, IsMerging, SaysMerged, Merges, Puts}
 
 -- what an index reads is there
@@ -75,21 +75,30 @@ not_below a b h = grind (arith, nat_tests)
 below : (a b : ℕ) → a < b → nat_lt a b ≡ true
 below a b h = grind (arith, nat_tests)
 
--- a run of the old list says what is the least where the candidate is no earlier
-pub says_old : (l : Least) (arrival : ℕ → ℕ) (way : ℕ) (s : ℕ) (run copy : Run) (w : ℕ) → held_at (least_held l) s ≡ Some (run, w) → least_arrival (least_held l) s ≤ arrival s
-    → copy.rule ≡ run.rule → SaysMerged l arrival way (copy, w) s
+one_at_most : (b : Bool) → (if b then 1 else 0) ≤ 1
+one_at_most true = omega arith
+one_at_most false = omega arith
+
+-- a tie is worth a second at most
+pub tie_at_most : (held : List Held) (way s : ℕ) → tie_with held way s ≤ 1
+tie_at_most held way s = one_at_most (nat_lt way (least_way held s))
+
+-- a run of the old list says what is the least where the candidate is no earlier, nor as early under a lower number
+pub says_old : (l : Least) (arrival : ℕ → ℕ) (way : ℕ) (s : ℕ) (run copy : Run) (w : ℕ) → held_at (least_held l) s ≡ Some (run, w)
+    → least_arrival (least_held l) s + tie_with (least_held l) way s ≤ arrival s → copy.rule ≡ run.rule → SaysMerged l arrival way (copy, w) s
 says_old l arrival way s run copy w here later same =
     let value : least_arrival (least_held l) s ≡ arrives run.rule s = rw here refl in
     let chosen : least_way (least_held l) s ≡ w = rw here refl in
-    let test = not_below (arrival s) (least_arrival (least_held l) s) later in
+    let test = not_below (arrival s) (least_arrival (least_held l) s + tie_with (least_held l) way s) later in
     (ap (λ (r : RunRule). arrives r s) same ∙ sym value ∙ (omega (arith, later)), rw test (sym chosen))
 
--- the candidate's run says it where that is earlier
-pub says_won : (l : Least) (arrival : ℕ → ℕ) (way s : ℕ) (run copy : Run) → arrival s ≡ arrives run.rule s → arrives run.rule s < least_arrival (least_held l) s
-    → copy.rule ≡ run.rule → SaysMerged l arrival way (copy, way) s
+-- the candidate's run says it where that is earlier, or as early under a lower number
+pub says_won : (l : Least) (arrival : ℕ → ℕ) (way s : ℕ) (run copy : Run) → arrival s ≡ arrives run.rule s
+    → arrives run.rule s < least_arrival (least_held l) s + tie_with (least_held l) way s → copy.rule ≡ run.rule → SaysMerged l arrival way (copy, way) s
 says_won l arrival way s run copy here earlier same =
-    let test = below (arrival s) (least_arrival (least_held l) s) (omega (arith, here, earlier)) in
-    (ap (λ (r : RunRule). arrives r s) same ∙ sym here ∙ (omega (arith, here, earlier)), rw test refl)
+    let tie = tie_at_most (least_held l) way s in
+    let test = below (arrival s) (least_arrival (least_held l) s + tie_with (least_held l) way s) (omega (arith, here, earlier)) in
+    (ap (λ (r : RunRule). arrives r s) same ∙ sym here ∙ (omega (arith, here, earlier, tie)), rw test refl)
 
 -- a run that is put behind the others, or says what the last one says
 pub tiled_put : (l : Least) (arrival : ℕ → ℕ) (way : ℕ) (old new : List Held) (x : Held) (t end : ℕ) → IsTiled held_from (SaysMerged l arrival way) old t → Puts old x new
@@ -103,9 +112,9 @@ tiled_put l arrival way old new x t end tiled (inl kept) at more says =
 tiled_put l arrival way old new x t end tiled (inr pushed) at more says =
     subst (λ (hs : List Held). IsTiled held_from (SaysMerged l arrival way) hs end) (sym pushed) (tiled_push held_from (SaysMerged l arrival way) old t end x tiled at more says)
 
--- where the candidate is no earlier for a while, nothing is to be done
+-- where the candidate doesn't win for a while, nothing is to be done
 pub merging_later : (l : Least) (arrival : ℕ → ℕ) (way : ℕ) (n : Next) (t u : ℕ) → IsMerging l arrival way n t → t ≤ u
-    → ((s : ℕ) → t ≤ s → s < u → least_arrival (least_held l) s ≤ arrival s) → IsMerging l arrival way n u
+    → ((s : ℕ) → t ≤ s → s < u → least_arrival (least_held l) s + tie_with (least_held l) way s ≤ arrival s) → IsMerging l arrival way n u
 merging_later l arrival way n t u is more later = record {
   order = omega (arith, is.order, more);
   merged = is.merged;
@@ -133,7 +142,8 @@ put_one n m word way even words ways =
 
 -- a candidate's run from `from` to `until`
 pub won : (l : Least) (way : ℕ) (old mid new : Next) (from until : ℕ) (run copy : Run) → from < until
-    → ((s : ℕ) → from ≤ s → s < until → arrives run.rule s < least_arrival (least_held l) s) → mid.done ≡ from → new.done ≡ until → copy.from ≡ from → copy.rule ≡ run.rule
+    → ((s : ℕ) → from ≤ s → s < until → arrives run.rule s < least_arrival (least_held l) s + tie_with (least_held l) way s)
+    → mid.done ≡ from → new.done ≡ until → copy.from ≡ from → copy.rule ≡ run.rule
     → ((arrival : ℕ → ℕ) (w : ℕ) → IsMerging l arrival w old from → IsMerging l arrival w mid from) → Puts (next_held mid) (copy, way) (next_held new)
     → Merges l from until (arrives run.rule) way old new
 won l way old mid new from until run copy some earlier at_from at_until begins same copied puts arrival here merging =

@@ -1,12 +1,12 @@
 -- A middle among the candidates of a list: both halves by the functions before the list.
-use Rattle.std.proofs.Common.{◌≡◌, ◌≤◌, ◌<◌, ◌+◌, ◌-◌, ◌^◌, ◌∙◌, ℕ, List, Option, Some, None, refl, sym, ap, subst, arith, inl, inr, length, map, max, min, slice_index_or}
+use Rattle.std.proofs.Common.{◌≡◌, ◌≤◌, ◌<◌, ◌+◌, ◌-◌, ◌^◌, ◌∙◌, ℕ, List, Option, Some, None, refl, ap, subst, arith, inl, inr, length, get_or, map, max, min, slice_index_or}
 use Rattle.std.specs.Prelude.{IsSome, slice_get}
 use Rattle.std.specs.List.{Contains}
 use Rattle.std.specs.Option.{option_map}
 use Rattle.std.proofs.lemmas.Bool.{ltb-true}
 use Rattle.std.proofs.lemmas.List.Elements.{All-contains, Contains-append_right}
-use Rattle.cu_model.specs.Days.{day}
-use Rattle.cu_model.proofs.DayLaws.{day_parts}
+use Rattle.cu_model.specs.Days.{day, IsOnward}
+use Rattle.cu_model.specs.Networks.{NetworkValue}
 use Rattle.cu_arrival.specs.declared.runs.Run.{Run}
 use Rattle.cu_arrival.specs.Runs.{arrival_value}
 use Rattle.cu_chordal.specs.declared.graph.Ends.{Ends}
@@ -17,143 +17,211 @@ use Rattle.cu_interval.specs.Hierarchies.{list_number}
 use Rattle.cu_customize.specs.declared.settling.Leg.{Leg}
 use Rattle.cu_customize.specs.declared.task.Task.{Task}
 use Rattle.cu_customize.specs.declared.triangles.Triangle.{Triangle}
+use Rattle.cu_customize.specs.declared.windows.TheConstants.{WINDOWS}
+use Rattle.cu_customize.specs.declared.windows.Windows.{Windows}
+use Rattle.cu_customize.specs.declared.words.TheConstants.{MAX_NUMBER}
+use Rattle.cu_customize.specs.Functions.{value_kept}
 use Rattle.cu_customize.specs.Least.{Held, least_arrival, least_way, way_with}
-use Rattle.cu_customize.specs.Settling.{function_from}
-use Rattle.cu_customize.specs.Steps.Gathering.{ArrivesIn, FindsHalves, Gathers, HasHalves, IsBound, IsSlow, IsTask, state_of}
-use Rattle.cu_customize.specs.Steps.Kept.{value_kept}
+use Rattle.cu_customize.specs.Settling.{TakeLonger, function_from, through}
+use Rattle.cu_customize.specs.Steps.Gathering.{AreLimits, ArrivesIn, FindsHalves, Gathers, HasBy, HasHalves, HasTriangles, IsBeaten, IsBound, IsFar, IsLower, IsNear, IsTask, state_of, ways_of}
+use Rattle.cu_customize.specs.Steps.Merging.{IsAddedWithin}
 use Rattle.cu_customize.specs.Steps.Triangles.{IsTriangle, middles_in}
+use Rattle.cu_customize.specs.Travels.{Takes, TakesAtLeast, TakesAtMost}
 use Rattle.cu_customize.specs.Words.{IsFunctionWords, composed}
-use Rattle.cu_customize.specs.Steps.Travels.{TakesAtLeast, TakesAtMost}
-use Rattle.cu_customize.proofs.DayLists.{repeats}
-use Rattle.cu_customize.proofs.Gathers.{HasFunction, at_once, gathers_none, gathers_one}
+use Rattle.cu_customize.proofs.AddLaws.{composed_order}
+use Rattle.cu_customize.proofs.Gathers.{HasFunction, at_once, gathers_at, gathers_none, gathers_one}
 use Rattle.cu_customize.proofs.Loops.{member_map}
 use Rattle.cu_customize.proofs.MergeLaws.{read_there}
+use Rattle.cu_customize.proofs.SeenLaws.{window_found}
+use Rattle.cu_customize.specs.Windows.{TakesInWindows}
+use Rattle.cu_customize.proofs.WindowLaws.{starts_in_day}
+use Rattle.cu_customize.proofs.TravelLaws.{least_always, most_always}
 use Rattle.cu_customize.proofs.Halves.{first_is, knows_first, knows_second, second_is}
+
+-- where there is an arrival through both there are both
+pub both_some : (first second : Option (ℕ → ℕ)) (t a : ℕ) → through first second t ≡ Some a → IsSome first × IsSome second
+both_some None second t a e = absurd (cc e)
+both_some (Some f) None t a e = absurd (cc e)
+both_some (Some f) (Some b) t a e = (refl, refl)
+
+-- what may be settled has triangles
+pub task_triangles : (g : NetworkValue) (task : Task) → IsTask g task → HasTriangles g task
+task_triangles g task is = record { chordal = is.chordal; triangles = is.triangles; below = is.below; halves = is.halves }
 
 none_some : (f : Option (ℕ → ℕ)) → f ≡ None → IsSome f → ⊥
 none_some None e some = absurd (cc some)
 none_some (Some g) e some = absurd (cc e)
 
-module _ (task : Task) (is : IsTask task) (m : ℕ) (below : (m < task.leg.from) × (m < task.leg.to)) where
+module _ (g : NetworkValue) (task : Task) (is : HasTriangles g task) (m : ℕ) (below : (m < task.leg.from) × (m < task.leg.to)) where
   module _ (e d : ℕ) (one : FindsEdge task.graph.now.edges m task.leg.from (Some e)) (two : FindsEdge task.graph.now.edges m task.leg.to (Some d)) where
     -- both halves are among the functions that are kept
     pub first_kept : list_number e Down < length task.functions.now
     first_kept =
         ltb-true (list_number e Down) (length task.functions.now)
-        (knows_first task.graph.now.edges (state_of task) task.leg.from task.leg.to m is.chordal.rising below is.halves e d one two)
+        (knows_first task.graph.now.edges (state_of g task) task.leg.from task.leg.to m is.chordal.rising below is.halves e d one two)
 
     pub second_kept : list_number d Up < length task.functions.now
     second_kept =
         ltb-true (list_number d Up) (length task.functions.now)
-        (knows_second task.graph.now.edges (state_of task) task.leg.from task.leg.to m is.chordal.rising below is.halves e d one two)
+        (knows_second task.graph.now.edges (state_of g task) task.leg.from task.leg.to m is.chordal.rising below is.halves e d one two)
 
     -- what is read of them by a list's number
     half_first : (n : ℕ) (read kept : Option (List Run)) → n ≡ list_number e Down → read ≡ slice_index_or task.functions.now n read → slice_index_or task.functions.now n read ≡ kept
-        → function_from task.graph.now.edges (state_of task) task.leg.from m ≡ option_map arrival_value kept
+        → function_from task.graph.now.edges (state_of g task) task.leg.from m ≡ option_map arrival_value kept
     half_first n read kept same is_read is_kept =
         let there : slice_get task.functions.now (list_number e Down) ≡ Some kept =
         read_there task.functions.now (list_number e Down) read first_kept (subst (λ (i : ℕ). read ≡ slice_index_or task.functions.now i read) same is_read) ∙ ap Some (is_read ∙ is_kept) in
-        first_is task.graph.now.edges (state_of task) task.leg.from task.leg.to m is.chordal.rising below e one ∙ ap value_kept there
+        first_is task.graph.now.edges (state_of g task) task.leg.from task.leg.to m is.chordal.rising below e one ∙ ap value_kept there
 
     half_second : (n : ℕ) (read kept : Option (List Run)) → n ≡ list_number d Up → read ≡ slice_index_or task.functions.now n read → slice_index_or task.functions.now n read ≡ kept
-        → function_from task.graph.now.edges (state_of task) m task.leg.to ≡ option_map arrival_value kept
+        → function_from task.graph.now.edges (state_of g task) m task.leg.to ≡ option_map arrival_value kept
     half_second n read kept same is_read is_kept =
         let there : slice_get task.functions.now (list_number d Up) ≡ Some kept =
         read_there task.functions.now (list_number d Up) read second_kept (subst (λ (i : ℕ). read ≡ slice_index_or task.functions.now i read) same is_read) ∙ ap Some (is_read ∙ is_kept) in
-        second_is task.graph.now.edges (state_of task) task.leg.from task.leg.to m is.chordal.rising below d two ∙ ap value_kept there
+        second_is task.graph.now.edges (state_of g task) task.leg.from task.leg.to m is.chordal.rising below d two ∙ ap value_kept there
 
     pub no_first_function : (n : ℕ) (read : Option (List Run)) → n ≡ list_number e Down → read ≡ slice_index_or task.functions.now n read → slice_index_or task.functions.now n read ≡ None
-        → FindsHalves task m None
-    no_first_function n read same is_read none free = none_some (function_from task.graph.now.edges (state_of task) task.leg.from m) (half_first n read None same is_read none) free.0
+        → FindsHalves g task m None
+    no_first_function n read same is_read none free = none_some (function_from task.graph.now.edges (state_of g task) task.leg.from m) (half_first n read None same is_read none) free.0
 
     pub no_second_function : (n : ℕ) (read : Option (List Run)) → n ≡ list_number d Up → read ≡ slice_index_or task.functions.now n read → slice_index_or task.functions.now n read ≡ None
-        → FindsHalves task m None
-    no_second_function n read same is_read none free = none_some (function_from task.graph.now.edges (state_of task) m task.leg.to) (half_second n read None same is_read none) free.1
+        → FindsHalves g task m None
+    no_second_function n read same is_read none free = none_some (function_from task.graph.now.edges (state_of g task) m task.leg.to) (half_second n read None same is_read none) free.1
 
     pub first_found : (n : ℕ) (read : Option (List Run)) (a : List Run) → n ≡ list_number e Down → read ≡ slice_index_or task.functions.now n read → slice_index_or task.functions.now n read ≡ Some a
-        → function_from task.graph.now.edges (state_of task) task.leg.from m ≡ Some (arrival_value a)
+        → function_from task.graph.now.edges (state_of g task) task.leg.from m ≡ Some (arrival_value a)
     first_found n read a same is_read some = half_first n read (Some a) same is_read some
 
     pub second_found : (n : ℕ) (read : Option (List Run)) (b : List Run) → n ≡ list_number d Up → read ≡ slice_index_or task.functions.now n read → slice_index_or task.functions.now n read ≡ Some b
-        → function_from task.graph.now.edges (state_of task) m task.leg.to ≡ Some (arrival_value b)
+        → function_from task.graph.now.edges (state_of g task) m task.leg.to ≡ Some (arrival_value b)
     second_found n read b same is_read some = half_second n read (Some b) same is_read some
 
--- a function that takes no less, or no more, over the day takes no less, or no more, at every second
-least_always : (words : List Run) (least : ℕ) → IsFunctionWords words → TakesAtLeast words least → (t : ℕ) → t + least ≤ arrival_value words t
-least_always words least f takes t =
-    let (k, s, lt, e) = day_parts t in
-    let here = takes s lt in
-    let later = repeats words f.over_day k s lt in
-    subst (λ (x : ℕ). x + least ≤ arrival_value words x) (sym e) (omega (arith, here, later))
+-- a way by a middle that has no function is near
+pub near_none : (g : NetworkValue) (task : Task) (m : ℕ) → FindsHalves g task m None → IsNear g task (Via m)
+near_none g task m none t arrival lt at =
+    absurd (none (both_some (function_from task.graph.now.edges (state_of g task) task.leg.from m) (function_from task.graph.now.edges (state_of g task) m task.leg.to) t arrival at))
 
-most_always : (words : List Run) (most : ℕ) → IsFunctionWords words → TakesAtMost words most → (t : ℕ) → arrival_value words t ≤ t + most
-most_always words most f takes t =
-    let (k, s, lt, e) = day_parts t in
-    let here = takes s lt in
-    let later = repeats words f.over_day k s lt in
-    subst (λ (x : ℕ). arrival_value words x ≤ x + most) (sym e) (omega (arith, here, later))
+-- and so is one whose halves don't take long
+pub near_some : (g : NetworkValue) (task : Task) (m one two most : ℕ) (a b : List Run)
+    → (function_from task.graph.now.edges (state_of g task) task.leg.from m ≡ Some (arrival_value a)) × (function_from task.graph.now.edges (state_of g task) m task.leg.to ≡ Some (arrival_value b))
+    → IsFunctionWords b → IsOnward (arrival_value a) → IsOnward (arrival_value b) → TakesAtMost a one → TakesAtMost b two
+    → most ≡ min (one + two) (2 ^ 64 - 1) → most ≤ MAX_NUMBER - day → IsNear g task (Via m)
+near_some g task m one two most a b halves good late early soon quick is_most few t arrival lt at =
+    let capped : through (function_from task.graph.now.edges (state_of g task) task.leg.from m) (function_from task.graph.now.edges (state_of g task) m task.leg.to) t ≡ Some (min (composed a b t) (2 ^ 62)) =
+    rw (halves.0, halves.1) refl in
+    let same : min (composed a b t) (2 ^ 62) ≡ arrival = cc (capped, at) in
+    let to = late t lt in
+    let on = least_always b 0 good (λ s h. let up = early s h in omega (arith, up)) (arrival_value a t) in
+    let by = soon t lt in
+    let then = most_always b two good quick (arrival_value a t) in
+    (omega (arith, same, to, on, lt), omega (arith, same, by, then, is_most, few, lt))
+
+-- where they do it is far
+pub far_some : (g : NetworkValue) (task : Task) (m one two most : ℕ) (a b : List Run) → (m < task.leg.from) × (m < task.leg.to)
+    → (function_from task.graph.now.edges (state_of g task) task.leg.from m ≡ Some (arrival_value a)) × (function_from task.graph.now.edges (state_of g task) m task.leg.to ≡ Some (arrival_value b))
+    → Takes a one → Takes b two → most ≡ min (one + two) (2 ^ 64 - 1) → MAX_NUMBER - day < most → IsFar g task
+far_some g task m one two most a b (from, to) (first, second) (t, lt, takes) (s, less, more) is_most late =
+    let far : TakeLonger (MAX_NUMBER - day) (Some (arrival_value a)) (Some (arrival_value b)) = (t, s, lt, less, omega (arith, takes, more, is_most, late)) in
+    (m, from, to, rw (first, second) far)
 
 -- the way by a middle, of which both halves have a function
-module _ (task : Task) (is : IsTask task) (m : ℕ) (below : (m < task.leg.from) × (m < task.leg.to)) (a b : List Run)
-    (halves : (function_from task.graph.now.edges (state_of task) task.leg.from m ≡ Some (arrival_value a))
-    × (function_from task.graph.now.edges (state_of task) m task.leg.to ≡ Some (arrival_value b))) where
-  middle_free : HasFunction task (Via m)
+module _ (g : NetworkValue) (task : Task) (is : IsTask g task) (m : ℕ) (below : (m < task.leg.from) × (m < task.leg.to)) (a b : List Run)
+    (halves : (function_from task.graph.now.edges (state_of g task) task.leg.from m ≡ Some (arrival_value a))
+    × (function_from task.graph.now.edges (state_of g task) m task.leg.to ≡ Some (arrival_value b))) where
+  middle_free : HasFunction g task (Via m)
   middle_free = (rw halves.0 refl, rw halves.1 refl)
 
   -- it arrives when the composition of both does
-  middle_arrives : (t : ℕ) → t < day → ArrivesIn task t (Via m) (composed a b t)
+  middle_arrives : (t : ℕ) → t < day → ArrivesIn g task t (Via m) (composed a b t)
   middle_arrives t lt =
-      let capped : ArrivesIn task t (Via m) (min (composed a b t) (2 ^ 62)) = rw (halves.0, halves.1) refl in
+      let capped : ArrivesIn g task t (Via m) (min (composed a b t) (2 ^ 62)) = rw (halves.0, halves.1) refl in
       let few = (is.near m below.0 below.1 t (min (composed a b t) (2 ^ 62)) lt capped).1 in
       let same : min (composed a b t) (2 ^ 62) ≡ composed a b t = omega (arith, few) in
-      subst (λ (x : ℕ). ArrivesIn task t (Via m) x) same capped
+      subst (λ (x : ℕ). ArrivesIn g task t (Via m) x) same capped
 
-  pub gathers_middle : (most number : ℕ) (old new : List Held) → ((t : ℕ) → t < day → least_arrival new t ≡ min (least_arrival old t) (composed a b t))
-      → ((t : ℕ) → t < day → least_way new t ≡ way_with old (composed a b t) number t) → Gathers task most (Via m) number old new
-  gathers_middle most number old new least_is way_is = gathers_one task most (Via m) number old new (composed a b) middle_free (is.near m below.0 below.1) middle_arrives least_is way_is
+  module _ (one : IsFunctionWords a) (two : IsFunctionWords b) where
+    pub gathers_middle : (number : ℕ) (old new : List Held) → slice_get (ways_of task) number ≡ Some (Via m) → ((t : ℕ) → t < day → least_arrival new t ≡ min (least_arrival old t) (composed a b t))
+        → ((t : ℕ) → t < day → least_way new t ≡ way_with old (composed a b t) number t) → Gathers g task (Via m) old new
+    gathers_middle number old new there least_is way_is =
+        gathers_one g task is (Via m) number old new (composed a b) there middle_free (is.near m below.0 below.1) (composed_order a b one two) middle_arrives least_is way_is
 
-  -- it is left out only where it takes longer at each second than some candidate ever does
-  pub gathers_slow : (most number one two least : ℕ) (held : List Held) → IsBound task most → IsFunctionWords b → TakesAtLeast a one → TakesAtLeast b two
-      → least ≡ min (one + two) (2 ^ 64 - 1) → most < least
-      → Gathers task most (Via m) number held held
-  gathers_slow most number one two least held bound good first second is_least slow =
+    -- it may be left out in windows where it takes longer than some candidate does
+    pub gathers_within : (windows : Windows) (limits : List ℕ) (number : ℕ) (old new : List Held) → slice_get (ways_of task) number ≡ Some (Via m) → AreLimits g task windows limits
+        → IsAddedWithin windows limits (composed a b) number old new → Gathers g task (Via m) old new
+    gathers_within windows limits number old new there are added t lt =
+        let (window, from, inside, within) = window_found windows 0 WINDOWS t (omega arith) (omega arith) lt in
+        elim (added window t inside within) [
+          | inl here ↦ gathers_at g task is (Via m) number old new (composed a b) t lt there middle_free (is.near m below.0 below.1) (composed_order a b one two) middle_arrives here
+          | inr (still, above) ↦ gathers_none g task (Via m) old new t still (λ free. (
+            t + get_or limits window 0,
+            are window inside above.0 t within.0 within.1,
+            λ arrival at.
+                let same = at_once g task t (Via m) arrival (composed a b t) at (middle_arrives t lt) in
+                let later = above.1 in
+                omega (arith, same, later),
+          ))
+        ]
+
+  -- what it takes at least in each window, by its halves and by its arrivals
+  pub lower_by_halves : (windows : Windows) (lower : List ℕ) → TakesInWindows windows (composed a b) lower → IsLower g task windows m lower
+  lower_by_halves windows lower takes window inside t arrival (late, early) at =
+      let in_day = starts_in_day windows (window + 1) in
+      let same = at_once g task t (Via m) arrival (composed a b t) at (middle_arrives t (omega (arith, early, in_day))) in
+      let bound = takes window inside t late early in
+      omega (arith, same, bound)
+
+  pub halves_by_lower : (windows : Windows) (lower : List ℕ) → IsLower g task windows m lower → TakesInWindows windows (composed a b) lower
+  halves_by_lower windows lower is_lower window inside t late early =
+      let in_day = starts_in_day windows (window + 1) in
+      is_lower window inside t (composed a b t) (late, early) (middle_arrives t (omega (arith, early, in_day)))
+
+  -- some candidate is earlier where it takes longer at each second than one does
+  pub slow_beaten : (most one two least t : ℕ) → t < day → IsBound g task most → IsFunctionWords b → TakesAtLeast a one → TakesAtLeast b two
+      → least ≡ min (one + two) (2 ^ 64 - 1) → most < least → IsBeaten g task t (Via m)
+  slow_beaten most one two least t lt bound good first second is_least slow =
       elim bound [
         | inl none ↦ absurd (omega (arith, none, is_least, slow))
-        | inr within ↦
-            let later : IsSlow task most (Via m) = λ t arrival lt at.
-            let same = at_once task t (Via m) arrival (composed a b t) at (middle_arrives t lt) in
-            let to = first t lt in
-            let on = least_always b two good second (arrival_value a t) in
-            omega (arith, same, to, on, is_least, slow) in
-            gathers_none task most (Via m) number held (λ free kept. kept later within)
+        | inr within ↦ (
+          t + most,
+          within t lt,
+          λ arrival at.
+              let same = at_once g task t (Via m) arrival (composed a b t) at (middle_arrives t lt) in
+              let to = first t lt in
+              let on = least_always b two good second (arrival_value a t) in
+              omega (arith, same, to, on, is_least, slow),
+        )
       ]
+
+  -- its arrivals are those of a candidate
+  pub middle_by : Contains (middles_in task.triangles.now) m → (t by : ℕ) → t < day → composed a b t ≤ by → HasBy g task t by
+  middle_by held t by lt soon = (
+    Via m,
+    (Contains-append_right (map Road task.arcs.now) (map Via (middles_in task.triangles.now)) (Via m) (member_map Via (middles_in task.triangles.now) m held), middle_free),
+    (composed a b t, middle_arrives t lt, soon),
+  )
 
   -- and it never takes longer than both halves do
   pub middle_bound : (one two most : ℕ) → Contains (middles_in task.triangles.now) m → IsFunctionWords b → TakesAtMost a one → TakesAtMost b two → most ≡ min (one + two) (2 ^ 64 - 1)
-      → IsBound task most
-  middle_bound one two most held good first second is_most = inr (
-    Via m,
-    (Contains-append_right (map Road task.arcs.now) (map Via (middles_in task.triangles.now)) (Via m) (member_map Via (middles_in task.triangles.now) m held), middle_free),
-    λ t lt.
-        let to = first t lt in
-        let on = most_always b two good second (arrival_value a t) in
-        let near = (is.near m below.0 below.1 t (composed a b t) lt (middle_arrives t lt)).1 in
-        (composed a b t, middle_arrives t lt, omega (arith, to, on, near, is_most)),
-  )
+      → IsBound g task most
+  middle_bound one two most held good first second is_most = inr (λ t lt.
+      let to = first t lt in
+      let on = most_always b two good second (arrival_value a t) in
+      let near = (is.near m below.0 below.1 t (composed a b t) lt (middle_arrives t lt)).1 in
+      middle_by held t (t + most) lt (omega (arith, to, on, near, is_most)))
 
 -- the middle of a triangle is among a task's
 pub triangle_middle : (task : Task) (triangle : Triangle) → Contains task.triangles.now triangle → Contains (middles_in task.triangles.now) triangle.middle
 triangle_middle task triangle held = member_map (λ (t : Triangle). t.middle) task.triangles.now triangle held
 
 -- and below both ends
-pub triangle_below : (task : Task) → IsTask task → (triangle : Triangle) → Contains task.triangles.now triangle → (triangle.middle < task.leg.from) × (triangle.middle < task.leg.to)
-triangle_below task is triangle held =
+pub triangle_below : (g : NetworkValue) (task : Task) → HasTriangles g task → (triangle : Triangle) → Contains task.triangles.now triangle → (triangle.middle < task.leg.from) × (triangle.middle < task.leg.to)
+triangle_below g task is triangle held =
     All-contains (λ (x : ℕ). (x < task.leg.from) × (x < task.leg.to)) (middles_in task.triangles.now) triangle.middle is.below (triangle_middle task triangle held)
 
 -- a triangle's edges lead to both ends
-pub triangle_there : (task : Task) → IsTask task → (triangle : Triangle) → Contains task.triangles.now triangle
+pub triangle_there : (g : NetworkValue) (task : Task) → HasTriangles g task → (triangle : Triangle) → Contains task.triangles.now triangle
     → IsTriangle task.graph.now.edges (min task.leg.from task.leg.to) (max task.leg.from task.leg.to) triangle
-triangle_there task is triangle held =
+triangle_there g task is triangle held =
     All-contains (IsTriangle task.graph.now.edges (min task.leg.from task.leg.to) (max task.leg.from task.leg.to)) task.triangles.now triangle is.triangles held
 
 -- by the numbers of its edges

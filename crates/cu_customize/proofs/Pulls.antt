@@ -1,15 +1,12 @@
 -- What is pulled from a merger: entries by the runs of the numbers of ways.
-use Rattle.std.proofs.Common.{◌≡◌, ◌≢◌, ◌≤◌, ◌<◌, ◌+◌, ◌-◌, ◌∙◌, ◌++◌, ℕ, zero, suc, List, [], ◌∷◌, Option, Some, None, refl, sym, ap, subst, arith, inl, inr, length, get_or, map}
+use Rattle.std.proofs.Common.{◌≡◌, ◌≢◌, ◌<◌, ◌+◌, ◌∙◌, ◌++◌, ℕ, suc, List, [], ◌∷◌, Option, Some, None, sym, ap, subst, arith, length, get_or, map}
 use Rattle.std.specs.Prelude.{All, slice_get}
 use Rattle.std.specs.List.Sorted.{IsStrictlyIncreasing}
 use Rattle.std.specs.Option.{option_map}
-use Rattle.std.proofs.lemmas.Bool.{cases_eq, cases_lt}
-use Rattle.std.proofs.Math.ListN.{get_or-map as get_or_mapped}
-use Rattle.std.proofs.lemmas.List.{get_or-append_right, get_or-map, length-map}
-use Rattle.std.proofs.lemmas.List.Kept.{AllPairs-from_increasing}
-use Rattle.std.proofs.lemmas.Option.{get_or_from_slice_get, slice_get-get_or, slice_get_within}
+use Rattle.std.proofs.lemmas.List.{get_or-map, length-map}
 use Rattle.cu_model.specs.Begun.{last_begun}
 use Rattle.cu_model.specs.Days.{day}
+use Rattle.cu_model.specs.Networks.{NetworkValue}
 use Rattle.cu_model.proofs.Begun.{begun_until}
 use Rattle.cu_arrival.specs.declared.runs.Run.{Run}
 use Rattle.cu_arrival.specs.Runs.{arrival_value}
@@ -21,75 +18,11 @@ use Rattle.cu_interval.specs.WayLists.{BeginsAtZero, IsWayList, way_in}
 use Rattle.cu_customize.specs.declared.merging.TheConstants.{NOBODY}
 use Rattle.cu_customize.specs.declared.merging.WayRun.{WayRun}
 use Rattle.cu_customize.specs.declared.task.Task.{Task}
-use Rattle.cu_customize.specs.declared.triangles.Triangle.{Triangle}
 use Rattle.cu_customize.specs.Least.{Held, IsWayRuns, least_arrival, least_way}
 use Rattle.cu_customize.specs.Steps.Gathering.{IsPulled, IsTask, IsWithin, read_of, said_by, ways_of}
 use Rattle.cu_customize.specs.Steps.Triangles.{middles_in}
 use Rattle.cu_customize.specs.Words.{IsFunctionWords}
-
--- the place of a road is its place among the roads
-road_place : (xs ys : List ℕ) (i a : ℕ) → slice_get (map Road xs ++ map Via ys) i ≡ Some (Road a) → slice_get xs i ≡ Some a
-road_place [] [] i a e = absurd (cc e)
-road_place [] (y ∷ ys) zero a e = absurd (cc e)
-road_place [] (y ∷ ys) (suc i) a e = absurd (let none = road_place [] ys i a e in cc none)
-road_place (x ∷ xs) ys zero a e = let same : x ≡ a = cc e in ap Some same
-road_place (x ∷ xs) ys (suc i) a e = road_place xs ys i a e
-
--- the ways behind the roads are those by the middles of triangles
-pub way_middle : (arcs : List ℕ) (triangles : List Triangle) (number : ℕ) (none : Triangle) → length arcs ≤ number → number < length (map Road arcs ++ map Via (middles_in triangles))
-    → slice_get (map Road arcs ++ map Via (middles_in triangles)) number ≡ Some (Via (get_or triangles (number - length arcs) none).middle)
-way_middle arcs triangles number none behind inside =
-    slice_get-get_or (map Road arcs ++ map Via (middles_in triangles)) number (Via none.middle) inside
-    ∙ ap Some
-    (get_or-append_right (map Road arcs) (map Via (middles_in triangles)) (length arcs) number (Via none.middle) (length-map arcs Road) behind
-    ∙ get_or_mapped Via (middles_in triangles) (number - length arcs) none.middle
-    ∙ ap Via (get_or_mapped (λ (t : Triangle). t.middle) triangles (number - length arcs) none))
-
--- and that of a middle is behind them
-via_place : (xs ys : List ℕ) (i m : ℕ) → slice_get (map Road xs ++ map Via ys) i ≡ Some (Via m) → (k : ℕ) × (i ≡ length xs + k) × (slice_get ys k ≡ Some m)
-via_place [] [] i m e = absurd (cc e)
-via_place [] (y ∷ ys) zero m e = (0, refl, let same : y ≡ m = cc e in ap Some same)
-via_place [] (y ∷ ys) (suc i) m e = let (k, is, there) = via_place [] ys i m e in (suc k, omega (arith, is), there)
-via_place (x ∷ xs) ys zero m e = absurd (cc e)
-via_place (x ∷ xs) ys (suc i) m e = let (k, is, there) = via_place xs ys i m e in (k, omega (arith, is), there)
-
-pub road_at_place : (xs ys : List ℕ) (i a : ℕ) → slice_get xs i ≡ Some a → slice_get (map Road xs ++ map Via ys) i ≡ Some (Road a)
-road_at_place [] ys i a e = absurd (cc e)
-road_at_place (x ∷ xs) ys zero a e = let same : x ≡ a = cc e in ap (λ (y : ℕ). Some (Road y)) same
-road_at_place (x ∷ xs) ys (suc i) a e = road_at_place xs ys i a e
-
-via_alone : (ys : List ℕ) (k m : ℕ) → slice_get ys k ≡ Some m → slice_get (map Via ys) k ≡ Some (Via m)
-via_alone [] k m e = absurd (cc e)
-via_alone (y ∷ ys) zero m e = let same : y ≡ m = cc e in ap (λ (x : ℕ). Some (Via x)) same
-via_alone (y ∷ ys) (suc k) m e = via_alone ys k m e
-
-pub via_at_place : (xs ys : List ℕ) (i k m : ℕ) → i ≡ length xs + k → slice_get ys k ≡ Some m → slice_get (map Road xs ++ map Via ys) i ≡ Some (Via m)
-via_at_place [] ys i k m is e = let same : k ≡ i = omega (arith, is) in subst (λ (n : ℕ). slice_get (map Via ys) n ≡ Some (Via m)) same (via_alone ys k m e)
-via_at_place (x ∷ xs) ys zero k m is e = absurd (omega (arith, is))
-via_at_place (x ∷ xs) ys (suc i) k m is e = via_at_place xs ys i k m (omega (arith, is)) e
-
--- a number stands at one place of a list that rises
-one_place : (xs : List ℕ) (i j a : ℕ) → IsStrictlyIncreasing xs → slice_get xs i ≡ Some a → slice_get xs j ≡ Some a → i ≡ j
-one_place xs i j a rising at there =
-    let here = get_or_from_slice_get xs i a a at in
-    let other = get_or_from_slice_get xs j a a there in
-    elim (cases_lt i j) [
-      | inl less ↦ let below = AllPairs-from_increasing xs rising i j a less (slice_get_within xs j a there) in absurd (omega (arith, here, other, below))
-      | inr more ↦ elim (cases_eq i j) [
-        | inl same ↦ same
-        | inr apart ↦ let below = AllPairs-from_increasing xs rising j i a (omega (arith, more, apart)) (slice_get_within xs i a at) in absurd (omega (arith, here, other, below))
-      ]
-    ]
-
--- so does a way of the candidates
-pub way_place : (xs ys : List ℕ) (i j : ℕ) (w : Way) → IsStrictlyIncreasing xs → IsStrictlyIncreasing ys → slice_get (map Road xs ++ map Via ys) i ≡ Some w
-    → slice_get (map Road xs ++ map Via ys) j ≡ Some w → i ≡ j
-way_place xs ys i j (Road a) roads middles at there = one_place xs i j a roads (road_place xs ys i a at) (road_place xs ys j a there)
-way_place xs ys i j (Via m) roads middles at there =
-    let (k, is, one) = via_place xs ys i m at in
-    let (l, other, two) = via_place xs ys j m there in
-    let same = one_place ys k l m middles one two in
-    omega (arith, is, other, same)
+use Rattle.cu_customize.proofs.Places.{way_place}
 
 module _ (held : List Held) (runs : List WayRun) (is : IsWayRuns held runs) where
   -- each run is in force at its own second
@@ -184,11 +117,11 @@ module _ (xs ys : List ℕ) (roads : IsStrictlyIncreasing xs) (middles : IsStric
       said_way ways (last_begun (λ (e : Entry). e.from) entries t) (last_begun (λ (r : WayRun). r.from) runs t) (least_way held t) begun (is.ways t lt)
 
 -- what is pulled of a merger whose least is somebody's
-pub pulled : (task : Task) (held : List Held) (read runs : List WayRun) (entries list : List Entry) (words function : List Run) → IsTask task → least_way held 0 ≢ NOBODY
+pub pulled : (g : NetworkValue) (task : Task) (held : List Held) (read runs : List WayRun) (entries list : List Entry) (words function : List Run) → IsTask g task → least_way held 0 ≢ NOBODY
     → IsWayRuns held runs → read ≡ runs
     → map said_by entries ≡ map (read_of (ways_of task)) read → list ≡ entries → function ≡ words → IsFunctionWords words → ((t : ℕ) → t < day → arrival_value words t ≡ least_arrival held t)
     → IsPulled (ways_of task) held list (Some function)
-pulled task held read runs entries list words function is some ways same said is_list is_function good value =
+pulled g task held read runs entries list words function is some ways same said is_list is_function good value =
     let here = subst (λ (rs : List WayRun). map said_by entries ≡ map (read_of (ways_of task)) rs) same said in
     let (spelled, more) = entries_list task.arcs.now (middles_in task.triangles.now) is.arcs_rise is.middles_rise held runs entries ways here in
     let at = entries_way task.arcs.now (middles_in task.triangles.now) is.arcs_rise is.middles_rise held runs entries ways here in

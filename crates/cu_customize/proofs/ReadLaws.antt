@@ -22,7 +22,7 @@ use Rattle.cu_customize.specs.declared.merging.WayRun.{WayRun}
 use Rattle.cu_customize.specs.Words.{IsDayList, IsFunctionWords, IsCompactDay, end_run}
 use Rattle.cu_customize.specs.declared.words.TheConstants.{MAX_NUMBER}
 use Rattle.cu_customize.specs.Least.{Held, held_at, least_arrival, least_way, arrival_of, KeepsDayOrder, IsWayRuns}
-use Rattle.cu_customize.specs.Steps.Merging.{least_held, IsHeld, IsLeast}
+use Rattle.cu_customize.specs.Steps.Merging.{least_held, IsHeld}
 use Rattle.cu_customize.proofs.DayLists.{repeats, two_words, from_in_day, next_from, value_in_force}
 use Rattle.cu_customize.proofs.LinkLaws.{get_or-same, rule_at_once, closed, last_pushed}
 use Rattle.cu_customize.proofs.MergeLaws.{old_at, read_there}
@@ -147,14 +147,14 @@ rules_all words xs list i end is last is_end is_list grown =
     subst (λ (ys : List Run). IsCompacted words ys) (sym same) all
 
 -- what is read of a merger is a function
-pub least_function : (l : Least) (list : List Run) → IsLeast l → IsCompacted l.words.items list → ((t : ℕ) → t < day → least_arrival (least_held l) t ≤ MAX_NUMBER)
+pub least_function : (l : Least) (list : List Run) → IsHeld l → KeepsDayOrder (least_arrival (least_held l)) → IsCompacted l.words.items list → ((t : ℕ) → t < day → least_arrival (least_held l) t ≤ MAX_NUMBER)
     → IsFunctionWords list × ((t : ℕ) → t < day → arrival_value list t ≡ least_arrival (least_held l) t)
-least_function l list is compacted within =
-    let value : (t : ℕ) → t < day → arrival_value list t ≡ least_arrival (least_held l) t = λ t h. compacted.value t h ∙ least_value l is.held t h in (
+least_function l list is order compacted within =
+    let value : (t : ℕ) → t < day → arrival_value list t ≡ least_arrival (least_held l) t = λ t h. compacted.value t h ∙ least_value l is t h in (
       record {
         over_day = compacted.over_day;
         limits = numbers_within list MAX_NUMBER compacted.over_day compacted.end (λ t h. let v = value t h in let w = within t h in omega (arith, v, w));
-        fifo = day_order list compacted.over_day (order_same (arrival_value list) (least_arrival (least_held l)) value is.order);
+        fifo = day_order list compacted.over_day (order_same (arrival_value list) (least_arrival (least_held l)) value order);
       },
       value,
     )
@@ -203,11 +203,11 @@ ways_all l xs i is last grown =
     }
 
 -- the same under other names
-pub least_read : (l : Least) (now : List Held) (list words : List Run) → IsLeast l → least_held l ≡ now → words ≡ l.words.items → IsCompacted words list
+pub least_read : (l : Least) (now : List Held) (list words : List Run) → IsHeld l → KeepsDayOrder (least_arrival now) → least_held l ≡ now → words ≡ l.words.items → IsCompacted words list
     → ((t : ℕ) → t < day → least_arrival now t ≤ MAX_NUMBER) → IsFunctionWords list × ((t : ℕ) → t < day → arrival_value list t ≡ least_arrival now t)
-least_read l now list words is view same compacted within =
+least_read l now list words is order view same compacted within =
     subst (λ (hs : List Held). IsFunctionWords list × ((t : ℕ) → t < day → arrival_value list t ≡ least_arrival hs t)) view
-    (least_function l list is (subst (λ (ws : List Run). IsCompacted ws list) same compacted) (λ t h. subst (λ (hs : List Held). least_arrival hs t ≤ MAX_NUMBER) (sym view) (within t h)))
+    (least_function l list is (subst (λ (hs : List Held). KeepsDayOrder (least_arrival hs)) (sym view) order) (subst (λ (ws : List Run). IsCompacted ws list) same compacted) (λ t h. subst (λ (hs : List Held). least_arrival hs t ≤ MAX_NUMBER) (sym view) (within t h)))
 
 -- the first number is that of second 0
 pub first_way : (l : Least) (now : List Held) (way : ℕ) → IsHeld l → least_held l ≡ now → way ≡ get_or l.ways.items 0 way → least_way now 0 ≡ way

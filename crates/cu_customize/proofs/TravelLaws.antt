@@ -1,14 +1,16 @@
 -- The least and the greatest travel time of a function, run by run.
-use Rattle.std.proofs.Common.{◌≡◌, ◌≤◌, ◌<◌, ◌+◌, ◌-◌, ◌∙◌, ℕ, List, sym, ap, arith, inl, inr, length, get_or, min, max}
+use Rattle.std.proofs.Common.{◌≡◌, ◌≤◌, ◌<◌, ◌+◌, ◌-◌, ◌∙◌, ℕ, List, sym, ap, subst, arith, inl, inr, length, get_or, min, max}
 use Rattle.std.proofs.lemmas.Bool.{cases_lt}
 use Rattle.cu_model.specs.Days.{day, IsOnward}
+use Rattle.cu_model.proofs.DayLaws.{day_parts}
 use Rattle.cu_arrival.specs.declared.runs.Run.{Run}
 use Rattle.cu_arrival.specs.declared.runs.RunRule.{RunRule}
 use Rattle.cu_arrival.specs.declared.runs.RunRule.TheVariants.{Shift, Fixed}
 use Rattle.cu_arrival.specs.Runs.{arrival_value}
 use Rattle.cu_arrival.specs.Steps.Stretches.{arrives}
-use Rattle.cu_customize.specs.Words.{IsDayList, end_run}
-use Rattle.cu_customize.proofs.DayLists.{next_from, from_in_day, starts_from, two_words, has_next, value_in_force}
+use Rattle.cu_customize.specs.Words.{IsDayList, IsFunctionWords, end_run}
+use Rattle.cu_customize.specs.Travels.{TakesAtLeast, TakesAtMost}
+use Rattle.cu_customize.proofs.DayLists.{repeats, next_from, from_in_day, starts_from, two_words, has_next, value_in_force}
 use Rattle.cu_customize.proofs.LinkLaws.{get_or-same}
 
 -- the second from which the run of an index holds
@@ -24,7 +26,7 @@ pub record IsMostBefore (f : ℕ → ℕ) (most t : ℕ) : Type 0 where
   pub above : (s : ℕ) → s < t → f s ≤ s + most
   pub taken : (s : ℕ) × (s < day) × (f s ≡ s + most)
 
-travel_least : (r : RunRule) (t last : ℕ) → t ≤ last → last ≤ arrives r last → t + (arrives r last - last) ≤ arrives r t
+pub travel_least : (r : RunRule) (t last : ℕ) → t ≤ last → last ≤ arrives r last → t + (arrives r last - last) ≤ arrives r t
 travel_least (Shift d) t last h o = omega (arith, h)
 travel_least (Fixed c) t last h o = omega (arith, h, o)
 
@@ -127,3 +129,18 @@ module _ (words : List Run) (is : IsDayList words) (onward : IsOnward (arrival_v
           | inr ge ↦ (read.from, omega (arith, begins, order.0, order.1), omega (arith, value, after, ge))
         ];
       }
+
+-- a function that takes no less, or no more, over the day takes no less, or no more, at every second
+pub least_always : (words : List Run) (least : ℕ) → IsFunctionWords words → TakesAtLeast words least → (t : ℕ) → t + least ≤ arrival_value words t
+least_always words least f takes t =
+    let (k, s, lt, e) = day_parts t in
+    let here = takes s lt in
+    let later = repeats words f.over_day k s lt in
+    subst (λ (x : ℕ). x + least ≤ arrival_value words x) (sym e) (omega (arith, here, later))
+
+pub most_always : (words : List Run) (most : ℕ) → IsFunctionWords words → TakesAtMost words most → (t : ℕ) → arrival_value words t ≤ t + most
+most_always words most f takes t =
+    let (k, s, lt, e) = day_parts t in
+    let here = takes s lt in
+    let later = repeats words f.over_day k s lt in
+    subst (λ (x : ℕ). arrival_value words x ≤ x + most) (sym e) (omega (arith, here, later))

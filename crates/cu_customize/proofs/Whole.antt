@@ -23,8 +23,8 @@ use Rattle.cu_interval.specs.Low.{HasLowWalk, IsLeastLowDrive}
 use Rattle.cu_interval.specs.WayLists.{IsWayList, way_in}
 use Rattle.cu_interval.proofs.Lookups.{number_at}
 use Rattle.cu_interval.proofs.Spelled.{entries_rise}
-use Rattle.cu_customize.specs.Functions.{IsLowFunction}
-use Rattle.cu_customize.specs.Steps.Kept.{IsBuiltTo, value_kept}
+use Rattle.cu_customize.specs.Functions.{IsLowFunction, value_kept}
+use Rattle.cu_customize.specs.Steps.Kept.{IsBuiltTo}
 use Rattle.cu_customize.proofs.Keeping.{list_there, number_parts, number_within}
 use Rattle.cu_customize.proofs.LowFunctions.{low_edge, low_edge_back}
 use Rattle.cu_customize.proofs.Lows.{HasLeastBelow, built_some}

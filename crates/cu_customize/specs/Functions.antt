@@ -1,5 +1,6 @@
 -- The functions that settling asks for: when each road and each shortcut arrives.
-use Rattle.std.specs.Prelude.{ℕ, List, Bool, true, false, Option, Some, None, ◌≡◌, ◌<◌, length, slice_get}
+use Rattle.std.specs.Prelude.{ℕ, List, Bool, true, false, Option, Some, None, ◌≡◌, ◌<◌, nat_lt, length, slice_get}
+use Rattle.std.specs.Option.{option_map}
 use Rattle.cu_model.specs.Networks.{NetworkValue}
 use Rattle.cu_model.specs.Orders.{OrderValue}
 use Rattle.cu_model.specs.Roads.{arc_value, is_closed_arc}
@@ -9,7 +10,7 @@ use Rattle.cu_arrival.specs.Runs.{arrival_value, IsArrivalFunction}
 use Rattle.cu_arrival.specs.Travels.{AreTravels}
 use Rattle.cu_chordal.specs.declared.graph.Ends.{Ends}
 use Rattle.cu_interval.specs.declared.ways.Dir.{Dir}
-use Rattle.cu_interval.specs.Hierarchies.{end_of, start_of}
+use Rattle.cu_interval.specs.Hierarchies.{end_of, list_number, start_of}
 use Rattle.cu_interval.specs.Low.{HasLowWalk, IsLeastLowDrive}
 
 -- how many roads there are; when each arrives at every second, none where it is closed; which shortcuts, by edge and direction, are known;
@@ -50,3 +51,26 @@ pub record AreFunctionsOf (g : NetworkValue) (o : OrderValue) (edges : List Ends
   pub roads : (a : ℕ) → a < length g.arcs → IsRoadFunction g a (f.road a)
   pub shortcuts : (edge : ℕ) (dir : Dir) (ends : Ends) → slice_get edges edge ≡ Some ends → f.knows edge dir ≡ true
       → IsLowFunction g o (start_of ends dir) (end_of ends dir) (f.shortcut edge dir)
+
+-- this road's function, or none
+abbrev pub road_if : Bool → NetworkValue → ℕ → Option (ℕ → ℕ)
+road_if true g a = None
+road_if false g a = Some (arc_value g a)
+
+-- a road's function, none where it is closed
+abbrev pub road_function : NetworkValue → ℕ → Option (ℕ → ℕ)
+road_function g a = road_if (is_closed_arc g a) g a
+
+-- what a kept function says
+abbrev pub value_kept : Option (Option (List Run)) → Option (ℕ → ℕ)
+value_kept None = None
+value_kept (Some function) = option_map arrival_value function
+
+-- the functions of the roads of a network, and those of shortcuts that stand in a list, by list number
+abbrev pub kept_state : NetworkValue → List (Option (List Run)) → FunctionsState
+kept_state g functions = record {
+  arcs = length g.arcs;
+  road = road_function g;
+  knows = λ edge dir. nat_lt (list_number edge dir) (length functions);
+  shortcut = λ edge dir. value_kept (slice_get functions (list_number edge dir));
+}

@@ -33,7 +33,7 @@ way_of (Some held) = held.1
 abbrev pub least_arrival : List Held → ℕ → ℕ
 least_arrival held second = arrival_of (held_at held second) second
 
--- the number of the first candidate that arrives then
+-- the number of the candidate that arrives then, the lowest of those that do
 abbrev pub least_way : List Held → ℕ → ℕ
 least_way held second = way_of (held_at held second)
 
@@ -42,10 +42,15 @@ pub record KeepsDayOrder (f : ℕ → ℕ) : Type 0 where
   pub in_day : (second : ℕ) → second + 1 < day → f second ≤ f (second + 1)
   pub midnight : f (day - 1) ≤ day + f 0
 
--- the number of the candidate that is the least at this second, where a further one arrives then
+-- one where this number is lower than that of the least at a second, so that a tie goes to it
+abbrev pub tie_with : List Held → ℕ → ℕ → ℕ
+tie_with held way second = if nat_lt way (least_way held second) then 1 else 0
+
+-- the number of the candidate that is the least at this second, where a further one arrives then: of those that
+-- arrive as early the one with the lowest number
 abbrev pub way_with : List Held → ℕ → ℕ → ℕ → ℕ
 way_with held arrival way second =
-    if nat_lt arrival (least_arrival held second) then way else least_way held second
+    if nat_lt arrival (least_arrival held second + tie_with held way second) then way else least_way held second
 
 -- the number of the run in force at a second of the day
 abbrev pub way_in_force : List WayRun → ℕ → Option ℕ

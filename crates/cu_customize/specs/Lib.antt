@@ -3,3 +3,5 @@ pub mod Settling
 pub mod Steps
 pub mod Words
 pub mod Least
+pub mod Windows
+pub mod Travels

@@ -1,7 +1,7 @@
 -- What settling a shortcut gives, for whatever functions it is handed.
-use Rattle.std.specs.Prelude.{ℕ, List, [], true, Option, Some, None, IsSome, ◌≡◌, ◌≢◌, ◌<◌, ◌^◌, min, nat_lt, if◌then◌else◌}
+use Rattle.std.specs.Prelude.{ℕ, List, [], true, Option, Some, None, IsSome, ◌≡◌, ◌≢◌, ◌<◌, ◌+◌, ◌-◌, ◌^◌, min, nat_lt, if◌then◌else◌}
 use Rattle.std.specs.List.{Contains}
-use Rattle.cu_model.specs.Days.{day}
+use Rattle.cu_model.specs.Days.{day, IsOnward}
 use Rattle.cu_arrival.specs.declared.runs.Run.{Run}
 use Rattle.cu_arrival.specs.Runs.{arrival_value, IsArrivalFunction}
 use Rattle.cu_chordal.specs.Graphs.{HasEdge}
@@ -13,7 +13,9 @@ use Rattle.cu_interval.specs.declared.ways.Way.{Way}
 use Rattle.cu_interval.specs.declared.ways.Way.TheVariants.{Road, Via}
 use Rattle.cu_interval.specs.Hierarchies.{number_from}
 use Rattle.cu_interval.specs.WayLists.{IsRunsOf, way_in}
+use Rattle.cu_customize.specs.declared.words.TheConstants.{MAX_NUMBER}
 use Rattle.cu_customize.specs.Functions.{FunctionsState}
+use Rattle.cu_customize.specs.Words.{IsFunctionWords}
 
 abbrev pub shortcut_of : FunctionsState → Option ℕ → Dir → Option (ℕ → ℕ)
 shortcut_of f None dir = None
@@ -51,6 +53,22 @@ abbrev pub IsValueOf : List Ends → FunctionsState → ℕ → ℕ → List Ent
 IsValueOf edges f u v entries None = entries ≡ []
 IsValueOf edges f u v entries (Some runs) = (entries ≢ []) × IsArrivalFunction runs
     × ((t : ℕ) (way : Way) → t < day → way_in entries t ≡ Some way → ArrivesBy edges f u v t way (arrival_value runs t))
+
+-- the value of the ways of a list at each second of a day, by words; none where the list is empty
+abbrev pub IsDayValueOf : List Ends → FunctionsState → ℕ → ℕ → List Entry → Option (List Run) → Type 0
+IsDayValueOf edges f u v entries None = entries ≡ []
+IsDayValueOf edges f u v entries (Some words) = (entries ≢ []) × IsFunctionWords words × IsOnward (arrival_value words)
+    × ((t : ℕ) (way : Way) → t < day → way_in entries t ≡ Some way → ArrivesBy edges f u v t way (arrival_value words t))
+
+-- two functions that, each at some second of a day, take longer than this together
+abbrev pub TakeLonger : ℕ → Option (ℕ → ℕ) → Option (ℕ → ℕ) → Type 0
+TakeLonger most (Some first) (Some second) = (t s : ℕ) × (t < day) × (s < day) × ((t + s) + most < first t + second s)
+TakeLonger most None second = ⊥
+TakeLonger most (Some first) None = ⊥
+
+-- the halves of some way by a lower middle take so long that, with a day more, words can't say it
+abbrev pub HasFarWay : List Ends → FunctionsState → ℕ → ℕ → Type 0
+HasFarWay edges f u v = (m : ℕ) × (m < u) × (m < v) × TakeLonger (MAX_NUMBER - day) (function_from edges f u m) (function_from edges f m v)
 
 -- both halves of each lower triangle of an edge are known, in the directions that a list from u to v needs
 abbrev pub KnowsHalves : List Ends → FunctionsState → ℕ → ℕ → Type 0

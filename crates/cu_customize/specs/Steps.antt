@@ -2,7 +2,7 @@
 pub mod Choosing
 pub mod Best
 pub mod Kept
-pub mod Travels
+pub mod Bounded
 pub mod Gathering
 pub mod Building
 pub mod Linking

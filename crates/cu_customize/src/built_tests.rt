@@ -1,12 +1,14 @@
 //! What no clause says: that calls succeed, and lists that were worked by hand.
 
-ghost use Rattle.std.specs.Prelude.{◌≡◌, ◌≤◌, ◌<◌, ◌+◌, ◌^◌, IfOk, OnOk, All, length};
+ghost use Rattle.std.specs.Prelude.{◌≡◌, ◌≤◌, ◌<◌, ◌+◌, ◌*◌, ◌^◌, IfOk, OnOk, All, length};
 ghost use Rattle.cu_model.specs.declared.limits.TheConstants.{MAX_NODES};
+ghost use Rattle.cu_model.specs.Orders.{OrderValue};
 ghost use Rattle.cu_model.specs.Profiles.{IsProfile};
+ghost use Rattle.cu_interval.specs.EdgeArcs.{AreEdgeArcs};
 
 use super::*;
-use cu_chordal::close;
-use cu_interval::{Dir, Entry, Hierarchy, Way, Ways};
+use cu_chordal::{Chordal, close};
+use cu_interval::{Dir, EdgeArcs, Entry, Hierarchy, Way, WayList, Ways};
 use cu_model::{Network, Order, Piece, Profile, RoadArc, Roads, Rule};
 use std::alloc::Global;
 use std::test::Fail;
@@ -236,5 +238,106 @@ fn takes_each_road_where_all_are_alike(rt: HostRuntime) -> Result<(), Fail> {
     let network = network(alloc, 4, profiles, &ROADS)?;
     let hierarchy = built(alloc, network)?;
     assert!(rt; are_all(&hierarchy, &OWN_WAYS));
+    Ok(())
+}
+
+// What is built, beside what it was built of.
+#[derive(Clone, Copy)]
+struct Customized<'a> {
+    network: &'a Network,
+    graph: &'a Chordal,
+    arcs: &'a EdgeArcs,
+    lists: &'a [WayList],
+}
+
+// So many lists without a function.
+fn no_functions(alloc: Global, count: usize) -> Result<Vec<Option<DayFunction>>, Fail>
+    ensures { IfOk result (λ functions. length functions.items ≡ count) }
+{
+    let mut functions = Vec::new(alloc);
+    for _ in 0..count {
+        functions.push(None)?;
+    }
+    Ok(functions)
+}
+
+// Is the list of an edge in a direction, settled by words, the built one? Its function is among the functions then.
+fn is_settled(
+    alloc: Global,
+    customized: &Customized<'_>,
+    edge: u32,
+    dir: Dir,
+    settling: &mut WordSettling,
+    functions: &mut [Option<DayFunction>],
+) -> Result<bool, Fail>
+    requires edge { edge < length customized.now.graph.now.edges }
+    requires arcs { (o : OrderValue) × AreEdgeArcs customized.now.network.now o
+        customized.now.graph.now.edges customized.now.arcs.now }
+    requires functions { length functions.old ≡ 2 * length customized.now.graph.now.edges }
+{
+    let number = match dir {
+        Dir::Up => 2 * edge as usize,
+        Dir::Down => 2 * edge as usize + 1,
+    };
+    let (network, graph, arcs) = (customized.network, customized.graph, customized.arcs);
+    let Some(settled) = settling.settle(alloc, network, graph, arcs, functions, edge, dir)? else {
+        return Ok(false);
+    };
+    let Some(list) = customized.lists.get(number) else {
+        return Ok(false);
+    };
+    let same = settled.ways.entries() == list.entries();
+    functions[number] = settled.function;
+    Ok(same)
+}
+
+// Are all lists, settled by words one after the other, the built ones?
+fn are_settled(alloc: Global, customized: &Customized<'_>) -> Result<bool, Fail>
+    requires { (o : OrderValue) × AreEdgeArcs customized.now.network.now o
+        customized.now.graph.now.edges customized.now.arcs.now }
+{
+    let mut settling = WordSettling::new(alloc, customized.network)?;
+    let mut functions = no_functions(alloc, 2 * customized.graph.edges() as usize)?;
+    let mut all = true;
+    for edge in 0..customized.graph.edges() {
+        let up = is_settled(
+            alloc,
+            customized,
+            edge,
+            Dir::Up,
+            &mut settling,
+            &mut functions,
+        )?;
+        let down = is_settled(
+            alloc,
+            customized,
+            edge,
+            Dir::Down,
+            &mut settling,
+            &mut functions,
+        )?;
+        all = all && up && down;
+    }
+    Ok(all)
+}
+
+// By words, from the functions of the lists before it, each list is the same.
+#[test]
+fn settles_by_words_what_is_built(rt: HostRuntime) -> Result<(), Fail> {
+    let alloc = rt.alloc();
+    let profiles = three_profiles(alloc, Rule::Travel(250))?;
+    let network = network(alloc, 3, profiles, &[(1, 0, 0), (0, 2, 1), (1, 2, 2)])?;
+    let order = Order::identity(alloc, network.nodes())?;
+    let graph = close(alloc, &network, &order)?;
+    let arcs = EdgeArcs::of(alloc, &network, &order, &graph)?;
+    let lists = built_lists(alloc, &network, &order, &graph)?;
+    let customized = Customized {
+        network: &network,
+        graph: &graph,
+        arcs: &arcs,
+        lists: &lists,
+    };
+    assert!(rt; lists.len() == 6);
+    assert!(rt; are_settled(alloc, &customized)?);
     Ok(())
 }

@@ -14,7 +14,8 @@ use crate::pulling::pull;
 use crate::settling::leg_of;
 use crate::task::Task;
 use crate::triangles::{Triangle, Triangles};
-use crate::words::{Word, function_of_run};
+use crate::windows::Windows;
+use crate::words::{Word, staying};
 use cu_chordal::Chordal;
 use cu_interval::{Dir, EdgeArcs, Hierarchy, WayList};
 use cu_model::{Network, NoMemory, Order, Roads};
@@ -29,6 +30,7 @@ struct Parts<'a> {
     graph: &'a Chordal,
     arcs: &'a EdgeArcs,
     stay: &'a [Word],
+    windows: Windows,
 }
 
 // The functions and the lists of the first shortcuts, by list number; no function where there is none or where no later
@@ -61,15 +63,15 @@ fn settle_next(
 {
     let ends = parts.graph.ends(edge);
     let task = Task {
-        network: parts.network,
         graph: parts.graph,
         functions: &building.functions,
         stay: parts.stay,
+        windows: parts.windows,
         leg: leg_of(ends, dir),
         arcs: parts.arcs.arcs(edge, dir),
         triangles,
     };
-    gatherer.gather(&task)?;
+    gatherer.gather(parts.network, &task)?;
     let pulled = pull(alloc, &task, &gatherer.merger)?;
     building.functions.push(pulled.function)?;
     building.lists.push(pulled.ways)?;
@@ -146,7 +148,7 @@ fn build_lists(alloc: Global, parts: &Parts<'_>) -> Result<Building, NoMemory>
 {
     let lists = 2 * parts.graph.edges() as usize;
     let mut triangles = Triangles::new(alloc, parts.graph.ranks())?;
-    let mut gatherer = Gatherer::new(alloc)?;
+    let mut gatherer = Gatherer::new(alloc, parts.windows)?;
     let mut building = Building {
         functions: Vec::with_capacity(alloc, lists)?,
         lists: Vec::with_capacity(alloc, lists)?,
@@ -185,13 +187,14 @@ pub fn built_lists(
     prove_eq!(network.nodes(), order.nodes());
     prove_eq!(order.nodes(), graph.ranks());
     let arcs = EdgeArcs::of(alloc, network, order, graph)?;
-    let stay = function_of_run(alloc, Word::of(0, false, 0))?;
+    let stay = staying();
     let parts = Parts {
         network,
         order,
         graph,
         arcs: &arcs,
         stay: &stay,
+        windows: Windows::of(network),
     };
     let building = build_lists(alloc, &parts)?;
     Ok(building.lists)

@@ -1,33 +1,42 @@
 //! Functions over the day that are kept as words.
 
-ghost use Rattle.std.specs.Prelude.{◌≡◌};
+ghost use Rattle.std.specs.Prelude.{◌≡◌, ◌<◌, ◌-◌, ℕ, IfOk, IfSome, length, take};
+ghost use Rattle.cu_model.specs.declared.limits.TheConstants.{DAY};
 ghost use Rattle.cu_model.specs.Days.{IsOnward};
-ghost use Rattle.cu_arrival.specs.Runs.{arrival_value};
-ghost use Rattle.cu_customize.specs.Words.{IsFunctionWords};
-ghost use Rattle.cu_customize.specs.Steps.Travels.{TakesAtLeast, TakesAtMost};
+ghost use Rattle.cu_arrival.specs.Runs.{IsArrivalFunction, arrival_value};
+ghost use Rattle.cu_customize.specs.Windows.{AreLowered, TakesBetween, TakesInWindows};
+ghost use Rattle.cu_customize.specs.Words.{IsFunctionWords, composed};
+ghost use Rattle.cu_customize.specs.Travels.{Takes, TakesAtLeast, TakesAtMost};
+ghost use Rattle.cu_customize.specs.Steps.Bounded.{AreBounds};
 
+use crate::windows::{Bounds, WINDOWS, Windows, fill};
 use crate::words::{Word, least_travel, most_travel};
+use cu_arrival::{Arrival, Run};
+use cu_model::NoMemory;
+use std::alloc::Global;
 use std::marker::Model;
 
-/// When a shortcut arrives, leaving at each second of the day, as words, with its least and its greatest travel time.
-/// Contracts see it as its list of runs.
+/// When a shortcut arrives, leaving at each second of the day, as words, with its least and its greatest travel time,
+/// and maybe with such bounds for each of some windows of the day. Contracts see it as its list of runs.
 #[derive(Debug, Drop)]
 pub struct DayFunction {
     words: Vec<Word>,
     least: u64,
     most: u64,
+    bounds: Option<Box<Bounds>>,
 }
 
 impl Model for DayFunction {
     ghost use Rattle.std.specs.Prelude.{List};
     ghost use Rattle.cu_arrival.specs.declared.runs.Run.{Run};
-    ghost use Rattle.cu_customize.specs.Steps.Travels.{IsTravelled};
+    ghost use Rattle.cu_customize.specs.Steps.Bounded.{IsTravelled};
 
     ghost Value = { List Run };
 
     ghost view = { λ function. function.words.items };
 
-    ghost invariant = { λ function. IsTravelled function.words.items function.least function.most };
+    ghost invariant = { λ function.
+        IsTravelled function.words.items function.least function.most function.bounds };
 }
 
 impl DayFunction {
@@ -39,13 +48,40 @@ impl DayFunction {
     {
         let least = least_travel(&words);
         let most = most_travel(&words);
-        DayFunction { words, least, most }
+        DayFunction {
+            words,
+            least,
+            most,
+            bounds: None,
+        }
+    }
+
+    /// The same, with what it takes in each of these windows of the day.
+    pub fn in_windows(
+        alloc: Global,
+        words: Vec<Word>,
+        windows: Windows,
+    ) -> Result<DayFunction, NoMemory>
+        requires function { IsFunctionWords words.items }
+        requires onward { IsOnward (arrival_value words.items) }
+        ensures { IfOk result (λ function. function ≡ words.items) }
+    {
+        let least = least_travel(&words);
+        let most = most_travel(&words);
+        let bounds = Box::new(alloc, Bounds::of(&words, least, most, windows))?;
+        Ok(DayFunction {
+            words,
+            least,
+            most,
+            bounds: Some(bounds),
+        })
     }
 
     /// Its words.
     pub fn words(&self) -> &[Word]
         ensures all { result.now ≡ self.now }
         ensures function { IsFunctionWords result.now }
+        ensures onward { IsOnward (arrival_value result.now) }
     {
         &self.words
     }
@@ -61,8 +97,76 @@ impl DayFunction {
     /// Its greatest travel time.
     pub fn most(&self) -> u64
         ensures most { TakesAtMost self.now result }
+        ensures taken { Takes self.now result }
         ensures function { IsFunctionWords self.now }
+        ensures onward { IsOnward (arrival_value self.now) }
     {
         self.most
     }
+
+    /// The same function by runs.
+    pub fn to_arrival(&self, alloc: Global) -> Result<Arrival, NoMemory>
+        ensures value { IfOk result (λ arrival.
+            (t : ℕ) → arrival_value arrival t ≡ arrival_value self.now t) }
+        ensures sound { IfOk result IsArrivalFunction }
+    {
+        let runs = runs_of(alloc, &self.words)?;
+        let arrival = Arrival::from_runs(alloc, &runs)?;
+        Ok(arrival)
+    }
+
+    /// Writes what it takes at least together with one behind it in each window of the day, and lowers the limit of
+    /// each window to what they take at most, where that is known of the window.
+    pub fn bound_with(
+        &self,
+        second: &DayFunction,
+        windows: Windows,
+        lower: &mut [u32; WINDOWS],
+        limits: &mut [u32; WINDOWS],
+    )
+        ensures lower { TakesInWindows windows (composed self.now second.now) lower.new }
+        ensures limits { AreLowered windows (composed self.now second.now) limits.old limits.new }
+    {
+        let (Some(one), Some(two)) = (self.bounds_in(windows), second.bounds_in(windows)) else {
+            fill(lower, self.day_least_with(second));
+            return;
+        };
+        'windows: for window in 0..WINDOWS {
+            lower[window] = one.least_with(two, window);
+            limits[window] = limits[window].min(one.most_with(two, window));
+        }
+    }
+
+    // What it takes at least together with one behind it, over the day.
+    fn day_least_with(&self, second: &DayFunction) -> u32
+        ensures { TakesBetween (composed self.now second.now) 0 DAY result }
+    {
+        let least = self.least().saturating_add(second.least());
+        least.min(u64::from(u32::MAX)) as u32
+    }
+
+    // What is known of it in these windows.
+    fn bounds_in(&self, windows: Windows) -> Option<&Bounds>
+        ensures windows { IfSome result (λ bounds. bounds.now.windows ≡ windows) }
+        ensures known { IfSome result (λ bounds. AreBounds (arrival_value self.now) bounds.now) }
+        ensures function { IsFunctionWords self.now }
+    {
+        match &self.bounds {
+            Some(bounds) if bounds.are_in(windows) => Some(&**bounds),
+            _ => None,
+        }
+    }
+}
+
+// The runs of words but the one that ends them.
+fn runs_of(alloc: Global, words: &[Word]) -> Result<Vec<Run>, NoMemory>
+    requires { 0 < length words.now }
+    ensures { IfOk result (λ runs. runs.items ≡ take (length words.now - 1) words.now) }
+{
+    let count = words.len() - 1;
+    let mut runs = Vec::with_capacity(alloc, count)?;
+    for index in 0..count {
+        runs.push(words[index].run())?;
+    }
+    Ok(runs)
 }

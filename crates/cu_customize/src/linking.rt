@@ -9,7 +9,7 @@ ghost use Rattle.cu_arrival.specs.declared.runs.RunRule.TheVariants.{Shift};
 ghost use Rattle.cu_arrival.specs.Runs.{arrival_value, rule_number};
 ghost use Rattle.cu_arrival.specs.Steps.Stretches.{arrives};
 ghost use Rattle.cu_customize.specs.Words.{IsDayList, IsFunctionWords, composed};
-ghost use Rattle.cu_customize.specs.Steps.Linking.{IsPlace, Continues};
+ghost use Rattle.cu_customize.specs.Steps.Linking.{Begins, IsPlace, Continues};
 
 use crate::words::{MAX_NUMBER, Word, index_at};
 use cu_model::{DAY, NoMemory};
@@ -35,18 +35,50 @@ pub fn link(first: &[Word], second: &[Word], linked: &mut Vec<Word>) -> Result<(
     ensures value { IfOk result (λ _. (t : ℕ) → t < DAY →
         arrival_value linked.new.items t ≡ composed first.now second.now t) }
 {
-    linked.clear();
-    let mut place = place_at(second, first[0].arrives(0));
-    let mut index = 0;
-    let mut at = 0;
-    'day: while at < END {
+    link_between(first, second, 0, END, linked)?;
+    Ok(())
+}
+
+/// The same from one second of the day until another: at the other seconds `linked` says nothing.
+pub fn link_between(
+    first: &[Word],
+    second: &[Word],
+    from: u64,
+    until: u64,
+    linked: &mut Vec<Word>,
+) -> Result<(), NoMemory>
+    requires first { IsFunctionWords first.now }
+    requires second { IsFunctionWords second.now }
+    requires some { from < until }
+    requires in_day { until ≤ DAY }
+    ensures over_day { IfOk result (λ _. IsDayList linked.new.items) }
+    ensures value { IfOk result (λ _. (t : ℕ) → from ≤ t → t < until →
+        arrival_value linked.new.items t ≡ composed first.now second.now t) }
+{
+    begin(from, linked)?;
+    let mut index = index_at(first, from);
+    let mut place = place_at(second, first[index].arrives(from));
+    let mut at = from;
+    'stretch: while at < until {
         let run = first[index];
-        let until = first[index + 1].from();
-        place = link_run(second, place, run, at, until, linked)?;
-        at = until;
+        let end = first[index + 1].from().min(until);
+        place = link_run(second, place, run, at, end, linked)?;
+        at = end;
         index += 1;
     }
     linked.push(Word::end())?;
+    Ok(())
+}
+
+// Empties a list that is to begin at a second; before it a run stands in that says nothing.
+fn begin(from: u64, linked: &mut Vec<Word>) -> Result<(), NoMemory>
+    requires { from ≤ DAY }
+    ensures { IfOk result (λ _. Begins from linked.new.items) }
+{
+    linked.clear();
+    if from > 0 {
+        linked.push(Word::of(0, false, 0))?;
+    }
     Ok(())
 }
 

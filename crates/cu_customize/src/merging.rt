@@ -1,19 +1,23 @@
 //! The least of several candidates at each second of a day, and which of them it is. It is the operation that
-//! time-dependent contraction hierarchies call merge, here of compositions, one candidate after the other.
+//! time-dependent contraction hierarchies call merge, here of compositions, one candidate after the other. Of those
+//! that arrive as early the one with the lowest number is the least, in whatever order they come.
 
-ghost use Rattle.std.specs.Prelude.{◌≡◌, ◌≢◌, ◌≤◌, ◌<◌, ◌+◌, ◌-◌, ◌^◌, ◌↔◌, ℕ, [], Some, IfOk, OnErr, IsTrue, All, min, length, slice_get};
+ghost use Rattle.std.specs.Prelude.{◌≡◌, ◌≢◌, ◌≤◌, ◌<◌, ◌+◌, ◌-◌, ◌*◌, ◌^◌, ◌↔◌, ℕ, [], Some, IfOk, OnErr, IsTrue, All, min, length, nat_lt, slice_get, if◌then◌else◌};
 ghost use Rattle.std.specs.List.{AllAdjacentBelow};
 ghost use Rattle.cu_model.specs.declared.limits.TheConstants.{DAY};
 ghost use Rattle.cu_arrival.specs.declared.runs.Run.{Run};
 ghost use Rattle.cu_arrival.specs.Runs.{arrival_value, rule_number};
 ghost use Rattle.cu_arrival.specs.Steps.Stretches.{arrives};
 ghost use Rattle.cu_model.specs.Growing.{IsPushed, last_says};
+ghost use Rattle.cu_customize.specs.declared.windows.TheConstants.{WINDOWS};
+ghost use Rattle.cu_customize.specs.Windows.{AreLowered, IsLate, TakesInWindows, window_start};
 ghost use Rattle.cu_customize.specs.Words.{IsCompactDay, IsDayList, IsFunctionWords, composed, end_run, is_fixed};
-ghost use Rattle.cu_customize.specs.Least.{KeepsDayOrder, IsWayRuns, least_arrival, least_way, way_with};
-ghost use Rattle.cu_customize.specs.Steps.Merging.{IsHeld, IsLeast, IsNext, IsMerging, IsMerged, IsBefore, CopiesBehind, Merges, Puts, least_held, next_held};
+ghost use Rattle.cu_customize.specs.Least.{KeepsDayOrder, IsWayRuns, least_arrival, least_way, tie_with, way_with};
+ghost use Rattle.cu_customize.specs.Steps.Merging.{IsAddedWithin, IsHeld, IsNext, IsMerging, IsSeen, IsMerged, IsBefore, CopiesBehind, Merges, Puts, least_held, next_held};
 
-use crate::linking::link;
-use crate::words::{MAX_NUMBER, Word};
+use crate::linking::link_between;
+use crate::windows::{Limits, WINDOWS, Windows, lower_limits};
+use crate::words::{MAX_NUMBER, Word, index_at, stepped};
 use cu_model::{DAY, NoMemory};
 use std::alloc::Global;
 use std::marker::Model;
@@ -35,8 +39,8 @@ pub struct WayRun {
     pub way: u32,
 }
 
-// The least arrivals of the candidates so far, and beside each run which of them it is: at each second the first of the
-// least. Both lists have one entry more, which ends them.
+// The least arrivals of the candidates so far, and beside each run which of them it is: at each second the lowest
+// number of those that arrive then. Both lists have one entry more, which ends them.
 #[derive(Debug, Drop)]
 struct Least {
     words: Vec<Word>,
@@ -53,25 +57,34 @@ struct Next {
     done: u64,
 }
 
-/// What merges candidates, with its room. Contracts see it as the runs of the least arrivals so far, each beside the
-/// number of its candidate.
+// A candidate, the composition of two functions, with its number.
+#[derive(Clone, Copy)]
+struct Candidate<'a> {
+    first: &'a [Word],
+    second: &'a [Word],
+    way: u32,
+}
+
+/// What merges candidates, each maybe only in parts of the day, with its room. Contracts see it as the runs of the least
+/// arrivals so far, each beside the number of its candidate. Where candidates are left out a later departure may arrive
+/// earlier.
 #[derive(Debug, Drop)]
-pub struct Merger {
+pub struct PartMerger {
     least: Least,
     next: Next,
     linked: Vec<Word>,
 }
 
-impl Model for Merger {
+impl Model for PartMerger {
     ghost use Rattle.std.specs.Prelude.{List};
     ghost use Rattle.cu_customize.specs.Least.{Held};
-    ghost use Rattle.cu_customize.specs.Steps.Merging.{IsLeast, least_held};
+    ghost use Rattle.cu_customize.specs.Steps.Merging.{IsHeld, least_held};
 
     ghost Value = { List Held };
 
     ghost view = { λ merger. least_held merger.least };
 
-    ghost invariant = { λ merger. IsLeast merger.least };
+    ghost invariant = { λ merger. IsHeld merger.least };
 }
 
 impl Next {
@@ -176,8 +189,8 @@ impl Next {
         requires order { self.old.done ≤ from }
         requires some { from < until }
         requires in_day { until ≤ DAY }
-        requires earlier { (s : ℕ) → from ≤ s → s < until →
-            arrives run.rule s < least_arrival (least_held least.now) s }
+        requires earlier { (s : ℕ) → from ≤ s → s < until → arrives run.rule s
+            < least_arrival (least_held least.now) s + tie_with (least_held least.now) way s }
         ensures next { IfOk result (λ _. IsNext least.now self.new) }
         ensures done { IfOk result (λ _. self.new.done ≡ until) }
         ensures won { IfOk result (λ _.
@@ -207,21 +220,22 @@ fn in_force(words: &[Word], from: usize, second: u64) -> usize
     index
 }
 
-// The index of the run in force at the end of a stretch, from that in force before, which ends at `own_end`.
+// One where a candidate's number is lower than that of the least, so that a tie goes to it.
 #[inline(always)]
-fn stepped(index: usize, own_end: u64, end: u64) -> usize
-    requires { index + 1 < 2 ^ 64 }
-    ensures ended { own_end ≡ end → result ≡ index + 1 }
-    ensures lasts { own_end ≢ end → result ≡ index }
+fn tie_between(way: u32, least: u32) -> u64
+    ensures tie { result ≡ (if nat_lt way least then 1 else 0) }
+    ensures one { result ≤ 1 }
 {
-    index + usize::from(own_end == end)
+    u64::from(way < least)
 }
 
-// Takes the candidate where it is strictly the least from `at` to `end`. One of the two runs is fixed, the other isn't.
+// Takes the candidate where it wins from `at` to `end`: where it is earlier than the least, or as early if `tie` is
+// one. One of the two runs is fixed, the other isn't.
 #[inline(never)]
 fn compare_kinds(
     least: &Least,
     held: Word,
+    tie: u64,
     run: Word,
     at: u64,
     end: u64,
@@ -236,31 +250,34 @@ fn compare_kinds(
     requires differ { is_fixed held.rule ≢ is_fixed run.rule }
     requires held { (s : ℕ) → at ≤ s → s < end →
         least_arrival (least_held least.now) s ≡ arrives held.rule s }
+    requires one { tie ≤ 1 }
+    requires tie { (s : ℕ) → at ≤ s → s < end → tie_with (least_held least.now) way s ≡ tie }
     ensures next { IfOk result (λ _. IsNext least.now next.new) }
     ensures order { IfOk result (λ _. next.new.done ≤ end) }
     ensures merged { IfOk result (λ _.
         Merges least.now at end (arrives run.rule) way next.old next.new) }
 {
     if run.is_fixed() {
-        // The other arrives later where it leaves later than this.
-        let from = at.max((run.number() + 1).saturating_sub(held.number()));
+        // From here on the other arrives later, or as early where a tie is the candidate's.
+        let from = at.max((run.number() + 1 - tie).saturating_sub(held.number()));
         if from < end {
             return next.win(least, run, from, end, way);
         }
         return Ok(());
     }
-    let until = end.min(held.number().saturating_sub(run.number()));
+    let until = end.min((held.number() + tie).saturating_sub(run.number()));
     if at < until {
         return next.win(least, run, at, until, way);
     }
     Ok(())
 }
 
-// Takes the candidate where it is strictly the least from `at` to `end`.
+// Takes the candidate where it wins from `at` to `end`.
 #[inline(always)]
 fn compare_runs(
     least: &Least,
     held: Word,
+    tie: u64,
     run: Word,
     at: u64,
     end: u64,
@@ -274,42 +291,57 @@ fn compare_runs(
     requires in_day { end ≤ DAY }
     requires held { (s : ℕ) → at ≤ s → s < end →
         least_arrival (least_held least.now) s ≡ arrives held.rule s }
+    requires one { tie ≤ 1 }
+    requires tie { (s : ℕ) → at ≤ s → s < end → tie_with (least_held least.now) way s ≡ tie }
     ensures next { IfOk result (λ _. IsNext least.now next.new) }
     ensures order { IfOk result (λ _. next.new.done ≤ end) }
     ensures merged { IfOk result (λ _.
         Merges least.now at end (arrives run.rule) way next.old next.new) }
 {
     if !run.has_kind_of(held) {
-        return compare_kinds(least, held, run, at, end, way, next);
+        return compare_kinds(least, held, tie, run, at, end, way, next);
     }
-    if run.number() < held.number() {
+    if run.number() < held.number() + tie {
         return next.win(least, run, at, end, way);
     }
     Ok(())
 }
 
-// Takes the candidate where it is strictly the least, from the first second on.
+// Takes the candidate where it wins, from one second until another.
 #[inline(never)]
-fn compare(least: &Least, candidate: &[Word], way: u32, next: &mut Next) -> Result<(), NoMemory>
+fn compare(
+    least: &Least,
+    candidate: &[Word],
+    from: u64,
+    until: u64,
+    way: u32,
+    next: &mut Next,
+) -> Result<(), NoMemory>
     requires least { IsHeld least.now }
     requires candidate { IsDayList candidate.now }
     requires next { IsNext least.now next.old }
-    requires none { next.old.done ≡ 0 }
-    requires empty { next_held next.old ≡ [] }
+    requires order { next.old.done ≤ from }
+    requires some { from < until }
+    requires in_day { until ≤ DAY }
     ensures next { IfOk result (λ _. IsNext least.now next.new) }
+    ensures order { IfOk result (λ _. next.new.done ≤ until) }
     ensures merged { IfOk result (λ _.
-        IsMerging least.now (arrival_value candidate.now) way next.new DAY) }
+        Merges least.now from until (arrival_value candidate.now) way next.old next.new) }
 {
-    let mut at = 0;
-    let mut index = 0;
-    let mut other = 0;
-    'day: while at < END {
+    let mut at = from;
+    // The candidate was linked from this second on, so its run in force is one of the first two.
+    let mut index = in_force(candidate, 0, from);
+    let mut other = index_at(&least.words, from);
+    'stretch: while at < until {
         let run_end = candidate[index + 1].from();
         let held_end = least.words[other + 1].from();
-        let end = run_end.min(held_end);
+        let both_end = run_end.min(held_end);
+        let end = both_end.min(until);
+        let tie = tie_between(way, least.ways[other]);
         compare_runs(
             least,
             least.words[other],
+            tie,
             candidate[index],
             at,
             end,
@@ -323,9 +355,138 @@ fn compare(least: &Least, candidate: &[Word], way: u32, next: &mut Next) -> Resu
     Ok(())
 }
 
-impl Merger {
+// Links a candidate from one second until another, and takes it where it wins.
+fn link_and_compare(
+    least: &Least,
+    candidate: Candidate<'_>,
+    from: u64,
+    until: u64,
+    linked: &mut Vec<Word>,
+    next: &mut Next,
+) -> Result<(), NoMemory>
+    requires least { IsHeld least.now }
+    requires first { IsFunctionWords candidate.first.now }
+    requires second { IsFunctionWords candidate.second.now }
+    requires next { IsNext least.now next.old }
+    requires order { next.old.done ≤ from }
+    requires some { from < until }
+    requires in_day { until ≤ DAY }
+    ensures next { IfOk result (λ _. IsNext least.now next.new) }
+    ensures order { IfOk result (λ _. next.new.done ≤ until) }
+    ensures merged { IfOk result (λ _. Merges least.now from until
+        (composed candidate.entry.first.now candidate.entry.second.now)
+        candidate.entry.way next.old next.new) }
+{
+    link_between(candidate.first, candidate.second, from, until, linked)?;
+    compare(least, linked, from, until, candidate.way, next)?;
+    Ok(())
+}
+
+// Does the candidate take longer in a window than some candidate takes at most?
+#[inline(always)]
+fn is_late(limits: Limits<'_>, window: usize) -> bool
+    requires window { window < WINDOWS }
+    ensures { IsTrue result ↔ IsLate limits.entry.lower.now limits.entry.most.now window }
+{
+    is_above(limits.lower[window], limits.most[window])
+}
+
+// Is a number above another one?
+#[inline(always)]
+fn is_above(lower: u32, most: u32) -> bool
+    ensures { IsTrue result ↔ (most < min lower (2 ^ 32 - 1)) }
+{
+    lower > most
+}
+
+// The first window from this one on in which it is late, or the number of windows.
+#[inline(always)]
+fn late_from(limits: Limits<'_>, first: usize) -> usize
+    requires first { first ≤ WINDOWS }
+    ensures from { first ≤ result }
+    ensures within { result ≤ WINDOWS }
+    ensures before { (window : ℕ) → first ≤ window → window < result →
+        IsLate limits.entry.lower.now limits.entry.most.now window → ⊥ }
+{
+    let mut window = first;
+    'windows: while window < WINDOWS {
+        if is_late(limits, window) {
+            return window;
+        }
+        window += 1;
+    }
+    window
+}
+
+// Leaves out a window in which the candidate is late, or takes the candidate in all windows from this one on until it
+// is late. Gives the window behind.
+fn compare_windows_from(
+    least: &Least,
+    candidate: Candidate<'_>,
+    limits: Limits<'_>,
+    window: usize,
+    linked: &mut Vec<Word>,
+    next: &mut Next,
+) -> Result<usize, NoMemory>
+    requires least { IsHeld least.now }
+    requires first { IsFunctionWords candidate.first.now }
+    requires second { IsFunctionWords candidate.second.now }
+    requires next { IsNext least.now next.old }
+    requires window { window < WINDOWS }
+    requires order { next.old.done ≤ window_start limits.windows window }
+    ensures next { IfOk result (λ _. IsNext least.now next.new) }
+    ensures order { IfOk result (λ end. next.new.done ≤ window_start limits.entry.windows end) }
+    ensures later { IfOk result (λ end. window < end) }
+    ensures within { IfOk result (λ end. end ≤ WINDOWS) }
+    ensures merged { IfOk result (λ end.
+        (arrival : ℕ → ℕ) → IsSeen limits.entry candidate.entry least.now arrival
+        → IsMerging least.now arrival candidate.entry.way
+        next.old (window_start limits.entry.windows window)
+        → IsMerging least.now arrival candidate.entry.way
+        next.new (window_start limits.entry.windows end)) }
+{
+    if is_late(limits, window) {
+        return Ok(window + 1);
+    }
+    let end = late_from(limits, window + 1);
+    let from = limits.windows.start(window);
+    let until = limits.windows.start(end);
+    if from >= until {
+        return Ok(end);
+    }
+    link_and_compare(least, candidate, from, until, linked, next)?;
+    Ok(end)
+}
+
+// Takes the candidate where it wins, in the windows in which it isn't late.
+fn compare_windows(
+    least: &Least,
+    candidate: Candidate<'_>,
+    limits: Limits<'_>,
+    linked: &mut Vec<Word>,
+    next: &mut Next,
+) -> Result<(), NoMemory>
+    requires least { IsHeld least.now }
+    requires first { IsFunctionWords candidate.first.now }
+    requires second { IsFunctionWords candidate.second.now }
+    requires next { IsNext least.now next.old }
+    requires none { next.old.done ≡ 0 }
+    requires empty { next_held next.old ≡ [] }
+    ensures next { IfOk result (λ _. IsNext least.now next.new) }
+    ensures merged { IfOk result (λ _.
+        (arrival : ℕ → ℕ) → IsSeen limits.entry candidate.entry least.now arrival
+        → IsMerging least.now arrival candidate.entry.way next.new DAY) }
+{
+    let mut window = 0;
+    'windows: while window < WINDOWS {
+        window = compare_windows_from(least, candidate, limits, window, linked, next)?;
+    }
+    Ok(())
+}
+
+impl PartMerger {
     /// A merger with no candidate.
-    pub fn new(alloc: Global) -> Result<Merger, NoMemory>
+    pub fn new(alloc: Global) -> Result<PartMerger, NoMemory>
         ensures arrival { IfOk result (λ merger.
             (t : ℕ) → t < DAY → least_arrival merger t ≡ MOST) }
         ensures way { IfOk result (λ merger.
@@ -341,7 +502,7 @@ impl Merger {
             index: 0,
             done: 0,
         };
-        Ok(Merger {
+        Ok(PartMerger {
             least,
             next,
             linked: Vec::new(alloc),
@@ -362,7 +523,7 @@ impl Merger {
     }
 
     /// Adds a candidate, the composition of two functions, under its number. Where it arrives as early as another, the
-    /// other stays. After a refusal for want of memory the merger is what it was.
+    /// one with the lower number stays. After a refusal for want of memory the merger is what it was.
     pub fn add(&mut self, first: &[Word], second: &[Word], way: u32) -> Result<(), NoMemory>
         requires first { IsFunctionWords first.now }
         requires second { IsFunctionWords second.now }
@@ -372,9 +533,16 @@ impl Merger {
             ≡ way_with self.old (composed first.now second.now t) way t) }
         ensures err { OnErr result (self.new ≡ self.old) }
     {
-        link(first, second, &mut self.linked)?;
+        let candidate = Candidate { first, second, way };
         self.next.restart();
-        compare(&self.least, &self.linked, way, &mut self.next)?;
+        link_and_compare(
+            &self.least,
+            candidate,
+            0,
+            END,
+            &mut self.linked,
+            &mut self.next,
+        )?;
         if self.next.words.is_empty() {
             return Ok(());
         }
@@ -382,6 +550,47 @@ impl Merger {
         mem::swap(&mut self.least.words, &mut self.next.words);
         mem::swap(&mut self.least.ways, &mut self.next.ways);
         Ok(())
+    }
+
+    /// The same where it is known what the composition takes at least in each window of the day: where it takes longer
+    /// than some limit it may be left out. Answers whether anything changed, of which no clause speaks.
+    pub fn add_within(
+        &mut self,
+        first: &[Word],
+        second: &[Word],
+        way: u32,
+        limits: Limits<'_>,
+    ) -> Result<bool, NoMemory>
+        requires first { IsFunctionWords first.now }
+        requires second { IsFunctionWords second.now }
+        requires lower { TakesInWindows limits.windows (composed first.now second.now)
+            limits.lower.now }
+        ensures { IfOk result (λ _. IsAddedWithin limits.entry.windows limits.entry.most.now
+            (composed first.now second.now) way self.old self.new) }
+    {
+        let candidate = Candidate { first, second, way };
+        self.next.restart();
+        compare_windows(
+            &self.least,
+            candidate,
+            limits,
+            &mut self.linked,
+            &mut self.next,
+        )?;
+        if self.next.words.is_empty() {
+            return Ok(false);
+        }
+        self.next.finish(&self.least)?;
+        mem::swap(&mut self.least.words, &mut self.next.words);
+        mem::swap(&mut self.least.ways, &mut self.next.ways);
+        Ok(true)
+    }
+
+    /// Lowers the limit of each window of the day to what the least takes at most.
+    pub fn lower_limits(&self, windows: Windows, limits: &mut [u32; WINDOWS])
+        ensures { AreLowered windows (least_arrival self.now) limits.old limits.new }
+    {
+        lower_limits(&self.least.words, windows, limits);
     }
 
     /// Has it no candidate at all? Each is there at every second of the day.
@@ -393,7 +602,8 @@ impl Merger {
 
     /// The least arrivals as a function, where all are within the limit of numbers: neighbouring runs differ.
     pub fn least_words(&self, alloc: Global) -> Result<Vec<Word>, NoMemory>
-        requires { (t : ℕ) → t < DAY → least_arrival self.now t ≤ MAX_NUMBER }
+        requires limit { (t : ℕ) → t < DAY → least_arrival self.now t ≤ MAX_NUMBER }
+        requires order { KeepsDayOrder (least_arrival self.now) }
         ensures function { IfOk result (λ words. IsFunctionWords words.items) }
         ensures value { IfOk result (λ words. (t : ℕ) → t < DAY →
             arrival_value words.items t ≡ least_arrival self.now t) }

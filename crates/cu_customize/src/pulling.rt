@@ -3,44 +3,66 @@
 ghost use Rattle.std.specs.Prelude.{◌≡◌, ◌≢◌, ◌<◌, All, IfOk, Some, map, length, slice_get};
 ghost use Rattle.cu_customize.specs.declared.merging.TheConstants.{NOBODY};
 ghost use Rattle.cu_customize.specs.declared.merging.WayRun.{WayRun};
-ghost use Rattle.cu_customize.specs.Least.{least_way};
-ghost use Rattle.cu_customize.specs.Steps.Gathering.{IsPulled, IsTask, IsWithin, read_of, said_by, ways_of};
+ghost use Rattle.cu_customize.specs.Least.{KeepsDayOrder, least_arrival, least_way};
+ghost use Rattle.cu_customize.specs.Words.{IsFunctionWords};
+ghost use Rattle.cu_model.specs.Days.{IsOnward};
+ghost use Rattle.cu_arrival.specs.Runs.{arrival_value};
+ghost use Rattle.cu_customize.specs.Steps.Gathering.{IsPulled, IsTaskOfSome, IsWithin, read_of, said_by, ways_of};
 
 use crate::choosing::list_of;
 use crate::day_function::DayFunction;
-use crate::merging::{Merger, WayRun};
+use crate::merging::{PartMerger, WayRun};
 use crate::task::Task;
+use crate::words::Word;
 use cu_interval::{Entry, Way, WayList};
 use cu_model::NoMemory;
 use std::alloc::Global;
 
-/// The ways of a list and their function; none where it has no way.
+// How many higher neighbours a middle has whose functions are bounded in windows.
+const MANY: usize = 5;
+
+/// What settling a shortcut by words gives: the list of its ways, and their function; None where it has no way.
 #[derive(Debug, Drop)]
-pub struct Pulled {
+pub struct SettledWords {
     pub ways: WayList,
     pub function: Option<DayFunction>,
 }
 
 /// The ways that are the least, and their function.
-pub fn pull(alloc: Global, task: &Task<'_>, merger: &Merger) -> Result<Pulled, NoMemory>
-    requires task { IsTask task.now }
+pub fn pull(alloc: Global, task: &Task<'_>, merger: &PartMerger) -> Result<SettledWords, NoMemory>
+    requires task { IsTaskOfSome task.now }
     requires held { least_way merger.now 0 ≢ NOBODY → IsWithin (ways_of task.now) merger.now }
+    requires order { KeepsDayOrder (least_arrival merger.now) }
     ensures { IfOk result
         (λ pulled. IsPulled (ways_of task.now) merger.now pulled.ways pulled.function) }
 {
     if merger.is_empty() {
-        return Ok(Pulled {
+        return Ok(SettledWords {
             ways: list_of(Vec::new(alloc)),
             function: None,
         });
     }
     let runs = merger.way_runs(alloc)?;
     let entries = entries_of(alloc, task, &runs)?;
-    let function = DayFunction::of(merger.least_words(alloc)?);
-    Ok(Pulled {
+    let function = function_of(alloc, task, merger.least_words(alloc)?)?;
+    Ok(SettledWords {
         ways: list_of(entries),
         function: Some(function),
     })
+}
+
+// The function of a list. What it takes in windows is worth finding where it may be a half of many candidates.
+fn function_of(alloc: Global, task: &Task<'_>, words: Vec<Word>) -> Result<DayFunction, NoMemory>
+    requires task { IsTaskOfSome task.now }
+    requires function { IsFunctionWords words.items }
+    requires onward { IsOnward (arrival_value words.items) }
+    ensures { IfOk result (λ function. function ≡ words.items) }
+{
+    let low = task.leg.from.min(task.leg.to);
+    if task.graph.up(low).len() < MANY {
+        return Ok(DayFunction::of(words));
+    }
+    DayFunction::in_windows(alloc, words, task.windows)
 }
 
 // The entries of the ways with these numbers.

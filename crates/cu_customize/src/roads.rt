@@ -8,31 +8,31 @@ ghost use Rattle.cu_arrival.specs.Steps.OfPieces.{run_of};
 ghost use Rattle.cu_customize.specs.Words.{IsFunctionWords};
 
 use crate::words::Word;
-use cu_model::{Network, NoMemory, Piece, Roads, Rule};
+use cu_model::{NoMemory, Piece, Roads, Rule};
 
 /// Writes the function of a road over what `words` holds. The road isn't closed. After a refusal for want of memory
 /// `words` may hold anything.
-pub fn put_road(network: &Network, arc: u32, words: &mut Vec<Word>) -> Result<(), NoMemory>
-    requires road { arc < length network.now.arcs }
-    requires open { is_closed_arc network.now arc ≡ false }
+pub fn put_road<R: Roads>(roads: &R, arc: u32, words: &mut Vec<Word>) -> Result<(), NoMemory>
+    requires road { arc < length (R.network roads.now).arcs }
+    requires open { is_closed_arc (R.network roads.now) arc ≡ false }
     ensures function { IfOk result (λ _. IsFunctionWords words.new.items) }
     ensures value { IfOk result (λ _. (t : ℕ) → t < DAY →
-        arrival_value words.new.items t ≡ arc_value network.now arc t) }
+        arrival_value words.new.items t ≡ arc_value (R.network roads.now) arc t) }
 {
     words.clear();
-    put_pieces(network, network.arc(arc).profile, words)?;
+    put_pieces(roads, roads.arc(arc).profile, words)?;
     words.push(Word::end())?;
     Ok(())
 }
 
 // Adds a word for each piece of a profile.
-fn put_pieces(network: &Network, profile: u32, words: &mut Vec<Word>) -> Result<(), NoMemory>
-    requires { profile < length network.now.profiles }
+fn put_pieces<R: Roads>(roads: &R, profile: u32, words: &mut Vec<Word>) -> Result<(), NoMemory>
+    requires { profile < length (R.network roads.now).profiles }
     ensures { IfOk result (λ _. words.new.items
-        ≡ words.old.items ++ map run_of (pieces_of network.now profile)) }
+        ≡ words.old.items ++ map run_of (pieces_of (R.network roads.now) profile)) }
 {
-    for index in 0..network.pieces(profile) {
-        words.push(word_of(network.piece(profile, index)))?;
+    for index in 0..roads.pieces(profile) {
+        words.push(word_of(roads.piece(profile, index)))?;
     }
     Ok(())
 }

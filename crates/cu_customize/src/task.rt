@@ -3,19 +3,20 @@
 use crate::day_function::DayFunction;
 use crate::settling::Leg;
 use crate::triangles::Triangle;
+use crate::windows::Windows;
 use crate::words::Word;
 use cu_chordal::Chordal;
-use cu_model::Network;
 
 /// A list to be settled: between which ranks it leads; its candidates, which are these roads, by rising number, and the
 /// lower triangles of its edge, by rising middle; and the functions of the lists before it, by list number. Staying is
-/// the function of a road that takes no time.
+/// the function of a road that takes no time. The roads' own functions are had from whatever stands for them.
+/// Functions are bounded in these windows of the day.
 #[derive(Clone, Copy)]
 pub struct Task<'a> {
-    pub network: &'a Network,
     pub graph: &'a Chordal,
     pub functions: &'a [Option<DayFunction>],
     pub stay: &'a [Word],
+    pub windows: Windows,
     pub leg: Leg,
     pub arcs: &'a [u32],
     pub triangles: &'a [Triangle],

@@ -86,6 +86,24 @@ fn three_candidates_are_merged(rt: HostRuntime) -> Result<(), Fail> {
 }
 
 #[test]
+fn a_tie_goes_to_the_lower_number(rt: HostRuntime) -> Result<(), Fail> {
+    let alloc = rt.alloc();
+    let both = road_or_ferry(alloc)?;
+    let way = function_of_run(alloc, Word::of(0, false, 100))?;
+    let mut merger = Merger::new(alloc)?;
+    // The same three, the other way round: each of the last two takes ties from the one added before it.
+    least_with(alloc, &mut merger, Word::of(0, true, 100_000), 2)?;
+    merger.add(&way, &both, 1)?;
+    merger.add(&both, &way, 0)?;
+    let runs = merger.way_runs(alloc)?;
+    assert_eq!(rt; runs.len(), 3);
+    for (run, expected) in runs.iter().zip([(0, 0), (49_901, 1), (86_300, 2)]) {
+        assert_eq!(rt; (run.from, run.way), expected);
+    }
+    Ok(())
+}
+
+#[test]
 fn travel_times_of_a_ferry(rt: HostRuntime) -> Result<(), Fail> {
     let words = function_of_run(rt.alloc(), Word::of(0, true, 100_000))?;
     assert_eq!(rt;

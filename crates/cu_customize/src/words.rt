@@ -1,7 +1,7 @@
 //! Runs of arrival functions in one word each. A function over the day is a list of words: runs from second 0 on, and
 //! then a word from second 86,400 that only ends it, so that no loop asks for the end of the list.
 
-ghost use Rattle.std.specs.Prelude.{◌≡◌, ◌≤◌, ◌<◌, ◌+◌, ◌^◌, ◌↔◌, ℕ, Some, IfOk, IsTrue, length, nat_le, true, false, slice_get, if◌then◌else◌};
+ghost use Rattle.std.specs.Prelude.{◌≡◌, ◌≢◌, ◌≤◌, ◌<◌, ◌+◌, ◌^◌, ◌↔◌, ℕ, Some, IfOk, IsTrue, length, nat_le, true, false, slice_get, if◌then◌else◌};
 ghost use Rattle.std.specs.List.Sorted.{IsNonDecreasingBy, IsPartitionPoint};
 ghost use Rattle.cu_model.specs.declared.limits.TheConstants.{DAY};
 ghost use Rattle.cu_arrival.specs.declared.runs.Run.{Run};
@@ -11,6 +11,7 @@ ghost use Rattle.cu_arrival.specs.Runs.{arrival_value, rule_number, run_at};
 ghost use Rattle.cu_arrival.specs.Steps.Stretches.{arrives};
 ghost use Rattle.cu_customize.specs.Words.{IsDayList, IsFunctionWords, after_arrival, after_shift, end_run, is_fixed};
 
+use cu_arrival::{Run, RunRule};
 use cu_model::{DAY, NoMemory};
 use std::alloc::Global;
 use std::marker::Model;
@@ -45,7 +46,8 @@ impl Model for Word {
 
     ghost inverse = { λ run. record { bits = bits_of_run run } };
 
-    ghost inverse_ok = { λ word h. ap (λ (bits : ℕ). record word { bits = bits }) (bits_back word.bits) };
+    ghost inverse_ok = { λ word h.
+        ap (λ (bits : ℕ). record word { bits = bits }) (bits_back word.bits) };
 }
 
 impl Word {
@@ -85,6 +87,22 @@ impl Word {
         ensures small { result < 2 ^ 46 }
     {
         self.bits % FIXED
+    }
+
+    /// The run that it is.
+    pub fn run(self) -> Run
+        ensures { result ≡ self }
+    {
+        let number = self.number();
+        let rule = if self.is_fixed() {
+            RunRule::Fixed(number)
+        } else {
+            RunRule::Shift(number)
+        };
+        Run {
+            from: self.from() as u32,
+            rule,
+        }
     }
 
     /// Do two runs have the same rule?
@@ -177,6 +195,14 @@ pub fn function_of_run(alloc: Global, word: Word) -> Result<Vec<Word>, NoMemory>
     Ok(words)
 }
 
+/// The function of a road that takes no time.
+pub fn staying() -> [Word; 2]
+    ensures function { IsFunctionWords result }
+    ensures value { (t : ℕ) → t < DAY → arrival_value result t ≡ t }
+{
+    [Word::of(0, false, 0), Word::end()]
+}
+
 /// The index of the run in force at a second of the day, 0 to 86,399.
 pub fn index_at(words: &[Word], second: u64) -> usize
     requires day { IsDayList words.now }
@@ -184,8 +210,20 @@ pub fn index_at(words: &[Word], second: u64) -> usize
     ensures within { result + 1 < length words.now }
     ensures last { run_at words.now second ≡ slice_get words.now result }
     ensures begun { (run : Run) × (slice_get words.now result ≡ Some run) × (run.from ≤ second) }
+    ensures lasts { (next : Run) → slice_get words.now (result + 1) ≡ Some next
+        → second < next.from }
 {
     begun(words, second) - 1
+}
+
+/// The index of the run in force at the end of a stretch, from that in force before, which ends at `own_end`.
+#[inline(always)]
+pub fn stepped(index: usize, own_end: u64, end: u64) -> usize
+    requires { index + 1 < 2 ^ 64 }
+    ensures ended { own_end ≡ end → result ≡ index + 1 }
+    ensures lasts { own_end ≢ end → result ≡ index }
+{
+    index + usize::from(own_end == end)
 }
 
 // How many runs are from this second of the day or before it.

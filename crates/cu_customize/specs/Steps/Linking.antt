@@ -30,3 +30,7 @@ Continues second first from until old new =
     (f : ℕ → ℕ) → IsSaid f old from
     → ((s : ℕ) → from ≤ s → s < until → f s ≡ arrival_value second (first s))
     → IsSaid f new until
+
+-- runs that say a function at all seconds before `from`, where its arrivals are its departures
+abbrev pub Begins : ℕ → List Run → Type 0
+Begins from runs = (f : ℕ → ℕ) → ((s : ℕ) → s < from → f s ≡ s) → IsSaid f runs from

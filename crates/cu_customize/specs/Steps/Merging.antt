@@ -1,14 +1,20 @@
 -- Merging a candidate into the least so far, from second 0 on.
-use Rattle.std.specs.Prelude.{ℕ, List, [], ◌∷◌, ◌++◌, Some, ◌≡◌, ◌≤◌, ◌<◌, ◌+◌, ◌-◌, ◌⊎◌, min, slice_get, length}
+use Rattle.std.specs.Prelude.{ℕ, List, [], ◌∷◌, ◌++◌, Some, ◌≡◌, ◌≤◌, ◌<◌, ◌+◌, ◌-◌, ◌^◌, ◌⊎◌, min, slice_get, length}
+use Rattle.std.proofs.Common.{get_or}
 use Rattle.std.specs.List.{zip}
 use Rattle.cu_model.specs.Days.{day}
 use Rattle.cu_arrival.specs.declared.runs.Run.{Run}
 use Rattle.cu_arrival.specs.Steps.Stretches.{arrives}
 use Rattle.cu_model.proofs.Tiling.{IsTiled}
+use Rattle.cu_customize.specs.declared.merging.Candidate.{Candidate}
 use Rattle.cu_customize.specs.declared.merging.Least.{Least}
 use Rattle.cu_customize.specs.declared.merging.Next.{Next}
-use Rattle.cu_customize.specs.Words.{IsDayList}
-use Rattle.cu_customize.specs.Least.{Held, held_from, held_at, least_arrival, way_with, KeepsDayOrder}
+use Rattle.cu_customize.specs.declared.windows.Limits.{Limits}
+use Rattle.cu_customize.specs.declared.windows.TheConstants.{WINDOWS}
+use Rattle.cu_customize.specs.declared.windows.Windows.{Windows}
+use Rattle.cu_customize.specs.Windows.{IsIn, IsLate}
+use Rattle.cu_customize.specs.Words.{IsDayList, composed}
+use Rattle.cu_customize.specs.Least.{Held, held_from, held_at, least_arrival, least_way, tie_with, way_with}
 
 -- the runs of the least so far beside their candidates' numbers
 abbrev pub least_held : Least → List Held
@@ -21,11 +27,6 @@ next_held next = zip next.words.items next.ways.items
 pub record IsHeld (least : Least) : Type 0 where
   pub over_day : IsDayList least.words.items
   pub even : length least.ways.items ≡ length least.words.items
-
--- of a merger: no later departure arrives earlier
-pub record IsLeast (least : Least) : Type 0 where
-  pub held : IsHeld least
-  pub order : KeepsDayOrder (least_arrival (least_held least))
 
 -- the list being made is one of pairs, and the old list's run of its index begins by the second that
 -- it has come to
@@ -43,12 +44,13 @@ SaysMerged least arrival way held s =
     × (held.1 ≡ way_with (least_held least) (arrival s) way s)
 
 -- at all seconds before `t` the list being made is right as far as it has come, and from there on the
--- candidate is no earlier
+-- candidate is no earlier, nor as early under a lower number
 pub record IsMerging (least : Least) (arrival : ℕ → ℕ) (way : ℕ)
     (next : Next) (t : ℕ) : Type 0 where
   pub order : next.done ≤ t
   pub merged : IsTiled held_from (SaysMerged least arrival way) (next_held next) next.done
-  pub held : (s : ℕ) → next.done ≤ s → s < t → least_arrival (least_held least) s ≤ arrival s
+  pub held : (s : ℕ) → next.done ≤ s → s < t
+      → least_arrival (least_held least) s + tie_with (least_held least) way s ≤ arrival s
 
 -- what was right before `from` is right before `until`, of whatever candidate with this number has
 -- these arrivals between
@@ -71,11 +73,12 @@ IsBefore words index second =
     × (slice_get words (index + 1) ≡ Some next) × (run.from < second)
 
 -- the list being made, right up to the run behind that of an index, is right before `until`, where
--- from there on the candidate is no earlier
+-- from there on the candidate is no earlier, nor as early under a lower number
 abbrev pub CopiesBehind : Least → ℕ → ℕ → Next → Next → Type 0
 CopiesBehind least first until old new =
     (arrival : ℕ → ℕ) (way : ℕ) (next : Run) → slice_get least.words.items (first + 1) ≡ Some next
-    → ((s : ℕ) → next.from ≤ s → s < until → least_arrival (least_held least) s ≤ arrival s)
+    → ((s : ℕ) → next.from ≤ s → s < until
+    → least_arrival (least_held least) s + tie_with (least_held least) way s ≤ arrival s)
     → IsTiled held_from (SaysMerged least arrival way) (next_held old) (min next.from until)
     → IsTiled held_from (SaysMerged least arrival way) (next_held new) until
 
@@ -86,3 +89,30 @@ pub record IsMerged (least : Least) (arrival : ℕ → ℕ) (way : ℕ)
   pub even : length ways ≡ length words
   pub says : (t : ℕ) → t < day → (held : Held) × (held_at (zip words ways) t ≡ Some held)
       × SaysMerged least arrival way held t
+
+-- A candidate's arrivals as they are seen where it is left out in windows in which it is late: there it is no earlier
+-- than the least, nor as early under a lower number, and in the others it arrives when it does.
+pub record IsSeen (limits : Limits) (candidate : Candidate) (least : Least) (arrival : ℕ → ℕ) : Type 0 where
+  pub late : (window s : ℕ) → window < WINDOWS → IsIn limits.windows window s → IsLate limits.lower.now limits.most.now window
+      → least_arrival (least_held least) s + tie_with (least_held least) candidate.way s ≤ arrival s
+  pub linked : (window s : ℕ) → window < WINDOWS → IsIn limits.windows window s → (IsLate limits.lower.now limits.most.now window → ⊥)
+      → arrival s ≡ composed candidate.first.now candidate.second.now s
+
+-- what a candidate's arrival makes of a merger's at a second
+pub record IsAddedAt (old new : List Held) (number arrival t : ℕ) : Type 0 where
+  pub least : least_arrival new t ≡ min (least_arrival old t) arrival
+  pub chosen : least_way new t ≡ way_with old arrival number t
+
+-- a merger is at a second what it was
+pub record IsStillAt (old new : List Held) (t : ℕ) : Type 0 where
+  pub least : least_arrival new t ≡ least_arrival old t
+  pub chosen : least_way new t ≡ least_way old t
+
+-- a candidate takes longer at a second than some limit, which is less than the greatest number
+abbrev pub IsAbove : List ℕ → (ℕ → ℕ) → ℕ → ℕ → Type 0
+IsAbove most f window t = (get_or most window 0 < 2 ^ 32 - 1) × (t + get_or most window 0 < f t)
+
+-- at each second of the day a candidate is added, or it is left out and takes longer than the limit of the window
+abbrev pub IsAddedWithin : Windows → List ℕ → (ℕ → ℕ) → ℕ → List Held → List Held → Type 0
+IsAddedWithin windows most f number old new = (window t : ℕ) → window < WINDOWS → IsIn windows window t
+    → IsAddedAt old new number (f t) t ⊎ (IsStillAt old new t × IsAbove most f window t)

@@ -1,4 +1,4 @@
-use Rattle.std.proofs.Common.{◌<◌, List, arith, sym, subst}
+use Rattle.std.proofs.Common.{arith, sym, subst}
 use Rattle.std.specs.Prelude.{All}
 use Rattle.cu_model.specs.Profiles.{IsProfile}
 use Rattle.cu_customize.proofs.built_tests.three_profiles.Goals as goal

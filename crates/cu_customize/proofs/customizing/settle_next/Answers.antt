@@ -20,7 +20,7 @@ pub gather-requires : goal.gather-requires
 gather-requires c =
     let p = c.requires.parts in
     let (whole, built, keeps) = c.requires.built in
-    next_task _ c.args.parts.now.order.now c.args.parts.now.arcs.now c.args.edge c.args.dir c.ends-ends.result p.network p.order p.chordal p.closed p.arcs c.ends-ends.ensures.there
+    next_task _ _ c.args.parts.now.order.now c.args.parts.now.arcs.now c.args.edge c.args.dir c.ends-ends.result p.network p.order p.chordal p.closed p.arcs c.ends-ends.ensures.there
     c.arcs.ensures.there
     (c.requires.triangles c.ends-ends.result c.ends-ends.ensures.there) whole c.args.building.now.functions.items c.args.building.now.lists.items built keeps c.deref.ensures.value
     c.leg_of.ensures.from
@@ -29,15 +29,17 @@ gather-requires c =
 pub pull-requires-clause-task : goal.pull-requires-clause-task
 pull-requires-clause-task c =
     let p = c.requires.parts in
-    let (whole, built, keeps) = c.requires.built in
-    next_task _ c.args.parts.now.order.now c.args.parts.now.arcs.now c.args.edge c.args.dir c.ends-ends.result p.network p.order p.chordal p.closed p.arcs c.ends-ends.ensures.there
-    c.arcs.ensures.there
-    (c.requires.triangles c.ends-ends.result c.ends-ends.ensures.there) whole c.args.building.now.functions.items c.args.building.now.lists.items built keeps c.deref.ensures.value
-    c.leg_of.ensures.from
-    c.leg_of.ensures.to c.arcs.ensures.rising p.stays p.stay
+    let (whole, built, keeps) = c.requires.built in (
+      _,
+      next_task _ _ c.args.parts.now.order.now c.args.parts.now.arcs.now c.args.edge c.args.dir c.ends-ends.result p.network p.order p.chordal p.closed p.arcs c.ends-ends.ensures.there
+          c.arcs.ensures.there
+          (c.requires.triangles c.ends-ends.result c.ends-ends.ensures.there) whole c.args.building.now.functions.items c.args.building.now.lists.items built keeps c.deref.ensures.value
+          c.leg_of.ensures.from
+          c.leg_of.ensures.to c.arcs.ensures.rising p.stays p.stay,
+    )
 
 pub pull-requires-clause-held : goal.pull-requires-clause-held
-pull-requires-clause-held c = λ some. gathered_within _ _ _ c.in_ok-gather.ensures some
+pull-requires-clause-held c = λ some. gathered_within _ _ _ _ c.in_ok-gather.ensures.gathered some
 
 pub returns : goal.returns
 returns c =
@@ -47,14 +49,14 @@ returns c =
     let functions = c.args.building.now.functions.items in
     let lists = c.args.building.now.lists.items in
     let ready =
-    next_task _ c.args.parts.now.order.now c.args.parts.now.arcs.now c.args.edge c.args.dir c.ends-ends.result p.network p.order p.chordal p.closed p.arcs c.ends-ends.ensures.there
+    next_task _ _ c.args.parts.now.order.now c.args.parts.now.arcs.now c.args.edge c.args.dir c.ends-ends.result p.network p.order p.chordal p.closed p.arcs c.ends-ends.ensures.there
     c.arcs.ensures.there
     (c.requires.triangles c.ends-ends.result c.ends-ends.ensures.there) whole functions lists built keeps c.deref.ensures.value c.leg_of.ensures.from c.leg_of.ensures.to c.arcs.ensures.rising
     p.stays p.stay in
-    let next = next_step _ c.args.parts.now.order.now c.args.parts.now.arcs.now c.args.edge c.args.dir c.ends-ends.result p.network p.order p.chordal p.closed p.arcs c.ends-ends.ensures.there
+    let next = next_step _ _ c.args.parts.now.order.now c.args.parts.now.arcs.now c.args.edge c.args.dir c.ends-ends.result p.network p.order p.chordal p.closed p.arcs c.ends-ends.ensures.there
     c.arcs.ensures.there
     (c.requires.triangles c.ends-ends.result c.ends-ends.ensures.there) whole functions lists built keeps c.deref.ensures.value c.leg_of.ensures.from c.leg_of.ensures.to c.gather.new.self.merger
-    c.in_ok-pulled.pulled.ways c.in_ok-pulled.pulled.function ready c.in_ok-gather.ensures c.in_ok-pulled.ensures in
+    c.in_ok-pulled.pulled.ways c.in_ok-pulled.pulled.function ready c.in_ok-gather.ensures.gathered c.in_ok-pulled.ensures in
     let function = c.in_ok-pulled.pulled.function in
     let kept = keeps_pushed edges c.args.edge whole functions function keeps in
     let same_functions : functions ≡ functions = refl in
@@ -66,3 +68,6 @@ returns c =
           (sym lists_is) next,
       subst (λ (fs : List (Option (List Run))). Keeps edges c.args.edge (whole ++ function ∷ []) fs) (sym functions_is) kept,
     )
+
+pub pull-requires-clause-order : goal.pull-requires-clause-order
+pull-requires-clause-order c = c.in_ok-gather.ensures.order

@@ -1,4 +1,4 @@
-use Rattle.std.proofs.Common.{◌≢◌, ◌<◌, List, length, sym, subst}
+use Rattle.std.proofs.Common.{◌≢◌, ◌<◌, List, arith, length, sym, subst}
 use Rattle.std.specs.Prelude.{All}
 use Rattle.cu_customize.specs.declared.merging.TheConstants.{NOBODY}
 use Rattle.cu_customize.specs.declared.merging.WayRun.{WayRun}
@@ -16,13 +16,25 @@ entries_of-requires c =
 
 pub list_of-requires-2 : goal.list_of-requires-2
 list_of-requires-2 c =
-    (entries_list c.args.task.now.arcs.now (middles_in c.args.task.now.triangles.now) c.requires.task.arcs_rise c.requires.task.middles_rise c.args.merger.now c.deref.result.now
+    (entries_list c.args.task.now.arcs.now (middles_in c.args.task.now.triangles.now) c.requires.task.1.arcs_rise c.requires.task.1.middles_rise c.args.merger.now c.deref.result.now
     c.in_ok-entries.entries.items
     (subst (λ (runs : List WayRun). IsWayRuns c.args.merger.now runs) (sym c.deref.ensures.value) c.in_ok-runs.ensures) c.in_ok-entries.ensures).0
 
 pub returns : goal.returns
 returns c =
     let some : least_way c.args.merger.now 0 ≢ NOBODY = λ nobody. let empty = c.is_empty.ensures.1 nobody in absurd (cc (empty, c.if-is_empty.false)) in
-    pulled c.args.task.now c.args.merger.now c.deref.result.now c.in_ok-runs.runs.items c.in_ok-entries.entries.items c.list_of-2.result c.in_ok-least_words.field-0.items c.of-function.result
-    c.requires.task some
-    c.in_ok-runs.ensures c.deref.ensures.value c.in_ok-entries.ensures c.list_of-2.ensures c.of-function.ensures c.in_ok-least_words.ensures.function c.in_ok-least_words.ensures.value
+    pulled c.requires.task.0 c.args.task.now c.args.merger.now c.deref.result.now c.in_ok-runs.runs.items c.in_ok-entries.entries.items c.list_of-2.result c.in_ok-least_words.field-0.items c.in_ok-function.function
+    c.requires.task.1 some
+    c.in_ok-runs.ensures c.deref.ensures.value c.in_ok-entries.ensures c.list_of-2.ensures c.in_ok-function.ensures c.in_ok-least_words.ensures.function c.in_ok-least_words.ensures.value
+
+pub least_words-requires-clause-limit : goal.least_words-requires-clause-limit
+least_words-requires-clause-limit c t lt =
+    let some : least_way c.args.merger.now 0 ≢ NOBODY = λ nobody. let empty = c.is_empty.ensures.1 nobody in absurd (cc (empty, c.if-is_empty.false)) in
+    ((c.requires.held some).arrivals t lt).1
+
+pub function_of-requires-clause-onward : goal.function_of-requires-clause-onward
+function_of-requires-clause-onward c t lt =
+    let some : least_way c.args.merger.now 0 ≢ NOBODY = λ nobody. let empty = c.is_empty.ensures.1 nobody in absurd (cc (empty, c.if-is_empty.false)) in
+    let near = ((c.requires.held some).arrivals t lt).0 in
+    let value = c.in_ok-least_words.ensures.value t lt in
+    omega (arith, near, value)

@@ -1,5 +1,5 @@
 use Rattle.std.proofs.Common.{arith}
-use Rattle.cu_customize.proofs.Pulls.{way_middle}
+use Rattle.cu_customize.proofs.Places.{way_middle}
 use Rattle.cu_customize.proofs.pulling.way_with.Goals as goal
 
 pub returns : goal.returns

@@ -4,4 +4,4 @@ use Rattle.cu_arrival.specs.Steps.OfPieces.{run_of}
 use Rattle.cu_customize.proofs.roads.put_pieces.Given as goal
 
 abbrev pub invariant-loop-index : goal.invariant-loop-index
-invariant-loop-index l = l.words.items ≡ l.fn.words.items ++ map run_of (take l.index (pieces_of l.network l.profile))
+invariant-loop-index g l = l.words.items ≡ l.fn.words.items ++ map run_of (take l.index (pieces_of (g.R.Roads.network l.roads) l.profile))

@@ -1,5 +1,7 @@
-use Rattle.std.proofs.Common.{arith, subst, sym, get_or, ◌<◌, ◌-◌}
-use Rattle.std.proofs.lemmas.Option.{get_or_from_slice_get}
+use Rattle.std.proofs.Common.{arith, subst, sym, get_or, leb, false, ℕ, ◌≡◌, ◌<◌, ◌+◌, ◌-◌}
+use Rattle.std.proofs.lemmas.Bool.Decides.{nat_tests}
+use Rattle.std.proofs.lemmas.Option.{get_or_from_slice_get, slice_get_within}
+use Rattle.std.specs.Prelude.{slice_get, Some}
 use Rattle.cu_arrival.specs.declared.runs.Run.{Run}
 use Rattle.cu_model.specs.Days.{day}
 use Rattle.cu_model.proofs.Begun.{in_order, begun_point}
@@ -14,10 +16,24 @@ overflow_sub-result c =
     let found = begun_point (λ (run : Run). run.from) c.args.words.now c.args.second c.begun.result c.requires.day.starts c.begun.ensures.point c.begun.ensures.bound in
     omega (arith, found.0)
 
+not_begun : (a b : ℕ) → leb a b ≡ false → b < a
+not_begun a b h = grind (arith, nat_tests)
+
 pub returns : goal.returns
 returns c =
-    let found = (begun_point (λ (run : Run). run.from) c.args.words.now c.args.second c.begun.result c.requires.day.starts c.begun.ensures.point c.begun.ensures.bound).1 in
+    let words = c.args.words.now in
+    let both = begun_point (λ (run : Run). run.from) words c.args.second c.begun.result c.requires.day.starts c.begun.ensures.point c.begun.ensures.bound in
+    let found = both.1 in
     let (run, there, begun) = found.begun in
-    let same = get_or_from_slice_get c.args.words.now (c.begun.result - 1) run run there in
-    let early : (get_or c.args.words.now (c.begun.result - 1) run).from < day = subst (λ (r : Run). r.from < day) (sym same) (omega (arith, begun, c.requires.second)) in
-    record { within = has_next c.args.words.now c.requires.day (c.begun.result - 1) run found.within early; last = found.last; begun = found.begun }
+    let same = get_or_from_slice_get words (c.begun.result - 1) run run there in
+    let early : (get_or words (c.begun.result - 1) run).from < day = subst (λ (r : Run). r.from < day) (sym same) (omega (arith, begun, c.requires.second)) in
+    let next_index : c.begun.result - 1 + 1 ≡ c.begun.result = omega (arith, both.0) in
+    record {
+      within = has_next words c.requires.day (c.begun.result - 1) run found.within early;
+      last = found.last;
+      begun = found.begun;
+      lasts = λ next after.
+          let here : slice_get words c.begun.result ≡ Some next = subst (λ (k : ℕ). slice_get words k ≡ Some next) next_index after in
+          let is_next = get_or_from_slice_get words c.begun.result next next here in
+          not_begun next.from c.args.second (subst (λ (r : Run). leb r.from c.args.second ≡ false) is_next (c.begun.ensures.point.1 c.begun.result next (omega arith) (slice_get_within words c.begun.result next here)));
+    }

@@ -1,0 +1,232 @@
+-- How long a function takes in each window of the day, and where a candidate is late.
+use Rattle.std.proofs.Common.{◌≡◌, ◌≢◌, ◌≤◌, ◌<◌, ◌+◌, ◌-◌, ◌*◌, ◌%◌, ◌^◌, ℕ, zero, suc, List, Some, refl, true, false, ltb, sym, ap, subst, arith, inl, inr, length, get_or, min, max}
+use Rattle.std.specs.Prelude.{slice_get}
+use Rattle.std.proofs.lemmas.Bool.{cases_lt}
+use Rattle.std.proofs.lemmas.Bool.Decides.{nat_tests}
+use Rattle.cu_model.specs.Days.{day, IsOnward}
+use Rattle.cu_model.proofs.DayLaws.{day_parts}
+use Rattle.cu_arrival.specs.declared.runs.Run.{Run}
+use Rattle.cu_arrival.specs.declared.runs.RunRule.{RunRule}
+use Rattle.cu_arrival.specs.declared.runs.RunRule.TheVariants.{Shift, Fixed}
+use Rattle.cu_arrival.specs.Runs.{arrival_value}
+use Rattle.cu_arrival.specs.Steps.Stretches.{arrives}
+use Rattle.cu_customize.specs.declared.windows.TheConstants.{WINDOWS}
+use Rattle.cu_customize.specs.declared.windows.Window.{Window}
+use Rattle.cu_customize.specs.declared.windows.Windows.{Windows}
+use Rattle.cu_customize.specs.Steps.Bounded.{IsAt, IsReach, IsUpper, IsWindow, IsWithinReach}
+use Rattle.cu_customize.specs.Windows.{AreLowered, IsLowered, Reaches, TakesBetween, TakesUpToBetween, reach_end, reach_span, reach_start, window_start}
+use Rattle.cu_customize.specs.Words.{IsDayList, IsFunctionWords, composed}
+use Rattle.cu_customize.proofs.CompareLaws.{at_next, at_stepped, at_value}
+use Rattle.cu_customize.proofs.MergeLaws.{read_there}
+use Rattle.cu_customize.proofs.DayLists.{repeats}
+use Rattle.cu_customize.proofs.TravelLaws.{travel_least}
+
+travel_most : (r : RunRule) (from t : ℕ) → from ≤ t → arrives r t ≤ t + (arrives r from - from)
+travel_most (Shift d) from t h = omega (arith, h)
+travel_most (Fixed c) from t h = omega (arith, h)
+
+-- how long the function takes from one second to another, as far as this is known
+pub record IsTravelling (words : List Run) (from until index at least most : ℕ) : Type 0 where
+  pub order : (from ≤ at) × (at ≤ until)
+  pub held : IsAt words index at
+  pub slower : IsOnward (arrival_value words) → TakesBetween (arrival_value words) from at least
+  pub faster : TakesUpToBetween (arrival_value words) from at most
+
+pub travelling_none : (words : List Run) (from until index least most : ℕ) → from ≤ until → IsAt words index from → IsTravelling words from until index from least most
+travelling_none words from until index least most some held = record {
+  order = (omega arith, omega (arith, some));
+  held = held;
+  slower = λ onward t late early. absurd (omega (arith, late, early));
+  faster = λ t late early. absurd (omega (arith, late, early));
+}
+
+module _ (words : List Run) (is : IsDayList words) (from until index at least most : ℕ) (in_day : until ≤ day) (travelling : IsTravelling words from until index at least most) (before : at < until) where
+  pub travelling_next : index + 1 < length words
+  travelling_next =
+      let (next, after, later, last, inside) = at_next words is index at travelling.held (omega (arith, before, in_day)) in
+      inside
+
+  module _ (run next : Run) (end : ℕ) (is_run : run ≡ get_or words index run) (is_next : next ≡ get_or words (index + 1) next) (is_end : end ≡ min next.from until) where
+    next_there : slice_get words (index + 1) ≡ Some next
+    next_there = read_there words (index + 1) next travelling_next is_next
+
+    run_there : slice_get words index ≡ Some run
+    run_there = let inside = travelling_next in read_there words index run (omega (arith, inside)) is_run
+
+    pub travelling_order : (at < end) × (end ≤ until)
+    travelling_order =
+        let later = travelling.held.lasts next next_there in
+        (omega (arith, later, before, is_end), omega (arith, is_end))
+
+    value_here : (s : ℕ) → at ≤ s → s < end → arrival_value words s ≡ arrives run.rule s
+    value_here s late early = at_value words is index at end s run next travelling.held run_there next_there (omega (arith, is_end)) late early
+
+    pub travelling_more : (index_after least_after most_after : ℕ) → least_after ≡ min least (arrives run.rule (end - 1) - (end - 1)) → most_after ≡ max most (arrives run.rule at - at)
+        → (next.from ≡ end → index_after ≡ index + 1) → (next.from ≢ end → index_after ≡ index) → IsTravelling words from until index_after end least_after most_after
+    travelling_more index_after least_after most_after is_least is_most ended lasts =
+        let order = travelling_order in
+        let begun = travelling.order.0 in
+        record {
+          order = (omega (arith, begun, order.0), order.1);
+          held = at_stepped words is index at end index_after next travelling.held next_there (omega (arith, order.0)) (omega (arith, is_end)) (omega (arith, order.1, in_day)) ended lasts;
+          slower = λ onward s late early. elim (cases_lt s at) [
+            | inl lt ↦ let old = travelling.slower onward s late lt in omega (arith, old, is_least)
+            | inr ge ↦
+                let here = value_here s ge early in
+                let last = value_here (end - 1) (omega (arith, order.0)) (omega (arith, order.0)) in
+                let after = onward (end - 1) (omega (arith, order.0, order.1, in_day)) in
+                let low = travel_least run.rule s (end - 1) (omega (arith, early)) (omega (arith, after, last)) in
+                omega (arith, here, low, is_least)
+          ];
+          faster = λ s late early. elim (cases_lt s at) [
+            | inl lt ↦ let old = travelling.faster s late lt in omega (arith, old, is_most)
+            | inr ge ↦
+                let here = value_here s ge early in
+                let high = travel_most run.rule at s ge in
+                omega (arith, here, high, is_most)
+          ];
+        }
+
+-- what is known at the end holds of all
+pub travelling_done : (words : List Run) (from until index at least most : ℕ) → IsTravelling words from until index at least most → until ≤ at
+    → IsAt words index until × (IsOnward (arrival_value words) → TakesBetween (arrival_value words) from until least) × TakesUpToBetween (arrival_value words) from until most
+travelling_done words from until index at least most is late =
+    let end : at ≡ until = let order = is.order.1 in omega (arith, late, order) in (
+      subst (λ (t : ℕ). IsAt words index t) end is.held,
+      λ onward. subst (λ (t : ℕ). TakesBetween (arrival_value words) from t least) end (is.slower onward),
+      subst (λ (t : ℕ). TakesUpToBetween (arrival_value words) from t most) end is.faster,
+    )
+
+module _ (windows : Windows) where
+  pub starts_in_day : (i : ℕ) → window_start windows i ≤ day
+  starts_in_day zero = omega arith
+  starts_in_day (suc i) = elim (cases_lt i 31) [
+    | inl lt ↦ let test : ltb i 31 ≡ true = grind (arith, nat_tests) in rw test (omega arith)
+    | inr ge ↦ let test : ltb i 31 ≡ false = grind (arith, nat_tests) in rw test (omega arith)
+  ]
+
+  start_narrow : (i : ℕ) → i < 31 → window_start windows (suc i) ≡ min day (windows.begin + i * windows.width)
+  start_narrow i lt = let test : ltb i 31 ≡ true = grind (arith, nat_tests) in rw test refl
+
+  start_last : (i : ℕ) → 31 ≤ i → window_start windows (suc i) ≡ day
+  start_last i ge = let test : ltb i 31 ≡ false = grind (arith, nat_tests) in rw test refl
+
+  start_step : (i : ℕ) → window_start windows i ≤ window_start windows (suc i)
+  start_step zero = omega arith
+  start_step (suc i) = elim (cases_lt (suc i) 31) [
+    | inl lt ↦
+        let here = start_narrow i (omega (arith, lt)) in
+        let next = start_narrow (suc i) lt in
+        let more : suc i * windows.width ≡ windows.width + i * windows.width = grind arith in
+        omega (arith, here, next, more)
+    | inr ge ↦ let in_day = starts_in_day (suc i) in let next = start_last (suc i) ge in omega (arith, in_day, next)
+  ]
+
+  pub starts_rise : (i : ℕ) → window_start windows i ≤ window_start windows (i + 1)
+  starts_rise i = let same : suc i ≡ i + 1 = omega arith in subst (λ (n : ℕ). window_start windows i ≤ window_start windows n) same (start_step i)
+
+  pub starts_between : (i j : ℕ) → i ≤ j → window_start windows i ≤ window_start windows j
+  starts_between i zero order =
+      let same : 0 ≡ i = omega (arith, order) in
+      subst (λ (n : ℕ). window_start windows n ≤ window_start windows 0) same (omega arith)
+  starts_between i (suc j) order = elim (cases_lt i (suc j)) [
+    | inl lt ↦ let before = starts_between i j (omega (arith, lt)) in let next = start_step j in omega (arith, before, next)
+    | inr ge ↦
+        let same : suc j ≡ i = omega (arith, order, ge) in
+        subst (λ (n : ℕ). window_start windows n ≤ window_start windows (suc j)) same (omega arith)
+  ]
+
+-- between which seconds the reaches lie
+module _ (windows : Windows) (window : ℕ) (inside : window < WINDOWS) where
+  pub two_reached : (reach_start windows window ≡ window_start windows window) × (reach_end windows window ≡ window_start windows (window + 2))
+  two_reached =
+      let place : window % WINDOWS ≡ window = omega (arith, inside) in
+      let test : ltb window 32 ≡ true = grind (arith, nat_tests, inside) in
+      rw (place, test) (refl, refl)
+
+  pub four_reached : (reach_start windows (WINDOWS + window) ≡ window_start windows window) × (reach_end windows (WINDOWS + window) ≡ window_start windows (window + 4))
+  four_reached =
+      let place : (WINDOWS + window) % WINDOWS ≡ window = omega (arith, inside) in
+      let above : ltb (WINDOWS + window) 32 ≡ false = grind (arith, nat_tests) in
+      let test : ltb (WINDOWS + window) 64 ≡ true = grind (arith, nat_tests, inside) in
+      rw (place, above, test) (refl, refl)
+
+-- a second within a reach is one of the day
+pub within_day : (windows : Windows) (reach s : ℕ) → IsWithinReach windows reach s → s < day
+within_day windows reach s within =
+    let in_day = starts_in_day windows (reach % WINDOWS + reach_span reach) in
+    omega (arith, within, in_day)
+
+-- limits that are lowered to a function are lowered to one that agrees over the day
+pub lowered_same : (windows : Windows) (f g : ℕ → ℕ) (old new : List ℕ) → ((t : ℕ) → t < day → f t ≡ g t) → AreLowered windows f old new → AreLowered windows g old new
+lowered_same windows f g old new same are window inside = elim (are window inside) [
+  | inl stays ↦ inl stays
+  | inr takes ↦ inr (λ t late early.
+      let bound = takes t late early in
+      let in_day = starts_in_day windows (window + 1) in
+      let value = same t (omega (arith, in_day, early)) in
+      omega (arith, bound, value))
+]
+
+-- a second at which a function arrives who leaves in a window, with its day
+module _ (windows : Windows) (first second : List Run) (function : IsFunctionWords second) (from until reach : ℕ) (is_reach : reach ≤ 2 * WINDOWS) (reaches : reach < 2 * WINDOWS → Reaches windows (arrival_value first) from until reach) where
+  arrives_at : (t : ℕ) → from ≤ t → t < until → (days s : ℕ) × IsWithinReach windows reach s × (arrival_value first t ≡ days * day + s)
+  arrives_at t late early = elim (cases_lt reach (2 * WINDOWS)) [
+    | inl lt ↦
+        let (days, between) = reaches lt in
+        let low = (between t late early).0 in
+        let high = (between t late early).1 in
+        (days, arrival_value first t - days * day, (omega (arith, low), omega (arith, low, high)), omega (arith, low))
+    | inr ge ↦
+        let (days, s, lt, e) = day_parts (arrival_value first t) in
+        let whole : 64 ≡ reach = omega (arith, is_reach, ge) in
+        let within : IsWithinReach windows 64 s = (omega arith, lt) in
+        (days, s, subst (λ (n : ℕ). IsWithinReach windows n s) whole within, e)
+  ]
+
+  pub linked_least : (one two least : ℕ) → TakesBetween (arrival_value first) from until one → ((s : ℕ) → IsWithinReach windows reach s → s + two ≤ arrival_value second s) → least ≤ one + two
+      → TakesBetween (composed first second) from until least
+  linked_least one two least takes slower is t late early =
+      let (days, s, within, e) = arrives_at t late early in
+      let to = takes t late early in
+      let on = slower s within in
+      let same = repeats second function.over_day days s (within_day windows reach s within) in
+      let value : composed first second t ≡ arrival_value second (days * day + s) = ap (arrival_value second) e in
+      omega (arith, to, on, same, value, e, is)
+
+  pub linked_most : (one two most : ℕ) → TakesUpToBetween (arrival_value first) from until one → ((s : ℕ) → IsWithinReach windows reach s → arrival_value second s ≤ s + two)
+      → most ≡ one + two → TakesUpToBetween (composed first second) from until most
+  linked_most one two most takes faster is t late early =
+      let (days, s, within, e) = arrives_at t late early in
+      let to = takes t late early in
+      let on = faster s within in
+      let same = repeats second function.over_day days s (within_day windows reach s within) in
+      let value : composed first second t ≡ arrival_value second (days * day + s) = ap (arrival_value second) e in
+      omega (arith, to, on, same, value, e, is)
+
+-- a limit that is the lesser of what it was and an upper bound
+pub lowered_one : (f : ℕ → ℕ) (from until old upper new : ℕ) → IsUpper f from until upper → old < 2 ^ 32 → new ≡ min old upper → IsLowered f from until old new
+lowered_one f from until old upper new is small same = elim (cases_lt upper old) [
+  | inl lt ↦ inr (λ t late early. let bound = is (omega (arith, lt, small)) t late early in omega (arith, bound, same, lt))
+  | inr ge ↦ inl (omega (arith, same, ge))
+]
+
+-- a number that is capped is no bound, or is what it was
+pub window_taken : (windows : Windows) (f : ℕ → ℕ) (number least most reach : ℕ) (window : Window) → TakesBetween f (window_start windows number) (window_start windows (number + 1)) least
+    → TakesUpToBetween f (window_start windows number) (window_start windows (number + 1)) most → window.least ≡ min least 65535 → window.most ≡ min most 65535 → window.reach ≡ reach
+    → IsReach windows (min (window_start windows number + least) (2 ^ 64 - 1)) (min (window_start windows (number + 1) + most) (2 ^ 64 - 1)) reach → IsWindow windows f number window
+window_taken windows f number least most reach window takes takes_up is_least is_most is_reach reaches = record {
+  slower = λ t late early. let one = takes t late early in omega (arith, one, is_least);
+  faster = λ known t late early. let one = takes_up t late early in omega (arith, one, is_most, known);
+  is_reach = let few = reaches.0 in omega (arith, few, is_reach);
+  reach = λ inside.
+      let (small, (days, low, high)) = reaches.1 (omega (arith, inside, is_reach)) in (
+        days,
+        λ t late early.
+            let one = takes t late early in
+            let two = takes_up t late early in
+            let lows : days * day + reach_start windows window.reach ≤ f t = subst (λ (n : ℕ). days * day + reach_start windows n ≤ f t) (sym is_reach) (omega (arith, one, late, low)) in
+            let highs : f t < days * day + reach_end windows window.reach = subst (λ (n : ℕ). f t < days * day + reach_end windows n) (sym is_reach) (omega (arith, two, early, high, small)) in
+            (lows, highs),
+      );
+}

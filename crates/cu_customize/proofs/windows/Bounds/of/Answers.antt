@@ -1,0 +1,49 @@
+use Rattle.std.proofs.Common.{◌≡◌, ◌<◌, ◌∙◌, ℕ, arith, length, length-set, subst, sym}
+use Rattle.cu_arrival.specs.Runs.{arrival_value}
+use Rattle.cu_customize.specs.declared.windows.TheConstants.{WINDOWS}
+use Rattle.cu_customize.specs.declared.windows.Windows.{Windows}
+use Rattle.cu_customize.specs.Steps.Bounded.{AreWindows, IsAt, TakesIfKnown}
+use Rattle.cu_customize.specs.Windows.{AreReaches, TakesBetween}
+use Rattle.cu_customize.proofs.BoundLaws.{windows_set}
+use Rattle.cu_customize.proofs.windows.Bounds.of.Goals as goal
+
+pub windows-preserved : goal.windows-preserved
+windows-preserved c =
+    let words = c.args.words.now in
+    let bounds = c.windows.bounds in
+    let travels = c.travels_between-travels in
+    let window = c.windows.window in
+    let least_long = c.windows.invariant.least_long in
+    let most_long = c.windows.invariant.most_long in
+    let reach_long = c.windows.invariant.reach_long in
+    let one : window < length bounds.least = omega (arith, least_long) in
+    let two : window < length bounds.most = omega (arith, most_long) in
+    let three : window < length bounds.reach = omega (arith, reach_long) in
+    record {
+      held = subst (λ (t : ℕ). IsAt words travels.result.index t) c.start-until.ensures travels.ensures.index;
+      known = windows_set c.args.windows (arrival_value words) bounds window c.window_of-known.result one two three c.windows.invariant.known
+          (c.window_of-known.ensures (arrival_value words) window c.start-from.ensures c.start-until.ensures (travels.ensures.least c.requires.onward) travels.ensures.most);
+      least_long = length-set bounds.least window c.window_of-known.result.least ∙ least_long;
+      most_long = length-set bounds.most window c.window_of-known.result.most ∙ most_long;
+      reach_long = length-set bounds.reach window c.window_of-known.result.reach ∙ reach_long;
+      windows = c.windows.invariant.windows;
+    }
+
+pub returns-clause-windows : goal.returns-clause-windows
+returns-clause-windows c = c.windows.invariant.windows
+
+pub returns-clause-bounds : goal.returns-clause-bounds
+returns-clause-bounds c =
+    let all : c.windows.window ≡ WINDOWS = omega arith in
+    let f = arrival_value c.args.words.now in
+    let windows = c.args.windows in
+    let bounds = c.windows.bounds in
+    let same : windows ≡ bounds.windows = sym c.windows.invariant.windows in
+    let known : AreWindows windows f bounds WINDOWS = subst (λ (n : ℕ). AreWindows windows f bounds n) all c.windows.invariant.known in
+    let least = c.least_by_reach-bounds in
+    let most = c.most_by_reach-bounds in
+    record {
+      windows = subst (λ (ws : Windows). AreWindows ws f bounds WINDOWS) same known;
+      slower = subst (λ (ws : Windows). AreReaches ws (TakesBetween f) least.result) same (least.ensures windows f (λ i inside. (known i inside).slower) (λ t late early. let takes = c.requires.least t early in omega (arith, takes, c.short.ensures)));
+      faster = subst (λ (ws : Windows). AreReaches ws (TakesIfKnown f) most.result) same (most.ensures windows f (λ i inside. (known i inside).faster) (λ few t late early. let takes = c.requires.most t early in omega (arith, takes, c.short-2.ensures, few)));
+    }

@@ -1,0 +1,16 @@
+use Rattle.std.proofs.Common.{◌≡◌, length}
+use Rattle.cu_arrival.specs.Runs.{arrival_value}
+use Rattle.cu_customize.specs.declared.windows.TheConstants.{WINDOWS}
+use Rattle.cu_customize.specs.Steps.Bounded.{AreWindows, IsAt}
+use Rattle.cu_customize.specs.Windows.{window_start}
+use Rattle.cu_customize.proofs.windows.Bounds.of.Given as goal
+
+abbrev pub invariant-windows : goal.invariant-windows
+invariant-windows l = record {
+  held : IsAt l.words l.index (window_start l.fn.windows l.window);
+  known : AreWindows l.fn.windows (arrival_value l.words) l.bounds l.window;
+  least_long : length l.bounds.least ≡ WINDOWS;
+  most_long : length l.bounds.most ≡ WINDOWS;
+  reach_long : length l.bounds.reach ≡ WINDOWS;
+  windows : l.bounds.windows ≡ l.initial.bounds.windows;
+}

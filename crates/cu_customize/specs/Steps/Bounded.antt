@@ -1,0 +1,75 @@
+-- What is known of a function in one window of the day.
+use Rattle.std.specs.Prelude.{ℕ, List, Option, Some, None, slice_get, ◌≡◌, ◌≤◌, ◌<◌, ◌+◌, ◌-◌, ◌*◌, ◌^◌}
+use Rattle.std.specs.Box.{box_value}
+use Rattle.std.specs.Global.{Box}
+use Rattle.std.proofs.Common.{get_or}
+use Rattle.cu_model.specs.Days.{day}
+use Rattle.cu_arrival.specs.declared.runs.Run.{Run}
+use Rattle.cu_arrival.specs.Runs.{arrival_value}
+use Rattle.cu_customize.specs.declared.windows.TheConstants.{WINDOWS}
+use Rattle.cu_customize.specs.declared.windows.Bounds.{Bounds}
+use Rattle.cu_customize.specs.declared.windows.Window.{Window}
+use Rattle.cu_customize.specs.declared.windows.Windows.{Windows}
+use Rattle.cu_customize.specs.Travels.{Takes, TakesAtLeast, TakesAtMost}
+use Rattle.cu_customize.specs.Words.{IsFunctionWords}
+use Rattle.cu_customize.specs.Windows.{AreEach, AreReaches, Reaches, TakesBetween, TakesUpToBetween, reach_end, reach_start, window_start}
+
+-- on one day all these seconds are within a reach, unless it's the whole day
+abbrev pub IsReach : Windows → ℕ → ℕ → ℕ → Type 0
+IsReach windows first last reach =
+    (reach ≤ 2 * WINDOWS) × (reach < 2 * WINDOWS → (last < 2 ^ 64 - 1) × ((days : ℕ) × (days * day + reach_start windows reach ≤ first) × (last < days * day + reach_end windows reach)))
+
+-- from one second until another it takes no more, unless this is the number for what isn't known
+abbrev pub TakesIfKnown : (ℕ → ℕ) → ℕ → ℕ → ℕ → Type 0
+TakesIfKnown f from until most = most < 65535 → TakesUpToBetween f from until most
+
+-- so in each window
+abbrev pub TakesIfKnownInWindows : Windows → (ℕ → ℕ) → List ℕ → Type 0
+TakesIfKnownInWindows windows f most = AreEach (λ window bound. TakesIfKnown f (window_start windows window) (window_start windows (window + 1)) bound) most WINDOWS
+
+pub record IsWindow (windows : Windows) (f : ℕ → ℕ) (number : ℕ) (window : Window) : Type 0 where
+  pub slower : TakesBetween f (window_start windows number) (window_start windows (number + 1)) window.least
+  pub faster : TakesIfKnown f (window_start windows number) (window_start windows (number + 1)) window.most
+  pub is_reach : window.reach ≤ 2 * WINDOWS
+  pub reach : window.reach < 2 * WINDOWS → Reaches windows f (window_start windows number) (window_start windows (number + 1)) window.reach
+
+-- what is kept of a window
+abbrev pub window_in : Bounds → ℕ → Window
+window_in bounds i = record { least = get_or bounds.least i 0; most = get_or bounds.most i 0; reach = get_or bounds.reach i 0 }
+
+-- what is known of a function in the first windows, so many
+abbrev pub AreWindows : Windows → (ℕ → ℕ) → Bounds → ℕ → Type 0
+AreWindows windows f bounds count = (i : ℕ) → i < count → IsWindow windows f i (window_in bounds i)
+
+-- in each of its windows, and over each reach
+pub record AreBounds (f : ℕ → ℕ) (bounds : Bounds) : Type 0 where
+  pub windows : AreWindows bounds.windows f bounds WINDOWS
+  pub slower : AreReaches bounds.windows (TakesBetween f) bounds.least_over
+  pub faster : AreReaches bounds.windows (TakesIfKnown f) bounds.most_over
+
+-- so it is where there are bounds
+abbrev pub AreKnown : (ℕ → ℕ) → Option (Box Bounds) → Type 0
+AreKnown f None = Unit {0}
+AreKnown f (Some bounds) = AreBounds f (box_value bounds)
+
+-- a second of the day within a reach
+abbrev pub IsWithinReach : Windows → ℕ → ℕ → Type 0
+IsWithinReach windows reach s = (reach_start windows reach ≤ s) × (s < reach_end windows reach)
+
+-- from one second until another it takes no more, unless this is the greatest number
+abbrev pub IsUpper : (ℕ → ℕ) → ℕ → ℕ → ℕ → Type 0
+IsUpper f from until most = most < 2 ^ 32 - 1 → TakesUpToBetween f from until most
+
+-- a function with what it takes
+pub record IsTravelled (words : List Run) (least most : ℕ) (bounds : Option (Box Bounds)) : Type 0 where
+  pub function : IsFunctionWords words
+  pub slower : TakesAtLeast words least
+  pub faster : TakesAtMost words most
+  pub taken : Takes words most
+  pub known : AreKnown (arrival_value words) bounds
+
+-- the run of an index holds at a second
+pub record IsAt (words : List Run) (i t : ℕ) : Type 0 where
+  pub begun : (run : Run) × (slice_get words i ≡ Some run) × (run.from ≤ t)
+  pub lasts : (next : Run) → slice_get words (i + 1) ≡ Some next → t < next.from
+  pub in_day : t ≤ day

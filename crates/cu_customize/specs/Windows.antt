@@ -1,0 +1,63 @@
+-- The windows of a day, and how long a function takes in each of them.
+use Rattle.std.specs.Prelude.{ℕ, zero, suc, List, ◌≡◌, ◌≤◌, ◌<◌, ◌+◌, ◌-◌, ◌*◌, ◌%◌, ◌^◌, ◌⊎◌, min, nat_lt, if◌then◌else◌}
+use Rattle.std.proofs.Common.{get_or}
+use Rattle.cu_model.specs.Days.{day}
+use Rattle.cu_customize.specs.declared.windows.TheConstants.{WINDOWS}
+use Rattle.cu_customize.specs.declared.windows.Windows.{Windows}
+
+-- the second at which a window begins, and the end of the day behind the last one
+abbrev pub window_start : Windows → ℕ → ℕ
+window_start windows zero = 0
+window_start windows (suc before) = if nat_lt before 31 then min day (windows.begin + before * windows.width) else day
+
+-- a second in a window
+abbrev pub IsIn : Windows → ℕ → ℕ → Type 0
+IsIn windows window t = (window_start windows window ≤ t) × (t < window_start windows (window + 1))
+
+-- from one second until another it takes no less
+abbrev pub TakesBetween : (ℕ → ℕ) → ℕ → ℕ → ℕ → Type 0
+TakesBetween f from until least = (t : ℕ) → from ≤ t → t < until → t + least ≤ f t
+
+-- and no more
+abbrev pub TakesUpToBetween : (ℕ → ℕ) → ℕ → ℕ → ℕ → Type 0
+TakesUpToBetween f from until most = (t : ℕ) → from ≤ t → t < until → f t ≤ t + most
+
+-- A reach is some windows, one behind the other: below 32 a window and the next one, below 64 the window of 32 less and
+-- the next three, and 64 is the day. Windows behind the last one are empty.
+abbrev pub reach_span : ℕ → ℕ
+reach_span reach = if nat_lt reach WINDOWS then 2 else if nat_lt reach (2 * WINDOWS) then 4 else WINDOWS
+
+abbrev pub reach_start : Windows → ℕ → ℕ
+reach_start windows reach = window_start windows (reach % WINDOWS)
+
+abbrev pub reach_end : Windows → ℕ → ℕ
+reach_end windows reach = window_start windows (reach % WINDOWS + reach_span reach)
+
+-- who leaves between arrives on one day, within a reach
+abbrev pub Reaches : Windows → (ℕ → ℕ) → ℕ → ℕ → ℕ → Type 0
+Reaches windows f from until reach =
+    (days : ℕ) × ((t : ℕ) → from ≤ t → t < until → (days * day + reach_start windows reach ≤ f t) × (f t < days * day + reach_end windows reach))
+
+-- each of the first numbers, so many, is one for its place
+abbrev pub AreEach : (ℕ → ℕ → Type 0) → List ℕ → ℕ → Type 0
+AreEach IsOne items count = (i : ℕ) → i < count → IsOne i (get_or items i 0)
+
+-- each of these numbers is one from the second until another between which its reach lies
+abbrev pub AreReaches : Windows → (ℕ → ℕ → ℕ → Type 0) → List ℕ → Type 0
+AreReaches windows IsOne items = AreEach (λ reach one. IsOne (reach_start windows reach) (reach_end windows reach) one) items (2 * WINDOWS + 1)
+
+-- what a function takes at least in each window
+abbrev pub TakesInWindows : Windows → (ℕ → ℕ) → List ℕ → Type 0
+TakesInWindows windows f least = AreEach (λ window bound. TakesBetween f (window_start windows window) (window_start windows (window + 1)) bound) least WINDOWS
+
+-- a limit that stays, or becomes what a function takes at most from one second until another
+abbrev pub IsLowered : (ℕ → ℕ) → ℕ → ℕ → ℕ → ℕ → Type 0
+IsLowered f from until old new = (new ≡ old) ⊎ TakesUpToBetween f from until new
+
+-- so in each window
+abbrev pub AreLowered : Windows → (ℕ → ℕ) → List ℕ → List ℕ → Type 0
+AreLowered windows f old new = (i : ℕ) → i < WINDOWS → IsLowered f (window_start windows i) (window_start windows (i + 1)) (get_or old i 0) (get_or new i 0)
+
+-- in this window one takes longer than another takes at most, which is less than the greatest number
+abbrev pub IsLate : List ℕ → List ℕ → ℕ → Type 0
+IsLate lower most window = get_or most window 0 < min (get_or lower window 0) (2 ^ 32 - 1)

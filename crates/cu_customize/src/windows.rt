@@ -1,0 +1,406 @@
+//! How long functions take in each window of the day. These bounds tell where a candidate can't be the least, and so
+//! needs no linking.
+
+ghost use Rattle.std.specs.Prelude.{◌≡◌, ◌≤◌, ◌<◌, ◌+◌, ◌*◌, ◌↔◌, ℕ, List, IsTrue, length, min};
+ghost use Rattle.std.proofs.Common.{get_or};
+ghost use Rattle.cu_model.specs.declared.limits.TheConstants.{DAY};
+ghost use Rattle.cu_model.specs.Days.{IsOnward};
+ghost use Rattle.cu_arrival.specs.declared.runs.Run.{Run};
+ghost use Rattle.cu_arrival.specs.Runs.{arrival_value};
+ghost use Rattle.cu_customize.specs.Words.{IsDayList, IsFunctionWords, composed};
+ghost use Rattle.cu_customize.specs.Windows.{
+  AreEach,
+  AreLowered,
+  AreReaches,
+  TakesBetween,
+  TakesInWindows,
+  TakesUpToBetween,
+  window_start,
+};
+ghost use Rattle.cu_customize.specs.Steps.Bounded.{
+  AreBounds,
+  IsAt,
+  IsReach,
+  IsUpper,
+  IsWindow,
+  TakesIfKnown,
+  TakesIfKnownInWindows,
+};
+ghost use Rattle.cu_customize.specs.Travels.{TakesAtLeast, TakesAtMost};
+
+use crate::words::{Word, stepped};
+use cu_model::{DAY, Roads};
+
+/// How many windows a day has.
+pub const WINDOWS: usize = 32;
+
+// The reach that is the whole day, behind those of two windows and of four.
+const WHOLE: usize = 2 * WINDOWS;
+
+// How many reaches there are.
+const REACHES: usize = WHOLE + 1;
+
+/// A travel time that is no bound: greater ones have none.
+pub const UNKNOWN: u16 = 65_535;
+
+// The seconds of a day, as a word has them.
+const END: u64 = DAY as u64;
+
+// How long before the first second at which a profile changes the windows begin to be narrow, and how long behind the
+// last one they end: those who leave then may meet the change on their way.
+const BEFORE: u32 = 7_200;
+
+const BEHIND: u32 = 60;
+
+// The narrow windows: all but the first and the last.
+const NARROW: u32 = 30;
+
+/// The windows of a day: the first one until the second `begin`, then narrow ones, of `width` seconds each, and the
+/// last one to the end of the day. Some may be empty.
+#[derive(Clone, Copy, Debug, PartialEq, Eq)]
+pub struct Windows {
+    pub begin: u32,
+    pub width: u32,
+}
+
+/// How long a function takes in each of some windows, and over each reach: at least, and at most where that is below
+/// 65,535; and for each window the reach within which all arrive who leave in it.
+///
+/// A reach is some windows, one behind the other, by a number: below 32 it is that window and the next one, below 64
+/// the window of 32 less and the next three, as far as the day has them, and 64 is the whole day. So what a second
+/// function takes behind a first one is looked up at one place, whichever windows those are.
+#[derive(Debug, Drop)]
+pub struct Bounds {
+    windows: Windows,
+    least: [u16; WINDOWS],
+    most: [u16; WINDOWS],
+    reach: [u8; WINDOWS],
+    least_over: [u16; REACHES],
+    most_over: [u16; REACHES],
+}
+
+/// What a candidate takes at least in each of these windows, and what some candidate takes at most.
+#[derive(Clone, Copy)]
+pub struct Limits<'a> {
+    pub windows: Windows,
+    pub lower: &'a [u32; WINDOWS],
+    pub most: &'a [u32; WINDOWS],
+}
+
+// The same of one window.
+#[derive(Clone, Copy)]
+struct Window {
+    least: u16,
+    most: u16,
+    reach: u8,
+}
+
+// How long a function takes over a stretch of the day, at least and at most, and the index of the run in force at its
+// end.
+#[derive(Clone, Copy)]
+struct Travels {
+    index: usize,
+    least: u64,
+    most: u64,
+}
+
+impl Windows {
+    /// Windows that are narrow where profiles of a network change.
+    pub fn of<R: Roads>(roads: &R) -> Windows {
+        let changes = changes_of(roads);
+        let begin = changes.first.saturating_sub(BEFORE);
+        let end = changes.last.saturating_add(BEHIND).min(DAY);
+        Windows {
+            begin,
+            width: end.saturating_sub(begin) / NARROW,
+        }
+    }
+
+    /// The second at which a window begins, and the end of the day behind the last one.
+    #[inline(always)]
+    pub fn start(self, window: usize) -> u64
+        ensures { result ≡ window_start self window }
+    {
+        if window == 0 {
+            return 0;
+        }
+        if window >= WINDOWS {
+            return END;
+        }
+        END.min(u64::from(self.begin) + (window as u64 - 1) * u64::from(self.width))
+    }
+
+    // The window that has a second of the day, or one before it.
+    #[inline(always)]
+    fn window_at(self, second: u64) -> usize
+        ensures { result < WINDOWS }
+    {
+        let begin = u64::from(self.begin);
+        if second < begin {
+            return 0;
+        }
+        let narrow = (second - begin) / u64::from(self.width).max(1);
+        narrow.min(u64::from(NARROW)) as usize + 1
+    }
+
+    // A reach that has all seconds from one to another on one day, or that of the whole day.
+    #[inline(always)]
+    fn reach(self, first: u64, last: u64) -> usize
+        ensures { IsReach self first last result }
+    {
+        let second = first % END;
+        let midnight = first - second;
+        let window = self.window_at(second);
+        if self.start(window) > second {
+            return WHOLE;
+        }
+        if last < midnight.saturating_add(self.start(window + 2)) {
+            return window;
+        }
+        if last < midnight.saturating_add(self.start(window + 4)) {
+            return WINDOWS + window;
+        }
+        WHOLE
+    }
+}
+
+// The first and the last second of the day at which a profile changes, where one does.
+#[derive(Clone, Copy)]
+struct Changes {
+    first: u32,
+    last: u32,
+}
+
+fn changes_of<R: Roads>(roads: &R) -> Changes {
+    let mut changes = Changes {
+        first: DAY,
+        last: 0,
+    };
+    for profile in 0..roads.profiles() {
+        changes = with_changes(roads, profile, changes);
+    }
+    changes
+}
+
+// With those of one profile more.
+fn with_changes<R: Roads>(roads: &R, profile: u32, before: Changes) -> Changes
+    requires { profile < length (R.network roads.now).profiles }
+{
+    let mut changes = before;
+    for index in 1..roads.pieces(profile) {
+        let from = roads.piece(profile, index).from;
+        changes.first = changes.first.min(from);
+        changes.last = changes.last.max(from);
+    }
+    changes
+}
+
+impl Bounds {
+    /// The bounds of a function that takes so much at least and at most.
+    pub fn of(words: &[Word], least: u64, most: u64, windows: Windows) -> Bounds
+        requires over_day { IsDayList words.now }
+        requires onward { IsOnward (arrival_value words.now) }
+        requires least { TakesAtLeast words.now least }
+        requires most { TakesAtMost words.now most }
+        ensures windows { result.windows ≡ windows }
+        ensures bounds { AreBounds (arrival_value words.now) result }
+    {
+        let mut bounds = Bounds {
+            windows,
+            least: [0; WINDOWS],
+            most: [0; WINDOWS],
+            reach: [0; WINDOWS],
+            least_over: [0; REACHES],
+            most_over: [0; REACHES],
+        };
+        let mut index = 0;
+        'windows: for window in 0..WINDOWS {
+            let from = windows.start(window);
+            let until = windows.start(window + 1);
+            let travels = travels_between(words, index, from, until);
+            let known = window_of(windows, from, until, travels);
+            bounds.least[window] = known.least;
+            bounds.most[window] = known.most;
+            bounds.reach[window] = known.reach;
+            index = travels.index;
+        }
+        bounds.least_over = least_by_reach(&bounds.least, short(least));
+        bounds.most_over = most_by_reach(&bounds.most, short(most));
+        bounds
+    }
+
+    /// Are they bounds in these windows?
+    pub fn are_in(&self, windows: Windows) -> bool
+        ensures { IsTrue result ↔ (self.now.windows ≡ windows) }
+    {
+        self.windows == windows
+    }
+
+    /// What a function takes at least in a window together with one behind it.
+    #[inline(always)]
+    pub fn least_with(&self, second: &Bounds, window: usize) -> u32
+        requires window { window < WINDOWS }
+        requires reach { get_or self.now.reach window 0 ≤ 2 * WINDOWS }
+        requires same { second.now.windows ≡ self.now.windows }
+        ensures { (first behind : List Run) → IsFunctionWords behind
+            → AreBounds (arrival_value first) self.now → AreBounds (arrival_value behind) second.now
+            → TakesBetween (composed first behind) (window_start self.now.windows window)
+            (window_start self.now.windows (window + 1)) result }
+    {
+        let reach = self.reach[window] as usize;
+        u32::from(self.least[window]) + u32::from(second.least_over[reach])
+    }
+
+    /// What it takes at most, where that is below 4,294,967,295.
+    #[inline(always)]
+    pub fn most_with(&self, second: &Bounds, window: usize) -> u32
+        requires window { window < WINDOWS }
+        requires reach { get_or self.now.reach window 0 ≤ 2 * WINDOWS }
+        requires same { second.now.windows ≡ self.now.windows }
+        ensures { (first behind : List Run) → IsFunctionWords behind
+            → AreBounds (arrival_value first) self.now → AreBounds (arrival_value behind) second.now
+            → IsUpper (composed first behind) (window_start self.now.windows window)
+            (window_start self.now.windows (window + 1)) result }
+    {
+        let reach = self.reach[window] as usize;
+        let most = u32::from(self.most[window]) + u32::from(second.most_over[reach]);
+        // Unknown where one of the two is. As great a sum of two that are known is dropped too: it only loses a limit.
+        if most >= u32::from(UNKNOWN) {
+            return u32::MAX;
+        }
+        most
+    }
+}
+
+// What a function takes at least over each reach, by what it takes in each window and over the day.
+fn least_by_reach(least: &[u16; WINDOWS], whole: u16) -> [u16; REACHES]
+    ensures { (windows : Windows) → (f : ℕ → ℕ) → TakesInWindows windows f least.now
+        → TakesBetween f 0 DAY whole → AreReaches windows (TakesBetween f) result }
+{
+    let mut over = [whole; REACHES];
+    'windows: for window in 0..WINDOWS {
+        let two = least_of_two(least, window);
+        over[window] = two;
+        over[WINDOWS + window] = two.min(least_of_two(least, window + 2));
+    }
+    over
+}
+
+// And at most.
+fn most_by_reach(most: &[u16; WINDOWS], whole: u16) -> [u16; REACHES]
+    ensures { (windows : Windows) → (f : ℕ → ℕ) → TakesIfKnownInWindows windows f most.now
+        → TakesIfKnown f 0 DAY whole → AreReaches windows (TakesIfKnown f) result }
+{
+    let mut over = [whole; REACHES];
+    'windows: for window in 0..WINDOWS {
+        let two = most_of_two(most, window);
+        over[window] = two;
+        over[WINDOWS + window] = two.max(most_of_two(most, window + 2));
+    }
+    over
+}
+
+// What a function takes at least in a window and the next one, as far as the day has them.
+#[inline(always)]
+fn least_of_two(least: &[u16; WINDOWS], window: usize) -> u16
+    requires { window ≤ 2 * WINDOWS }
+    ensures { (windows : Windows) → (f : ℕ → ℕ) → TakesInWindows windows f least.now
+        → TakesBetween f (window_start windows window) (window_start windows (window + 2)) result }
+{
+    least[window.min(WINDOWS - 1)].min(least[(window + 1).min(WINDOWS - 1)])
+}
+
+// And at most.
+#[inline(always)]
+fn most_of_two(most: &[u16; WINDOWS], window: usize) -> u16
+    requires { window ≤ 2 * WINDOWS }
+    ensures { (windows : Windows) → (f : ℕ → ℕ) → TakesIfKnownInWindows windows f most.now
+        → TakesIfKnown f (window_start windows window) (window_start windows (window + 2)) result }
+{
+    most[window.min(WINDOWS - 1)].max(most[(window + 1).min(WINDOWS - 1)])
+}
+
+// How long a function takes in a window, by its travel times from one second until another.
+#[inline(always)]
+fn window_of(windows: Windows, from: u64, until: u64, travels: Travels) -> Window
+    ensures { (f : ℕ → ℕ) → (window : ℕ) → from ≡ window_start windows window
+        → until ≡ window_start windows (window + 1) → TakesBetween f from until travels.least
+        → TakesUpToBetween f from until travels.most → IsWindow windows f window result }
+{
+    let reach = windows.reach(
+        from.saturating_add(travels.least),
+        until.saturating_add(travels.most),
+    );
+    Window {
+        least: short(travels.least),
+        most: short(travels.most),
+        reach: reach as u8,
+    }
+}
+
+// A travel time, or 65,535 where it is greater.
+#[inline(always)]
+fn short(seconds: u64) -> u16
+    ensures { result ≡ min seconds 65535 }
+{
+    seconds.min(u64::from(UNKNOWN)) as u16
+}
+
+/// Lowers the limit of each window to what a function takes at most.
+pub fn lower_limits(words: &[Word], windows: Windows, limits: &mut [u32; WINDOWS])
+    requires { IsDayList words.now }
+    ensures { AreLowered windows (arrival_value words.now) limits.old limits.new }
+{
+    let mut index = 0;
+    'windows: for window in 0..WINDOWS {
+        let from = windows.start(window);
+        let travels = travels_between(words, index, from, windows.start(window + 1));
+        limits[window] = lesser(limits[window], travels.most);
+        index = travels.index;
+    }
+}
+
+/// Writes the same number for each window.
+pub fn fill(numbers: &mut [u32; WINDOWS], number: u32)
+    ensures { AreEach (λ _ one. one ≡ number) numbers.new WINDOWS }
+{
+    'windows: for window in 0..WINDOWS {
+        numbers[window] = number;
+    }
+}
+
+// The lesser of two numbers.
+#[inline(always)]
+fn lesser(limit: u32, other: u64) -> u32
+    ensures { result ≡ min limit other }
+{
+    other.min(u64::from(limit)) as u32
+}
+
+// What a function takes from one second until another, from the run in force at the first.
+#[inline(always)]
+fn travels_between(words: &[Word], first: usize, from: u64, until: u64) -> Travels
+    requires over_day { IsDayList words.now }
+    requires first { IsAt words.now first from }
+    requires order { from ≤ until }
+    requires in_day { until ≤ DAY }
+    ensures index { IsAt words.now result.index until }
+    ensures least { IsOnward (arrival_value words.now)
+        → TakesBetween (arrival_value words.now) from until result.least }
+    ensures most { TakesUpToBetween (arrival_value words.now) from until result.most }
+{
+    let mut index = first;
+    let mut at = from;
+    let mut least = u64::MAX;
+    let mut most = 0_u64;
+    'stretch: while at < until {
+        let run = words[index];
+        let run_end = words[index + 1].from();
+        let end = run_end.min(until);
+        least = least.min(run.arrives(end - 1).saturating_sub(end - 1));
+        most = most.max(run.arrives(at).saturating_sub(at));
+        index = stepped(index, run_end, end);
+        at = end;
+    }
+    Travels { index, least, most }
+}
