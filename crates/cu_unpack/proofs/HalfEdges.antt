@@ -1,5 +1,5 @@
 -- The ways of a shortcut and the edges of their halves, which are lower.
-use Rattle.std.proofs.Common.{◌≡◌, ◌≢◌, ◌<◌, ◌+◌, ◌∙◌, ℕ, List, [], get_or, Option, Some, None, refl, sym, ap, subst, arith, length}
+use Rattle.std.proofs.Common.{◌≡◌, ◌≢◌, ◌<◌, ◌+◌, ◌∙◌, ℕ, List, [], get_or, Option, Some, None, refl, sym, ap, subst, arith, inl, inr, length}
 use Rattle.std.specs.Prelude.{◌↔◌, IsTrue, is_some, slice_get, slice_set}
 use Rattle.std.proofs.lemmas.Option.{slice_get-get_or, slice_get_within}
 use Rattle.cu_model.proofs.RoadLaws.{all_at}
@@ -11,7 +11,8 @@ use Rattle.cu_interval.specs.declared.ways.Way.TheVariants.{Via}
 use Rattle.cu_interval.specs.declared.ways.Entry.{Entry}
 use Rattle.cu_interval.specs.Hierarchies.{HierarchyValue, IsHierarchy, IsWellFormed, list_from, list_of, start_of, end_of}
 use Rattle.cu_interval.proofs.Lookups.{list_from-edge, number_at}
-use Rattle.cu_unpack.specs.declared.rebuilding.Shortcut.{Shortcut}
+use Rattle.cu_unpack.specs.declared.shortcuts.Shortcut.{Shortcut}
+use Rattle.cu_unpack.specs.RebuiltWords.{IsSide}
 use Rattle.cu_unpack.specs.Steps.Rebuilding.{AreHalves, HasHalves, HasWays, IsKept, IsLeastOf, IsWayOf, KeepsOne, number_of, ways_of}
 use Rattle.cu_unpack.proofs.HalvesFirst.{lower_first}
 use Rattle.cu_unpack.proofs.WayFunctions.{least_rebuilt, same_ends}
@@ -60,6 +61,21 @@ halves_lower h f whole first second m (ends, at, formed) halves =
       ),
     )
 
+-- and both edges are sides of the whole one
+pub halves_sides : (h : HierarchyValue) (whole first second : Shortcut) (m : ℕ) → AreHalves h whole m first second → IsSide h.edges whole.edge first.edge × IsSide h.edges whole.edge second.edge
+halves_sides h whole first second m halves = by_dir whole.dir halves.to halves.onward
+  where
+    by_dir : (dir : Dir) → slice_get h.edges first.edge ≡ Some (record { low = m; high = start_of halves.ends dir }) → slice_get h.edges second.edge ≡ Some (record { low = m; high = end_of halves.ends dir })
+        → IsSide h.edges whole.edge first.edge × IsSide h.edges whole.edge second.edge
+    by_dir Up to onward = (
+      record { ends = halves.ends; at = halves.at; middle = m; first = first.edge; to_low = to; second = second.edge; to_high = onward; either = inl refl },
+      record { ends = halves.ends; at = halves.at; middle = m; first = first.edge; to_low = to; second = second.edge; to_high = onward; either = inr refl },
+    )
+    by_dir Down to onward = (
+      record { ends = halves.ends; at = halves.at; middle = m; first = second.edge; to_low = onward; second = first.edge; to_high = to; either = inr refl },
+      record { ends = halves.ends; at = halves.at; middle = m; first = second.edge; to_low = onward; second = first.edge; to_high = to; either = inl refl },
+    )
+
 same_number : (h : HierarchyValue) → IsHierarchy h → (i j low high : ℕ) → slice_get h.edges i ≡ Some (record { low = low; high = high }) → slice_get h.edges j ≡ Some (record { low = low; high = high }) → i ≡ j
 same_number h f i j low high at_i at_j =
     let one = number_at 0 h.edges i low high f.graph.rising at_i in
@@ -68,10 +84,10 @@ same_number h f i j low high at_i at_j =
     let same : 0 + i ≡ 0 + j = cc sums in
     omega (arith, same)
 
--- the halves at a middle are determined, so what is kept of these is of all
-pub halves_kept : (h : HierarchyValue) → IsHierarchy h → (kept : List (Option (List Run))) (whole first second : Shortcut) (m : ℕ) → AreHalves h whole m first second
-    → IsKept kept first → IsKept kept second → HasHalves h kept whole (Via m)
-halves_kept h f kept whole first second m halves one two first_too second_too again =
+-- the halves at a middle are determined, so where these are there all are
+pub halves_there : (h : HierarchyValue) → IsHierarchy h → (IsThere : Shortcut → Type 0) (whole first second : Shortcut) (m : ℕ) → AreHalves h whole m first second
+    → IsThere first → IsThere second → HasHalves h IsThere whole (Via m)
+halves_there h f IsThere whole first second m halves one two first_too second_too again =
     let same : halves.ends ≡ again.ends = same_ends h.edges whole.edge halves.ends again.ends halves.at again.at in
     let low : slice_get h.edges first.edge ≡ Some (record { low = m; high = start_of again.ends whole.dir }) =
     subst (λ (e : Ends). slice_get h.edges first.edge ≡ Some (record { low = m; high = start_of e whole.dir })) same halves.to in
@@ -79,8 +95,8 @@ halves_kept h f kept whole first second m halves one two first_too second_too ag
     subst (λ (e : Ends). slice_get h.edges second.edge ≡ Some (record { low = m; high = end_of e whole.dir })) same halves.onward in
     let first_edge = same_number h f first.edge first_too.edge m (start_of again.ends whole.dir) low again.to in
     let second_edge = same_number h f second.edge second_too.edge m (end_of again.ends whole.dir) high again.onward in (
-      subst (IsKept kept) (same_shortcut first first_too first_edge (halves.down ∙ sym again.down)) one,
-      subst (IsKept kept) (same_shortcut second second_too second_edge (halves.up ∙ sym again.up)) two,
+      subst IsThere (same_shortcut first first_too first_edge (halves.down ∙ sym again.down)) one,
+      subst IsThere (same_shortcut second second_too second_edge (halves.up ∙ sym again.up)) two,
     )
   where
     same_shortcut : (a b : Shortcut) → a.edge ≡ b.edge → a.dir ≡ b.dir → a ≡ b

@@ -1,5 +1,5 @@
 -- Shortcuts that wait for a half, each of a higher edge than the next.
-use Rattle.std.proofs.Common.{◌≡◌, ◌≤◌, ◌<◌, ◌+◌, ◌*◌, ◌∙◌, ℕ, suc, List, [], ◌∷◌, ◌++◌, Option, Some, refl, sym, ap, subst, arith, inl, inr, length, get_or, length-append}
+use Rattle.std.proofs.Common.{◌≡◌, ◌≤◌, ◌<◌, ◌+◌, ◌*◌, ◌∙◌, ℕ, suc, List, [], ◌∷◌, ◌++◌, Some, refl, sym, ap, subst, arith, inl, inr, length, get_or, length-append}
 use Rattle.std.specs.Prelude.{All, slice_get}
 use Rattle.std.specs.List.{AllPairs}
 use Rattle.std.proofs.lemmas.Bool.{cases_eq, cases_lt}
@@ -9,23 +9,20 @@ use Rattle.std.proofs.Math.Seq.{get_or-append_seam}
 use Rattle.std.proofs.lemmas.List.Elements.{All-pop, All-push}
 use Rattle.std.proofs.lemmas.List.Quantifiers.{all_pairs_push}
 use Rattle.std.proofs.lemmas.Option.{get_or_from_slice_get, slice_get_within}
-use Rattle.cu_arrival.specs.declared.runs.Run.{Run}
 use Rattle.cu_chordal.specs.declared.graph.Ends.{Ends}
 use Rattle.cu_chordal.specs.Graphs.{ComesBefore, IsRising}
-use Rattle.cu_interval.specs.Hierarchies.{HierarchyValue}
-use Rattle.cu_unpack.specs.declared.rebuilding.Shortcut.{Shortcut}
-use Rattle.cu_unpack.specs.Steps.Rebuilding.{AreKept, IsMissing, KeepsOne, Takes}
-use Rattle.cu_unpack.proofs.KeptFunctions.{count_missing, fewer_missing, still_missing}
+use Rattle.cu_unpack.specs.declared.shortcuts.Shortcut.{Shortcut}
+use Rattle.cu_unpack.specs.Steps.Rebuilding.{Takes}
 
--- what waits: shortcuts whose functions are missing, of falling edges
-pub record AreWaitingHalves (h : HierarchyValue) (kept : List (Option (List Run))) (waiting : List Shortcut) : Type 0 where
-  pub missing : All (IsMissing h kept) waiting
+-- what waits: shortcuts that are still open, of falling edges
+pub record AreWaitingHalves (IsOpen : Shortcut → Type 0) (waiting : List Shortcut) : Type 0 where
+  pub missing : All IsOpen waiting
   pub falls : AllPairs (λ (a b : Shortcut). b.edge < a.edge) waiting
 
 -- the next, and what waits behind it
-pub record IsNextHalf (h : HierarchyValue) (kept : List (Option (List Run))) (waiting : List Shortcut) (next : Shortcut) : Type 0 where
-  pub lacks : IsMissing h kept next
-  pub behind : AreWaitingHalves h kept waiting
+pub record IsNextHalf (IsOpen : Shortcut → Type 0) (waiting : List Shortcut) (next : Shortcut) : Type 0 where
+  pub open_still : IsOpen next
+  pub behind : AreWaitingHalves IsOpen waiting
   pub above : All (λ (a : Shortcut). next.edge < a.edge) waiting
 
 -- the edge of the last that waits, or of this shortcut
@@ -37,8 +34,8 @@ next_edge-push : (xs : List Shortcut) (x shortcut : Shortcut) → next_edge (xs 
 next_edge-push [] x shortcut = refl
 next_edge-push (y ∷ ys) x shortcut = next_edge-push ys x y
 
-pub none_waits : (h : HierarchyValue) (kept : List (Option (List Run))) → AreWaitingHalves h kept []
-none_waits h kept = record {
+pub none_waits : (IsOpen : Shortcut → Type 0) → AreWaitingHalves IsOpen []
+none_waits IsOpen = record {
   missing = λ k d lt. absurd (omega (arith, lt));
   falls = λ i j d lt within. absurd (omega (arith, within));
 }
@@ -60,19 +57,19 @@ last_falls xs x falls k d within =
     subst (λ (a : Shortcut). x.edge < a.edge) first (subst (λ (b : Shortcut). b.edge < (get_or (xs ++ x ∷ []) k d).edge) last both)
 
 -- the last that waits is next, or this shortcut where none waits
-pub next_taken : (h : HierarchyValue) (kept : List (Option (List Run))) (before now : List Shortcut) (shortcut next : Shortcut) → AreWaitingHalves h kept before → IsMissing h kept shortcut
-    → Takes before shortcut now next → IsNextHalf h kept now next
-next_taken h kept before now shortcut next are missing (inl is) =
+pub next_taken : (IsOpen : Shortcut → Type 0) (before now : List Shortcut) (shortcut next : Shortcut) → AreWaitingHalves IsOpen before → IsOpen shortcut
+    → Takes before shortcut now next → IsNextHalf IsOpen now next
+next_taken IsOpen before now shortcut next are missing (inl is) =
     let falls = subst (AllPairs (λ (a b : Shortcut). b.edge < a.edge)) is are.falls in
-    let parts = All-pop (IsMissing h kept) before now (Some next) is are.missing in
+    let parts = All-pop IsOpen before now (Some next) is are.missing in
     record {
-      lacks = parts.1;
+      open_still = parts.1;
       behind = record { missing = parts.0; falls = front_falls now next falls };
       above = last_falls now next falls;
     }
-next_taken h kept before now shortcut next are missing (inr (none, empty, same)) = record {
-  lacks = subst (IsMissing h kept) (sym same) missing;
-  behind = subst (AreWaitingHalves h kept) (sym empty) (none_waits h kept);
+next_taken IsOpen before now shortcut next are missing (inr (none, empty, same)) = record {
+  open_still = subst IsOpen (sym same) missing;
+  behind = subst (AreWaitingHalves IsOpen) (sym empty) (none_waits IsOpen);
   above = subst (All (λ (a : Shortcut). next.edge < a.edge)) (sym empty) (λ k d lt. absurd (omega (arith, lt)));
 }
 
@@ -80,19 +77,19 @@ next_edge-taken : (before now : List Shortcut) (shortcut next : Shortcut) → Ta
 next_edge-taken before now shortcut next (inl is) = ap (λ (xs : List Shortcut). next_edge xs shortcut) is ∙ next_edge-push now next shortcut
 next_edge-taken before now shortcut next (inr (none, empty, same)) = ap (λ (xs : List Shortcut). next_edge xs shortcut) none ∙ ap (λ (s : Shortcut). s.edge) (sym same)
 
-push : (h : HierarchyValue) (kept : List (Option (List Run))) (waiting : List Shortcut) (next : Shortcut) → IsNextHalf h kept waiting next → AreWaitingHalves h kept (waiting ++ next ∷ [])
-push h kept waiting next is = record {
-  missing = All-push (IsMissing h kept) waiting next is.behind.missing is.lacks;
+push : (IsOpen : Shortcut → Type 0) (waiting : List Shortcut) (next : Shortcut) → IsNextHalf IsOpen waiting next → AreWaitingHalves IsOpen (waiting ++ next ∷ [])
+push IsOpen waiting next is = record {
+  missing = All-push IsOpen waiting next is.behind.missing is.open_still;
   falls = all_pairs_push (λ (a b : Shortcut). b.edge < a.edge) waiting next is.behind.falls (λ k d lt. is.above k d lt);
 }
 
 -- a half of the next waits above it
-pub half_waits : (h : HierarchyValue) (kept : List (Option (List Run))) (waiting : List Shortcut) (next half : Shortcut) → IsNextHalf h kept waiting next → IsMissing h kept half → half.edge < next.edge
-    → AreWaitingHalves h kept ((waiting ++ next ∷ []) ++ half ∷ [])
-half_waits h kept waiting next half is missing below =
-    push h kept (waiting ++ next ∷ []) half (record {
-      lacks = missing;
-      behind = push h kept waiting next is;
+pub half_waits : (IsOpen : Shortcut → Type 0) (waiting : List Shortcut) (next half : Shortcut) → IsNextHalf IsOpen waiting next → IsOpen half → half.edge < next.edge
+    → AreWaitingHalves IsOpen ((waiting ++ next ∷ []) ++ half ∷ [])
+half_waits IsOpen waiting next half is missing below =
+    push IsOpen (waiting ++ next ∷ []) half (record {
+      open_still = missing;
+      behind = push IsOpen waiting next is;
       above = All-push (λ (a : Shortcut). half.edge < a.edge) waiting next (λ k d lt. let above = is.above k d lt in omega (arith, above, below)) below;
     })
 
@@ -104,19 +101,19 @@ half_smaller amount before now waiting shortcut next half taken is below =
     let new : next_edge now shortcut ≡ half.edge = ap (λ (xs : List Shortcut). next_edge xs shortcut) is ∙ next_edge-push (waiting ++ next ∷ []) half shortcut in
     omega (arith, old, new, below)
 
--- those behind still wait where the next is kept
-pub still_wait : (h : HierarchyValue) (before now : List (Option (List Run))) (waiting : List Shortcut) (next : Shortcut) → IsNextHalf h before waiting next → KeepsOne h next before now
-    → AreWaitingHalves h now waiting
-still_wait h before now waiting next is one = record {
-  missing = λ k d lt. still_missing h next (get_or waiting k d) before now (is.above k d lt) one (is.behind.missing k d lt);
+-- those behind still wait where the next isn't open any more, and those above it are
+pub still_wait : (Before Now : Shortcut → Type 0) (waiting : List Shortcut) (next : Shortcut) → IsNextHalf Before waiting next
+    → ((other : Shortcut) → next.edge < other.edge → Before other → Now other) → AreWaitingHalves Now waiting
+still_wait Before Now waiting next is still = record {
+  missing = λ k d lt. still (get_or waiting k d) (is.above k d lt) (is.behind.missing k d lt);
   falls = is.behind.falls;
 }
 
 -- the edge of what is next is one
-next_within : (h : HierarchyValue) (kept : List (Option (List Run))) (waiting : List Shortcut) (shortcut : Shortcut) → All (IsMissing h kept) waiting → shortcut.edge < length h.edges
-    → next_edge waiting shortcut < length h.edges
-next_within h kept [] shortcut all lt = lt
-next_within h kept (x ∷ xs) shortcut all lt = next_within h kept xs x (λ k d within. all (suc k) d (omega (arith, within))) ((all 0 x (omega arith)).0.0)
+next_within : (IsOpen : Shortcut → Type 0) (edges : ℕ) (waiting : List Shortcut) (shortcut : Shortcut) → ((s : Shortcut) → IsOpen s → s.edge < edges) → All IsOpen waiting → shortcut.edge < edges
+    → next_edge waiting shortcut < edges
+next_within IsOpen edges [] shortcut within all lt = lt
+next_within IsOpen edges (x ∷ xs) shortcut within all lt = next_within IsOpen edges xs x within (λ k d below. all (suc k) d (omega (arith, below))) (within x (all 0 x (omega arith)))
 
 -- fewer are missing, whichever is next
 one_fewer : (before now edges old_edge new_edge : ℕ) → before ≡ now + 1 → new_edge < edges → now * edges + new_edge < before * edges + old_edge
@@ -125,13 +122,12 @@ one_fewer before now edges old_edge new_edge fewer lt =
     let more : before * edges ≡ now * edges + edges = ap (λ (n : ℕ). n * edges) next ∙ suc-mul now edges in
     omega (arith, more, lt)
 
--- or a function less is missing
-pub one_smaller : (h : HierarchyValue) (kept now : List (Option (List Run))) (before waiting : List Shortcut) (shortcut next : Shortcut) → AreKept h kept → IsNextHalf h kept waiting next
-    → KeepsOne h next kept now → shortcut.edge < length h.edges
-    → count_missing now * length h.edges + next_edge waiting shortcut < count_missing kept * length h.edges + next_edge before shortcut
-one_smaller h kept now before waiting shortcut next are is one within =
-    one_fewer (count_missing kept) (count_missing now) (length h.edges) (next_edge before shortcut) (next_edge waiting shortcut)
-    (fewer_missing h next kept now are is.lacks one) (next_within h kept waiting shortcut is.behind.missing within)
+-- or one less is missing
+pub one_smaller : (IsOpen : Shortcut → Type 0) (edges many few : ℕ) (before waiting : List Shortcut) (shortcut next : Shortcut) → IsNextHalf IsOpen waiting next
+    → ((s : Shortcut) → IsOpen s → s.edge < edges) → many ≡ few + 1 → shortcut.edge < edges
+    → few * edges + next_edge waiting shortcut < many * edges + next_edge before shortcut
+one_smaller IsOpen edges many few before waiting shortcut next is within fewer lt =
+    one_fewer many few edges (next_edge before shortcut) (next_edge waiting shortcut) fewer (next_within IsOpen edges waiting shortcut within is.behind.missing lt)
 
 low_order : (a b : Ends) → ComesBefore a b → a.low ≤ b.low
 low_order a b (inl lt) = omega (arith, lt)

@@ -9,13 +9,13 @@ use Rattle.cu_arrival.specs.declared.runs.Run.{Run}
 use Rattle.cu_interval.specs.declared.ways.Dir.{Dir}
 use Rattle.cu_interval.specs.declared.ways.Dir.TheVariants.{Up, Down}
 use Rattle.cu_interval.specs.Hierarchies.{HierarchyValue, list_number}
-use Rattle.cu_unpack.specs.declared.rebuilding.Shortcut.{Shortcut}
+use Rattle.cu_unpack.specs.declared.shortcuts.Shortcut.{Shortcut}
 use Rattle.cu_unpack.specs.Rebuilds.{IsRebuiltFunction}
 use Rattle.cu_unpack.specs.Steps.Rebuilding.{AreKept, IsKept, IsMissing, KeepsOne, number_of}
 use Rattle.cu_unpack.proofs.Writes.{set_here, set_other}
 
 -- lists of different edges or directions have different numbers
-list_number-same : (a b : ℕ) (d e : Dir) → list_number a d ≡ list_number b e → (a ≡ b) × (d ≡ e)
+pub list_number-same : (a b : ℕ) (d e : Dir) → list_number a d ≡ list_number b e → (a ≡ b) × (d ≡ e)
 list_number-same a b Up Up same = (omega (arith, same), refl)
 list_number-same a b Down Down same = (omega (arith, same), refl)
 list_number-same a b Up Down same = absurd (omega (arith, same))
@@ -57,7 +57,7 @@ are_kept h shortcut before now lt are (runs, is, function) = subst (AreKept h) (
 
 -- what was missing still is, but for that one
 pub still_missing : (h : HierarchyValue) (shortcut other : Shortcut) (before now : List (Option (List Run))) → shortcut.edge < other.edge → KeepsOne h shortcut before now
-    → IsMissing h before other → IsMissing h now other
+    → IsMissing h (IsKept before) other → IsMissing h (IsKept now) other
 still_missing h shortcut other before now lt (runs, is, function) (ways, missing) = (
   ways,
   λ kept.
@@ -80,7 +80,7 @@ none_there None missing = refl
 none_there (Some runs) missing = absurd (missing runs refl)
 
 -- one less is missing
-pub fewer_missing : (h : HierarchyValue) (shortcut : Shortcut) (before now : List (Option (List Run))) → AreKept h before → IsMissing h before shortcut → KeepsOne h shortcut before now
+pub fewer_missing : (h : HierarchyValue) (shortcut : Shortcut) (before now : List (Option (List Run))) → AreKept h before → IsMissing h (IsKept before) shortcut → KeepsOne h shortcut before now
     → count_missing before ≡ count_missing now + 1
 fewer_missing h shortcut before now are (ways, missing) (runs, is, function) =
     let number = number_of shortcut in

@@ -10,3 +10,6 @@ pub mod WayFunctions
 pub mod KeptFunctions
 pub mod HalvesFirst
 pub mod HalfEdges
+pub mod Learning
+pub mod KnownLists
+pub mod WordWays

@@ -3,10 +3,10 @@ use Rattle.std.proofs.Common.{◌≡◌, ◌≢◌, ◌<◌, ◌+◌, ◌*◌, �
 use Rattle.std.proofs.lemmas.List.{take_more}
 use Rattle.std.proofs.lemmas.Option.{get_or_from_slice_get, slice_get_within}
 use Rattle.std.specs.Prelude.{option_map, slice_get}
-use Rattle.cu_model.specs.Days.{day}
+use Rattle.cu_model.specs.Days.{day, RepeatsDaily}
 use Rattle.cu_model.specs.Roads.{arc_value}
 use Rattle.cu_arrival.specs.declared.runs.Run.{Run}
-use Rattle.cu_arrival.specs.Runs.{IsArrivalFunction, arrival_value}
+use Rattle.cu_arrival.specs.Runs.{arrival_value}
 use Rattle.cu_arrival.proofs.RunLaws.{arrival_value-repeats}
 use Rattle.cu_chordal.specs.declared.graph.Ends.{Ends}
 use Rattle.cu_interval.specs.declared.ways.Dir.{Dir}
@@ -18,9 +18,9 @@ use Rattle.cu_interval.specs.Hierarchies.{HierarchyValue, IsHierarchy, start_of,
 use Rattle.cu_interval.specs.Resettling.{least_in, lesser_of, rebuilt, rebuilt_by, then_at}
 use Rattle.cu_interval.proofs.Lookups.{list_from-edge}
 use Rattle.cu_interval.proofs.Rebuilding.{rebuilt-fuel}
-use Rattle.cu_unpack.specs.declared.rebuilding.Shortcut.{Shortcut}
+use Rattle.cu_unpack.specs.declared.shortcuts.Shortcut.{Shortcut}
 use Rattle.cu_unpack.specs.Rebuilds.{IsRebuiltFunction, Keeps}
-use Rattle.cu_unpack.specs.Steps.Rebuilding.{AreHalves, AreKept, IsAmong, IsEarlier, IsLeastOf, IsWayFunction, IsWayOf, number_of, value_in, way_value, ways_of}
+use Rattle.cu_unpack.specs.Steps.Rebuilding.{AreHalves, AreKept, HasValues, IsAmong, IsEarlier, IsLeastOf, IsWayFunction, IsWayOf, number_of, value_in, way_value, ways_of}
 
 pub road_function : (h : HierarchyValue) (shortcut : Shortcut) (road : ℕ) (runs : List Run) → ((t : ℕ) → arrival_value runs t ≡ arc_value h.network road t)
     → IsWayFunction h shortcut (Road road) runs
@@ -30,7 +30,7 @@ road_function h shortcut road runs same ends at t lt = ap Some (sym (same t))
 half_value : (h : HierarchyValue) → IsHierarchy h → (x y u v t arrival : ℕ) → min x y < min u v → rebuilt h x y t ≡ Some arrival → rebuilt_by h (min u v) x y t ≡ Some arrival
 half_value h f x y u v t arrival below e = rebuilt-fuel h f (min u v) (suc (min x y)) x y t below (omega arith) ∙ e
 
-via_value : (h : HierarchyValue) → IsHierarchy h → (u v m : ℕ) → m < u → m < v → (first second : List Run)
+pub via_value : (h : HierarchyValue) → IsHierarchy h → (u v m : ℕ) → m < u → m < v → (first second : List Run)
     → ((t : ℕ) → rebuilt h u m t ≡ Some (arrival_value first t)) → ((t : ℕ) → rebuilt h m v t ≡ Some (arrival_value second t))
     → (t : ℕ) → way_value h u v t (Via m) ≡ Some (min (arrival_value second (arrival_value first t)) (2 ^ 62))
 via_value h f u v m below_u below_v first second to on t =
@@ -80,11 +80,11 @@ lesser_of-assoc (Some x) None c = refl
 lesser_of-assoc (Some x) (Some y) None = refl
 lesser_of-assoc (Some x) (Some y) (Some z) = ap Some (omega arith)
 
-lesser_of-none : (a : Option ℕ) → lesser_of a None ≡ a
+pub lesser_of-none : (a : Option ℕ) → lesser_of a None ≡ a
 lesser_of-none None = refl
 lesser_of-none (Some x) = refl
 
-least_in-more : (value : Way → Option ℕ) (entries : List Entry) (entry : Entry) → least_in value (entries ++ entry ∷ []) ≡ lesser_of (least_in value entries) (value entry.way)
+pub least_in-more : (value : Way → Option ℕ) (entries : List Entry) (entry : Entry) → least_in value (entries ++ entry ∷ []) ≡ lesser_of (least_in value entries) (value entry.way)
 least_in-more value [] entry = lesser_of-none (value entry.way)
 least_in-more value (x ∷ entries) entry =
     ap (λ (o : Option ℕ). lesser_of (value x.way) o) (least_in-more value entries entry) ∙ lesser_of-assoc (value x.way) (least_in value entries) (value entry.way)
@@ -121,7 +121,7 @@ lesser_of-again (Some x) None = ap Some (omega arith)
 lesser_of-again (Some x) (Some y) = ap Some (omega arith)
 
 -- a way that was there already changes no least value
-least_in-again : (value : Way → Option ℕ) (entries : List Entry) (i j : ℕ) (first again : Entry) → i < j → slice_get entries i ≡ Some first → slice_get entries j ≡ Some again
+pub least_in-again : (value : Way → Option ℕ) (entries : List Entry) (i j : ℕ) (first again : Entry) → i < j → slice_get entries i ≡ Some first → slice_get entries j ≡ Some again
     → first.way ≡ again.way → least_in value (take (suc j) entries) ≡ least_in value (take j entries)
 least_in-again value [] i j first again lt there later same = absurd (cc there)
 least_in-again value (e ∷ entries) i zero first again lt there later same = absurd (omega (arith, lt))
@@ -159,12 +159,23 @@ least_again h shortcut entries j again least later among is =
     subst (λ (n : ℕ). IsLeastOf h shortcut (take n entries) least) next (least_once h shortcut entries j again least later among is)
 
 -- the values over the day, on every day
-pub every_day : (runs : List Run) → IsArrivalFunction runs → (t : ℕ) → day * (t / day) + arrival_value runs (t % day) ≡ arrival_value runs t
-every_day runs f t =
+every_day : (f : ℕ → ℕ) → RepeatsDaily f → (t : ℕ) → day * (t / day) + f (t % day) ≡ f t
+every_day f repeats t =
     let whole : t ≡ (t / day) * day + t % day = omega arith in
-    let again = arrival_value-repeats runs f (t / day) (t % day) (omega arith) in
-    let swap : day * (t / day) + arrival_value runs (t % day) ≡ (t / day) * day + arrival_value runs (t % day) = omega arith in
-    swap ∙ sym again ∙ ap (λ (s : ℕ). arrival_value runs s) (sym whole)
+    let again = repeats (t / day) (t % day) (omega arith) in
+    let swap : day * (t / day) + f (t % day) ≡ (t / day) * day + f (t % day) = omega arith in
+    swap ∙ sym again ∙ ap f (sym whole)
+
+-- the least values of all ways of a shortcut over the day are the rebuilt ones
+pub values_rebuilt : (h : HierarchyValue) → IsHierarchy h → (shortcut : Shortcut) (runs : List Run) → RepeatsDaily (arrival_value runs) → (ends : Ends) → slice_get h.edges shortcut.edge ≡ Some ends
+    → HasValues runs (λ t. least_in (way_value h (start_of ends shortcut.dir) (end_of ends shortcut.dir) t) (ways_of h shortcut))
+    → (t : ℕ) → rebuilt h (start_of ends shortcut.dir) (end_of ends shortcut.dir) t ≡ Some (arrival_value runs t)
+values_rebuilt h f shortcut runs repeats ends at values t =
+    let u = start_of ends shortcut.dir in
+    let v = end_of ends shortcut.dir in
+    ap (λ (es : List Entry). option_map (λ (value : ℕ). day * (t / day) + value) (least_in (way_value h u v (t % day)) es)) (list_from-edge h f shortcut.edge shortcut.dir ends at)
+    ∙ ap (λ (o : Option ℕ). option_map (λ (value : ℕ). day * (t / day) + value) o) (values (t % day) (omega arith))
+    ∙ ap Some (every_day (arrival_value runs) repeats t)
 
 -- the least of all ways of a shortcut is its function
 pub least_rebuilt : (h : HierarchyValue) → IsHierarchy h → (shortcut : Shortcut) (function : Option (List Run)) → IsLeastOf h shortcut (ways_of h shortcut) function
@@ -173,10 +184,5 @@ least_rebuilt h f shortcut None is = is
 least_rebuilt h f shortcut (Some runs) is = (
   is.0,
   is.1,
-  λ ends at t.
-      let u = start_of ends shortcut.dir in
-      let v = end_of ends shortcut.dir in
-      ap (λ (es : List Entry). option_map (λ (value : ℕ). day * (t / day) + value) (least_in (way_value h u v (t % day)) es)) (list_from-edge h f shortcut.edge shortcut.dir ends at)
-      ∙ ap (λ (o : Option ℕ). option_map (λ (value : ℕ). day * (t / day) + value) o) (is.2 ends at (t % day) (omega arith))
-      ∙ ap Some (every_day runs is.1 t),
+  λ ends at t. values_rebuilt h f shortcut runs (arrival_value-repeats runs is.1) ends at (is.2 ends at) t,
 )

@@ -3,13 +3,12 @@
 ghost use Rattle.std.specs.Prelude.{◌≡◌, ◌≤◌, ◌<◌, ◌+◌, ◌*◌, ◌↔◌, All, IfOk, IsTrue, None, OnErr, OnOk, Some, length, slice_get, take};
 ghost use Rattle.cu_arrival.specs.Runs.{IsArrivalFunction};
 ghost use Rattle.cu_chordal.specs.declared.graph.TheConstants.{MAX_EDGES};
-ghost use Rattle.cu_chordal.specs.Graphs.{HasEdge};
 ghost use Rattle.cu_interval.specs.declared.ways.Entry.{Entry};
 ghost use Rattle.cu_interval.specs.Hierarchies.{HierarchyValue, IsHierarchy};
 ghost use Rattle.cu_unpack.specs.Rebuilds.{IsRebuiltFunction, Keeps};
-ghost use Rattle.cu_unpack.specs.Steps.Legs.{IsMiddle};
-ghost use Rattle.cu_unpack.specs.Steps.Rebuilding.{AreHalves, AreKept, FindsHalf, FindsMissing, HasHalves, HasWays, IsAmong, IsEarlier, IsKept, IsLeastOf, IsWayFunction, IsWayOf, KeepsOne, Takes, number_of, ways_of};
+ghost use Rattle.cu_unpack.specs.Steps.Rebuilding.{AreKept, FindsHalf, FindsMissing, HasHalves, HasWays, IsEarlier, IsKept, IsLeastOf, IsWayFunction, IsWayOf, KeepsOne, number_of, ways_of};
 
+use crate::shortcuts::{Shortcut, halves, is_among, list_number, take_next};
 use cu_arrival::{Arrival, compose, lesser};
 use cu_chordal::MAX_EDGES;
 use cu_interval::{Dir, Way, Ways};
@@ -22,13 +21,6 @@ use std::marker::Model;
 #[derive(Debug, Drop)]
 pub struct Rebuilt {
     kept: Vec<Option<Arrival>>,
-}
-
-// A shortcut: the number of an edge, and a direction.
-#[derive(Clone, Copy, Debug)]
-struct Shortcut {
-    edge: u32,
-    dir: Dir,
 }
 
 impl Model for Rebuilt {
@@ -109,13 +101,6 @@ fn rebuild<W: Ways>(
     Ok(())
 }
 
-// Takes the last that waits; this shortcut where none waits.
-fn take_next(waiting: &mut Vec<Shortcut>, shortcut: Shortcut) -> Shortcut
-    ensures { Takes waiting.old.items shortcut waiting.new.items result }
-{
-    waiting.pop().unwrap_or(shortcut)
-}
-
 // Whether the function of a shortcut is kept.
 fn is_kept(kept: &[Option<Arrival>], shortcut: Shortcut) -> bool
     requires { number_of shortcut < length kept.now }
@@ -139,7 +124,7 @@ fn kept_function(kept: &[Option<Arrival>], shortcut: Shortcut) -> &Arrival
 fn missing_half<W: Ways>(ways: &W, kept: &[Option<Arrival>], shortcut: Shortcut) -> Option<Shortcut>
     requires edge { shortcut.edge < length (W.hierarchy ways.now).edges }
     requires kept { AreKept (W.hierarchy ways.now) kept.now }
-    ensures missing { FindsMissing (W.hierarchy ways.now) kept.now shortcut
+    ensures missing { FindsMissing (W.hierarchy ways.now) (IsKept kept.now) shortcut
         (ways_of (W.hierarchy ways.now) shortcut) result }
 {
     for index in 0..ways.entries(shortcut.edge, shortcut.dir) {
@@ -162,7 +147,7 @@ fn missing_half_of<W: Ways>(
     requires sound { IsHierarchy (W.hierarchy ways.now) }
     requires way { IsWayOf (W.hierarchy ways.now) shortcut way }
     requires kept { AreKept (W.hierarchy ways.now) kept.now }
-    ensures missing { FindsHalf (W.hierarchy ways.now) kept.now shortcut way result }
+    ensures missing { FindsHalf (W.hierarchy ways.now) (IsKept kept.now) shortcut way result }
 {
     let Way::Via(middle) = way else {
         return None;
@@ -186,7 +171,7 @@ fn keep_function<W: Ways>(
 ) -> Result<(), NoMemory>
     requires ways { HasWays (W.hierarchy ways.now) shortcut }
     requires kept { AreKept (W.hierarchy ways.now) kept.old }
-    requires halves { FindsMissing (W.hierarchy ways.now) kept.old shortcut
+    requires halves { FindsMissing (W.hierarchy ways.now) (IsKept kept.old) shortcut
         (ways_of (W.hierarchy ways.now) shortcut) None }
     ensures found { OnOk result (KeepsOne (W.hierarchy ways.now) shortcut kept.old kept.new) }
     ensures same { OnErr result (kept.new ≡ kept.old) }
@@ -205,7 +190,7 @@ fn least_function<W: Ways>(
 ) -> Result<Option<Arrival>, NoMemory>
     requires edge { shortcut.edge < length (W.hierarchy ways.now).edges }
     requires kept { AreKept (W.hierarchy ways.now) kept.now }
-    requires halves { FindsMissing (W.hierarchy ways.now) kept.now shortcut
+    requires halves { FindsMissing (W.hierarchy ways.now) (IsKept kept.now) shortcut
         (ways_of (W.hierarchy ways.now) shortcut) None }
     ensures least { IfOk result (IsLeastOf (W.hierarchy ways.now) shortcut
         (ways_of (W.hierarchy ways.now) shortcut)) }
@@ -230,7 +215,7 @@ fn least_with<W: Ways>(
 ) -> Result<Option<Arrival>, NoMemory>
     requires edge { shortcut.edge < length (W.hierarchy ways.now).edges }
     requires kept { AreKept (W.hierarchy ways.now) kept.now }
-    requires halves { FindsMissing (W.hierarchy ways.now) kept.now shortcut
+    requires halves { FindsMissing (W.hierarchy ways.now) (IsKept kept.now) shortcut
         (ways_of (W.hierarchy ways.now) shortcut) None }
     requires index { index < length (ways_of (W.hierarchy ways.now) shortcut) }
     requires least { IsLeastOf (W.hierarchy ways.now) shortcut
@@ -244,20 +229,6 @@ fn least_with<W: Ways>(
     }
     let function = way_function(alloc, ways, kept, shortcut, entry.way)?;
     Ok(Some(earlier(alloc, least, function)?))
-}
-
-// Whether a way is one of a shortcut's first, so many of them.
-fn is_among<W: Ways>(ways: &W, shortcut: Shortcut, count: u32, way: Way) -> bool
-    requires edge { shortcut.edge < length (W.hierarchy ways.now).edges }
-    requires count { count ≤ length (ways_of (W.hierarchy ways.now) shortcut) }
-    ensures { IsTrue result → IsAmong (ways_of (W.hierarchy ways.now) shortcut) count way }
-{
-    for index in 0..count {
-        if ways.entry(shortcut.edge, shortcut.dir, index).way == way {
-            return true;
-        }
-    }
-    false
 }
 
 // The earlier of two functions at each second, or the second alone.
@@ -283,7 +254,7 @@ fn way_function<W: Ways>(
     requires sound { IsHierarchy (W.hierarchy ways.now) }
     requires way { IsWayOf (W.hierarchy ways.now) shortcut way }
     requires kept { AreKept (W.hierarchy ways.now) kept.now }
-    requires halves { HasHalves (W.hierarchy ways.now) kept.now shortcut way }
+    requires halves { HasHalves (W.hierarchy ways.now) (IsKept kept.now) shortcut way }
     ensures function { IfOk result (IsWayFunction (W.hierarchy ways.now) shortcut way) }
     ensures sound { IfOk result IsArrivalFunction }
 {
@@ -297,50 +268,5 @@ fn way_function<W: Ways>(
                 kept_function(kept, second),
             )
         }
-    }
-}
-
-// The halves of a shortcut at a middle: downwards to it, and upwards from it.
-fn halves<W: Ways>(ways: &W, shortcut: Shortcut, middle: u32) -> (Shortcut, Shortcut)
-    requires sound { IsHierarchy (W.hierarchy ways.now) }
-    requires middle { IsMiddle (W.hierarchy ways.now) shortcut.edge shortcut.dir middle }
-    ensures { AreHalves (W.hierarchy ways.now) shortcut middle result.0 result.1 }
-{
-    let ends = ways.ends(shortcut.edge);
-    let (from, to) = match shortcut.dir {
-        Dir::Up => (ends.low, ends.high),
-        Dir::Down => (ends.high, ends.low),
-    };
-    let first = Shortcut {
-        edge: edge_to(ways, middle, from),
-        dir: Dir::Down,
-    };
-    let second = Shortcut {
-        edge: edge_to(ways, middle, to),
-        dir: Dir::Up,
-    };
-    (first, second)
-}
-
-// The edge between two ranks, which there is.
-fn edge_to<W: Ways>(ways: &W, low: u32, high: u32) -> u32
-    requires sound { IsHierarchy (W.hierarchy ways.now) }
-    requires there { HasEdge (W.hierarchy ways.now).edges low high }
-    ensures { slice_get (W.hierarchy ways.now).edges result
-        ≡ Some (record { low = low; high = high }) }
-{
-    let Some(edge) = ways.edge(low, high) else {
-        unreachable!()
-    };
-    edge
-}
-
-// The number of a shortcut's list.
-fn list_number(shortcut: Shortcut) -> usize
-    ensures { result ≡ number_of shortcut }
-{
-    match shortcut.dir {
-        Dir::Up => 2 * shortcut.edge as usize,
-        Dir::Down => 2 * shortcut.edge as usize + 1,
     }
 }

@@ -1,14 +1,15 @@
 //! What no clause says: that calls succeed, over lists without ways, and a function that was worked by hand. Walks are
 //! unpacked in the crates above.
 
-ghost use Rattle.std.specs.Prelude.{◌≡◌, IfOk};
+ghost use Rattle.std.specs.Prelude.{◌≡◌, ◌≤◌, ◌^◌, IfOk, length};
 
 use crate::{
-    Counted, CountedWays, Listed, Rebuilt, Relaxed, Relaxer, Unpacker, Work, relax_counted,
+    Counted, CountedWays, Listed, Rebuilt, Relaxed, Relaxer, Unpacker, WordFunctions, Work,
+    relax_counted,
 };
 use cu_chordal::close;
 use cu_customize::customize;
-use cu_interval::{Call, Dir, Ways};
+use cu_interval::{Call, Dir, Hierarchy, Ways};
 use cu_model::{Network, Order, Piece, Profile, RoadArc, Roads, Rule};
 use std::alloc::Global;
 use std::test::Fail;
@@ -65,7 +66,8 @@ fn asks_lists_without_ways(rt: HostRuntime) -> Result<(), Fail> {
     Ok(())
 }
 
-// The same three roads: a minute; 100 seconds, but 300 from 8:00 and closed from 9:56:40 to 10:01:40; and 250 seconds.
+// From node 1 to node 2 by node 0, a minute and then 100 seconds, but 300 from 8:00 and closed from 9:56:40 to 10:01:40; and
+// straight in 250 seconds.
 fn rush_hour(alloc: Global) -> Result<Network, Fail>
     ensures { IfOk result (λ network. network.nodes ≡ 3) }
 {
@@ -77,22 +79,66 @@ fn rush_hour(alloc: Global) -> Result<Network, Fail>
         piece(36_000, Rule::Travel(100)),
     ]?)?;
     let straight = Profile::of(vec![in alloc; piece(0, Rule::Travel(250))]?)?;
-    let arcs = vec![in alloc; road(0, 1, 0), road(1, 2, 1), road(0, 2, 2)]?;
+    let arcs = vec![in alloc; road(1, 0, 0), road(0, 2, 1), road(1, 2, 2)]?;
     Ok(Network::of(3, arcs, vec![in alloc; minute, slow, straight]?))
+}
+
+fn rush_hour_hierarchy(alloc: Global) -> Result<Hierarchy, Fail> {
+    let network = rush_hour(alloc)?;
+    let order = Order::identity(alloc, 3)?;
+    let graph = close(alloc, &network, &order)?;
+    let hierarchy = customize(alloc, network, order, graph)?;
+    Ok(hierarchy)
 }
 
 #[test]
 fn rebuilds_the_function_of_a_road(rt: HostRuntime) -> Result<(), Fail> {
     let alloc = rt.alloc();
-    let network = rush_hour(alloc)?;
-    let order = Order::identity(alloc, 3)?;
-    let graph = close(alloc, &network, &order)?;
-    let hierarchy = customize(alloc, network, order, graph)?;
+    let hierarchy = rush_hour_hierarchy(alloc)?;
     assert!(rt; hierarchy.edges() == 3);
     let mut rebuilt = Rebuilt::new(alloc, 3)?;
-    let function = rebuilt.function(alloc, &hierarchy, 2, Dir::Up)?;
+    let function = rebuilt.function(alloc, &hierarchy, 1, Dir::Up)?;
     let function = function.expect(&rt, "a function");
     assert_eq!(rt; function.value(28_799), 28_899);
     assert_eq!(rt; function.value(28_800), 29_100);
+    Ok(())
+}
+
+// When edge 2 upwards arrives, learned by words.
+fn learned(alloc: Global, hierarchy: &Hierarchy, second: u64) -> Result<Option<u64>, Fail>
+    requires edges { length hierarchy.now.edges ≡ 3 }
+    requires second { second ≤ 2 ^ 62 }
+{
+    let mut words = WordFunctions::new(alloc, 3)?;
+    if !words.learn(alloc, hierarchy, 2, Dir::Up)? {
+        return Ok(None);
+    }
+    let Some(function) = &words.functions()[4] else {
+        return Ok(None);
+    };
+    let function = function.to_arrival(alloc)?;
+    Ok(Some(function.value(second)))
+}
+
+// The same, rebuilt.
+fn rebuilt(alloc: Global, hierarchy: &Hierarchy, second: u64) -> Result<Option<u64>, Fail>
+    requires edges { length hierarchy.now.edges ≡ 3 }
+    requires second { second ≤ 2 ^ 62 }
+{
+    let mut rebuilt = Rebuilt::new(alloc, 3)?;
+    let Some(function) = rebuilt.function(alloc, hierarchy, 2, Dir::Up)? else {
+        return Ok(None);
+    };
+    Ok(Some(function.value(second)))
+}
+
+#[test]
+fn learns_what_is_rebuilt(rt: HostRuntime) -> Result<(), Fail> {
+    let alloc = rt.alloc();
+    let hierarchy = rush_hour_hierarchy(alloc)?;
+    assert!(rt; hierarchy.edges() == 3);
+    assert_eq!(rt; learned(alloc, &hierarchy, 28_739)?, Some(28_899));
+    assert_eq!(rt; learned(alloc, &hierarchy, 28_740)?, Some(28_990));
+    assert_eq!(rt; rebuilt(alloc, &hierarchy, 28_740)?, Some(28_990));
     Ok(())
 }

@@ -10,8 +10,9 @@ use Rattle.cu_interval.specs.declared.ways.Way.TheVariants.{Road, Via}
 use Rattle.cu_interval.specs.declared.ways.Entry.{Entry}
 use Rattle.cu_interval.specs.Hierarchies.{HierarchyValue, IsWellFormed, list_number, list_of, start_of, end_of}
 use Rattle.cu_interval.specs.Resettling.{least_in, lesser_of, rebuilt_by, value_by}
-use Rattle.cu_unpack.specs.declared.rebuilding.Shortcut.{Shortcut}
+use Rattle.cu_unpack.specs.declared.shortcuts.Shortcut.{Shortcut}
 use Rattle.cu_unpack.specs.Rebuilds.{IsRebuiltFunction, Keeps}
+use Rattle.cu_unpack.specs.RebuiltWords.{IsSide}
 
 -- the number of a shortcut's list, and the list
 abbrev pub number_of : Shortcut → ℕ
@@ -37,9 +38,9 @@ KeepsOne h shortcut before now =
 abbrev pub HasWays : HierarchyValue → Shortcut → Type 0
 HasWays h shortcut = (shortcut.edge < length h.edges) × (ways_of h shortcut ≢ [])
 
--- the same, whose function isn't kept
-abbrev pub IsMissing : HierarchyValue → List (Option (List Run)) → Shortcut → Type 0
-IsMissing h kept shortcut = HasWays h shortcut × (IsKept kept shortcut → ⊥)
+-- the same, which isn't there
+abbrev pub IsMissing : HierarchyValue → (Shortcut → Type 0) → Shortcut → Type 0
+IsMissing h IsThere shortcut = HasWays h shortcut × (IsThere shortcut → ⊥)
 
 -- a well-formed way of a shortcut
 abbrev pub IsWayOf : HierarchyValue → Shortcut → Way → Type 0
@@ -55,20 +56,26 @@ pub record AreHalves (h : HierarchyValue) (whole : Shortcut) (middle : ℕ) (fir
   pub up : second.dir ≡ Up
   pub onward : slice_get h.edges second.edge ≡ Some (record { low = middle; high = end_of ends whole.dir })
 
--- the functions of both halves of a way are kept, if it has a middle
-abbrev pub HasHalves : HierarchyValue → List (Option (List Run)) → Shortcut → Way → Type 0
-HasHalves h kept shortcut (Road a) = Unit {0}
-HasHalves h kept shortcut (Via m) = (first second : Shortcut) → AreHalves h shortcut m first second → IsKept kept first × IsKept kept second
+-- both halves of a way are there, if it has a middle
+abbrev pub HasHalves : HierarchyValue → (Shortcut → Type 0) → Shortcut → Way → Type 0
+HasHalves h IsThere shortcut (Road a) = Unit {0}
+HasHalves h IsThere shortcut (Via m) = (first second : Shortcut) → AreHalves h shortcut m first second → IsThere first × IsThere second
 
--- a half of the way, of a lower edge, whose function isn't kept; none where it has all
-abbrev pub FindsHalf : HierarchyValue → List (Option (List Run)) → Shortcut → Way → Option Shortcut → Type 0
-FindsHalf h kept shortcut way None = HasHalves h kept shortcut way
-FindsHalf h kept shortcut way (Some half) = IsMissing h kept half × (half.edge < shortcut.edge)
+-- a half of a shortcut that isn't there, of a lower edge
+pub record IsMissingHalf (h : HierarchyValue) (IsThere : Shortcut → Type 0) (whole half : Shortcut) : Type 0 where
+  pub missing : IsMissing h IsThere half
+  pub lower : half.edge < whole.edge
+  pub side : IsSide h.edges whole.edge half.edge
+
+-- such a half of the way; none where it has all
+abbrev pub FindsHalf : HierarchyValue → (Shortcut → Type 0) → Shortcut → Way → Option Shortcut → Type 0
+FindsHalf h IsThere shortcut way None = HasHalves h IsThere shortcut way
+FindsHalf h IsThere shortcut way (Some half) = IsMissingHalf h IsThere shortcut half
 
 -- the same of all ways of a list
-abbrev pub FindsMissing : HierarchyValue → List (Option (List Run)) → Shortcut → List Entry → Option Shortcut → Type 0
-FindsMissing h kept shortcut entries None = All (λ (entry : Entry). HasHalves h kept shortcut entry.way) entries
-FindsMissing h kept shortcut entries (Some half) = IsMissing h kept half × (half.edge < shortcut.edge)
+abbrev pub FindsMissing : HierarchyValue → (Shortcut → Type 0) → Shortcut → List Entry → Option Shortcut → Type 0
+FindsMissing h IsThere shortcut entries None = All (λ (entry : Entry). HasHalves h IsThere shortcut entry.way) entries
+FindsMissing h IsThere shortcut entries (Some half) = IsMissingHalf h IsThere shortcut half
 
 -- the last that waits is taken; this shortcut where none waits
 abbrev pub Takes : List Shortcut → Shortcut → List Shortcut → Shortcut → Type 0

@@ -3,7 +3,7 @@ use Rattle.std.proofs.lemmas.List.{take_more}
 use Rattle.std.proofs.lemmas.Option.{get_or_from_slice_get, slice_get_within}
 use Rattle.cu_model.proofs.RoadLaws.{all_at}
 use Rattle.cu_interval.specs.declared.ways.Entry.{Entry}
-use Rattle.cu_unpack.specs.Steps.Rebuilding.{HasHalves, IsAmong, IsLeastOf, ways_of}
+use Rattle.cu_unpack.specs.Steps.Rebuilding.{HasHalves, IsKept, IsAmong, IsLeastOf, ways_of}
 use Rattle.cu_unpack.proofs.HalfEdges.{entry_way}
 use Rattle.cu_unpack.proofs.WayFunctions.{least_again, least_more}
 use Rattle.cu_unpack.proofs.rebuilding.least_with.Goals as goal
@@ -15,7 +15,7 @@ way_function-requires-clause-way g c =
 pub way_function-requires-clause-halves : goal.way_function-requires-clause-halves
 way_function-requires-clause-halves g c =
     let h = g.W.Ways.hierarchy c.args.ways.now in
-    all_at (λ (e : Entry). HasHalves h c.args.kept.now c.args.shortcut e.way) (ways_of h c.args.shortcut) c.args.index c.entry-entry.result c.requires.halves c.entry-entry.ensures.there
+    all_at (λ (e : Entry). HasHalves h (IsKept c.args.kept.now) c.args.shortcut e.way) (ways_of h c.args.shortcut) c.args.index c.entry-entry.result c.requires.halves c.entry-entry.ensures.there
 
 pub returns-then-is_among : goal.returns-then-is_among
 returns-then-is_among g c =

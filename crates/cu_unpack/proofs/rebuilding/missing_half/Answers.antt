@@ -4,7 +4,7 @@ use Rattle.std.proofs.lemmas.List.{take_all}
 use Rattle.std.proofs.lemmas.List.Elements.{All-more}
 use Rattle.std.proofs.lemmas.Option.{get_or_from_slice_get, slice_get_within}
 use Rattle.cu_interval.specs.declared.ways.Entry.{Entry}
-use Rattle.cu_unpack.specs.Steps.Rebuilding.{FindsHalf, HasHalves, ways_of}
+use Rattle.cu_unpack.specs.Steps.Rebuilding.{FindsHalf, HasHalves, IsKept, ways_of}
 use Rattle.cu_unpack.proofs.HalfEdges.{entry_way}
 use Rattle.cu_unpack.proofs.rebuilding.missing_half.Goals as goal
 
@@ -20,10 +20,10 @@ loop-index-preserved g c =
     let entry = c.entry-entry.result in
     let there = c.entry-entry.ensures.there in
     let none : c.missing_half_of-half.result ≡ None = search rules in
-    let found : HasHalves h kept shortcut entry.way = subst (FindsHalf h kept shortcut entry.way) none c.missing_half_of-half.ensures.missing in
+    let found : HasHalves h (IsKept kept) shortcut entry.way = subst (FindsHalf h (IsKept kept) shortcut entry.way) none c.missing_half_of-half.ensures.missing in
     let same = get_or_from_slice_get (ways_of h shortcut) c.loop-index.index entry entry there in
-    All-more (λ (e : Entry). HasHalves h kept shortcut e.way) (ways_of h shortcut) c.loop-index.index entry (slice_get_within (ways_of h shortcut) c.loop-index.index entry there)
-    c.loop-index.invariant (subst (λ (e : Entry). HasHalves h kept shortcut e.way) (sym same) found)
+    All-more (λ (e : Entry). HasHalves h (IsKept kept) shortcut e.way) (ways_of h shortcut) c.loop-index.index entry (slice_get_within (ways_of h shortcut) c.loop-index.index entry there)
+    c.loop-index.invariant (subst (λ (e : Entry). HasHalves h (IsKept kept) shortcut e.way) (sym same) found)
 
 pub returns : goal.returns
 returns g c =
@@ -31,5 +31,5 @@ returns g c =
     let entries = ways_of h c.args.shortcut in
     let over : length entries ≤ c.loop-index.index = omega (arith, c.loop-index-test.false, c.entries-index-end.ensures.count) in
     record {
-      missing = subst (All (λ (e : Entry). HasHalves h c.args.kept.now c.args.shortcut e.way)) (take_all c.loop-index.index entries over) c.loop-index.invariant;
+      missing = subst (All (λ (e : Entry). HasHalves h (IsKept c.args.kept.now) c.args.shortcut e.way)) (take_all c.loop-index.index entries over) c.loop-index.invariant;
     }

@@ -1,6 +1,6 @@
 use Rattle.std.proofs.Common.{◌≡◌, true, false, sym, subst, rules}
-use Rattle.cu_unpack.specs.Steps.Rebuilding.{HasHalves, IsWayOf}
-use Rattle.cu_unpack.proofs.HalfEdges.{halves_kept, halves_lower}
+use Rattle.cu_unpack.specs.Steps.Rebuilding.{HasHalves, IsKept, IsWayOf}
+use Rattle.cu_unpack.proofs.HalfEdges.{halves_lower, halves_sides, halves_there}
 use Rattle.cu_unpack.proofs.KeptFunctions.{number_there}
 use Rattle.cu_unpack.proofs.rebuilding.missing_half_of.Goals as goal
 
@@ -10,7 +10,13 @@ returns-then-not-is_kept g c =
     let way = subst (IsWayOf h c.args.shortcut) c.in-Via.is c.requires.way in
     let lower = halves_lower h c.requires.sound c.args.shortcut c.halves.result.0 c.halves.result.1 c.in-Via.middle way c.halves.ensures in
     let no : c.is_kept.result ≡ false = search rules in
-    record { missing = ((lower.0.0, λ kept. let yes = c.is_kept.ensures.1 kept in absurd (cc (yes, no))), lower.0.1) }
+    record {
+      missing = record {
+        missing = (lower.0.0, λ kept. let yes = c.is_kept.ensures.1 kept in absurd (cc (yes, no)));
+        lower = lower.0.1;
+        side = (halves_sides h c.args.shortcut c.halves.result.0 c.halves.result.1 c.in-Via.middle c.halves.ensures).0;
+      };
+    }
 
 pub is_kept-requires-2 : goal.is_kept-requires-2
 is_kept-requires-2 g c =
@@ -25,7 +31,13 @@ returns-then-not-is_kept-2 g c =
     let way = subst (IsWayOf h c.args.shortcut) c.in-Via.is c.requires.way in
     let lower = halves_lower h c.requires.sound c.args.shortcut c.halves.result.0 c.halves.result.1 c.in-Via.middle way c.halves.ensures in
     let no : c.is_kept-2.result ≡ false = search rules in
-    record { missing = ((lower.1.0, λ kept. let yes = c.is_kept-2.ensures.1 kept in absurd (cc (yes, no))), lower.1.1) }
+    record {
+      missing = record {
+        missing = (lower.1.0, λ kept. let yes = c.is_kept-2.ensures.1 kept in absurd (cc (yes, no)));
+        lower = lower.1.1;
+        side = (halves_sides h c.args.shortcut c.halves.result.0 c.halves.result.1 c.in-Via.middle c.halves.ensures).1;
+      };
+    }
 
 pub returns : goal.returns
 returns g c =
@@ -33,7 +45,7 @@ returns g c =
     let yes : c.is_kept.result ≡ true = search rules in
     let yes_too : c.is_kept-2.result ≡ true = search rules in
     record {
-      missing = subst (HasHalves h c.args.kept.now c.args.shortcut) (sym c.in-Via.is)
-          (halves_kept h c.requires.sound c.args.kept.now c.args.shortcut c.halves.result.0 c.halves.result.1 c.in-Via.middle c.halves.ensures
+      missing = subst (HasHalves h (IsKept c.args.kept.now) c.args.shortcut) (sym c.in-Via.is)
+          (halves_there h c.requires.sound (IsKept c.args.kept.now) c.args.shortcut c.halves.result.0 c.halves.result.1 c.in-Via.middle c.halves.ensures
           (c.is_kept.ensures.0 yes) (c.is_kept-2.ensures.0 yes_too));
     }

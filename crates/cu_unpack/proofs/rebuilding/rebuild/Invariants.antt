@@ -1,6 +1,6 @@
 -- What is kept is right, and what waits is missing. Either one more is kept, or a lower edge is next.
 use Rattle.std.proofs.Common.{◌+◌, ◌*◌, length}
-use Rattle.cu_unpack.specs.Steps.Rebuilding.{AreKept}
+use Rattle.cu_unpack.specs.Steps.Rebuilding.{AreKept, IsKept, IsMissing}
 use Rattle.cu_unpack.proofs.HalvesFirst.{AreWaitingHalves, next_edge}
 use Rattle.cu_unpack.proofs.KeptFunctions.{count_missing}
 use Rattle.cu_unpack.proofs.rebuilding.rebuild.Given as goal
@@ -8,7 +8,7 @@ use Rattle.cu_unpack.proofs.rebuilding.rebuild.Given as goal
 abbrev pub invariant-shortcuts : goal.invariant-shortcuts
 invariant-shortcuts g l = record {
   kept : AreKept (g.W.Ways.hierarchy l.ways) l.kept;
-  waiting : AreWaitingHalves (g.W.Ways.hierarchy l.ways) l.kept l.waiting.items;
+  waiting : AreWaitingHalves (IsMissing (g.W.Ways.hierarchy l.ways) (IsKept l.kept)) l.waiting.items;
 }
 
 abbrev pub decreases-shortcuts : goal.decreases-shortcuts

@@ -3,18 +3,18 @@ use Rattle.std.proofs.lemmas.Result.{IfOk-weaker}
 use Rattle.cu_model.specs.Days.{day}
 use Rattle.cu_arrival.specs.Runs.{arrival_value}
 use Rattle.cu_interval.specs.declared.ways.Way.{Way}
-use Rattle.cu_unpack.specs.Steps.Rebuilding.{HasHalves, IsWayFunction, IsWayOf}
+use Rattle.cu_unpack.specs.Steps.Rebuilding.{HasHalves, IsKept, IsWayFunction, IsWayOf}
 use Rattle.cu_unpack.proofs.WayFunctions.{via_function}
 use Rattle.cu_unpack.proofs.rebuilding.way_function.Goals as goal
 
 pub kept_function-requires : goal.kept_function-requires
 kept_function-requires g c =
-    let halves = subst (HasHalves (g.W.Ways.hierarchy c.args.ways.now) c.args.kept.now c.args.shortcut) c.in-Via.is c.requires.halves in
+    let halves = subst (HasHalves (g.W.Ways.hierarchy c.args.ways.now) (IsKept c.args.kept.now) c.args.shortcut) c.in-Via.is c.requires.halves in
     (halves c.halves.result.0 c.halves.result.1 c.halves.ensures).0
 
 pub kept_function-requires-in-Via : goal.kept_function-requires-in-Via
 kept_function-requires-in-Via g c =
-    let halves = subst (HasHalves (g.W.Ways.hierarchy c.args.ways.now) c.args.kept.now c.args.shortcut) c.in-Via.is c.requires.halves in
+    let halves = subst (HasHalves (g.W.Ways.hierarchy c.args.ways.now) (IsKept c.args.kept.now) c.args.shortcut) c.in-Via.is c.requires.halves in
     (halves c.halves.result.0 c.halves.result.1 c.halves.ensures).1
 
 pub returns-in-Via-clause-function : goal.returns-in-Via-clause-function

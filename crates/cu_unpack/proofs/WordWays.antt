@@ -1,0 +1,181 @@
+-- Ways as words: when they arrive, that words can say it, and what a merger holds of the first ways of a list.
+use Rattle.std.proofs.Common.{◌≡◌, ◌≢◌, ◌≤◌, ◌<◌, ◌+◌, ◌^◌, ◌∙◌, ℕ, zero, suc, List, [], ◌∷◌, ◌++◌, Option, Some, refl, sym, ap, subst, arith, length, min, take, get_or}
+use Rattle.std.specs.Prelude.{slice_get}
+use Rattle.std.proofs.lemmas.Option.{slice_get-get_or}
+use Rattle.cu_model.specs.Days.{day, IsOnward}
+use Rattle.cu_model.specs.Networks.{NetworkValue, IsNetwork}
+use Rattle.cu_model.specs.Roads.{arc_value}
+use Rattle.cu_model.proofs.DayLaws.{onward_always}
+use Rattle.cu_model.proofs.RoadLaws.{arc_value-near, arc_value-onward}
+use Rattle.cu_arrival.specs.declared.runs.Run.{Run}
+use Rattle.cu_arrival.specs.declared.runs.RunRule.{RunRule}
+use Rattle.cu_arrival.specs.declared.runs.RunRule.TheVariants.{Shift}
+use Rattle.cu_arrival.specs.Runs.{arrival_value}
+use Rattle.cu_arrival.specs.Steps.Stretches.{arrives}
+use Rattle.cu_customize.specs.declared.words.TheConstants.{MAX_NUMBER}
+use Rattle.cu_customize.specs.Least.{Held, least_arrival}
+use Rattle.cu_customize.specs.Travels.{TakesAtMost}
+use Rattle.cu_customize.specs.Words.{IsFunctionWords, composed}
+use Rattle.cu_customize.proofs.DayLists.{repeats}
+use Rattle.cu_customize.proofs.TravelLaws.{most_always}
+use Rattle.cu_chordal.specs.declared.graph.Ends.{Ends}
+use Rattle.cu_interval.specs.declared.ways.Dir.{Dir}
+use Rattle.cu_interval.specs.declared.ways.Dir.TheVariants.{Up, Down}
+use Rattle.cu_interval.specs.declared.ways.Entry.{Entry}
+use Rattle.cu_interval.specs.declared.ways.Way.TheVariants.{Road, Via}
+use Rattle.cu_interval.specs.Hierarchies.{HierarchyValue, IsHierarchy, IsWellFormed, start_of, end_of}
+use Rattle.cu_interval.specs.Resettling.{least_in, lesser_of, rebuilt}
+use Rattle.cu_unpack.specs.declared.shortcuts.Shortcut.{Shortcut}
+use Rattle.cu_unpack.specs.RebuiltWords.{IsNeeded, IsRebuiltWords, IsSized, KeepsWords, WordsValue}
+use Rattle.cu_unpack.specs.Steps.Rebuilding.{AreHalves, HasHalves, HasValues, IsAmong, IsWayOf, number_of, way_value, ways_of}
+use Rattle.cu_unpack.specs.Steps.WordRebuilding.{Adds, AddsWay, HasWords, HoldsLeast, IsInTime, IsKnown, IsLeastWords, IsStay}
+use Rattle.cu_unpack.proofs.HalfEdges.{halves_lower, halves_sides}
+use Rattle.cu_unpack.proofs.KnownLists.{known_words}
+use Rattle.cu_unpack.proofs.Learning.{needs_itself, needs_side}
+use Rattle.cu_unpack.proofs.WayFunctions.{least_in-again, least_in-more, lesser_of-none, same_ends, values_rebuilt, via_value}
+
+-- a run that takes no time is that of staying
+pub stays : (rule : RunRule) (words : List Run) → rule ≡ Shift 0 → IsFunctionWords words → ((t : ℕ) → t < day → arrival_value words t ≡ arrives rule t) → IsStay words
+stays rule words no_time function value = record {
+  function = function;
+  stays = λ t lt. let at = value t lt ∙ ap (λ (r : RunRule). arrives r t) no_time in omega (arith, at);
+}
+
+-- a road alone
+pub adds_road : (g : NetworkValue) → IsNetwork g → (road : ℕ) → road < length g.arcs → (stay words : List Run) (before now : List Held) → IsStay stay
+    → ((t : ℕ) → t < day → arrival_value words t ≡ arc_value g road t)
+    → ((t : ℕ) → t < day → least_arrival now t ≡ min (least_arrival before t) (composed stay words t)) → Adds (arc_value g road) before now
+adds_road g is road inside stay words before now stays value least t lt =
+    let near = arc_value-near g is road inside t in
+    let onward = arc_value-onward g is road inside t in
+    let at : composed stay words t ≡ arc_value g road t = ap (arrival_value words) (stays.stays t lt) ∙ value t lt in
+    ((onward, omega (arith, near, lt)), least t lt ∙ ap (min (least_arrival before t)) at)
+
+-- two functions, one after the other
+pub both_in_time : (first second : List Run) (a b : ℕ) → IsFunctionWords first → IsFunctionWords second → IsOnward (arrival_value first) → IsOnward (arrival_value second)
+    → TakesAtMost first a → TakesAtMost second b → a + b + day ≤ MAX_NUMBER → (t : ℕ) → t < day → IsInTime t (composed first second t)
+both_in_time first second a b one two to on within beyond few t lt =
+    let there = arrival_value first t in
+    let onward = onward_always (arrival_value second) (repeats second two.over_day) on there in
+    let leaves = to t lt in
+    let near = within t lt in
+    let far = most_always second b two beyond there in
+    (omega (arith, leaves, onward), omega (arith, near, far, few, lt))
+
+-- the road is a way
+pub adds_road_way : (h : HierarchyValue) (shortcut : Shortcut) (road : ℕ) (before now : List Held) → Adds (arc_value h.network road) before now → AddsWay h shortcut (Road road) before now
+adds_road_way h shortcut road before now adds = (arc_value h.network road, adds, λ ends at t lt. refl)
+
+-- the rebuilt values of halves
+half_down : (h : HierarchyValue) (edge m u : ℕ) (dir : Dir) (words : List Run) → IsRebuiltWords h edge dir (Some words) → dir ≡ Down → slice_get h.edges edge ≡ Some (record { low = m; high = u })
+    → (t : ℕ) → rebuilt h u m t ≡ Some (arrival_value words t)
+half_down h edge m u Down words is down at = is.3 (record { low = m; high = u }) at
+half_down h edge m u Up words is down at = absurd (cc down)
+
+half_up : (h : HierarchyValue) (edge m v : ℕ) (dir : Dir) (words : List Run) → IsRebuiltWords h edge dir (Some words) → dir ≡ Up → slice_get h.edges edge ≡ Some (record { low = m; high = v })
+    → (t : ℕ) → rebuilt h m v t ≡ Some (arrival_value words t)
+half_up h edge m v Up words is up at = is.3 (record { low = m; high = v }) at
+half_up h edge m v Down words is up at = absurd (cc up)
+
+-- a way by a middle, whose halves are known
+module _ (h : HierarchyValue) (f : IsHierarchy h) (value : WordsValue) (size : IsSized (length h.edges) value) (whole first second : Shortcut) (m : ℕ)
+    (keeps : KeepsWords h (IsNeeded h.edges whole.edge) value) (way : IsWayOf h whole (Via m)) (known : HasHalves h (IsKnown value) whole (Via m)) (halves : AreHalves h whole m first second) where
+  first_needed : IsNeeded h.edges whole.edge first.edge
+  first_needed = needs_side h.edges whole.edge whole.edge first.edge (needs_itself h.edges whole.edge) (halves_sides h whole first second m halves).0
+
+  second_needed : IsNeeded h.edges whole.edge second.edge
+  second_needed = needs_side h.edges whole.edge whole.edge second.edge (needs_itself h.edges whole.edge) (halves_sides h whole first second m halves).1
+
+  pub first_words : HasWords value first
+  first_words = known_words h whole.edge value size keeps first (halves_lower h f whole first second m way halves).0.0 first_needed (known first second halves).0
+
+  pub second_words : HasWords value second
+  second_words = known_words h whole.edge value size keeps second (halves_lower h f whole first second m way halves).1.0 second_needed (known first second halves).1
+
+  first_rebuilt : (words : List Run) → slice_get value.functions (number_of first) ≡ Some (Some words) → IsRebuiltWords h first.edge first.dir (Some words)
+  first_rebuilt words at = keeps first.edge first.dir first_needed (known first second halves).0 (Some words) at
+
+  second_rebuilt : (words : List Run) → slice_get value.functions (number_of second) ≡ Some (Some words) → IsRebuiltWords h second.edge second.dir (Some words)
+  second_rebuilt words at = keeps second.edge second.dir second_needed (known first second halves).1 (Some words) at
+
+  pub adds_via : (to on : List Run) → slice_get value.functions (number_of first) ≡ Some (Some to) → slice_get value.functions (number_of second) ≡ Some (Some on)
+      → (before now : List Held) → Adds (composed to on) before now → AddsWay h whole (Via m) before now
+  adds_via to on to_at on_at before now adds = (
+    composed to on,
+    adds,
+    λ ends at t lt.
+        let same : halves.ends ≡ ends = same_ends h.edges whole.edge halves.ends ends halves.at at in
+        let same_way : way.0 ≡ ends = same_ends h.edges whole.edge way.0 ends way.1 at in
+        let formed = subst (λ (e : Ends). IsWellFormed h (start_of e whole.dir) (end_of e whole.dir) (Via m)) same_way way.2 in
+        let u = start_of ends whole.dir in
+        let v = end_of ends whole.dir in
+        let low : slice_get h.edges first.edge ≡ Some (record { low = m; high = u }) =
+        subst (λ (e : Ends). slice_get h.edges first.edge ≡ Some (record { low = m; high = start_of e whole.dir })) same halves.to in
+        let high : slice_get h.edges second.edge ≡ Some (record { low = m; high = v }) =
+        subst (λ (e : Ends). slice_get h.edges second.edge ≡ Some (record { low = m; high = end_of e whole.dir })) same halves.onward in
+        let by = via_value h f u v m formed.0 formed.1 to on (half_down h first.edge m u first.dir to (first_rebuilt to to_at) halves.down low)
+        (half_up h second.edge m v second.dir on (second_rebuilt on on_at) halves.up high) t in
+        let few = (adds t lt).0.1 in
+        let small : min (composed to on t) (2 ^ 62) ≡ composed to on t = omega (arith, few) in
+        by ∙ ap Some small,
+  )
+
+-- one more way is held
+pub holds_more : (h : HierarchyValue) (shortcut : Shortcut) (entries : List Entry) (entry : Entry) (before now : List Held) → HoldsLeast h shortcut entries before
+    → AddsWay h shortcut entry.way before now → HoldsLeast h shortcut (entries ++ entry ∷ []) now
+holds_more h shortcut [] entry before now held (value, adds, is) = λ ends at t lt.
+    let (near, least) = adds t lt in
+    let none = held t lt in
+    let now_is : least_arrival now t ≡ value t = omega (arith, near.1, least, none) in (
+      lesser_of-none (way_value h (start_of ends shortcut.dir) (end_of ends shortcut.dir) t entry.way) ∙ is ends at t lt ∙ ap Some (sym now_is),
+      (omega (arith, near.0, now_is), omega (arith, near.1, now_is)),
+    )
+holds_more h shortcut (e ∷ entries) entry before now held (value, adds, is) = λ ends at t lt.
+    let (near, least) = adds t lt in
+    let (old, old_near) = held ends at t lt in
+    let ways = way_value h (start_of ends shortcut.dir) (end_of ends shortcut.dir) t in (
+      least_in-more ways (e ∷ entries) entry ∙ ap (λ (o : Option ℕ). lesser_of o (ways entry.way)) old ∙ ap (λ (o : Option ℕ). lesser_of (Some (least_arrival before t)) o) (is ends at t lt)
+          ∙ ap Some (sym least),
+      (omega (arith, near.0, old_near.0, least), omega (arith, near.1, least)),
+    )
+
+holds_once : (h : HierarchyValue) (shortcut : Shortcut) (entries : List Entry) (j : ℕ) (again : Entry) (held : List Held) → slice_get entries j ≡ Some again
+    → IsAmong entries j again.way → HoldsLeast h shortcut (take j entries) held → HoldsLeast h shortcut (take (suc j) entries) held
+holds_once h shortcut [] j again held later among is = absurd (cc later)
+holds_once h shortcut (e ∷ entries) zero again held later (i, first, lt, there, same) is = absurd (omega (arith, lt))
+holds_once h shortcut (e ∷ entries) (suc j) again held later (i, first, lt, there, same) is = λ ends at t within.
+    let (old, near) = is ends at t within in (
+      least_in-again (way_value h (start_of ends shortcut.dir) (end_of ends shortcut.dir) t) (e ∷ entries) i (suc j) first again lt there later same ∙ old,
+      near,
+    )
+
+-- and so is one that was there already
+pub holds_again : (h : HierarchyValue) (shortcut : Shortcut) (entries : List Entry) (j : ℕ) (again : Entry) (held : List Held) → slice_get entries j ≡ Some again
+    → IsAmong entries j again.way → HoldsLeast h shortcut (take j entries) held → HoldsLeast h shortcut (take (j + 1) entries) held
+holds_again h shortcut entries j again held later among is =
+    let next : suc j ≡ j + 1 = omega arith in
+    subst (λ (n : ℕ). HoldsLeast h shortcut (take n entries) held) next (holds_once h shortcut entries j again held later among is)
+
+-- what is held of some ways is in time
+pub held_in_time : (h : HierarchyValue) (shortcut : Shortcut) (entries : List Entry) (held : List Held) → shortcut.edge < length h.edges → entries ≢ [] → HoldsLeast h shortcut entries held
+    → (t : ℕ) → t < day → IsInTime t (least_arrival held t)
+held_in_time h shortcut [] held lt some is t within = absurd (some refl)
+held_in_time h shortcut (e ∷ entries) held lt some is t within =
+    let none : Ends = record { low = 0; high = 0 } in
+    (is (get_or h.edges shortcut.edge none) (slice_get-get_or h.edges shortcut.edge none lt) t within).1
+
+held_values : (h : HierarchyValue) (shortcut : Shortcut) (entries : List Entry) (held : List Held) (words : List Run) → entries ≢ [] → HoldsLeast h shortcut entries held
+    → ((t : ℕ) → t < day → arrival_value words t ≡ least_arrival held t) → (ends : Ends) → slice_get h.edges shortcut.edge ≡ Some ends
+    → HasValues words (λ t. least_in (way_value h (start_of ends shortcut.dir) (end_of ends shortcut.dir) t) entries)
+held_values h shortcut [] held words some is value ends at t lt = absurd (some refl)
+held_values h shortcut (e ∷ entries) held words some is value ends at t lt = (is ends at t lt).0 ∙ ap Some (sym (value t lt))
+
+-- the least of all ways of a shortcut is its function
+pub held_rebuilt : (h : HierarchyValue) → IsHierarchy h → (shortcut : Shortcut) (held : List Held) (words : List Run) → ways_of h shortcut ≢ [] → HoldsLeast h shortcut (ways_of h shortcut) held
+    → IsLeastWords held words → IsRebuiltWords h shortcut.edge shortcut.dir (Some words)
+held_rebuilt h f shortcut held words some is least = (
+  some,
+  least.function,
+  least.onward,
+  λ ends at t. values_rebuilt h f shortcut words (repeats words least.function.over_day) ends at (held_values h shortcut (ways_of h shortcut) held words some is least.value ends at) t,
+)

@@ -1,0 +1,59 @@
+use Rattle.std.proofs.Common.{◌≡◌, true, false, length, sym, subst, rules}
+use Rattle.cu_unpack.specs.Steps.Rebuilding.{HasHalves, IsWayOf}
+use Rattle.cu_unpack.specs.Steps.WordRebuilding.{IsKnown}
+use Rattle.cu_unpack.proofs.HalfEdges.{halves_lower, halves_sides, halves_there}
+use Rattle.cu_unpack.proofs.KnownLists.{known_within}
+use Rattle.cu_unpack.proofs.words_rebuilding.unknown_half_of.Goals as goal
+
+pub is_known-requires : goal.is_known-requires
+is_known-requires g c =
+    let h = g.W.Ways.hierarchy c.args.ways.now in
+    let way = subst (IsWayOf h c.args.shortcut) c.in-Via.is c.requires.way in
+    let lower = halves_lower h c.requires.sound c.args.shortcut c.halves.result.0 c.halves.result.1 c.in-Via.middle way c.halves.ensures in
+    known_within (length h.edges) c.args.table.now c.halves.result.0 c.requires.size lower.0.0.0
+
+pub returns-then-not-is_known : goal.returns-then-not-is_known
+returns-then-not-is_known g c =
+    let h = g.W.Ways.hierarchy c.args.ways.now in
+    let way = subst (IsWayOf h c.args.shortcut) c.in-Via.is c.requires.way in
+    let lower = halves_lower h c.requires.sound c.args.shortcut c.halves.result.0 c.halves.result.1 c.in-Via.middle way c.halves.ensures in
+    let no : c.is_known.result ≡ false = search rules in
+    record {
+      missing = record {
+        missing = (lower.0.0, λ known. let said = c.is_known.ensures.1 known in absurd (cc (said, no)));
+        lower = lower.0.1;
+        side = (halves_sides h c.args.shortcut c.halves.result.0 c.halves.result.1 c.in-Via.middle c.halves.ensures).0;
+      };
+    }
+
+pub is_known-requires-2 : goal.is_known-requires-2
+is_known-requires-2 g c =
+    let h = g.W.Ways.hierarchy c.args.ways.now in
+    let way = subst (IsWayOf h c.args.shortcut) c.in-Via.is c.requires.way in
+    let lower = halves_lower h c.requires.sound c.args.shortcut c.halves.result.0 c.halves.result.1 c.in-Via.middle way c.halves.ensures in
+    known_within (length h.edges) c.args.table.now c.halves.result.1 c.requires.size lower.1.0.0
+
+pub returns-then-not-is_known-2 : goal.returns-then-not-is_known-2
+returns-then-not-is_known-2 g c =
+    let h = g.W.Ways.hierarchy c.args.ways.now in
+    let way = subst (IsWayOf h c.args.shortcut) c.in-Via.is c.requires.way in
+    let lower = halves_lower h c.requires.sound c.args.shortcut c.halves.result.0 c.halves.result.1 c.in-Via.middle way c.halves.ensures in
+    let no : c.is_known-2.result ≡ false = search rules in
+    record {
+      missing = record {
+        missing = (lower.1.0, λ known. let said = c.is_known-2.ensures.1 known in absurd (cc (said, no)));
+        lower = lower.1.1;
+        side = (halves_sides h c.args.shortcut c.halves.result.0 c.halves.result.1 c.in-Via.middle c.halves.ensures).1;
+      };
+    }
+
+pub returns : goal.returns
+returns g c =
+    let h = g.W.Ways.hierarchy c.args.ways.now in
+    let first : c.is_known.result ≡ true = search rules in
+    let second : c.is_known-2.result ≡ true = search rules in
+    record {
+      missing = subst (HasHalves h (IsKnown c.args.table.now) c.args.shortcut) (sym c.in-Via.is)
+          (halves_there h c.requires.sound (IsKnown c.args.table.now) c.args.shortcut c.halves.result.0 c.halves.result.1 c.in-Via.middle c.halves.ensures
+          (c.is_known.ensures.0 first) (c.is_known-2.ensures.0 second));
+    }

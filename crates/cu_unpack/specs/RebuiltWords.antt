@@ -1,0 +1,83 @@
+-- Functions of lists as words: which lists are known, with which function, and what may be asked for on the way to one.
+use Rattle.std.specs.Prelude.{ℕ, List, [], ◌∷◌, Bool, true, Option, Some, None, ◌≡◌, ◌≢◌, ◌*◌, ◌⊎◌, length, slice_get, slice_set}
+use Rattle.cu_model.specs.Days.{IsOnward}
+use Rattle.cu_arrival.specs.declared.runs.Run.{Run}
+use Rattle.cu_arrival.specs.Runs.{arrival_value}
+use Rattle.cu_chordal.specs.declared.graph.Ends.{Ends}
+use Rattle.cu_customize.specs.Words.{IsFunctionWords}
+use Rattle.cu_interval.specs.declared.ways.Dir.{Dir}
+use Rattle.cu_interval.specs.Hierarchies.{HierarchyValue, list_number, list_of, start_of, end_of}
+use Rattle.cu_interval.specs.Resettling.{rebuilt}
+
+-- which lists are known, and the functions of these, by the number of the list
+pub record WordsValue : Type 0 where
+  pub known : List Bool
+  pub functions : List (Option (List Run))
+
+-- they are those of so many edges
+pub record IsSized (edges : ℕ) (value : WordsValue) : Type 0 where
+  pub known : length value.known ≡ 2 * edges
+  pub functions : length value.functions ≡ 2 * edges
+
+-- the list with this number is known
+abbrev pub IsKnownList : WordsValue → ℕ → Type 0
+IsKnownList value number = slice_get value.known number ≡ Some true
+
+-- the list with this number is known from then on, with this function, and all else is as it was
+abbrev pub with_list : WordsValue → ℕ → Option (List Run) → WordsValue
+with_list value number function = record {
+  known = slice_set value.known number true;
+  functions = slice_set value.functions number function;
+}
+
+-- the words of the function of an edge in a direction: none where its list is empty, else with the rebuilt values
+abbrev pub IsRebuiltWords : HierarchyValue → ℕ → Dir → Option (List Run) → Type 0
+IsRebuiltWords h edge dir None = list_of h edge dir ≡ []
+IsRebuiltWords h edge dir (Some words) = (list_of h edge dir ≢ []) × IsFunctionWords words × IsOnward (arrival_value words)
+    × ((ends : Ends) → slice_get h.edges edge ≡ Some ends → (t : ℕ) → rebuilt h (start_of ends dir) (end_of ends dir) t ≡ Some (arrival_value words t))
+
+-- the function of each known list of such an edge is that of its list in this hierarchy
+abbrev pub KeepsWords : HierarchyValue → (ℕ → Type 0) → WordsValue → Type 0
+KeepsWords h IsOwn value = (edge : ℕ) (dir : Dir) → IsOwn edge → IsKnownList value (list_number edge dir)
+    → (function : Option (List Run)) → slice_get value.functions (list_number edge dir) ≡ Some function → IsRebuiltWords h edge dir function
+
+-- an edge and one of a middle below to an end of it, where the middle is joined to both
+pub record IsSide (edges : List Ends) (edge side : ℕ) : Type 0 where
+  pub ends : Ends
+  pub at : slice_get edges edge ≡ Some ends
+  pub middle : ℕ
+  pub first : ℕ
+  pub to_low : slice_get edges first ≡ Some (record { low = middle; high = ends.low })
+  pub second : ℕ
+  pub to_high : slice_get edges second ≡ Some (record { low = middle; high = ends.high })
+  pub either : (side ≡ first) ⊎ (side ≡ second)
+
+-- each edge of a chain is a side of the one before
+abbrev pub IsChain : List Ends → ℕ → List ℕ → ℕ → Type 0
+IsChain edges edge [] last = edge ≡ last
+IsChain edges edge (side ∷ chain) last = IsSide edges edge side × IsChain edges side chain last
+
+-- an edge whose functions those of another may be made of, or that edge itself: some chain of sides leads there
+abbrev pub IsNeeded : List Ends → ℕ → ℕ → Type 0
+IsNeeded edges edge other = (chain : List ℕ) × IsChain edges edge chain other
+
+-- with an edge both sides of each middle are among these
+abbrev pub IsClosedUnder : List Ends → (ℕ → Type 0) → Type 0
+IsClosedUnder edges IsOwn = (edge side : ℕ) → IsOwn edge → IsSide edges edge side → IsOwn side
+
+-- the list with this number is as it was
+abbrev pub IsSameList : WordsValue → WordsValue → ℕ → Type 0
+IsSameList before now number = (slice_get now.known number ≡ slice_get before.known number) × (slice_get now.functions number ≡ slice_get before.functions number)
+
+-- the list of an edge in a direction wasn't known and now is, with its function; and what is asked for needs it
+pub record IsLearned (h : HierarchyValue) (asked edge : ℕ) (dir : Dir) (before now : WordsValue) : Type 0 where
+  pub needed : IsNeeded h.edges asked edge
+  pub unknown : IsKnownList before (list_number edge dir) → ⊥
+  pub known : IsKnownList now (list_number edge dir)
+  pub function : Option (List Run)
+  pub at : slice_get now.functions (list_number edge dir) ≡ Some function
+  pub rebuilt : IsRebuiltWords h edge dir function
+
+-- so it is with each list that isn't as it was
+abbrev pub Learns : HierarchyValue → ℕ → WordsValue → WordsValue → Type 0
+Learns h asked before now = (edge : ℕ) (dir : Dir) → IsSameList before now (list_number edge dir) ⊎ IsLearned h asked edge dir before now

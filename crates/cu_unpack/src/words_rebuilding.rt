@@ -1,0 +1,302 @@
+//! Functions of shortcuts over the day as words, rebuilt from their ways or put in.
+
+ghost use Rattle.std.specs.Prelude.{◌≡◌, ◌<◌, ◌+◌, ◌≤◌, ◌↔◌, All, IfOk, IfSome, IsTrue, None, OnErr, Some, false, length, slice_set, take, true};
+ghost use Rattle.cu_chordal.specs.declared.graph.TheConstants.{MAX_EDGES};
+ghost use Rattle.cu_interval.specs.declared.ways.Dir.TheVariants.{Up, Down};
+ghost use Rattle.cu_interval.specs.Hierarchies.{IsHierarchy, list_number};
+ghost use Rattle.cu_unpack.specs.RebuiltWords.{IsKnownList, IsNeeded, IsRebuiltWords, IsSized, KeepsWords, Learns};
+ghost use Rattle.cu_unpack.specs.Steps.Rebuilding.{FindsHalf, FindsMissing, HasHalves, HasWays, IsWayOf, ways_of};
+ghost use Rattle.cu_unpack.specs.Steps.WordRebuilding.{AddsWay, HoldsLeast, IsKnown, LearnsIf};
+
+use crate::room::Room;
+use crate::shortcuts::{Shortcut, halves, is_among, take_next};
+use crate::word_table::WordTable;
+use cu_chordal::MAX_EDGES;
+use cu_customize::DayFunction;
+use cu_interval::{Dir, Way, Ways};
+use cu_model::NoMemory;
+use std::alloc::Global;
+use std::marker::Model;
+
+/// Functions of lists as words, by list number: rebuilt from their ways, or put in. Contracts see which lists are known, and
+/// their functions.
+#[derive(Debug, Drop)]
+pub struct WordFunctions {
+    table: WordTable,
+    room: Room,
+}
+
+impl Model for WordFunctions {
+    ghost use Rattle.cu_unpack.specs.RebuiltWords.{WordsValue};
+
+    ghost Value = { WordsValue };
+
+    ghost view = { λ words. words.table };
+}
+
+impl WordFunctions {
+    /// Room for the functions of so many edges, at most [`MAX_EDGES`], in both directions. None is known.
+    pub fn new(alloc: Global, edges: u32) -> Result<WordFunctions, NoMemory>
+        requires edges { edges ≤ MAX_EDGES }
+        ensures size { IfOk result (λ words. IsSized edges words) }
+        ensures unknown { IfOk result (λ words. All (λ known. known ≡ false) words.known) }
+        ensures none { IfOk result (λ words. All (λ function. function ≡ None) words.functions) }
+    {
+        Ok(WordFunctions {
+            table: WordTable::new(alloc, edges)?,
+            room: Room::new(alloc)?,
+        })
+    }
+
+    /// The functions, by list number: none where a list is empty or isn't known.
+    pub fn functions(&self) -> &[Option<DayFunction>]
+        ensures { result.now ≡ self.now.functions }
+    {
+        self.table.functions()
+    }
+
+    /// Whether the list of an edge in a direction is known. The edge's number is in range.
+    pub fn knows(&self, edge: u32, dir: Dir) -> bool
+        requires { list_number edge dir < length self.now.known }
+        ensures { IsTrue result ↔ IsKnownList self.now (list_number edge dir) }
+    {
+        self.table.is_known(Shortcut { edge, dir })
+    }
+
+    /// Both lists of an edge are known from then on, with these functions. The edge's number is in range.
+    pub fn put(&mut self, edge: u32, up: Option<DayFunction>, down: Option<DayFunction>)
+        requires known { list_number edge Down < length self.old.known }
+        requires functions { list_number edge Down < length self.old.functions }
+        ensures known { self.new.known ≡ slice_set (slice_set self.old.known
+            (list_number edge Up) true) (list_number edge Down) true }
+        ensures functions { self.new.functions ≡ slice_set (slice_set self.old.functions
+            (list_number edge Up) up) (list_number edge Down) down }
+    {
+        let upwards = Shortcut { edge, dir: Dir::Up };
+        let downwards = Shortcut {
+            edge,
+            dir: Dir::Down,
+        };
+        self.table.put(upwards, up);
+        self.table.put(downwards, down);
+    }
+
+    /// Learns the list of an edge in a direction over these ways, and those that it needs: the least of its ways at each second
+    /// of the day, as in this hierarchy. False where a way takes longer than words can say. What was known is taken as it is,
+    /// and stays, after a refusal too; so does what the edge doesn't need. Refused only for want of memory.
+    pub fn learn<W: Ways>(
+        &mut self,
+        alloc: Global,
+        ways: &W,
+        edge: u32,
+        dir: Dir,
+    ) -> Result<bool, NoMemory>
+        requires edge { edge < length (W.hierarchy ways.now).edges }
+        requires size { IsSized (length (W.hierarchy ways.now).edges) self.old }
+        requires keeps { KeepsWords (W.hierarchy ways.now)
+            (IsNeeded (W.hierarchy ways.now).edges edge) self.old }
+        ensures known { IfOk result
+            (λ is_near. is_near ≡ true → IsKnownList self.new (list_number edge dir)) }
+        ensures size { IsSized (length (W.hierarchy ways.now).edges) self.new }
+        ensures learns { Learns (W.hierarchy ways.now) edge self.old self.new }
+    {
+        let shortcut = Shortcut { edge, dir };
+        if self.table.is_known(shortcut) {
+            return Ok(true);
+        }
+        if ways.entries(edge, dir) == 0 {
+            self.table.put(shortcut, None);
+            return Ok(true);
+        }
+        learn_all(alloc, ways, &mut self.table, &mut self.room, shortcut)
+    }
+}
+
+// Learns the list of a shortcut with a way, and those that it needs. False where a way takes longer than words can say. The
+// shortcuts that wait for a half stand in a list, each of a higher edge than the next, so that no call goes deeper however many
+// levels of middles there are.
+fn learn_all<W: Ways>(
+    alloc: Global,
+    ways: &W,
+    table: &mut WordTable,
+    room: &mut Room,
+    shortcut: Shortcut,
+) -> Result<bool, NoMemory>
+    requires ways { HasWays (W.hierarchy ways.now) shortcut }
+    requires size { IsSized (length (W.hierarchy ways.now).edges) table.old }
+    requires keeps { KeepsWords (W.hierarchy ways.now)
+        (IsNeeded (W.hierarchy ways.now).edges shortcut.edge) table.old }
+    ensures known { IfOk result (λ is_near. is_near ≡ true → IsKnown table.new shortcut) }
+    ensures size { IsSized (length (W.hierarchy ways.now).edges) table.new }
+    ensures learns { Learns (W.hierarchy ways.now) shortcut.edge table.old table.new }
+{
+    let mut waiting = Vec::new(alloc);
+    'shortcuts: while !table.is_known(shortcut) {
+        let next = take_next(&mut waiting, shortcut);
+        match unknown_half(ways, table, next) {
+            Some(half) => {
+                waiting.push(next)?;
+                waiting.push(half)?;
+            }
+            None => {
+                if !learn_list(alloc, ways, table, room, next)? {
+                    return Ok(false);
+                }
+            }
+        }
+    }
+    Ok(true)
+}
+
+// A half of a shortcut, of a lower edge, that isn't known. None where all halves of all its ways are.
+fn unknown_half<W: Ways>(ways: &W, table: &WordTable, shortcut: Shortcut) -> Option<Shortcut>
+    requires edge { shortcut.edge < length (W.hierarchy ways.now).edges }
+    requires size { IsSized (length (W.hierarchy ways.now).edges) table.now }
+    ensures missing { FindsMissing (W.hierarchy ways.now) (IsKnown table.now) shortcut
+        (ways_of (W.hierarchy ways.now) shortcut) result }
+{
+    for index in 0..ways.entries(shortcut.edge, shortcut.dir) {
+        let entry = ways.entry(shortcut.edge, shortcut.dir, index);
+        let half = unknown_half_of(ways, table, shortcut, entry.way);
+        if half.is_some() {
+            return half;
+        }
+    }
+    None
+}
+
+// The same of one way.
+fn unknown_half_of<W: Ways>(
+    ways: &W,
+    table: &WordTable,
+    shortcut: Shortcut,
+    way: Way,
+) -> Option<Shortcut>
+    requires sound { IsHierarchy (W.hierarchy ways.now) }
+    requires way { IsWayOf (W.hierarchy ways.now) shortcut way }
+    requires size { IsSized (length (W.hierarchy ways.now).edges) table.now }
+    ensures missing { FindsHalf (W.hierarchy ways.now) (IsKnown table.now) shortcut way result }
+{
+    let Way::Via(middle) = way else {
+        return None;
+    };
+    let (first, second) = halves(ways, shortcut, middle);
+    if !table.is_known(first) {
+        return Some(first);
+    }
+    if !table.is_known(second) {
+        return Some(second);
+    }
+    None
+}
+
+// Learns the list of a shortcut with a way, whose halves are known. False where a way takes longer than words can say.
+fn learn_list<W: Ways>(
+    alloc: Global,
+    ways: &W,
+    table: &mut WordTable,
+    room: &mut Room,
+    shortcut: Shortcut,
+) -> Result<bool, NoMemory>
+    requires ways { HasWays (W.hierarchy ways.now) shortcut }
+    requires size { IsSized (length (W.hierarchy ways.now).edges) table.old }
+    requires keeps { KeepsWords (W.hierarchy ways.now)
+        (IsNeeded (W.hierarchy ways.now).edges shortcut.edge) table.old }
+    requires halves { FindsMissing (W.hierarchy ways.now) (IsKnown table.old) shortcut
+        (ways_of (W.hierarchy ways.now) shortcut) None }
+    ensures learned { IfOk result
+        (LearnsIf (W.hierarchy ways.now) shortcut table.old table.new) }
+    ensures same { OnErr result (table.new ≡ table.old) }
+{
+    let Some(function) = least_function(alloc, ways, table, room, shortcut)? else {
+        return Ok(false);
+    };
+    table.put(shortcut, Some(function));
+    Ok(true)
+}
+
+// The least function of a shortcut's ways, whose halves are known. None where a way takes longer than words can say.
+fn least_function<W: Ways>(
+    alloc: Global,
+    ways: &W,
+    table: &WordTable,
+    room: &mut Room,
+    shortcut: Shortcut,
+) -> Result<Option<DayFunction>, NoMemory>
+    requires ways { HasWays (W.hierarchy ways.now) shortcut }
+    requires size { IsSized (length (W.hierarchy ways.now).edges) table.now }
+    requires keeps { KeepsWords (W.hierarchy ways.now)
+        (IsNeeded (W.hierarchy ways.now).edges shortcut.edge) table.now }
+    requires halves { FindsMissing (W.hierarchy ways.now) (IsKnown table.now) shortcut
+        (ways_of (W.hierarchy ways.now) shortcut) None }
+    ensures { IfOk result (λ found. IfSome found (λ function.
+        IsRebuiltWords (W.hierarchy ways.now) shortcut.edge shortcut.dir (Some function))) }
+{
+    room.clear();
+    for index in 0..ways.entries(shortcut.edge, shortcut.dir) {
+        if !add_entry(ways, table, room, shortcut, index)? {
+            return Ok(None);
+        }
+    }
+    let function = room.least(alloc)?;
+    Ok(Some(function))
+}
+
+// Adds a way of a list to those before it, unless it is one of them, as in a list that turns back to a way. False where it takes
+// longer than words can say.
+fn add_entry<W: Ways>(
+    ways: &W,
+    table: &WordTable,
+    room: &mut Room,
+    shortcut: Shortcut,
+    index: u32,
+) -> Result<bool, NoMemory>
+    requires edge { shortcut.edge < length (W.hierarchy ways.now).edges }
+    requires size { IsSized (length (W.hierarchy ways.now).edges) table.now }
+    requires keeps { KeepsWords (W.hierarchy ways.now)
+        (IsNeeded (W.hierarchy ways.now).edges shortcut.edge) table.now }
+    requires halves { FindsMissing (W.hierarchy ways.now) (IsKnown table.now) shortcut
+        (ways_of (W.hierarchy ways.now) shortcut) None }
+    requires index { index < length (ways_of (W.hierarchy ways.now) shortcut) }
+    requires held { HoldsLeast (W.hierarchy ways.now) shortcut
+        (take index (ways_of (W.hierarchy ways.now) shortcut)) room.old }
+    ensures { IfOk result (λ is_near. is_near ≡ true → HoldsLeast (W.hierarchy ways.now) shortcut
+        (take (index + 1) (ways_of (W.hierarchy ways.now) shortcut)) room.new) }
+{
+    let entry = ways.entry(shortcut.edge, shortcut.dir, index);
+    if is_among(ways, shortcut, index, entry.way) {
+        return Ok(true);
+    }
+    let is_near = add_way(ways, table, room, shortcut, entry.way)?;
+    Ok(is_near)
+}
+
+// Adds a way of a shortcut, whose halves are known. False where it takes longer than words can say.
+fn add_way<W: Ways>(
+    ways: &W,
+    table: &WordTable,
+    room: &mut Room,
+    shortcut: Shortcut,
+    way: Way,
+) -> Result<bool, NoMemory>
+    requires sound { IsHierarchy (W.hierarchy ways.now) }
+    requires way { IsWayOf (W.hierarchy ways.now) shortcut way }
+    requires size { IsSized (length (W.hierarchy ways.now).edges) table.now }
+    requires keeps { KeepsWords (W.hierarchy ways.now)
+        (IsNeeded (W.hierarchy ways.now).edges shortcut.edge) table.now }
+    requires halves { HasHalves (W.hierarchy ways.now) (IsKnown table.now) shortcut way }
+    ensures { IfOk result (λ is_near. is_near ≡ true →
+        AddsWay (W.hierarchy ways.now) shortcut way room.old room.new) }
+{
+    match way {
+        Way::Road(road) => {
+            room.add_road(ways, road)?;
+            Ok(true)
+        }
+        Way::Via(middle) => {
+            let (first, second) = halves(ways, shortcut, middle);
+            let is_near = room.add_both(table.function(first), table.function(second))?;
+            Ok(is_near)
+        }
+    }
+}
