@@ -1,43 +1,36 @@
 -- What the settler of an edit holds, as it learns functions and settles an edge.
-use Rattle.std.proofs.Common.{◌≡◌, ◌≢◌, ◌<◌, ◌*◌, ◌∙◌, ℕ, suc, List, [], Option, Some, None, refl, ap, sym, subst, arith, inl, inr, length, get_or, min}
-use Rattle.std.specs.Prelude.{All, slice_get, slice_set}
+use Rattle.std.proofs.Common.{◌≡◌, ◌≢◌, ◌<◌, ◌∙◌, ℕ, List, [], Option, Some, None, refl, ap, sym, subst, arith, inl, inr, length}
+use Rattle.std.specs.Prelude.{slice_get, slice_set}
 use Rattle.std.proofs.lemmas.Bool.{cases_eq}
-use Rattle.std.proofs.lemmas.List.Elements.{Contains-push}
-use Rattle.std.proofs.lemmas.Option.{slice_get-get_or, slice_get_within}
-use Rattle.cu_model.specs.declared.roads.Edit.{Edit}
-use Rattle.cu_model.specs.Days.{day}
-use Rattle.cu_model.specs.Edits.{IsEditInRange, edited}
-use Rattle.cu_model.proofs.RoadLaws.{all_at}
+use Rattle.std.proofs.lemmas.Option.{slice_get_within}
+use Rattle.cu_model.specs.Edits.{edited}
 use Rattle.cu_arrival.specs.declared.runs.Run.{Run}
 use Rattle.cu_arrival.specs.Runs.{arrival_value}
 use Rattle.cu_chordal.specs.declared.graph.Ends.{Ends}
 use Rattle.cu_chordal.specs.Graphs.{ChordalValue}
-use Rattle.cu_chordal.proofs.Members.{none_in_nil}
 use Rattle.cu_links.proofs.Links.{get_here, get_other, set_long}
 use Rattle.cu_interval.specs.declared.ways.Dir.{Dir}
 use Rattle.cu_interval.specs.declared.ways.Dir.TheVariants.{Up, Down}
-use Rattle.cu_interval.specs.declared.ways.Way.{Way}
 use Rattle.cu_interval.specs.declared.ways.Entry.{Entry}
 use Rattle.cu_interval.specs.declared.ways.TouchedEdge.{TouchedEdge}
 use Rattle.cu_interval.specs.EdgeArcs.{AreEdgeArcs}
-use Rattle.cu_interval.specs.Hierarchies.{HierarchyValue, IsHierarchyOf, end_of, list_from, list_number, list_of, start_of}
-use Rattle.cu_interval.specs.Resettling.{ArrivesIn, IsCandidateIn, IsResettledList, rebuilt}
+use Rattle.cu_interval.specs.Hierarchies.{HierarchyValue, end_of, list_of, start_of}
+use Rattle.cu_interval.specs.Resettling.{rebuilt}
 use Rattle.cu_interval.specs.Touching.{IsTouchedEdge}
-use Rattle.cu_interval.specs.WayLists.{way_in}
 use Rattle.cu_customize.specs.Functions.{FunctionsState}
-use Rattle.cu_customize.specs.Settling.{ArrivesBy, IsCandidateBy, IsSettledList, IsValueOf}
+use Rattle.cu_customize.specs.Settling.{IsValueOf}
 use Rattle.cu_unpack.specs.Rebuilds.{IsRebuiltFunction, Keeps, RebuiltValue}
 use Rattle.cu_edits.specs.declared.known.EdgeFunctions.{EdgeFunctions}
 use Rattle.cu_edits.specs.Settling.{HasFinalSides, IsFinal, IsLowerSide, IsResettledEdge, IsSettled, SettlingValue, list_in, settled_so_far}
 use Rattle.cu_edits.specs.Steps.Holding.{IsSettledEdge, IsSettling}
-use Rattle.cu_edits.specs.Steps.Known.{AreRebuilt, HasFunctions, IsEditSound, IsSide, Learns, function_in, functions_of}
+use Rattle.cu_edits.specs.Steps.Known.{AreRebuilt, HasFunctions, IsSide, Learns, function_in, functions_of}
 use Rattle.cu_edits.specs.Steps.Settled.{AreSettled}
-use Rattle.cu_edits.proofs.Frames.{ChoosesAlike, IsFrame, rebuilt_same, runs_alike}
-use Rattle.cu_edits.proofs.Halves.{KnowsAll, half_known, settled_alike}
+use Rattle.cu_edits.proofs.Frames.{IsFrame, rebuilt_stays}
+use Rattle.cu_edits.proofs.Halves.{KnowsAll, half_known}
 use Rattle.cu_edits.proofs.Replaced.{list_pushed}
-use Rattle.cu_edits.proofs.SettledFrames.{FinalPair, UntouchedPair, final_still, other_edge, resettled_stays, settled_cases, settled_itself, settled_list, settled_more, settled_none, settled_with, stays_frame, untouched_frame, untouched_list}
-use Rattle.cu_edits.proofs.SettledValues.{new_value}
-use Rattle.cu_edits.proofs.Sides.{LeadsOver, halves_at, halves_good, list_at, over}
+use Rattle.cu_edits.proofs.SettledFrames.{FinalPair, UntouchedPair, final_still, other_edge, settled_cases, settled_itself, settled_with, stays_frame, untouched_frame, untouched_list}
+use Rattle.cu_edits.proofs.SettledOnce as once
+use Rattle.cu_edits.proofs.Sides.{LeadsOver, halves_at, over}
 
 -- functions of a pair that is framed stay those of its list
 function_stays : (a b : HierarchyValue) (Pair : ℕ → ℕ → Type 0) → IsFrame a b Pair → (edges : List Ends) → a.edges ≡ edges → b.edges ≡ edges → (e : ℕ) (dir : Dir) (function : Option (List Run))
@@ -46,12 +39,7 @@ function_stays a b Pair frame edges of_a of_b e dir None pair list is = list ∙
 function_stays a b Pair frame edges of_a of_b e dir (Some runs) pair list (some, is, values) = (
   subst (λ (es : List Entry). es ≢ []) (sym list) some,
   is,
-  λ ends at t.
-      let in_edges : slice_get edges e ≡ Some ends = subst (λ (es : List Ends). slice_get es e ≡ Some ends) of_b at in
-      let u = start_of ends dir in
-      let v = end_of ends dir in
-      sym (rebuilt_same a b Pair frame (suc (min u v)) (suc (min u v)) u v t (pair ends in_edges) (omega arith) (omega arith))
-      ∙ values ends (subst (λ (es : List Ends). slice_get es e ≡ Some ends) (sym of_a) in_edges) t,
+  rebuilt_stays a b Pair frame edges of_a of_b e dir (arrival_value runs) pair values,
 )
 
 untouched_rebuilt : (s : SettlingValue) → AreSettled s → (e : ℕ) (functions : EdgeFunctions) → (IsTouchedEdge s.before s.edit e → ⊥) → AreRebuilt s.before e functions
@@ -120,50 +108,14 @@ module _ (s : SettlingValue) (are : AreSettled s) (arcs : List (List ℕ)) (road
         );
   }
 
-  listed : (dir : Dir) (ends : Ends) → slice_get s.before.edges t.edge ≡ Some ends → (list : List ℕ) × (slice_get arcs (list_number t.edge dir) ≡ Some list)
-  listed dir ends at =
-      let inside = slice_get_within s.before.edges t.edge ends at in
-      let long = roads.long in
-      (get_or arcs (list_number t.edge dir) [], slice_get-get_or arcs (list_number t.edge dir) [] (number_within dir inside long))
-    where
-      number_within : (dir : Dir) → t.edge < length s.before.edges → length arcs ≡ 2 * length s.before.edges → list_number t.edge dir < length arcs
-      number_within Up inside long = omega (arith, inside, long)
-      number_within Down inside long = omega (arith, inside, long)
-
-  alike : (dir : Dir) (ends : Ends) → slice_get s.before.edges t.edge ≡ Some ends → (list : List ℕ) × IsSettledList s.before.edges list asked (start_of ends dir) (end_of ends dir) (list_in t dir)
-      × ChoosesAlike (IsCandidateBy s.before.edges list asked (start_of ends dir) (end_of ends dir)) (IsCandidateIn now (start_of ends dir) (end_of ends dir))
-      (ArrivesBy s.before.edges asked (start_of ends dir) (end_of ends dir)) (ArrivesIn now (start_of ends dir) (end_of ends dir))
-  alike dir ends at =
-      let (list, there) = listed dir ends at in (
-        list,
-        settled.ways dir ends list at there,
-        settled_alike s.before s.edit now refl refl list asked (start_of ends dir) (end_of ends dir) (roads.each t.edge dir ends list at there)
-            (knows dir (start_of ends dir) (end_of ends dir) (over s.before.edges t.edge dir ends at)),
-      )
-
-  resettled_now : (dir : Dir) (ends : Ends) → slice_get s.before.edges t.edge ≡ Some ends → IsResettledList now (start_of ends dir) (end_of ends dir) (list_in t dir)
-  resettled_now dir ends at =
-      let (list, runs, same) = alike dir ends at in
-      let u = start_of ends dir in
-      let v = end_of ends dir in
-      runs_alike (IsCandidateBy s.before.edges list asked u v) (IsCandidateIn now u v) (ArrivesBy s.before.edges asked u v) (ArrivesIn now u v) (list_in t dir) same runs
-
   pub edge_resettled : IsResettledEdge next t
-  edge_resettled dir ends at =
-      resettled_stays s are t touched fresh t.edge dir (start_of ends dir) (end_of ends dir) (list_in t dir) (over s.before.edges t.edge dir ends at) sides (resettled_now dir ends at)
+  edge_resettled = once.edge_resettled s are arcs roads t touched fresh sides asked knows settled.ways
 
   pub more : AreSettled (settled_with s t)
-  more = settled_more s are t touched fresh sides edge_resettled
+  more = once.more s are arcs roads t touched fresh sides asked knows settled.ways
 
   new_list : (dir : Dir) → list_of next t.edge dir ≡ list_in t dir
-  new_list dir = settled_list (settled_with s t) more t dir (Contains-push s.settled t)
-
-  arrives_now : (dir : Dir) (ends : Ends) (at : slice_get s.before.edges t.edge ≡ Some ends) (runs : List Run)
-      → ((x : ℕ) (way : Way) → x < day → way_in (list_in t dir) x ≡ Some way → ArrivesBy s.before.edges asked (start_of ends dir) (end_of ends dir) x way (arrival_value runs x))
-      → (x : ℕ) (way : Way) → x < day → way_in (list_in t dir) x ≡ Some way → ArrivesIn now (start_of ends dir) (end_of ends dir) x way (arrival_value runs x)
-  arrives_now dir ends at runs values x way lt in_force =
-      let (list, settled_list, same) = alike dir ends at in
-      same.arrives x way (arrival_value runs x) (settled_list.first x way lt in_force).candidate (values x way lt in_force)
+  new_list = once.new_list s are arcs roads t touched fresh sides asked knows settled.ways
 
   new_function : (dir : Dir) (function : Option (List Run)) (ends : Ends) → slice_get s.before.edges t.edge ≡ Some ends
       → IsValueOf s.before.edges asked (start_of ends dir) (end_of ends dir) (list_in t dir) function → IsRebuiltFunction next t.edge dir function
@@ -171,16 +123,7 @@ module _ (s : SettlingValue) (are : AreSettled s) (arcs : List (List ℕ)) (road
   new_function dir (Some runs) ends at (some, is, values) = (
     subst (λ (es : List Entry). es ≢ []) (sym (new_list dir)) some,
     is,
-    λ given there x.
-        let same : ends ≡ given = cc (at, there) in
-        let u = start_of ends dir in
-        let v = end_of ends dir in
-        let leads = over s.before.edges t.edge dir ends at in
-        let list : list_from next u v ≡ list_in t dir = list_at s.before next are.sound refl t.edge dir u v leads ∙ new_list dir in
-        subst (λ (e : Ends). rebuilt next (start_of e dir) (end_of e dir) x ≡ Some (arrival_value runs x)) same
-        (new_value now next (FinalPair s) (stays_frame s are t touched fresh) refl asked u v (list_in t dir) runs
-        (λ m to on. halves_good s.before.edges (IsFinal s) t.edge dir u v m leads sides to on) (knows dir u v leads) (resettled_now dir ends at) list some is
-        (arrives_now dir ends at runs values) x),
+    once.new_values s are arcs roads t touched fresh sides asked knows settled.ways dir runs ends at some is.starts values,
   )
 
   pub new_functions : AreRebuilt next t.edge functions
@@ -242,24 +185,3 @@ settling_more s graph arcs rebuilt known t functions old touched fresh sides has
         ];
       },
     )
-
--- at first nothing is settled, kept or known
-pub settling_none : (h : HierarchyValue) (graph : ChordalValue) (edit : Edit) (arcs : List (List ℕ)) (rebuilt : RebuiltValue) (known : List (Option EdgeFunctions)) → IsHierarchyOf graph h
-    → AreEdgeArcs h.network h.order graph.edges arcs → IsEditInRange h.network edit → IsEditSound edit → length rebuilt.kept ≡ 2 * length graph.edges → Keeps h rebuilt
-    → length known ≡ length graph.edges → All (λ (one : Option EdgeFunctions). one ≡ None) known
-    → IsSettling (record { before = h; edit = edit; settled = [] }) graph arcs rebuilt known
-settling_none h graph edit arcs rebuilt known of roads range pieces size keeps count none =
-    let edges = ap (λ (k : ChordalValue). k.edges) of.0 in
-    let long = ap (λ (es : List Ends). length es) edges in
-    record {
-      are = settled_none h edit of.1;
-      hierarchy = of;
-      roads = subst (λ (es : List Ends). AreEdgeArcs h.network h.order es arcs) edges roads;
-      range = range;
-      pieces = pieces;
-      size = omega (arith, size, long);
-      keeps = keeps;
-      count = count ∙ long;
-      functions = λ e functions at. absurd (cc (all_at (λ (one : Option EdgeFunctions). one ≡ None) known e (Some functions) none at));
-      settled = λ e c. absurd (none_in_nil e c);
-    }

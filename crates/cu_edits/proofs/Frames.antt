@@ -1,15 +1,17 @@
 -- Rebuilt values read no more than the lists from which they come: two hierarchies that agree on these have the same.
-use Rattle.std.proofs.Common.{◌≡◌, ◌<◌, ◌+◌, ◌*◌, ◌/◌, ◌%◌, ◌^◌, ◌∙◌, ℕ, zero, suc, List, [], ◌∷◌, Option, Some, None, refl, ap, subst, arith, inl, inr, min, get_or}
+use Rattle.std.proofs.Common.{◌≡◌, ◌<◌, ◌+◌, ◌*◌, ◌/◌, ◌%◌, ◌^◌, ◌∙◌, ℕ, zero, suc, List, [], ◌∷◌, Option, Some, None, refl, ap, sym, subst, arith, inl, inr, min, get_or}
 use Rattle.std.specs.Prelude.{All, option_map, slice_get}
 use Rattle.std.proofs.lemmas.Bool.{cases_eq}
 use Rattle.std.proofs.lemmas.Option.{get_or_from_slice_get, slice_get-get_or, slice_get_within}
 use Rattle.cu_model.proofs.Begun.{gt_test, last_begun-at, le_test, rises_between}
 use Rattle.cu_model.specs.Days.{day}
 use Rattle.cu_model.specs.Roads.{drive}
+use Rattle.cu_chordal.specs.declared.graph.Ends.{Ends}
+use Rattle.cu_interval.specs.declared.ways.Dir.{Dir}
 use Rattle.cu_interval.specs.declared.ways.Way.{Way}
 use Rattle.cu_interval.specs.declared.ways.Way.TheVariants.{Road, Via}
 use Rattle.cu_interval.specs.declared.ways.Entry.{Entry}
-use Rattle.cu_interval.specs.Hierarchies.{HierarchyValue, list_from}
+use Rattle.cu_interval.specs.Hierarchies.{HierarchyValue, end_of, list_from, start_of}
 use Rattle.cu_interval.specs.Resettling.{least_in, lesser_of, rebuilt, rebuilt_by, then_at, value_by}
 use Rattle.cu_interval.specs.WayLists.{IsRunsOf, IsWayList, entry_in, way_in}
 use Rattle.cu_interval.proofs.Spelled.{entries_rise}
@@ -54,6 +56,18 @@ rebuilt_same a b Pair frame (suc fuel) (suc more) u v t pair x y =
     ap (option_map (λ (value : ℕ). day * (t / day) + value))
     (least_in-same first second (list_from a u v) (λ k d lt. value_by-same a b Pair (rebuilt_by a fuel) (rebuilt_by b more) u v (t % day) _ (frame.ways u v pair k d lt) halves)
     ∙ ap (least_in second) (frame.lists u v pair))
+
+-- so are those between the ends of an edge over such a pair, whatever they are
+pub rebuilt_stays : (a b : HierarchyValue) (Pair : ℕ → ℕ → Type 0) → IsFrame a b Pair → (edges : List Ends) → a.edges ≡ edges → b.edges ≡ edges → (e : ℕ) (dir : Dir) (values : ℕ → ℕ)
+    → ((ends : Ends) → slice_get edges e ≡ Some ends → Pair (start_of ends dir) (end_of ends dir))
+    → ((ends : Ends) → slice_get a.edges e ≡ Some ends → (t : ℕ) → rebuilt a (start_of ends dir) (end_of ends dir) t ≡ Some (values t))
+    → (ends : Ends) → slice_get b.edges e ≡ Some ends → (t : ℕ) → rebuilt b (start_of ends dir) (end_of ends dir) t ≡ Some (values t)
+rebuilt_stays a b Pair frame edges of_a of_b e dir values pair before ends at t =
+    let in_edges : slice_get edges e ≡ Some ends = subst (λ (es : List Ends). slice_get es e ≡ Some ends) of_b at in
+    let u = start_of ends dir in
+    let v = end_of ends dir in
+    sym (rebuilt_same a b Pair frame (suc (min u v)) (suc (min u v)) u v t (pair ends in_edges) (omega arith) (omega arith))
+    ∙ before ends (subst (λ (es : List Ends). slice_get es e ≡ Some ends) (sym of_a) in_edges) t
 
 -- the same for a way whose halves are such pairs
 pub via_same : (a b : HierarchyValue) (Pair : ℕ → ℕ → Type 0) → IsFrame a b Pair → (u v m t : ℕ) → Pair u m → Pair m v

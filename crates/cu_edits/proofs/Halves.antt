@@ -18,7 +18,7 @@ use Rattle.cu_interval.specs.declared.ways.Way.{Way}
 use Rattle.cu_interval.specs.declared.ways.Way.TheVariants.{Road, Via}
 use Rattle.cu_interval.specs.declared.ways.Entry.{Entry}
 use Rattle.cu_interval.specs.EdgeArcs.{AreArcsFrom}
-use Rattle.cu_interval.specs.Hierarchies.{HierarchyValue, IsHierarchy, end_of, list_from, number_from, start_of}
+use Rattle.cu_interval.specs.Hierarchies.{HierarchyValue, IsHierarchy, end_of, list_from, list_of, number_from, start_of}
 use Rattle.cu_interval.specs.Resettling.{ArrivesIn, IsCandidateIn, rebuilt, then_at}
 use Rattle.cu_interval.proofs.Lookups.{number_finds, number_found}
 use Rattle.cu_customize.specs.Functions.{FunctionsState}
@@ -45,7 +45,8 @@ function_at_ends h sound f edge Down ends e =
     let at : number_from 0 h.edges ends.low ends.high ≡ Some edge = number_finds h.edges sound.graph.rising ends.low ends.high (Some edge) e in
     rw (ge, at) refl
 
-function_at : (h : HierarchyValue) → IsHierarchy h → (f : FunctionsState) (edge : ℕ) (dir : Dir) (u v : ℕ) → LeadsOver h.edges edge dir u v → function_from h.edges f u v ≡ f.shortcut edge dir
+-- also by the ranks that it leads from and to
+pub function_at : (h : HierarchyValue) → IsHierarchy h → (f : FunctionsState) (edge : ℕ) (dir : Dir) (u v : ℕ) → LeadsOver h.edges edge dir u v → function_from h.edges f u v ≡ f.shortcut edge dir
 function_at h sound f edge dir u v leads =
     subst (λ (x : ℕ). function_from h.edges f x v ≡ f.shortcut edge dir) leads.from
     (subst (λ (y : ℕ). function_from h.edges f (start_of leads.ends dir) y ≡ f.shortcut edge dir) leads.to (function_at_ends h sound f edge dir leads.ends leads.at))
@@ -80,15 +81,25 @@ pub record IsHalf (h : HierarchyValue) (f : FunctionsState) (u v : ℕ) : Type 0
   pub is : function_from h.edges f u v ≡ values_of function
   pub rebuilds : HasRebuilt h u v function
 
-by_ranks : (before h : HierarchyValue) → IsHierarchy before → h.edges ≡ before.edges → (edge : ℕ) (dir : Dir) (u v : ℕ) (function : Option (List Run)) → LeadsOver before.edges edge dir u v
-    → IsRebuiltFunction h edge dir function → HasRebuilt h u v function
+-- runs with the rebuilt values of an edge's list; none where it is empty
+abbrev pub HasValues : HierarchyValue → ℕ → Dir → Option (List Run) → Type 0
+HasValues h edge dir None = list_of h edge dir ≡ []
+HasValues h edge dir (Some runs) = (list_of h edge dir ≢ [])
+    × ((ends : Ends) → slice_get h.edges edge ≡ Some ends → (t : ℕ) → rebuilt h (start_of ends dir) (end_of ends dir) t ≡ Some (arrival_value runs t))
+
+pub by_ranks : (before h : HierarchyValue) → IsHierarchy before → h.edges ≡ before.edges → (edge : ℕ) (dir : Dir) (u v : ℕ) (function : Option (List Run)) → LeadsOver before.edges edge dir u v
+    → HasValues h edge dir function → HasRebuilt h u v function
 by_ranks before h sound same edge dir u v None leads e = list_at before h sound same edge dir u v leads ∙ e
-by_ranks before h sound same edge dir u v (Some runs) leads (some, is, values) =
+by_ranks before h sound same edge dir u v (Some runs) leads (some, values) =
     let at : slice_get h.edges edge ≡ Some leads.ends = ap (λ (es : List Ends). slice_get es edge) same ∙ leads.at in (
       subst (λ (es : List Entry). es ≢ []) (sym (list_at before h sound same edge dir u v leads)) some,
       λ t. subst (λ (x : ℕ). rebuilt h x v t ≡ Some (arrival_value runs t)) leads.from
           (subst (λ (y : ℕ). rebuilt h (start_of leads.ends dir) y t ≡ Some (arrival_value runs t)) leads.to (values leads.ends at t)),
     )
+
+plain_values : (h : HierarchyValue) (edge : ℕ) (dir : Dir) (function : Option (List Run)) → IsRebuiltFunction h edge dir function → HasValues h edge dir function
+plain_values h edge dir None is = is
+plain_values h edge dir (Some runs) (some, is, values) = (some, values)
 
 pub half_known : (s : SettlingValue) → IsHierarchy s.before → (g : NetworkValue) (known : List (Option EdgeFunctions)) (edge : ℕ) (dir : Dir) (u v : ℕ) (functions : EdgeFunctions)
     → LeadsOver s.before.edges edge dir u v → slice_get known edge ≡ Some (Some functions) → AreRebuilt (settled_so_far s) edge functions
@@ -96,7 +107,8 @@ pub half_known : (s : SettlingValue) → IsHierarchy s.before → (g : NetworkVa
 half_known s sound g known edge dir u v functions leads there are = record {
   function = function_in functions dir;
   is = function_at s.before sound (functions_of (record { network = g; known = known })) edge dir u v leads ∙ ap (λ (o : Option (Option EdgeFunctions)). values_of (known_function o dir)) there;
-  rebuilds = by_ranks s.before (settled_so_far s) sound refl edge dir u v (function_in functions dir) leads (are dir);
+  rebuilds = by_ranks s.before (settled_so_far s) sound refl edge dir u v (function_in functions dir) leads
+      (plain_values (settled_so_far s) edge dir (function_in functions dir) (are dir));
 }
 
 some_list : (h : HierarchyValue) (u v : ℕ) (function : Option (List Run)) (asked : Option (ℕ → ℕ)) → asked ≡ values_of function → HasRebuilt h u v function → IsSome asked → list_from h u v ≢ []

@@ -109,7 +109,7 @@ second_side edges ends rank first second e to on same =
     subst (IsSideOver edges ends rank) (sym same)
     (member_at edges (record { low = rank; high = ends.low }) first to, member_at edges (record { low = rank; high = ends.high }) second on, inr on)
 
-one_number : (edges : List Ends) → IsRising edges → (low high e f : ℕ) → slice_get edges e ≡ Some (record { low = low; high = high }) → slice_get edges f ≡ Some (record { low = low; high = high }) → e ≡ f
+pub one_number : (edges : List Ends) → IsRising edges → (low high e f : ℕ) → slice_get edges e ≡ Some (record { low = low; high = high }) → slice_get edges f ≡ Some (record { low = low; high = high }) → e ≡ f
 one_number edges rising low high e f at there =
     let same : Some e ≡ Some f = sym (number_finds edges rising low high (Some e) at) ∙ number_finds edges rising low high (Some f) there in
     cc same

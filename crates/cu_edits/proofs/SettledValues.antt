@@ -1,10 +1,10 @@
 -- The function of a list that is settled has its rebuilt values.
 use Rattle.std.proofs.Common.{◌≡◌, ◌≢◌, ◌≤◌, ◌<◌, ◌+◌, ◌*◌, ◌/◌, ◌%◌, ◌^◌, ◌∙◌, ◌⊎◌, ℕ, suc, List, [], ◌∷◌, Option, Some, None, refl, ap, sym, subst, arith, inl, inr, min}
-use Rattle.std.specs.Prelude.{All, option_map}
+use Rattle.std.specs.Prelude.{All, option_map, slice_get}
 use Rattle.std.specs.List.{Contains}
 use Rattle.cu_model.specs.Days.{day}
 use Rattle.cu_arrival.specs.declared.runs.Run.{Run}
-use Rattle.cu_arrival.specs.Runs.{IsArrivalFunction, arrival_value}
+use Rattle.cu_arrival.specs.Runs.{arrival_value}
 use Rattle.cu_arrival.proofs.RunLaws.{value-days}
 use Rattle.cu_chordal.specs.Graphs.{HasEdge}
 use Rattle.cu_chordal.proofs.Members.{all_from_members, member_cases, none_in_nil}
@@ -107,9 +107,9 @@ in_force_at (e ∷ es) spelled full s = some_way e es s spelled
 
 -- the rebuilt value of a new list, once it stands in the hierarchy
 pub new_value : (a b : HierarchyValue) (Pair : ℕ → ℕ → Type 0) → IsFrame a b Pair → a.network ≡ b.network → (f : FunctionsState) (u v : ℕ) (es : List Entry) (runs : List Run)
-    → ((m : ℕ) → HasEdge a.edges m u → HasEdge a.edges m v → Pair u m × Pair m v) → KnowsAll a f u v → IsResettledList a u v es → list_from b u v ≡ es → es ≢ [] → IsArrivalFunction runs
+    → ((m : ℕ) → HasEdge a.edges m u → HasEdge a.edges m v → Pair u m × Pair m v) → KnowsAll a f u v → IsResettledList a u v es → list_from b u v ≡ es → es ≢ [] → option_map (λ (run : Run). run.from) (slice_get runs 0) ≡ Some 0
     → ((s : ℕ) (way : Way) → s < day → way_in es s ≡ Some way → ArrivesIn a u v s way (arrival_value runs s)) → (t : ℕ) → rebuilt b u v t ≡ Some (arrival_value runs t)
-new_value a b Pair frame same f u v es runs halves knows resettled list some is arrives t =
+new_value a b Pair frame same f u v es runs halves knows resettled list some starts arrives t =
     let s = t % day in
     let lt : s < day = omega arith in
     let candidates = candidates_alone (IsCandidateIn a u v) (ArrivesIn a u v) es resettled in
@@ -119,7 +119,7 @@ new_value a b Pair frame same f u v es runs halves knows resettled list some is 
     ap (least_in (value_by b.network (rebuilt_by b (min u v)) u v s)) list
     ∙ least_in-same (value_by b.network (rebuilt_by b (min u v)) u v s) (value_by a.network (rebuilt a) u v s) es (λ k d h. values_stay a b Pair frame same u v s halves _ (candidates k d h))
     ∙ least in
-    let days = value-days runs is.starts (t / day) s lt in
+    let days = value-days runs starts (t / day) s lt in
     let parts : (t / day) * day + s ≡ t = omega arith in
     let whole : arrival_value runs t ≡ (t / day) * day + arrival_value runs s = subst (λ (n : ℕ). arrival_value runs n ≡ (t / day) * day + arrival_value runs s) parts days in
     let sum : day * (t / day) + arrival_value runs s ≡ arrival_value runs t = omega (arith, whole) in

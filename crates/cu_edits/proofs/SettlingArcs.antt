@@ -1,6 +1,7 @@
 -- What settling an edge asks of the roads and of its lower sides.
-use Rattle.std.proofs.Common.{◌≡◌, ◌<◌, ℕ, List, Option, Some, refl, ap, subst, arith, inl, inr, length, true}
+use Rattle.std.proofs.Common.{◌≡◌, ◌<◌, ℕ, List, Option, Some, refl, ap, sym, subst, arith, inl, inr, length, true}
 use Rattle.std.specs.Prelude.{All, slice_get}
+use Rattle.std.specs.List.Sorted.{IsStrictlyIncreasing}
 use Rattle.std.proofs.lemmas.Option.{slice_get-get_or}
 use Rattle.cu_model.specs.declared.roads.Edit.{Edit}
 use Rattle.cu_model.specs.declared.roads.Edit.TheVariants.{Set, Assign}
@@ -40,6 +41,16 @@ arcs_within g o edges lists edit edge dir are inside list at =
     let lt = links_within g a u v links in
     let long = arcs_long g edit in
     omega (arith, lt, long))
+
+-- so they are of a network that is the edited one, by rising number
+pub arcs_sound : (g : NetworkValue) (o : OrderValue) (edges : List Ends) (lists : List (List ℕ)) (edit : Edit) (edge : ℕ) (dir : Dir) → AreEdgeArcs g o edges lists → edge < length edges
+    → (after : NetworkValue) → after ≡ edited g edit → (list : List ℕ) → slice_get lists (list_number edge dir) ≡ Some list
+    → IsStrictlyIncreasing list × All (λ a. a < length after.arcs) list
+arcs_sound g o edges lists edit edge dir are inside after same list at =
+    let ends = slice_get-get_or edges edge (record { low = 0; high = 0 }) inside in (
+      (are.each edge dir _ list ends at).rising,
+      subst (λ (n : NetworkValue). All (λ a. a < length n.arcs) list) (sym same) (arcs_within g o edges lists edit edge dir are inside list at),
+    )
 
 side_is_known : (known : List (Option EdgeFunctions)) (e : ℕ) → HasFunctions known e → is_known (slice_get known e) ≡ true
 side_is_known known e (f, at) = ap is_known at

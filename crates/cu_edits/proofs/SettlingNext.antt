@@ -1,22 +1,22 @@
 -- One edge more is settled, or none where memory runs out.
-use Rattle.std.proofs.Common.{◌≡◌, ◌<◌, ◌++◌, ◌*◌, ◌∙◌, ℕ, List, [], ◌∷◌, Option, Some, None, ap, sym, subst, arith, length}
-use Rattle.std.specs.Prelude.{All, slice_get, slice_set}
+use Rattle.std.proofs.Common.{◌≡◌, ◌<◌, ◌++◌, ◌∙◌, ℕ, List, [], ◌∷◌, Option, Some, ap, sym, subst, arith, length}
+use Rattle.std.specs.Prelude.{slice_get, slice_set}
 use Rattle.std.proofs.lemmas.Option.{slice_get_within}
 use Rattle.cu_model.specs.declared.roads.Edit.{Edit}
-use Rattle.cu_model.specs.Edits.{IsEditInRange, edited}
+use Rattle.cu_model.specs.Edits.{edited}
 use Rattle.cu_model.proofs.RoadLaws.{all_at}
 use Rattle.cu_chordal.specs.declared.graph.Ends.{Ends}
 use Rattle.cu_chordal.specs.Graphs.{ChordalValue, IsChordal}
 use Rattle.cu_interval.specs.declared.ways.TouchedEdge.{TouchedEdge}
 use Rattle.cu_interval.specs.EdgeArcs.{AreEdgeArcs}
-use Rattle.cu_interval.specs.Hierarchies.{HierarchyValue, IsHierarchyOf}
+use Rattle.cu_interval.specs.Hierarchies.{HierarchyValue}
 use Rattle.cu_interval.specs.Touching.{IsTouchedEdge}
 use Rattle.cu_unpack.specs.Rebuilds.{Keeps, RebuiltValue}
 use Rattle.cu_edits.specs.declared.known.EdgeFunctions.{EdgeFunctions}
 use Rattle.cu_edits.specs.Settling.{HasFinalSides, IsLowerSide, IsResettledEdge, IsSettled, SettlingValue, settled_so_far}
 use Rattle.cu_edits.specs.Steps.Holding.{IsNext, IsSettledEdge, IsSettling, settling_of}
-use Rattle.cu_edits.specs.Steps.Known.{HasFunctions, IsEditSound, IsSide, Learns, functions_of}
-use Rattle.cu_edits.proofs.EditSettling.{settling_learnt, settling_more, settling_none}
+use Rattle.cu_edits.specs.Steps.Known.{HasFunctions, IsSide, Learns, functions_of}
+use Rattle.cu_edits.proofs.EditSettling.{settling_learnt, settling_more}
 use Rattle.cu_edits.proofs.SettledFrames.{settled_with}
 
 -- the graph has the hierarchy's edges
@@ -95,11 +95,3 @@ next_one h edit before after graph arcs rebuilt next known learnt last edge ends
 -- what is asked of an edge, over a settler that stands for this
 pub next_asked : (held given : SettlingValue) (edge : ℕ) → held ≡ given → IsTouchedEdge given.before given.edit edge → (IsSettled given edge → ⊥) → HasFinalSides given edge → IsNext held edge
 next_asked held given edge same touched fresh sides = subst (λ (s : SettlingValue). IsNext s edge) (sym same) (record { touched = touched; fresh = fresh; sides = sides })
-
--- a settler that settled none
-pub settling_begun : (h : HierarchyValue) (graph : ChordalValue) (edit : Edit) (arcs : List (List ℕ)) (rebuilt : RebuiltValue) (known : List (Option EdgeFunctions)) (settled : List TouchedEdge)
-    → settled ≡ [] → IsHierarchyOf graph h → AreEdgeArcs h.network h.order graph.edges arcs → IsEditInRange h.network edit → IsEditSound edit → length rebuilt.kept ≡ 2 * length graph.edges
-    → Keeps h rebuilt → length known ≡ length graph.edges → All (λ (one : Option EdgeFunctions). one ≡ None) known → IsSettling (settling_of h edit settled) graph arcs rebuilt known
-settling_begun h graph edit arcs rebuilt known settled none of roads range pieces size keeps count unknown =
-    subst (λ (xs : List TouchedEdge). IsSettling (settling_of h edit xs) graph arcs rebuilt known) (sym none)
-    (settling_none h graph edit arcs rebuilt known of roads range pieces size keeps count unknown)

@@ -1,4 +1,8 @@
 -- What private functions mean to each other; no public contract speaks of it.
+pub mod ByWords
+pub mod Edited
+pub mod GoingOver
+pub mod Held
 pub mod Holding
 pub mod Known
 pub mod Settled

@@ -1,28 +1,37 @@
 //! The settler of an edit: it settles an edge by the functions of the edges settled before it and of those that stay.
 
-ghost use Rattle.std.specs.Prelude.{◌≡◌, ◌<◌, ◌++◌, ◌∷◌, [], ℕ, Option, None, All, IfOk, OnErr, length};
+ghost use Rattle.std.specs.Prelude.{◌≡◌, ◌<◌, ◌++◌, ◌∷◌, [], ℕ, List, IfNone, IfOk, IfSome, OnErr, OnOk, length};
 ghost use Rattle.cu_model.specs.Edits.{IsEditInRange, edited};
 ghost use Rattle.cu_interval.specs.EdgeArcs.{AreEdgeArcs};
 ghost use Rattle.cu_interval.specs.Hierarchies.{IsHierarchyOf};
-ghost use Rattle.cu_edits.specs.declared.known.EdgeFunctions.{EdgeFunctions};
-ghost use Rattle.cu_edits.specs.Settling.{IsLowerSide, IsResettledEdge, settled_so_far};
-ghost use Rattle.cu_edits.specs.Steps.Known.{HasFunctions, IsEditSound, functions_of};
+ghost use Rattle.cu_edits.specs.Settling.{IsLowerSide, IsResettledEdge, SettlingValue, settled_so_far};
+ghost use Rattle.cu_edits.specs.Steps.Held.{Holds, IsBegun, IsPlain};
 ghost use Rattle.cu_edits.specs.Steps.Holding.{IsNext, IsSettledEdge, IsSettling, settling_of};
+ghost use Rattle.cu_edits.specs.Steps.Known.{HasFunctions, IsEditSound, functions_of};
 
+use crate::by_words::settle_by_words;
+use crate::copied_lists::copy_touched;
+use crate::edit_parts::EditParts;
+use crate::going_over::plain_of_words;
+use crate::held::{Held, HeldWords};
 use crate::known::{EdgeFunctions, KnownFunctions};
 use crate::learning::learn_sides;
 use crate::settler::Settler;
 use cu_chordal::Chordal;
-use cu_customize::settle;
-use cu_interval::{Dir, EdgeArcs, Entry, TouchedEdge, WayList, Ways};
+use cu_customize::{WordSettling, settle};
+use cu_interval::{Dir, EdgeArcs, TouchedEdge, Ways};
 use cu_model::{Edit, NoMemory};
-use cu_unpack::Rebuilt;
+use cu_unpack::{Rebuilt, WordFunctions};
 use std::alloc::Global;
 use std::marker::Model;
 
+#[cfg(test)]
+mod tests;
+
 /// Settles the edges that an edit touches, by the roads of the edited network and by the functions of lower edges: of those
-/// that it settled, and of those that aren't touched, whose functions it rebuilds from their ways as they are needed.
-/// Contracts see the hierarchy before the edit, the edit, and the edges settled so far.
+/// that it settled, and of those that aren't touched, whose functions it rebuilds from their ways as they are needed. They
+/// are kept as words until a way takes longer than words can say. Room for them is made once an edge is settled. Contracts see
+/// the hierarchy before the edit, the edit, and the edges settled so far.
 #[derive(Drop)]
 pub struct EditSettler<'a, W: Ways> {
     ways: &'a W,
@@ -31,13 +40,12 @@ pub struct EditSettler<'a, W: Ways> {
     arcs: &'a EdgeArcs,
     settled: Vec<TouchedEdge>,
     // The functions of edges whose lists won't change any more, as far as they are known.
-    known: Vec<Option<EdgeFunctions>>,
-    rebuilt: Rebuilt,
+    held: Held,
 }
 
 impl<'a, W: Ways> Model for EditSettler<'a, W> {
     ghost use Rattle.cu_edits.specs.Settling.{SettlingValue};
-    ghost use Rattle.cu_edits.specs.Steps.Holding.{IsSettling};
+    ghost use Rattle.cu_edits.specs.Steps.Held.{Holds};
 
     ghost Value = { SettlingValue };
 
@@ -47,13 +55,13 @@ impl<'a, W: Ways> Model for EditSettler<'a, W> {
       settled = settler.settled.items;
     } };
 
-    ghost invariant = { λ settler. IsSettling
+    ghost invariant = { λ settler. Holds
         (record {
           before = W.hierarchy settler.ways.now;
           edit = settler.edit.now;
           settled = settler.settled.items;
         })
-        settler.graph.now settler.arcs.now settler.rebuilt settler.known.items };
+        settler.graph.now settler.arcs.now settler.held };
 }
 
 impl<'a, W: Ways> EditSettler<'a, W> {
@@ -74,9 +82,6 @@ impl<'a, W: Ways> EditSettler<'a, W> {
             ≡ record { before = W.hierarchy ways.now; edit = edit.now; settled = [] }) }
     {
         read_edit(edit);
-        let edges = graph.edges();
-        let rebuilt = Rebuilt::new(alloc, edges)?;
-        let known = nothing_known(alloc, edges)?;
         let settled = Vec::new(alloc);
         Ok(EditSettler {
             ways,
@@ -84,8 +89,7 @@ impl<'a, W: Ways> EditSettler<'a, W> {
             graph,
             arcs,
             settled,
-            known,
-            rebuilt,
+            held: Held::Nothing,
         })
     }
 }
@@ -94,19 +98,160 @@ impl<'a, W: Ways> Settler for EditSettler<'a, W> {
     ghost state = { λ settler. settler };
 
     fn settle(&mut self, alloc: Global, edge: u32) -> Result<TouchedEdge, NoMemory> {
-        let (ways, edit, graph, arcs) = (self.ways, self.edit, self.graph, self.arcs);
-        settle_next(
-            alloc,
-            ways,
-            edit,
-            graph,
-            arcs,
-            &mut self.rebuilt,
-            &mut self.known,
-            &mut self.settled,
-            edge,
-        )
+        let parts = EditParts {
+            ways: self.ways,
+            edit: self.edit,
+            graph: self.graph,
+            arcs: self.arcs,
+        };
+        settle_held(alloc, &parts, &mut self.held, &mut self.settled, edge)
     }
+}
+
+// Settles one edge more by what is held: by words as long as they can say how long ways take, and then plainly.
+fn settle_held<W: Ways>(
+    alloc: Global,
+    parts: &EditParts<'_, W>,
+    held: &mut Held,
+    settled: &mut Vec<TouchedEdge>,
+    edge: u32,
+) -> Result<TouchedEdge, NoMemory>
+    requires holds { Holds
+        (settling_of (W.hierarchy parts.now.ways.now) parts.now.edit.now settled.old.items)
+        parts.now.graph.now parts.now.arcs.now held.old }
+    requires asked { IsNext
+        (settling_of (W.hierarchy parts.now.ways.now) parts.now.edit.now settled.old.items) edge }
+    ensures edge { IfOk result (λ touched. touched.edge ≡ edge) }
+    ensures settled { IfOk result
+        (λ touched. settled.new.items ≡ settled.old.items ++ touched ∷ []) }
+    ensures resettled { IfOk result (IsResettledEdge (settled_so_far
+        (settling_of (W.hierarchy parts.now.ways.now) parts.now.edit.now settled.new.items))) }
+    ensures kept { OnErr result (settled.new.items ≡ settled.old.items) }
+    ensures holds { Holds
+        (settling_of (W.hierarchy parts.now.ways.now) parts.now.edit.now settled.new.items)
+        parts.now.graph.now parts.now.arcs.now held.new }
+{
+    hold_words(alloc, parts, held)?;
+    if let Some(touched) = settle_in_words(alloc, parts, held, settled, edge)? {
+        return Ok(touched);
+    }
+    go_over(alloc, parts, settled, held)?;
+    settle_plainly(alloc, parts, held, settled, edge)
+}
+
+// Makes room for words where nothing is held yet.
+fn hold_words<W: Ways>(
+    alloc: Global,
+    parts: &EditParts<'_, W>,
+    held: &mut Held,
+) -> Result<(), NoMemory>
+    ensures begun { OnOk result (IsBegun held.new) }
+    ensures holds { (s : SettlingValue) (arcs : List (List ℕ))
+        → Holds s parts.now.graph.now arcs held.old → Holds s parts.now.graph.now arcs held.new }
+{
+    if let Held::Nothing = held {
+        *held = Held::Words(HeldWords {
+            functions: WordFunctions::new(alloc, parts.graph.edges())?,
+            settling: WordSettling::new(alloc, parts.ways)?,
+        });
+    }
+    Ok(())
+}
+
+// Settles one edge more by words where they are held. None where they aren't, and where a way takes longer than they can say.
+fn settle_in_words<W: Ways>(
+    alloc: Global,
+    parts: &EditParts<'_, W>,
+    held: &mut Held,
+    settled: &mut Vec<TouchedEdge>,
+    edge: u32,
+) -> Result<Option<TouchedEdge>, NoMemory>
+    requires begun { IsBegun held.old }
+    requires holds { Holds
+        (settling_of (W.hierarchy parts.now.ways.now) parts.now.edit.now settled.old.items)
+        parts.now.graph.now parts.now.arcs.now held.old }
+    requires asked { IsNext
+        (settling_of (W.hierarchy parts.now.ways.now) parts.now.edit.now settled.old.items) edge }
+    ensures edge { IfOk result (λ found. IfSome found (λ touched. touched.edge ≡ edge)) }
+    ensures settled { IfOk result (λ found. IfSome found
+        (λ touched. settled.new.items ≡ settled.old.items ++ touched ∷ [])) }
+    ensures resettled { IfOk result (λ found. IfSome found (IsResettledEdge (settled_so_far
+        (settling_of (W.hierarchy parts.now.ways.now) parts.now.edit.now settled.new.items)))) }
+    ensures far { IfOk result (λ found. IfNone found (settled.new.items ≡ settled.old.items)) }
+    ensures kept { OnErr result (settled.new.items ≡ settled.old.items) }
+    ensures begun { IsBegun held.new }
+    ensures holds { Holds
+        (settling_of (W.hierarchy parts.now.ways.now) parts.now.edit.now settled.new.items)
+        parts.now.graph.now parts.now.arcs.now held.new }
+{
+    let Held::Words(words) = held else {
+        return Ok(None);
+    };
+    settle_by_words(alloc, parts, words, settled, edge)
+}
+
+// Goes over from words to plain functions, if it isn't done yet.
+fn go_over<W: Ways>(
+    alloc: Global,
+    parts: &EditParts<'_, W>,
+    settled: &[TouchedEdge],
+    held: &mut Held,
+) -> Result<(), NoMemory>
+    requires begun { IsBegun held.old }
+    requires holds { Holds
+        (settling_of (W.hierarchy parts.now.ways.now) parts.now.edit.now settled.now)
+        parts.now.graph.now parts.now.arcs.now held.old }
+    ensures plain { OnOk result (IsPlain held.new) }
+    ensures holds { Holds
+        (settling_of (W.hierarchy parts.now.ways.now) parts.now.edit.now settled.now)
+        parts.now.graph.now parts.now.arcs.now held.new }
+{
+    let Held::Words(words) = held else {
+        return Ok(());
+    };
+    let plain = plain_of_words(alloc, parts.graph.edges(), settled, &words.functions)?;
+    *held = Held::Plain(plain);
+    Ok(())
+}
+
+// Settles one edge more by plain functions, which are held.
+fn settle_plainly<W: Ways>(
+    alloc: Global,
+    parts: &EditParts<'_, W>,
+    held: &mut Held,
+    settled: &mut Vec<TouchedEdge>,
+    edge: u32,
+) -> Result<TouchedEdge, NoMemory>
+    requires plain { IsPlain held.old }
+    requires holds { Holds
+        (settling_of (W.hierarchy parts.now.ways.now) parts.now.edit.now settled.old.items)
+        parts.now.graph.now parts.now.arcs.now held.old }
+    requires asked { IsNext
+        (settling_of (W.hierarchy parts.now.ways.now) parts.now.edit.now settled.old.items) edge }
+    ensures edge { IfOk result (λ touched. touched.edge ≡ edge) }
+    ensures settled { IfOk result
+        (λ touched. settled.new.items ≡ settled.old.items ++ touched ∷ []) }
+    ensures resettled { IfOk result (IsResettledEdge (settled_so_far
+        (settling_of (W.hierarchy parts.now.ways.now) parts.now.edit.now settled.new.items))) }
+    ensures kept { OnErr result (settled.new.items ≡ settled.old.items) }
+    ensures holds { Holds
+        (settling_of (W.hierarchy parts.now.ways.now) parts.now.edit.now settled.new.items)
+        parts.now.graph.now parts.now.arcs.now held.new }
+{
+    let Held::Plain(plain) = held else {
+        unreachable!()
+    };
+    settle_next(
+        alloc,
+        parts.ways,
+        parts.edit,
+        parts.graph,
+        parts.arcs,
+        &mut plain.rebuilt,
+        &mut plain.known,
+        settled,
+        edge,
+    )
 }
 
 // Settles one edge more: learns the functions of its lower sides, and settles it by them. What was learnt stays after a refusal,
@@ -177,41 +322,6 @@ fn settle_edge<W: Ways>(
         down: down.ways,
     };
     Ok((lists, EdgeFunctions::of(up.function, down.function)))
-}
-
-// Room for the functions of so many edges, of which none is known.
-fn nothing_known(alloc: Global, edges: u32) -> Result<Vec<Option<EdgeFunctions>>, NoMemory>
-    ensures long { IfOk result (λ known. length known.items ≡ edges) }
-    ensures none { IfOk result (λ known. All (λ (one : Option EdgeFunctions). one ≡ None)
-        known.items) }
-{
-    let mut known = Vec::with_capacity(alloc, edges as usize)?;
-    'edges: for _edge in 0..edges {
-        known.push(None)?;
-    }
-    Ok(known)
-}
-
-// A copy of an edge and its lists.
-fn copy_touched(alloc: Global, touched: &TouchedEdge) -> Result<TouchedEdge, NoMemory>
-    ensures { IfOk result (λ copy. copy ≡ touched.now) }
-{
-    Ok(TouchedEdge {
-        edge: touched.edge,
-        up: copy_list(alloc, &touched.up)?,
-        down: copy_list(alloc, &touched.down)?,
-    })
-}
-
-fn copy_list(alloc: Global, list: &WayList) -> Result<WayList, NoMemory>
-    ensures { IfOk result (λ copy. copy ≡ list.now) }
-{
-    let mut entries: Vec<Entry> = Vec::with_capacity(alloc, list.entries().len())?;
-    entries.extend_from_slice(list.entries())?;
-    let Some(copy) = WayList::of(entries) else {
-        unreachable!()
-    };
-    Ok(copy)
 }
 
 /// Learns that what an edit sets is a profile.

@@ -1,6 +1,7 @@
 //! The functions that settling an edge asks for, all of them known beforehand.
 
-ghost use Rattle.std.specs.Prelude.{◌≡◌, IfOk};
+ghost use Rattle.std.specs.Prelude.{◌≡◌, All, IfOk, None, Option, length};
+ghost use Rattle.cu_edits.specs.declared.known.EdgeFunctions.{EdgeFunctions};
 ghost use Rattle.cu_model.specs.Edits.{IsEditInRange, edited};
 ghost use Rattle.cu_customize.specs.Functions.{AreTravelsOf, IsFunction};
 ghost use Rattle.cu_edits.specs.Steps.Known.{IsEditSound, function_in, functions_of, values_of};
@@ -173,4 +174,17 @@ fn travels_of(function: &Option<MeasuredFunction>) -> Option<Travels>
         return None;
     };
     Some(function.travels)
+}
+
+/// Room for the functions of so many edges, of which none is known.
+pub fn nothing_known(alloc: Global, edges: u32) -> Result<Vec<Option<EdgeFunctions>>, NoMemory>
+    ensures long { IfOk result (λ known. length known.items ≡ edges) }
+    ensures none { IfOk result (λ known. All (λ (one : Option EdgeFunctions). one ≡ None)
+        known.items) }
+{
+    let mut known = Vec::with_capacity(alloc, edges as usize)?;
+    'edges: for _edge in 0..edges {
+        known.push(None)?;
+    }
+    Ok(known)
 }

@@ -8,5 +8,6 @@ ghost use Rattle.cu_interval.specs.Resettling.{IsResettled};
 /// A law: a built hierarchy that is resettled by an edit is the built one of the edited network.
 pub fn resettled_is_built()
     ensures built { (old new : HierarchyValue) (edit : Edit) → IsBuilt old
-        → IsEditInRange old.network edit → IsHierarchy new → IsResettled old edit new → IsBuilt new }
+        → IsEditInRange old.network edit → IsHierarchy new → IsResettled old edit new
+        → IsBuilt new }
 {}

@@ -7,20 +7,29 @@
 //!
 //! [`touch`] makes an edit of any hierarchy by its touched edges alone (`IsResettled` in `specs/Resettling.antt` of
 //! `cu_interval`). [`recustomize`] settles them, each after the touched edges of its lower triangles, by a [`Settler`];
-//! [`EditSettler`] is the one that [`touch`] takes. [`copy_network`] copies the network of whatever stands for one.
+//! [`EditSettler`] is the one that [`touch`] takes. It settles by functions that are words, whose promise is the same as that of
+//! plain ones; once a way takes longer than words can say, as in a file that isn't built, it goes over to plain functions.
+//! [`copy_network`] copies the network of whatever stands for one.
 //!
 //! A law speaks of the definitions alone, [`resettled_is_built`]: a built hierarchy that is resettled by an edit is the built one
 //! of the edited network.
 //!
 //! It stands on `cu_model`, `cu_tables`, `cu_profile`, `cu_links`, `cu_arrival`, `cu_chordal`, `cu_interval`, `cu_customize` and
-//! `cu_unpack`. `specs/Steps` is cited by private functions alone.
+//! `cu_unpack`. Private are how touched edges spread, and what a settler holds. `specs/Steps` is cited by private functions alone.
 #![tactic(auto)]
 
+mod by_words;
+mod copied_lists;
 mod copying;
+mod edit_parts;
 mod edit_settler;
+mod edited_roads;
+mod going_over;
+mod held;
 mod known;
 mod laws;
 mod learning;
+mod learning_words;
 mod lines;
 mod recustomizing;
 mod road_functions;

@@ -14,7 +14,7 @@ use std::alloc::Global;
 use std::test::Fail;
 
 // The profile of one rule all day.
-fn always(alloc: Global, rule: Rule) -> Result<Profile, Fail>
+pub(crate) fn always(alloc: Global, rule: Rule) -> Result<Profile, Fail>
     ensures { IfOk result IsProfile }
 {
     let piece = Piece { from: 0, rule };
@@ -38,7 +38,7 @@ fn road(tail: u32, head: u32, profile: u32) -> RoadArc
 }
 
 // Three nodes with a road from each to each later one, the first with a profile of its own, and a loop with another.
-fn network(alloc: Global) -> Result<Network, Fail>
+pub(crate) fn network(alloc: Global) -> Result<Network, Fail>
     ensures nodes { IfOk result (λ network. network.nodes ≡ 3) }
     ensures roads { IfOk result (λ network. length network.arcs ≡ 4) }
     ensures profiles { IfOk result (λ network. length network.profiles ≡ 3) }
@@ -101,7 +101,7 @@ fn setting_touches_the_edges_of_roads_and_those_above(rt: HostRuntime) -> Result
 }
 
 // The built hierarchy of a network of three nodes with node 1 below the others: nodes 1, 0 and 2 have the ranks 0, 1 and 2.
-fn built(alloc: Global, network: Network) -> Result<Hierarchy, Fail>
+pub(crate) fn built(alloc: Global, network: Network) -> Result<Hierarchy, Fail>
     requires { network.nodes ≡ 3 }
     ensures { IfOk result (λ hierarchy. hierarchy.network ≡ network) }
 {
@@ -137,32 +137,44 @@ fn touch_once(alloc: Global, hierarchy: &Hierarchy, edit: Edit) -> Result<Touche
 }
 
 // Is it this edge, with these lists?
-fn has_lists(touched: &TouchedEdge, edge: u32, up: &[Entry], down: &[Entry]) -> bool {
+pub(crate) fn has_lists(touched: &TouchedEdge, edge: u32, up: &[Entry], down: &[Entry]) -> bool {
     touched.edge == edge && touched.up.entries() == up && touched.down.entries() == down
 }
 
-fn all_day(way: Way) -> Entry {
+pub(crate) fn all_day(way: Way) -> Entry {
     Entry { from: 0, way }
+}
+
+// The built hierarchy of the network where road 2 takes 250 seconds, and a minute each along roads 0 and 1 is less.
+pub(crate) fn slow_road(alloc: Global) -> Result<Hierarchy, Fail>
+    ensures nodes { IfOk result (λ hierarchy. hierarchy.network.nodes ≡ 3) }
+    ensures profiles { IfOk result (λ hierarchy. length hierarchy.network.profiles ≡ 3) }
+{
+    let mut network = network(alloc)?;
+    let pieces = always(alloc, Rule::Travel(250))?;
+    network.apply(Edit::Set { profile: 2, pieces });
+    network.apply(Edit::Assign { arc: 2, profile: 2 });
+    built(alloc, network)
+}
+
+// Are these the two edges that an edit of the slow road's hierarchy touches, once road 0 takes 200 seconds? 260 along roads 0 and 1
+// is more than the 250 of road 2.
+pub(crate) fn are_roads_alone(lists: &[TouchedEdge]) -> bool {
+    let [first, second] = lists else {
+        return false;
+    };
+    has_lists(first, 0, &[], &[all_day(Way::Road(0))])
+        && has_lists(second, 2, &[all_day(Way::Road(2))], &[])
 }
 
 #[test]
 fn touching_settles_the_touched_edges(rt: HostRuntime) -> Result<(), Fail> {
     let alloc = rt.alloc();
-    let mut network = network(alloc)?;
-    // Road 2 takes 250 seconds, and a minute each along roads 0 and 1 is less.
-    let pieces = always(alloc, Rule::Travel(250))?;
-    network.apply(Edit::Set { profile: 2, pieces });
-    network.apply(Edit::Assign { arc: 2, profile: 2 });
-    let hierarchy = built(alloc, network)?;
+    let hierarchy = slow_road(alloc)?;
     assert_eq!(rt; way(&hierarchy), Some(Way::Via(0)));
-    // Road 0 takes 200 seconds, and 260 along both is more.
     let pieces = always(alloc, Rule::Travel(200))?;
     let touched = touch_once(alloc, &hierarchy, Edit::Set { profile: 0, pieces })?;
-    assert!(rt; touched.lists.len() == 2);
-    let road = [all_day(Way::Road(0))];
-    assert!(rt; has_lists(&touched.lists[0], 0, &[], &road));
-    let road = [all_day(Way::Road(2))];
-    assert!(rt; has_lists(&touched.lists[1], 2, &road, &[]));
+    assert!(rt; are_roads_alone(&touched.lists));
     Ok(())
 }
 

@@ -3,7 +3,7 @@ use Rattle.std.specs.Prelude.{All}
 use Rattle.std.proofs.lemmas.List.{length-append}
 use Rattle.std.proofs.lemmas.List.Elements.{All-push}
 use Rattle.cu_edits.specs.declared.known.EdgeFunctions.{EdgeFunctions}
-use Rattle.cu_edits.proofs.edit_settler.nothing_known.Goals as goal
+use Rattle.cu_edits.proofs.known.nothing_known.Goals as goal
 
 pub edges-preserved : goal.edges-preserved
 edges-preserved c =

@@ -1,7 +1,7 @@
 use Rattle.std.proofs.Common.{◌≡◌, ◌∙◌, ◌++◌, List, ap, subst, sym}
 use Rattle.cu_interval.specs.declared.ways.Entry.{Entry}
 use Rattle.cu_interval.specs.WayLists.{FindsWayList, IsWayList}
-use Rattle.cu_edits.proofs.edit_settler.copy_list.Goals as goal
+use Rattle.cu_edits.proofs.copied_lists.copy_list.Goals as goal
 
 pub unreachable-requires : goal.unreachable-requires
 unreachable-requires c =

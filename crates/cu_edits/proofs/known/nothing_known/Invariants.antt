@@ -2,7 +2,7 @@
 use Rattle.std.proofs.Common.{◌≡◌, None, Option, length}
 use Rattle.std.specs.Prelude.{All}
 use Rattle.cu_edits.specs.declared.known.EdgeFunctions.{EdgeFunctions}
-use Rattle.cu_edits.proofs.edit_settler.nothing_known.Given as goal
+use Rattle.cu_edits.proofs.known.nothing_known.Given as goal
 
 abbrev pub invariant-edges : goal.invariant-edges
 invariant-edges l = record {

@@ -1,0 +1,29 @@
+//! The functions of edges that a settler holds.
+
+use crate::known::EdgeFunctions;
+use cu_customize::WordSettling;
+use cu_unpack::{Rebuilt, WordFunctions};
+
+/// Functions as words, and the room that settling by them takes.
+#[derive(Debug, Drop)]
+pub struct HeldWords {
+    pub functions: WordFunctions,
+    pub settling: WordSettling,
+}
+
+/// Plain functions: those that were rebuilt of lists before the edit, and those of edges whose lists won't change any more, as
+/// far as they are known.
+#[derive(Debug, Drop)]
+pub struct HeldPlain {
+    pub rebuilt: Rebuilt,
+    pub known: Vec<Option<EdgeFunctions>>,
+}
+
+/// What a settler holds: nothing before it settles an edge, then words, and plain functions once a way takes longer than words
+/// can say.
+#[derive(Debug, Drop)]
+pub enum Held {
+    Nothing,
+    Words(HeldWords),
+    Plain(HeldPlain),
+}
