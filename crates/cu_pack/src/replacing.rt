@@ -42,7 +42,6 @@ fn count_between(view: &PackedView<'_>, first: u32, end: u32) -> u64
     ensures count { result ≡ total (slice_range view.now.lists first end) }
     ensures few { result ≤ 2 * MAX_EDGES * DAY }
 {
-    let _edges = view.edges();
     view.way_start(end) - view.way_start(first)
 }
 

@@ -114,7 +114,8 @@ fn is_well_formed(sections: &Sections<'_>, places: &mut [u32], from: u32, to: u3
 // Whether a road may be driven from one rank to another.
 fn leads(sections: &Sections<'_>, arc: u32, from: u32, to: u32) -> bool
     requires graph { IsGraph sections.now }
-    ensures { IsTrue result ↔ LeadsRanks (network_in sections.now) (order_in sections.now) arc from to }
+    ensures { IsTrue result
+        ↔ LeadsRanks (network_in sections.now) (order_in sections.now) arc from to }
 {
     if arc >= sections.counts().arcs {
         return false;

@@ -39,7 +39,8 @@ impl<'a> Sections<'a> {
     // When a piece begins, counted over all profiles, or the end of the day where it isn't before this one.
     fn begin_or_day(&self, piece: u64, end: u64) -> u32
         requires end { end ≤ (counts_in self.now).pieces }
-        ensures some { piece < end → result ≡ (piece_from self.now (piece_place self.now piece)).from }
+        ensures some { piece < end
+            → result ≡ (piece_from self.now (piece_place self.now piece)).from }
         ensures none { end ≤ piece → result ≡ DAY }
     {
         if piece < end {

@@ -2,6 +2,7 @@
 
 ghost use Rattle.std.specs.Prelude.{◌≡◌, ◌≤◌, ◌*◌, length, slice_range, suc, take};
 ghost use Rattle.std.specs.List.{flat_map};
+ghost use Rattle.cu_interval.specs.Hierarchies.{IsHierarchy};
 ghost use Rattle.cu_pack.specs.Spelling.{arc_bytes, edges_section, entry_bytes, long, order_section, piece_bytes, profiles_section, starts_from, total};
 
 use crate::view::PackedView;
@@ -19,7 +20,8 @@ impl<'a> PackedView<'a> {
     pub(crate) fn arcs_part(&self, start: u32, end: u32) -> &'a [u8]
         requires order { start ≤ end }
         requires inside { end ≤ length self.now.network.arcs }
-        ensures part { result.now ≡ flat_map arc_bytes (slice_range self.now.network.arcs start end) }
+        ensures part { result.now
+            ≡ flat_map arc_bytes (slice_range self.now.network.arcs start end) }
     {
         let arcs = self.sections.layout().arcs;
         self.sections
@@ -80,6 +82,7 @@ impl<'a> PackedView<'a> {
     pub(crate) fn way_start(&self, list: u32) -> u64
         requires inside { list ≤ length self.now.lists }
         ensures start { result ≡ total (take list self.now.lists) }
+        ensures sound { IsHierarchy self.now }
     {
         self.sections.way_start(list)
     }

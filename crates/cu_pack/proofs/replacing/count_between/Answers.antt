@@ -14,5 +14,5 @@ pub returns-clause-few : goal.returns-clause-few
 returns-clause-few c =
     let h = c.args.view.now in
     let most = sum_by-take-le length h.lists c.args.end in
-    let limit = entries_in_limit h c.edges-edges.ensures.sound in
+    let limit = entries_in_limit h c.way_start.ensures.sound in
     omega (arith, most, limit, c.way_start.ensures.start)

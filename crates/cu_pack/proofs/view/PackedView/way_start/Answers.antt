@@ -15,4 +15,8 @@ way_start-requires c =
 pub returns : goal.returns
 returns c =
     let bytes = c.self.inside.sections in
-    record { start = c.way_start.ensures.start ∙ way_start_known bytes c.args.self.now (subst (Spells bytes) c.self.view_is c.self.invariant) c.args.list c.requires.inside }
+    let spells = subst (Spells bytes) c.self.view_is c.self.invariant in
+    record {
+      start = c.way_start.ensures.start ∙ way_start_known bytes c.args.self.now spells c.args.list c.requires.inside;
+      sound = spells.sound;
+    }
