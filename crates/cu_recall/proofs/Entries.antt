@@ -1,6 +1,6 @@
 -- What a list's entry in force says of its walks.
-use Rattle.std.proofs.Common.{◌≡◌, ◌<◌, ◌+◌, ◌-◌, ◌*◌, ◌/◌, ◌∙◌, ℕ, List, [], Some, sym, ap, subst, arith, length}
-use Rattle.std.specs.Prelude.{slice_get}
+use Rattle.std.proofs.Common.{◌≡◌, ◌<◌, ◌+◌, ◌-◌, ◌*◌, ◌/◌, ◌∙◌, ◌↔◌, ℕ, List, [], Option, None, Some, refl, sym, ap, subst, arith, length}
+use Rattle.std.specs.Prelude.{IfSome, IsSome, slice_get}
 use Rattle.cu_chordal.specs.declared.graph.Ends.{Ends}
 use Rattle.cu_chordal.specs.Graphs.{HasEdge}
 use Rattle.cu_interval.specs.declared.ways.Dir.{Dir}
@@ -20,7 +20,8 @@ use Rattle.cu_recall.specs.declared.spans.Driven.{Driven}
 use Rattle.cu_recall.specs.declared.spans.Met.{Met}
 use Rattle.cu_recall.specs.declared.spans.Parts.{Parts}
 use Rattle.cu_recall.specs.declared.spans.Parts.TheVariants as part
-use Rattle.cu_recall.specs.Spans.{AreHalvesAt, HasWayOver, HoldsParts, IsListFrom, dir_of}
+use Rattle.cu_recall.specs.declared.spans.Row.{Row}
+use Rattle.cu_recall.specs.Spans.{AreHalvesAt, HasMoment, HasWayOver, HoldsMet, HoldsParts, IsListFrom, Knows, dir_of, met_of}
 use Rattle.cu_recall.specs.Windows.{HoldsDriven}
 use Rattle.cu_recall.specs.Steps.Drives.{DrivesRoad}
 use Rattle.cu_recall.specs.Steps.Looks.{HoldsParted, HoldsPartsOf, IsAsked, IsMetAt}
@@ -107,3 +108,12 @@ met_parted h asked met first second (holds, low, high) parts =
           let (m, both, taken) = subst (λ (p : Parts). HoldsParts h u v met.from met.until p) parts (holds.1 u v is (omega (arith, low, high))) in
           (m, both, λ t near. let behind = near.0 in let before = near.1 in taken t (omega (arith, behind, low)) (omega (arith, before, high))),
     )
+
+-- the entry that a row keeps is the list's, where it has the second
+pub met_kept : (h : HierarchyValue) (rows : List Row) (asked : Asked) (row : Row) → slice_get rows asked.list ≡ Some row → Knows h rows → (found : Option Met)
+    → (IsSome found ↔ HasMoment (met_of row.met) asked.second) → IfSome found (λ (met : Met). met ≡ met_of row.met) → IfSome found (λ (met : Met). IsMetAt h asked met)
+met_kept h rows asked row at knows None there same = same
+met_kept h rows asked row at knows (Some met) there same =
+    let back = sym same in
+    let moment = subst (λ (m : Met). HasMoment m asked.second) back (there.0 refl) in
+    (subst (HoldsMet h asked.list) back (knows asked.list row at).met, moment.0, moment.1)

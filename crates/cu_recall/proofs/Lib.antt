@@ -4,6 +4,7 @@ pub mod Joining
 pub mod Keeping
 pub mod RoadDrives
 pub mod Entries
+pub mod Middles
 pub mod Working
 pub mod Parting
 pub mod Turning

@@ -5,7 +5,10 @@
 //! makes it wrong, and it doesn't matter which span is written over. [`travels_add`] is the law that it rests on: near a
 //! second the walk by a middle is those of both halves joined, so that travels and roads add.
 //!
-//! It stands on `cu_model`, `cu_chordal`, `cu_interval`, `cu_unpack` and `cu_pack`, and its tests on `cu_customize`.
+//! [`RecalledWays`] are the file's ways for whoever writes a walk behind such relaxations: where the entry that was met last
+//! is in force its way is read from the row, and the ends of an edge from the graph.
+//!
+//! It stands on `cu_model`, `cu_chordal`, `cu_interval`, `cu_unpack` and `cu_pack`, and its tests on `cu_customize` and `cu_io`.
 //! `specs/Steps` is cited by private functions alone.
 #![tactic(auto)]
 
@@ -15,6 +18,7 @@ mod laws;
 mod looking;
 mod pending;
 mod recall;
+mod recalled;
 mod remembering;
 mod room;
 mod spans;
@@ -25,5 +29,6 @@ mod unpacking;
 pub use kept::Kept;
 pub use laws::travels_add;
 pub use recall::Recall;
+pub use recalled::RecalledWays;
 pub use room::Room;
 pub use spans::{Driven, Met, Parts, Row, Span};

@@ -15,6 +15,7 @@ use crate::remembering::{meet, remember};
 use crate::spans::{Driven, Met, Parts, Row, Span};
 use cu_chordal::{Chordal, Ends};
 use cu_interval::{Dir, Way};
+use cu_model::DAY;
 use cu_pack::PackedView;
 
 /// What driving a list takes, where that is known or its way is a road; else the halves of the way in force.
@@ -100,12 +101,23 @@ fn met_at(view: &PackedView<'_>, graph: &Chordal, rows: &mut [Row], asked: Asked
     ensures met { IsMetAt view.now asked result }
     ensures knows { Knows view.now rows.new }
 {
-    if let Some(met) = rows[asked.list as usize].met.at(asked.second) {
+    if let Some(met) = met_last(rows, asked) {
         return met;
     }
     let met = look_up(view, graph, asked);
     meet(rows, asked.list, met);
     met
+}
+
+/// The entry of a list that was met last, where it is in force at the second.
+#[inline(always)]
+pub fn met_last(rows: &[Row], asked: Asked) -> Option<Met>
+    requires list { asked.list < length rows.now }
+    requires day { asked.second < DAY }
+    ensures met { (h : HierarchyValue) → Knows h rows.now
+        → IfSome result (λ met. IsMetAt h asked met) }
+{
+    rows[asked.list as usize].met.at(asked.second)
 }
 
 // The entry by the bytes.

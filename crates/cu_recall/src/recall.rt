@@ -115,8 +115,9 @@ fn relax_over(
     }
 }
 
-// The list of an edge in a direction, asked at the second of the day of an absolute second.
-fn asked_of(edge: u32, dir: Dir, at: u64) -> Asked
+/// The list of an edge in a direction, asked at the second of the day of an absolute second.
+#[inline(always)]
+pub fn asked_of(edge: u32, dir: Dir, at: u64) -> Asked
     requires edge { edge < MAX_EDGES }
     ensures { result ≡ edge_asked edge dir at }
 {

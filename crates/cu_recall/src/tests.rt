@@ -1,12 +1,15 @@
 //! What no clause says: that calls succeed, and arrivals that were worked by hand, asked of one that knows nothing yet and of
 //! the same when it does.
 
-ghost use Rattle.std.specs.Prelude.{◌≡◌, IfOk, length};
+ghost use Rattle.std.specs.Prelude.{◌≡◌, ◌<◌, IfOk, length};
+ghost use Rattle.cu_interval.specs.Hierarchies.{IsHierarchyOf};
+ghost use Rattle.cu_recall.specs.Rooms.{Fits};
 
-use crate::{Recall, Room};
-use cu_chordal::close;
+use crate::{Recall, RecalledWays, Room};
+use cu_chordal::{Chordal, close};
 use cu_customize::customize;
 use cu_interval::{Dir, Hierarchy, Relaxed, Relaxer, Ways};
+use cu_io::MemorySink;
 use cu_model::{Network, Order, Piece, Profile, RoadArc, Roads, Rule};
 use cu_pack::{PackedView, chordal_of, pack};
 use cu_unpack::{Unpacker, Work};
@@ -102,5 +105,65 @@ fn remembers_what_is_so(rt: HostRuntime) -> Result<(), Fail> {
         ask(&mut recall, edges, 4, Dir::Up, 28_740),
         Some(Relaxed::At(29_140))
     );
+    Ok(())
+}
+
+// Room in which the way upwards over edge 4 at this second was met.
+fn met(view: &PackedView<'_>, graph: &Chordal, room: Room, second: u32) -> Room
+    requires graph { IsHierarchyOf graph.now view.now }
+    requires fits { Fits view.now room }
+    requires edge { 4 < length view.now.edges }
+    ensures fits { Fits view.now result }
+{
+    let mut recall = Recall::new(view, graph, room);
+    recall.relax(4, Dir::Up, u64::from(second));
+    recall.into_room()
+}
+
+// Are these the roads that are written of the walk upwards over edge 4?
+fn is_walk<W: Ways>(alloc: Global, ways: &W, second: u32, roads: &[u8]) -> Result<bool, Fail>
+    requires edge { 4 < length (W.hierarchy ways.now).edges }
+{
+    let mut sink = MemorySink::new(alloc, 8, Vec::new(alloc))?;
+    let mut unpacker = Unpacker::new(ways, Work::new(alloc, ways.nodes())?);
+    if let Relaxed::At(_) = unpacker.relax(4, Dir::Up, u64::from(second)) {
+        unpacker.walk(4, Dir::Up, u64::from(second), true, &mut sink)?;
+    }
+    Ok(sink.bytes() == roads)
+}
+
+// Are they written so by what was met at another second, and by the bytes alone?
+fn writes(
+    alloc: Global,
+    view: &PackedView<'_>,
+    other: u32,
+    second: u32,
+    roads: &[u8],
+) -> Result<bool, Fail> {
+    let graph = chordal_of(alloc, view)?;
+    let edges = view.edges();
+    if edges < 5 {
+        return Ok(false);
+    }
+    let room = met(view, &graph, Room::new(alloc, view.nodes(), edges)?, other);
+    let ways = RecalledWays::new(view, &graph, &room);
+    Ok(is_walk(alloc, &ways, second, roads)? && is_walk(alloc, view, second, roads)?)
+}
+
+// The way that is met at midnight is in force until before 28,740.
+fn writes_all(alloc: Global, view: &PackedView<'_>) -> Result<bool, Fail> {
+    Ok(
+        writes(alloc, view, 0, 28_739, b"0 1 2")?
+            && writes(alloc, view, 0, 28_740, b"3")?
+            && writes(alloc, view, 28_740, 28_741, b"3")?,
+    )
+}
+
+#[test]
+fn writes_what_was_met(rt: HostRuntime) -> Result<(), Fail> {
+    let alloc = rt.alloc();
+    let bytes = pack(alloc, &hierarchy(alloc)?)?;
+    let view = PackedView::open(alloc, &bytes)?;
+    assert!(rt; writes_all(alloc, &view)?);
     Ok(())
 }
