@@ -18,13 +18,14 @@ use Rattle.cu_chordal.specs.Edges.{ListsEdges}
 use Rattle.cu_interval.specs.Touching.{IsTouched}
 use Rattle.cu_edits.specs.declared.lines.EditRefusal.{EditRefusal}
 use Rattle.cu_edits.specs.declared.lines.EditRefusal.TheVariants as edit
+use Rattle.cu_edits.specs.declared.lines.TheConstants.{MAX_EDIT_LINE}
 use Rattle.cu_edits.specs.EditLines.{edit_of}
 use Rattle.cu_session.specs.Refusals.{piece_refusal_words}
 use Rattle.cu_session.specs.Swept.{IsSweptAnswer}
 
 -- the most bytes of a line before its end
 abbrev pub line_limit : ℕ
-line_limit = 4194304
+line_limit = MAX_EDIT_LINE
 
 -- the word of a check that a query line fails
 abbrev pub check_word : QueryRefusal → List ℕ

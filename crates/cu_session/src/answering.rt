@@ -11,11 +11,12 @@ ghost use Rattle.cu_session.specs.Steps.Turns.{TakesTurn, left_to_read, stop_of}
 use crate::replies::answer_line;
 use crate::router::Router;
 use crate::stops::SessionStop;
+use cu_edits::MAX_EDIT_LINE;
 use cu_io::{Line, LineReader, Sink, Source, put_line};
 use std::alloc::Global;
 
 /// The most bytes of a line before its end.
-pub(crate) const LINE_LIMIT: u32 = 4_194_304;
+pub(crate) const LINE_LIMIT: u32 = MAX_EDIT_LINE;
 
 /// The most bytes taken in a run, 2^40.
 const TAKE_LIMIT: u64 = 1 << 40;
@@ -55,7 +56,8 @@ pub fn session<S: Source, K: Sink>(
     requires spelled { (h : HierarchyValue) × Spells bytes.items h }
     ensures ended { (h : HierarchyValue) → Spells bytes.items h → (why : Option SessionStop)
         × (result ≡ session_status why)
-        × EndsSession h why (S.state source.old) (S.state source.new) (K.state sink.old) (K.state sink.new) }
+        × EndsSession h why (S.state source.old) (S.state source.new)
+        (K.state sink.old) (K.state sink.new) }
 {
     match answer_script(alloc, bytes, source, sink) {
         Ok(()) => 0,

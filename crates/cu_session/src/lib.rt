@@ -8,7 +8,8 @@
 //! bytes anew for each line, takes no memory for a query, and keeps what queries learn of the hierarchy until the next edit.
 //!
 //! It stands on `cu_model` and `cu_io` for lines, queries and sinks, on `cu_pack` for the bytes, on `cu_sweep`, `cu_recall`,
-//! `cu_unpack`, `cu_elimtree` and `cu_links` for queries, and on `cu_edits` for edits. `specs/Steps` is cited by private functions alone.
+//! `cu_unpack`, `cu_elimtree` and `cu_links` for queries, and on `cu_edits` for edits. Private are the turn over one line, and the
+//! room that a router keeps. `specs/Steps` is cited by private functions alone.
 #![tactic(auto)]
 
 mod answering;

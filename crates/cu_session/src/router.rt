@@ -9,7 +9,9 @@ ghost use Rattle.cu_elimtree.specs.SweepArcs.{parents_in};
 ghost use Rattle.cu_interval.specs.Hierarchies.{HierarchyValue, IsBuilt, IsHierarchy, IsHierarchyOf};
 ghost use Rattle.cu_pack.specs.Checks.{Spells};
 ghost use Rattle.cu_pack.specs.Reading.{decoded};
-ghost use Rattle.cu_sweep.specs.Desks.{AreArriving, roads_of};
+ghost use Rattle.cu_sweep.specs.Answers.{IsLeastWhereBuilt, IsReal};
+ghost use Rattle.cu_sweep.specs.Desks.{AreArriving, HoldsFound, roads_of};
+ghost use Rattle.cu_sweep.specs.Sweeps.{found};
 ghost use Rattle.cu_session.specs.Held.{IsHeldAnswer};
 ghost use Rattle.cu_session.specs.Steps.Routing.{FindsArrival, FitsSome, IsEdited};
 ghost use Rattle.cu_session.specs.Swept.{swept_reply};
@@ -23,7 +25,7 @@ use cu_io::{Sink, SinkFailed, put_all, put_number};
 use cu_links::RankBuckets;
 use cu_model::{Edit, NoMemory, Query, Roads};
 use cu_pack::{PackedView, chordal_of, order_of, repack};
-use cu_recall::{Recall, Room};
+use cu_recall::{Recall, RecalledWays, Room};
 use cu_sweep::{Found, SweepDesk, route};
 use cu_unpack::{Unpacker, Work};
 use std::alloc::Global;
@@ -120,22 +122,15 @@ impl Router {
         let to = view.rank(query.to);
         let tree = &self.tree;
         let graph = &self.graph;
-        let mut recall = Recall::new(&view, graph, room);
-        let mut unpacker = Unpacker::new(&view, work);
         let desk = &mut self.desk;
-        let outcome = put_swept(
-            tree,
-            graph,
-            desk,
-            &mut recall,
-            &mut unpacker,
-            from,
-            to,
-            query,
-            sink,
-        );
-        self.room = Some(recall.into_room());
+        let mut recall = Recall::new(&view, graph, room);
+        let found = cu_sweep::query(tree, graph, desk, &mut recall, from, to, query.second);
+        let room = recall.into_room();
+        let ways = RecalledWays::new(&view, graph, &room);
+        let mut unpacker = Unpacker::new(&ways, work);
+        let outcome = put_found(found, desk, &mut unpacker, from, to, query, sink);
         self.work = Some(unpacker.into_work());
+        self.room = Some(room);
         outcome
     }
 
@@ -237,33 +232,30 @@ fn find_swept(
     }
 }
 
-// Sweeps for a query between the ranks of its nodes, and writes what is found.
-fn put_swept<K: Sink>(
-    tree: &Tree,
-    graph: &Chordal,
+// Writes what the sweeps of a query between the ranks of its nodes found.
+fn put_found<K: Sink>(
+    swept: Found,
     desk: &mut SweepDesk,
-    recall: &mut Recall<'_>,
-    unpacker: &mut Unpacker<'_, PackedView<'_>>,
+    unpacker: &mut Unpacker<'_, RecalledWays<'_>>,
     from: u32,
     to: u32,
     query: Query,
     sink: &mut K,
 ) -> Result<(), SinkFailed>
-    requires same { unpacker.old ≡ recall.old }
-    requires graph { IsHierarchyOf graph.now recall.old }
-    requires tree { tree.now ≡ parents_in graph.now }
-    requires desk { desk.old.nodes ≡ graph.now.ranks }
-    requires start { slice_get recall.old.order.rank_of query.from ≡ Some from }
-    requires stop { slice_get recall.old.order.rank_of query.to ≡ Some to }
-    requires ranks { (from < graph.now.ranks) × (to < graph.now.ranks) }
-    requires second { query.second < DAY }
-    ensures answer { IsHeldAnswer recall.old query (swept_reply recall.old query) }
+    requires found { swept ≡ found unpacker.old from to query.second }
+    requires holds { HoldsFound unpacker.old from to query.second swept desk.old }
+    requires least { IsLeastWhereBuilt unpacker.old from to query.second swept }
+    requires real { IsReal unpacker.old from to query.second desk.old.calls swept }
+    requires sound { IsHierarchy unpacker.old }
+    requires start { slice_get unpacker.old.order.rank_of query.from ≡ Some from }
+    requires stop { slice_get unpacker.old.order.rank_of query.to ≡ Some to }
+    ensures answer { IsHeldAnswer unpacker.old query (swept_reply unpacker.old query) }
     ensures wrote { Wrote (K.state sink.old) (K.state sink.new) result
-        (swept_reply recall.old query) }
+        (swept_reply unpacker.old query) }
     ensures desk { desk.new.nodes ≡ desk.old.nodes }
-    ensures stays { (recall.new ≡ recall.old) × (unpacker.new ≡ recall.old) }
+    ensures stays { unpacker.new ≡ unpacker.old }
 {
-    match cu_sweep::query(tree, graph, desk, recall, from, to, query.second) {
+    match swept {
         Found::Arrive(arrival) => put_arrival(arrival, desk, unpacker, sink),
         Found::NoWalk => put_all(sink, b"unreachable"),
         Found::Long { edge, dir, second } => put_damage(edge, dir, second, sink),
@@ -274,7 +266,7 @@ fn put_swept<K: Sink>(
 fn put_arrival<K: Sink>(
     arrival: u64,
     desk: &mut SweepDesk,
-    unpacker: &mut Unpacker<'_, PackedView<'_>>,
+    unpacker: &mut Unpacker<'_, RecalledWays<'_>>,
     sink: &mut K,
 ) -> Result<(), SinkFailed>
     requires unturned { desk.old.turned ≡ false }

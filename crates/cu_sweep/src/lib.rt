@@ -5,7 +5,8 @@
 //! (`specs/Answers.antt`). [`SweepDesk`] holds that walk's calls (`specs/Desks.antt`), whose roads [`route`] writes.
 //!
 //! It stands on `cu_model`, `cu_io`, `cu_links`, `cu_chordal`, `cu_elimtree`, `cu_interval` and `cu_unpack`; tests alone use
-//! `cu_customize`. `specs/Steps` is cited by private functions alone.
+//! `cu_customize`. Private are the steps of both sweeps, and where a desk keeps its labels and links. `specs/Steps` is cited by
+//! private functions alone.
 #![tactic(auto)]
 
 mod desk;
