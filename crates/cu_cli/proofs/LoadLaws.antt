@@ -1,5 +1,5 @@
 -- Loads one after another.
-use Rattle.std.proofs.Common.{ℕ, List, [], ◌∷◌, ◌++◌, ◌∙◌, refl, arith, inl, inr}
+use Rattle.std.proofs.Common.{◌≡◌, ℕ, List, [], ◌∷◌, ◌++◌, ◌∙◌, refl, arith, inl, inr}
 use Rattle.cu_io.specs.Shelves.{ShelfState}
 use Rattle.cu_cli.specs.declared.stops.Stop.{Stop}
 use Rattle.cu_cli.specs.declared.stops.Stop.TheVariants as stop
@@ -28,17 +28,17 @@ all_loaded_behind [] (text ∷ texts) h k = absurd k
 all_loaded_behind (file ∷ files) [] h k = absurd k
 all_loaded_behind (file ∷ files) (text ∷ texts) h (loaded, more) = (loaded_behind file text h loaded, all_loaded_behind files texts h more)
 
--- a load that stops the run behind others
-pub stops_behind : {a b : ShelfState} (c : ShelfState) (file : FileAsked) (why : Stop) → OnlyLoads a b → StopsLoad b c file why → StopsLoad a c file why
-stops_behind c file (stop.Fault whose) h (same, rose) = (same, omega (arith, h.later file.name, rose))
-stops_behind c file (stop.TooLong whose) h (same, more) = (same, rw (h.held, h.most) at more)
-stops_behind c file stop.NoMemory h k = tt
-stops_behind c file _ h k = absurd k
+-- a load that stops the run behind others that met no fault
+pub stops_behind : {a b : ShelfState} (c : ShelfState) (file : FileAsked) (why : Stop) → OnlyLoads a b → b.load_faults ≡ a.load_faults → StopsLoad b c file why → StopsLoad a c file why
+stops_behind c file (stop.Fault whose) h quiet (same, rose) = (same, omega (arith, h.later file.name, rose))
+stops_behind c file (stop.TooLong whose) h quiet (same, more, still) = (same, rw (h.held, h.most) at more, still ∙ quiet)
+stops_behind c file stop.NoMemory h quiet k = tt
+stops_behind c file _ h quiet k = absurd k
 
-pub stops_all_behind : {a b : ShelfState} (c : ShelfState) (files : List FileAsked) (why : Stop) → OnlyLoads a b → StopsLoading b c files why → StopsLoading a c files why
-stops_all_behind c [] why h k = absurd k
-stops_all_behind c (file ∷ files) why h (inl stops) = inl (stops_behind c file why h stops)
-stops_all_behind c (file ∷ files) why h (inr (text, loaded, more)) = inr (text, loaded_behind file text h loaded, stops_all_behind c files why h more)
+pub stops_all_behind : {a b : ShelfState} (c : ShelfState) (files : List FileAsked) (why : Stop) → OnlyLoads a b → b.load_faults ≡ a.load_faults → StopsLoading b c files why → StopsLoading a c files why
+stops_all_behind c [] why h quiet k = absurd k
+stops_all_behind c (file ∷ files) why h quiet (inl stops) = inl (stops_behind c file why h quiet stops)
+stops_all_behind c (file ∷ files) why h quiet (inr (text, loaded, more)) = inr (text, loaded_behind file text h loaded, stops_all_behind c files why h quiet more)
 
 -- the loads of more files behind those of some
 pub loaded_then : (a : ShelfState) (files more : List FileAsked) (texts others : List (List ℕ)) → AreLoaded a files texts → AreLoaded a more others → AreLoaded a (files ++ more) (texts ++ others)

@@ -21,10 +21,12 @@ use Rattle.cu_cli.specs.Words.{FileAsked, OrderAsked, Identity, Dissected, Named
 abbrev pub IsLoaded : ShelfState → FileAsked → List ℕ → Type 0
 IsLoaded before file bytes = Holds before.held file.name bytes × (length bytes ≤ before.most)
 
--- the load of the file stops the run so: its name's count of faults rose, or it has more bytes than the limit, or memory ran out
+-- the load of the file stops the run so: its name's count of faults rose; or it has more bytes than the limit, and no count of loads
+-- changed; or memory ran out
 abbrev pub StopsLoad : ShelfState → ShelfState → FileAsked → Stop → Type 0
 StopsLoad before now file (stop.Fault whose) = (whose ≡ file.role) × Rose (before.load_faults file.name) (now.load_faults file.name)
-StopsLoad before now file (stop.TooLong whose) = (whose ≡ file.role) × HoldsMore before.held file.name before.most
+StopsLoad before now file (stop.TooLong whose) =
+    (whose ≡ file.role) × HoldsMore before.held file.name before.most × (now.load_faults ≡ before.load_faults)
 StopsLoad before now file stop.NoMemory = Unit {0}
 StopsLoad before now file _ = ⊥
 

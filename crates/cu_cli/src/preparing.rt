@@ -1,7 +1,7 @@
 //! What a command prepares before its work: its files loaded, their texts read, and the graph closed. Whatever is
 //! refused stops the run.
 
-ghost use Rattle.std.specs.Prelude.{◌≡◌, ◌≤◌, ◌<◌, ℕ, Some, IfOk, IfErr, length, slice_get};
+ghost use Rattle.std.specs.Prelude.{◌≡◌, ◌≤◌, ◌<◌, ℕ, Some, IfOk, IfErr, OnOk, length, slice_get};
 ghost use Rattle.cu_chordal.specs.Edges.{IsClosureOf};
 ghost use Rattle.cu_dissect.specs.Dissection.{dissected};
 ghost use Rattle.cu_model.specs.Networks.{IsNetwork};
@@ -83,6 +83,8 @@ pub fn load_tables<H: Shelf>(
         (network_files nodes.now roads.now profiles.now)) }
     ensures before { IfErr result IsBeforeScript }
     ensures loads { OnlyLoads (H.state shelf.old) (H.state shelf.new) }
+    ensures quiet { OnOk result
+        ((H.state shelf.new).load_faults ≡ (H.state shelf.old).load_faults) }
 {
     let nodes = load_file(alloc, Role::Nodes, nodes, shelf)?;
     let roads = load_file(alloc, Role::Roads, roads, shelf)?;
@@ -131,6 +133,8 @@ pub fn load_file<H: Shelf>(
         (record { role = role; name = name.now })) }
     ensures before { IfErr result IsBeforeScript }
     ensures loads { OnlyLoads (H.state shelf.old) (H.state shelf.new) }
+    ensures quiet { OnOk result
+        ((H.state shelf.new).load_faults ≡ (H.state shelf.old).load_faults) }
 {
     let mut bytes = Vec::new(alloc);
     match shelf.load(alloc, name, &mut bytes) {

@@ -8,7 +8,7 @@ use Rattle.cu_cli.proofs.opening.open_edited.Goals as goal
 pub returns-in_err-edits-clause-err : goal.returns-in_err-edits-clause-err
 returns-in_err-edits-clause-err g c =
     let file : FileAsked = record { role = role.Edits; name = c.args.asked.edits.now } in
-    let stops = stops_behind (g.H.Shelf.state c.load_file-2.new.shelf) file _ c.in_ok-hierarchy.ensures.loads c.in_err-edits.ensures.err in
+    let stops = stops_behind (g.H.Shelf.state c.load_file-2.new.shelf) file _ c.in_ok-hierarchy.ensures.loads c.in_ok-hierarchy.ensures.quiet c.in_err-edits.ensures.err in
     rw (err_is c.from_residual-in_err-edits.result c.in_err-edits.field-0.0 c.from_residual-in_err-edits.ensures.1)
     (inl (inr (c.in_ok-hierarchy.hierarchy.items, c.in_ok-hierarchy.ensures.ok, inl stops)))
 

@@ -1,4 +1,4 @@
-use Rattle.std.proofs.Common.{inl, inr}
+use Rattle.std.proofs.Common.{◌∙◌, inl, inr}
 use Rattle.cu_cli.specs.declared.stops.Role.TheVariants as role
 use Rattle.cu_cli.proofs.LoadLaws.{loaded_behind, only_then, stops_behind}
 use Rattle.cu_cli.proofs.StopLaws.{err_is}
@@ -6,7 +6,7 @@ use Rattle.cu_cli.proofs.preparing.load_tables.Goals as goal
 
 pub returns-in_err-roads-clause-err : goal.returns-in_err-roads-clause-err
 returns-in_err-roads-clause-err g c =
-    let stops = stops_behind (g.H.Shelf.state c.load_file-2.new.shelf) (record { role = role.Roads; name = c.args.roads.now }) _ c.in_ok-nodes.ensures.loads c.in_err-roads.ensures.err in
+    let stops = stops_behind (g.H.Shelf.state c.load_file-2.new.shelf) (record { role = role.Roads; name = c.args.roads.now }) _ c.in_ok-nodes.ensures.loads c.in_ok-nodes.ensures.quiet c.in_err-roads.ensures.err in
     rw (err_is c.from_residual-in_err-roads.result c.in_err-roads.field-0.0 c.from_residual-in_err-roads.ensures.1)
     (inr (c.in_ok-nodes.nodes.items, c.in_ok-nodes.ensures.ok, inl stops))
 
@@ -14,6 +14,6 @@ pub returns-in_err-profiles-clause-err : goal.returns-in_err-profiles-clause-err
 returns-in_err-profiles-clause-err g c =
     let two = only_then c.in_ok-nodes.ensures.loads c.in_ok-roads.ensures.loads in
     let roads = loaded_behind (record { role = role.Roads; name = c.args.roads.now }) c.in_ok-roads.roads.items c.in_ok-nodes.ensures.loads c.in_ok-roads.ensures.ok in
-    let stops = stops_behind (g.H.Shelf.state c.load_file-3.new.shelf) (record { role = role.Profiles; name = c.args.profiles.now }) _ two c.in_err-profiles.ensures.err in
+    let stops = stops_behind (g.H.Shelf.state c.load_file-3.new.shelf) (record { role = role.Profiles; name = c.args.profiles.now }) _ two (c.in_ok-roads.ensures.quiet ∙ c.in_ok-nodes.ensures.quiet) c.in_err-profiles.ensures.err in
     rw (err_is c.from_residual-in_err-profiles.result c.in_err-profiles.field-0.0 c.from_residual-in_err-profiles.ensures.1)
     (inr (c.in_ok-nodes.nodes.items, c.in_ok-nodes.ensures.ok, inr (c.in_ok-roads.roads.items, roads, inl stops)))

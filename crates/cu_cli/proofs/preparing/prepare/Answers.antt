@@ -21,7 +21,7 @@ returns-in_err-given-clause-err g c =
     let before = g.H.Shelf.state c.args.shelf.now in
     let now = g.H.Shelf.state c.load_order.new.shelf in
     let why = c.in_err-given.field-0.0 in
-    let order = stops_all_behind now (order_files (order_asked asked.order)) why c.in_ok-texts.ensures.loads c.in_err-given.ensures.err in
+    let order = stops_all_behind now (order_files (order_asked asked.order)) why c.in_ok-texts.ensures.loads c.in_ok-texts.ensures.quiet c.in_err-given.ensures.err in
     let stops =
     stops_later before now (network_files asked.nodes.now asked.roads.now asked.profiles.now) (order_files (order_asked asked.order)) (table_texts c.in_ok-texts.texts) why c.in_ok-texts.ensures.ok order in
     rw (err_is c.from_residual-in_err-given.result why c.from_residual-in_err-given.ensures.1) (inl stops)
