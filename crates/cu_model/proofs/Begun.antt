@@ -44,37 +44,65 @@ starts_begun from (x ∷ xs) s e =
     let k = later_some x (last_begun from xs s) in
     (k.0, rw low k.1)
 
--- such items come by their seconds
-pub in_order : {A : Type 0} (from : A → ℕ) (xs : List A) → Rises from xs → IsNonDecreasingBy from xs
-in_order from xs rises = IsNonDecreasingBy-from_all_adjacent from xs (λ k d h. let lt = rises k d h in omega (arith, lt))
+pub le_test : (a b : ℕ) → a ≤ b → leb a b ≡ true
+le_test a b h = grind (arith, nat_tests)
 
--- the item of an index is from that second or a later one
-pub rises_far : {A : Type 0} (from : A → ℕ) (xs : List A) → Rises from xs → (d : A) (i : ℕ) → i < length xs → i ≤ from (get_or xs i d)
-rises_far from xs rises d zero h = omega arith
-rises_far from xs rises d (suc i) h =
-    let before = rises_far from xs rises d i (omega (arith, h)) in
-    let step = rises i d (omega (arith, h)) in
-    let same : i + 1 ≡ suc i = omega arith in
-    let step2 = subst (λ (j : ℕ). from (get_or xs i d) < from (get_or xs j d)) same step in
-    omega (arith, before, step2)
+pub gt_test : (a b : ℕ) → b < a → leb a b ≡ false
+gt_test a b h = grind (arith, nat_tests)
 
--- of two items the later one begins later
-pub rises_by : {A : Type 0} (from : A → ℕ) (xs : List A) → Rises from xs → (d : A) (i k : ℕ) → i + suc k < length xs → from (get_or xs i d) < from (get_or xs (i + suc k) d)
-rises_by from xs rises d i zero h =
-    let same : i + 1 ≡ i + suc zero = omega arith in
-    subst (λ (j : ℕ). from (get_or xs i d) < from (get_or xs j d)) same (rises i d (omega (arith, h)))
-rises_by from xs rises d i (suc k) h =
-    let before = rises_by from xs rises d i k (omega (arith, h)) in
-    let step = rises (i + suc k) d (omega (arith, h)) in
-    let same : (i + suc k) + 1 ≡ i + suc (suc k) = omega arith in
-    let step2 = subst (λ (j : ℕ). from (get_or xs (i + suc k) d) < from (get_or xs j d)) same step in
-    omega (arith, before, step2)
+module _ {A : Type 0} (from : A → ℕ) (xs : List A) (rises : Rises from xs) where
+  -- such items come by their seconds
+  pub in_order : IsNonDecreasingBy from xs
+  in_order = IsNonDecreasingBy-from_all_adjacent from xs (λ k d h. let lt = rises k d h in omega (arith, lt))
 
-pub rises_between : {A : Type 0} (from : A → ℕ) (xs : List A) → Rises from xs → (d : A) (i j : ℕ) → i < j → j < length xs → from (get_or xs i d) < from (get_or xs j d)
-rises_between from xs rises d i j h inside =
-    let same : i + suc (j - (i + 1)) ≡ j = omega (arith, h) in
-    let within : i + suc (j - (i + 1)) < length xs = omega (arith, h, inside) in
-    subst (λ (n : ℕ). from (get_or xs i d) < from (get_or xs n d)) same (rises_by from xs rises d i (j - (i + 1)) within)
+  module _ (d : A) where
+    -- the item of an index is from that second or a later one
+    pub rises_far : (i : ℕ) → i < length xs → i ≤ from (get_or xs i d)
+    rises_far zero h = omega arith
+    rises_far (suc i) h =
+        let before = rises_far i (omega (arith, h)) in
+        let step = rises i d (omega (arith, h)) in
+        let same : i + 1 ≡ suc i = omega arith in
+        let step2 = subst (λ (j : ℕ). from (get_or xs i d) < from (get_or xs j d)) same step in
+        omega (arith, before, step2)
+
+    -- of two items the later one begins later
+    pub rises_by : (i k : ℕ) → i + suc k < length xs → from (get_or xs i d) < from (get_or xs (i + suc k) d)
+    rises_by i zero h =
+        let same : i + 1 ≡ i + suc zero = omega arith in
+        subst (λ (j : ℕ). from (get_or xs i d) < from (get_or xs j d)) same (rises i d (omega (arith, h)))
+    rises_by i (suc k) h =
+        let before = rises_by i k (omega (arith, h)) in
+        let step = rises (i + suc k) d (omega (arith, h)) in
+        let same : (i + suc k) + 1 ≡ i + suc (suc k) = omega arith in
+        let step2 = subst (λ (j : ℕ). from (get_or xs (i + suc k) d) < from (get_or xs j d)) same step in
+        omega (arith, before, step2)
+
+    pub rises_between : (i j : ℕ) → i < j → j < length xs → from (get_or xs i d) < from (get_or xs j d)
+    rises_between i j h inside =
+        let same : i + suc (j - (i + 1)) ≡ j = omega (arith, h) in
+        let within : i + suc (j - (i + 1)) < length xs = omega (arith, h, inside) in
+        subst (λ (n : ℕ). from (get_or xs i d) < from (get_or xs n d)) same (rises_by i (j - (i + 1)) within)
+
+    -- the item in force from its second until the next one's
+    pub begun_until : (j s : ℕ) → j < length xs → from (get_or xs j d) ≤ s
+        → (suc j < length xs → s < from (get_or xs (suc j) d)) → last_begun from xs s ≡ Some (get_or xs j d)
+    begun_until j s inside begun next =
+        last_begun-at from xs j s (get_or xs j d) (slice_get-get_or xs j d inside)
+        (λ k y e h. let same : get_or xs k d ≡ y = get_or_from_slice_get xs k y d e in
+        let before : from (get_or xs k d) ≤ s = elim (cases_lt k j) [
+          | inl lt ↦ let order = rises_between k j lt inside in omega (arith, order, begun)
+          | inr ge ↦ let eq : j ≡ k = omega (arith, ge, h) in subst (λ (i : ℕ). from (get_or xs i d) ≤ s) eq begun
+        ] in
+        le_test (from y) s (subst (λ (z : A). from z ≤ s) same before))
+        (λ k y e h. let same : get_or xs k d ≡ y = get_or_from_slice_get xs k y d e in
+        let within : k < length xs = slice_get_within xs k y e in
+        let following : s < from (get_or xs (suc j) d) = next (omega (arith, h, within)) in
+        let after : s < from (get_or xs k d) = elim (cases_lt (suc j) k) [
+          | inl lt ↦ let order = rises_between (suc j) k lt within in omega (arith, order, following)
+          | inr ge ↦ let eq : suc j ≡ k = omega (arith, ge, h) in subst (λ (i : ℕ). s < from (get_or xs i d)) eq following
+        ] in
+        gt_test (from y) s (subst (λ (z : A). s < from z) same after))
 
 -- no more items than seconds
 pub few_items : {A : Type 0} (from : A → ℕ) (n : ℕ) (xs : List A) → Rises from xs → ((i : ℕ) (d : A) → i < length xs → from (get_or xs i d) < n) → length xs ≤ n
@@ -85,32 +113,6 @@ few_items from n (x ∷ xs) rises limits =
     let far = rises_far from (x ∷ xs) rises x last inside in
     let limit = limits last x inside in
     omega (arith, far, limit)
-
-pub le_test : (a b : ℕ) → a ≤ b → leb a b ≡ true
-le_test a b h = grind (arith, nat_tests)
-
-pub gt_test : (a b : ℕ) → b < a → leb a b ≡ false
-gt_test a b h = grind (arith, nat_tests)
-
--- the item in force from its second until the next one's
-pub begun_until : {A : Type 0} (from : A → ℕ) (xs : List A) → Rises from xs → (d : A) (j s : ℕ) → j < length xs → from (get_or xs j d) ≤ s
-    → (suc j < length xs → s < from (get_or xs (suc j) d)) → last_begun from xs s ≡ Some (get_or xs j d)
-begun_until {A} from xs rises d j s inside begun next =
-    last_begun-at from xs j s (get_or xs j d) (slice_get-get_or xs j d inside)
-    (λ k y e h. let same : get_or xs k d ≡ y = get_or_from_slice_get xs k y d e in
-    let before : from (get_or xs k d) ≤ s = elim (cases_lt k j) [
-      | inl lt ↦ let order = rises_between from xs rises d k j lt inside in omega (arith, order, begun)
-      | inr ge ↦ let eq : j ≡ k = omega (arith, ge, h) in subst (λ (i : ℕ). from (get_or xs i d) ≤ s) eq begun
-    ] in
-    le_test (from y) s (subst (λ (z : A). from z ≤ s) same before))
-    (λ k y e h. let same : get_or xs k d ≡ y = get_or_from_slice_get xs k y d e in
-    let within : k < length xs = slice_get_within xs k y e in
-    let following : s < from (get_or xs (suc j) d) = next (omega (arith, h, within)) in
-    let after : s < from (get_or xs k d) = elim (cases_lt (suc j) k) [
-      | inl lt ↦ let order = rises_between from xs rises d (suc j) k lt within in omega (arith, order, following)
-      | inr ge ↦ let eq : suc j ≡ k = omega (arith, ge, h) in subst (λ (i : ℕ). s < from (get_or xs i d)) eq following
-    ] in
-    gt_test (from y) s (subst (λ (z : A). s < from z) same after))
 
 -- what is known of the item before the first that has not begun
 pub record IsLastBegun {A : Type 0} (from : A → ℕ) (xs : List A) (s i : ℕ) : Type 0 where

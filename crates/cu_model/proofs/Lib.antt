@@ -1,3 +1,4 @@
+pub mod OptionLaws
 pub mod DayLaws
 pub mod ProfileLaws
 pub mod RoadLaws

@@ -23,50 +23,6 @@ all_at P xs i x all e =
     let h = All-get_or P xs i x (slice_get_within xs i x e) all in
     subst P (get_or_from_slice_get xs i x x e) h
 
--- a road's number finds it, and its profile
-pub road_at : (g : NetworkValue) (a : ℕ) → a < length g.arcs → (arc : RoadArc) × (slice_get g.arcs a ≡ Some arc)
-road_at g a h =
-    elim (slice_get_cases g.arcs a).1 [
-      | inl k ↦ (k.0, k.2)
-      | inr k ↦ absurd (let p = k.0 in omega (arith, h, p))
-    ]
-
-pub profile_of_road : (g : NetworkValue) → IsNetwork g → (a : ℕ) (arc : RoadArc) → slice_get g.arcs a ≡ Some arc
-    → (pieces : List Piece) × (slice_get g.profiles arc.profile ≡ Some pieces) × IsProfile pieces
-profile_of_road g n a arc e =
-    let range : IsArcInRange g arc = all_at (IsArcInRange g) g.arcs a arc n.in_range e in
-    elim (slice_get_cases g.profiles arc.profile).1 [
-      | inl k ↦ (k.0, k.2, all_at IsProfile g.profiles arc.profile k.0 n.valid k.2)
-      | inr k ↦ absurd (let p = k.0 in let q = range.2 in omega (arith, q, p))
-    ]
-
--- the ends of a road are nodes
-pub tail_below : (g : NetworkValue) → IsNetwork g → (a : ℕ) (arc : RoadArc) → slice_get g.arcs a ≡ Some arc → arc.tail < g.nodes
-tail_below g n a arc e = let range : IsArcInRange g arc = all_at (IsArcInRange g) g.arcs a arc n.in_range e in range.0
-
-pub head_below : (g : NetworkValue) → IsNetwork g → (a : ℕ) (arc : RoadArc) → slice_get g.arcs a ≡ Some arc → arc.head < g.nodes
-head_below g n a arc e = let range : IsArcInRange g arc = all_at (IsArcInRange g) g.arcs a arc n.in_range e in range.1
-
--- a road's value is its profile's
-pub arc_value-by_profile : (g : NetworkValue) → IsNetwork g → (a : ℕ) → a < length g.arcs
-    → (pieces : List Piece) × IsProfile pieces × ((t : ℕ) → arc_value g a t ≡ profile_value pieces t)
-arc_value-by_profile g n a h =
-    let (arc, e) = road_at g a h in
-    let (pieces, p, valid) = profile_of_road g n a arc e in
-    (pieces, valid, λ t. rw (e, p) refl)
-
--- no road arrives before it leaves
-pub arc_value-onward : (g : NetworkValue) → IsNetwork g → (a : ℕ) → a < length g.arcs → (t : ℕ) → t ≤ arc_value g a t
-arc_value-onward g n a h t =
-    let (pieces, valid, same) = arc_value-by_profile g n a h in
-    rw (same t) (profile_value-onward pieces valid t)
-
--- leaving later never arrives earlier
-pub arc_value-fifo : (g : NetworkValue) → IsNetwork g → (a : ℕ) → a < length g.arcs → (t s : ℕ) → t ≤ s → arc_value g a t ≤ arc_value g a s
-arc_value-fifo g n a h t s le =
-    let (pieces, valid, same) = arc_value-by_profile g n a h in
-    rw (same t, same s) (profile_value-fifo pieces valid t s le)
-
 later_one_of : {A : Type 0} (first second : Option A) (x : A) → later_of first second ≡ Some x → (first ≡ Some x) ⊎ (second ≡ Some x)
 later_one_of first None x e = inl e
 later_one_of first (Some y) x e = inr e
@@ -102,66 +58,117 @@ profile_value-near ps f t =
     let same : profile_value ps t ≡ rule_value p.rule (t / day) (t % day) = rw e refl in
     omega (arith, near, parts, same)
 
--- no road takes more than eight days
-pub arc_value-near : (g : NetworkValue) → IsNetwork g → (a : ℕ) → a < length g.arcs → (t : ℕ) → arc_value g a t ≤ t + MAX_UNTIL
-arc_value-near g n a h t =
-    let (pieces, valid, same) = arc_value-by_profile g n a h in
-    rw (same t) (profile_value-near pieces valid t)
+module _ (g : NetworkValue) where
+  -- a road's number finds it
+  pub road_at : (a : ℕ) → a < length g.arcs → (arc : RoadArc) × (slice_get g.arcs a ≡ Some arc)
+  road_at a h =
+      elim (slice_get_cases g.arcs a).1 [
+        | inl k ↦ (k.0, k.2)
+        | inr k ↦ absurd (let p = k.0 in omega (arith, h, p))
+      ]
 
--- a road that leads from one node to another has these ends
-pub leads-links : (g : NetworkValue) (a u v : ℕ) → Leads g a u v → Links g a u v
-leads-links g a u v l = l.0
+  module _ (a u v : ℕ) where
+    -- a road that leads from one node to another has these ends
+    pub leads-links : Leads g a u v → Links g a u v
+    leads-links l = l.0
 
--- only a road that is there has ends
-pub links_within : (g : NetworkValue) (a u v : ℕ) → Links g a u v → a < length g.arcs
-links_within g a u v l = slice_get_within g.arcs a l.0 l.1
+    -- only a road that is there has ends
+    pub links_within : Links g a u v → a < length g.arcs
+    links_within l = slice_get_within g.arcs a l.0 l.1
 
-pub links-tail_below : (g : NetworkValue) → IsNetwork g → (a u v : ℕ) → Links g a u v → u < g.nodes
-links-tail_below g n a u v l = let (arc, e, t, h) = l in subst (λ (x : ℕ). x < g.nodes) t (tail_below g n a arc e)
+    pub leads_within : Leads g a u v → a < length g.arcs
+    leads_within l = links_within l.0
 
-pub links-head_below : (g : NetworkValue) → IsNetwork g → (a u v : ℕ) → Links g a u v → v < g.nodes
-links-head_below g n a u v l = let (arc, e, t, h) = l in subst (λ (x : ℕ). x < g.nodes) h (head_below g n a arc e)
+    -- a road has one tail, and one head
+    pub links-tail : (x y : ℕ) → Links g a u v → Links g a x y → u ≡ x
+    links-tail x y l m = let (p, e, t, h) = l in let (q, f, i, j) = m in cc
 
--- a road has one tail, and one head
-pub links-tail : (g : NetworkValue) (a u v x y : ℕ) → Links g a u v → Links g a x y → u ≡ x
-links-tail g a u v x y l m = let (p, e, t, h) = l in let (q, f, i, j) = m in cc
+    pub links-head : (x y : ℕ) → Links g a u v → Links g a x y → v ≡ y
+    links-head x y l m = let (p, e, t, h) = l in let (q, f, i, j) = m in cc
 
-pub links-head : (g : NetworkValue) (a u v x y : ℕ) → Links g a u v → Links g a x y → v ≡ y
-links-head g a u v x y l m = let (p, e, t, h) = l in let (q, f, i, j) = m in cc
+  -- two walks, one after the other
+  pub walk-append : (u : ℕ) (first : List ℕ) (x : ℕ) (second : List ℕ) (v : ℕ) → IsWalk g u first x → IsWalk g x second v → IsWalk g u (first ++ second) v
+  walk-append u [] x second v f s = subst (λ (y : ℕ). IsWalk g y second v) (sym f) s
+  walk-append u (a ∷ first) x second v f s = let (y, l, more) = f in (y, l, walk-append y first x second v more s)
 
-pub leads_within : (g : NetworkValue) (a u v : ℕ) → Leads g a u v → a < length g.arcs
-leads_within g a u v l = links_within g a u v l.0
+  pub drive-append : (first second : List ℕ) (t : ℕ) → drive g (first ++ second) t ≡ drive g second (drive g first t)
+  drive-append [] second t = refl
+  drive-append (a ∷ first) second t = drive-append first second (arc_value g a t)
 
--- two walks, one after the other
-pub walk-append : (g : NetworkValue) (u : ℕ) (first : List ℕ) (x : ℕ) (second : List ℕ) (v : ℕ) → IsWalk g u first x → IsWalk g x second v → IsWalk g u (first ++ second) v
-walk-append g u [] x second v f s = subst (λ (y : ℕ). IsWalk g y second v) (sym f) s
-walk-append g u (a ∷ first) x second v f s = let (y, l, more) = f in (y, l, walk-append g y first x second v more s)
+  module _ (n : IsNetwork g) where
+    module _ (a : ℕ) (arc : RoadArc) (there : slice_get g.arcs a ≡ Some arc) where
+      range : IsArcInRange g arc
+      range = all_at (IsArcInRange g) g.arcs a arc n.in_range there
 
-pub drive-append : (g : NetworkValue) (first second : List ℕ) (t : ℕ) → drive g (first ++ second) t ≡ drive g second (drive g first t)
-drive-append g [] second t = refl
-drive-append g (a ∷ first) second t = drive-append g first second (arc_value g a t)
+      -- a road has a profile
+      pub profile_of_road : (pieces : List Piece) × (slice_get g.profiles arc.profile ≡ Some pieces) × IsProfile pieces
+      profile_of_road =
+          elim (slice_get_cases g.profiles arc.profile).1 [
+            | inl k ↦ (k.0, k.2, all_at IsProfile g.profiles arc.profile k.0 n.valid k.2)
+            | inr k ↦ absurd (let p = k.0 in let q = range.2 in omega (arith, q, p))
+          ]
 
--- no walk arrives before it leaves
-pub drive-onward : (g : NetworkValue) → IsNetwork g → (u : ℕ) (walk : List ℕ) (v t : ℕ) → IsWalk g u walk v → t ≤ drive g walk t
-drive-onward g n u [] v t w = omega arith
-drive-onward g n u (a ∷ walk) v t w =
-    let (x, l, more) = w in
-    let here = arc_value-onward g n a (leads_within g a u x l) t in
-    let later = drive-onward g n x walk v (arc_value g a t) more in
-    omega (arith, here, later)
+      -- its ends are nodes
+      pub tail_below : arc.tail < g.nodes
+      tail_below = range.0
 
--- leaving later never arrives earlier, over a whole walk
-pub drive-fifo : (g : NetworkValue) → IsNetwork g → (u : ℕ) (walk : List ℕ) (v t s : ℕ) → IsWalk g u walk v → t ≤ s → drive g walk t ≤ drive g walk s
-drive-fifo g n u [] v t s w le = le
-drive-fifo g n u (a ∷ walk) v t s w le =
-    let (x, l, more) = w in
-    drive-fifo g n x walk v (arc_value g a t) (arc_value g a s) more (arc_value-fifo g n a (leads_within g a u x l) t s le)
+      pub head_below : arc.head < g.nodes
+      head_below = range.1
 
--- so many roads take at most eight days each
-pub drive-near : (g : NetworkValue) → IsNetwork g → (u : ℕ) (walk : List ℕ) (v t : ℕ) → IsWalk g u walk v → drive g walk t ≤ t + MAX_UNTIL * length walk
-drive-near g n u [] v t w = omega arith
-drive-near g n u (a ∷ walk) v t w =
-    let (x, l, more) = w in
-    let here = arc_value-near g n a (leads_within g a u x l) t in
-    let later = drive-near g n x walk v (arc_value g a t) more in
-    omega (arith, here, later)
+    module _ (a u v : ℕ) (links : Links g a u v) where
+      pub links-tail_below : u < g.nodes
+      links-tail_below = let (arc, e, t, h) = links in subst (λ (x : ℕ). x < g.nodes) t (tail_below a arc e)
+
+      pub links-head_below : v < g.nodes
+      links-head_below = let (arc, e, t, h) = links in subst (λ (x : ℕ). x < g.nodes) h (head_below a arc e)
+
+    module _ (a : ℕ) (within : a < length g.arcs) where
+      -- a road's value is its profile's
+      pub arc_value-by_profile : (pieces : List Piece) × IsProfile pieces × ((t : ℕ) → arc_value g a t ≡ profile_value pieces t)
+      arc_value-by_profile =
+          let (arc, e) = road_at a within in
+          let (pieces, p, valid) = profile_of_road a arc e in
+          (pieces, valid, λ t. rw (e, p) refl)
+
+      -- no road arrives before it leaves
+      pub arc_value-onward : (t : ℕ) → t ≤ arc_value g a t
+      arc_value-onward t =
+          let (pieces, valid, same) = arc_value-by_profile in
+          rw (same t) (profile_value-onward pieces valid t)
+
+      -- leaving later never arrives earlier
+      pub arc_value-fifo : (t s : ℕ) → t ≤ s → arc_value g a t ≤ arc_value g a s
+      arc_value-fifo t s le =
+          let (pieces, valid, same) = arc_value-by_profile in
+          rw (same t, same s) (profile_value-fifo pieces valid t s le)
+
+      -- no road takes more than eight days
+      pub arc_value-near : (t : ℕ) → arc_value g a t ≤ t + MAX_UNTIL
+      arc_value-near t =
+          let (pieces, valid, same) = arc_value-by_profile in
+          rw (same t) (profile_value-near pieces valid t)
+
+    -- no walk arrives before it leaves
+    pub drive-onward : (u : ℕ) (walk : List ℕ) (v t : ℕ) → IsWalk g u walk v → t ≤ drive g walk t
+    drive-onward u [] v t w = omega arith
+    drive-onward u (a ∷ walk) v t w =
+        let (x, l, more) = w in
+        let here = arc_value-onward a (leads_within a u x l) t in
+        let later = drive-onward x walk v (arc_value g a t) more in
+        omega (arith, here, later)
+
+    -- leaving later never arrives earlier, over a whole walk
+    pub drive-fifo : (u : ℕ) (walk : List ℕ) (v t s : ℕ) → IsWalk g u walk v → t ≤ s → drive g walk t ≤ drive g walk s
+    drive-fifo u [] v t s w le = le
+    drive-fifo u (a ∷ walk) v t s w le =
+        let (x, l, more) = w in
+        drive-fifo x walk v (arc_value g a t) (arc_value g a s) more (arc_value-fifo a (leads_within a u x l) t s le)
+
+    -- so many roads take at most eight days each
+    pub drive-near : (u : ℕ) (walk : List ℕ) (v t : ℕ) → IsWalk g u walk v → drive g walk t ≤ t + MAX_UNTIL * length walk
+    drive-near u [] v t w = omega arith
+    drive-near u (a ∷ walk) v t w =
+        let (x, l, more) = w in
+        let here = arc_value-near a (leads_within a u x l) t in
+        let later = drive-near x walk v (arc_value g a t) more in
+        omega (arith, here, later)

@@ -23,10 +23,25 @@ pub enum Rule {
 }
 
 impl Rule {
-    pub(crate) fn is_closed(self) -> bool
+    /// Whether it lets nobody through.
+    pub fn is_closed(self) -> bool
         ensures { result ≡ is_closed_rule self }
     {
         matches!(self, Rule::Closed(_))
+    }
+
+    /// When it arrives, leaving at an absolute second of at most 2^62, so that the sum stays within 64 bits. The rule is
+    /// within its limit, as each of a profile is. A closed one is asked by nobody: it answers the departure.
+    pub fn arrival(self, second: u64) -> u64
+        requires in_limit { is_rule_in_limit self ≡ true }
+        requires time { second ≤ 2 ^ 62 }
+        ensures { result ≡ rule_value self (second / DAY) (second % DAY) }
+    {
+        match self {
+            Rule::Travel(seconds) => second + u64::from(seconds),
+            Rule::Until(arrival) => second - second % u64::from(DAY) + u64::from(arrival),
+            Rule::Closed(_) => second,
+        }
     }
 }
 
@@ -143,20 +158,7 @@ impl Profile {
         ensures fifo { (later : ℕ) → second ≤ later → result ≤ profile_value self.now later }
     {
         let piece = piece_begun(&self.pieces, (second % u64::from(DAY)) as u32);
-        arrival(piece.rule, second)
-    }
-}
-
-// When a rule arrives, leaving at an absolute second. A closed one is asked by nobody.
-fn arrival(rule: Rule, second: u64) -> u64
-    requires in_limit { is_rule_in_limit rule ≡ true }
-    requires time { second ≤ 2 ^ 62 }
-    ensures { result ≡ rule_value rule (second / DAY) (second % DAY) }
-{
-    match rule {
-        Rule::Travel(seconds) => second + u64::from(seconds),
-        Rule::Until(arrival) => second - second % u64::from(DAY) + u64::from(arrival),
-        Rule::Closed(_) => second,
+        piece.rule.arrival(second)
     }
 }
 
