@@ -2,6 +2,7 @@
 use Rattle.std.proofs.Common.{Bor, ◌≡◌, ◌≢◌, ◌∙◌, ◌<◌, ◌+◌, ℕ, zero, suc, List, [], ◌∷◌, length, drop, get_or, map, Bool, true, false, Option, Some, None, refl, ap, arith, rules}
 use Rattle.std.specs.Prelude.{◌&&◌, bytes_eq, option_map, IsSome}
 use Rattle.std.specs.Cmp.Lexicographic.{pointwise}
+use Rattle.std.proofs.Math.Bool.{and-false}
 use Rattle.csv.specs.Records.{field_at}
 
 -- a place within the row has its field
@@ -19,10 +20,6 @@ unequal_lengths (x ∷ xs) [] h = refl
 unequal_lengths (x ∷ xs) (y ∷ ys) h =
     let k = unequal_lengths xs ys (λ e. h (ap suc e)) in
     ap (λ (b : Bool). bytes_eq x y && b) k ∙ and-false (bytes_eq x y)
-  where
-    and-false : (b : Bool) → (b && false) ≡ false
-    and-false true = refl
-    and-false false = refl
 
 -- what is left to compare is the fields at a place, and then those behind them
 pub compare_next : (row : List (List ℕ)) (fields : List (Bor (List ℕ))) (d : Bor (List ℕ)) (i : ℕ) → i < length row → i < length fields
@@ -42,3 +39,11 @@ some_image f (Some x) y e = search rules
 
 pub some_is : {A B : Type 0} (f : A → B) (o : Option A) (x : A) (y : B) → option_map f o ≡ Some y → o ≡ Some x → f x ≡ y
 some_is f o x y e h = let k = rw h at e in cc k
+
+-- the tests of three fields pass, and those of four
+
+pub and_three : (a b c : Bool) → a ≡ true → b ≡ true → c ≡ true → (a && b && c) ≡ true
+and_three a b c ea eb ec = rw (ea, eb, ec) refl
+
+pub and_four : (a b c d : Bool) → a ≡ true → b ≡ true → c ≡ true → d ≡ true → (a && b && c && d) ≡ true
+and_four a b c d ea eb ec ed = rw (ea, eb, ec, ed) refl

@@ -11,6 +11,7 @@ use Rattle.std.proofs.lemmas.Str.{digit_value_digit}
 use Rattle.std.specs.Char.{digit_value}
 use Rattle.cu_model.specs.Numbers.{is_number_word, number_value}
 use Rattle.cu_model.proofs.NumberWords.{own}
+use Rattle.cu_tables.specs.declared.fields.TheConstants.{WIDEST}
 use Rattle.cu_tables.specs.Tables.{kept_number}
 
 word_of_digits : (word : List ℕ) → 0 < length word → list_all is_ascii_digit word ≡ true → is_number_word word ≡ true
@@ -25,12 +26,12 @@ pub decimal_value : (n : ℕ) → n < 2 ^ 64 → number_value (decimal n) ≡ n
 decimal_value n h = (decimal_is_IsNumeral n h).1
 
 -- a number that stops at the widest, and one more digit
-widest : (v x : ℕ) → min (min v 4294967295 * 10 + x) 4294967295 ≡ min (v * 10 + x) 4294967295
+widest : (v x : ℕ) → min (min v WIDEST * 10 + x) WIDEST ≡ min (v * 10 + x) WIDEST
 widest v x = omega arith
 
 -- one more digit of a number
 pub kept_more : (word : List ℕ) (i value digit : ℕ) → i < length word → digit ≡ get_or word i 0 → 48 ≤ digit → digit ≤ 57 → value ≡ kept_number (take i word)
-    → min (value * 10 + (digit - 48)) 4294967295 ≡ kept_number (take (i + 1) word)
+    → min (value * 10 + (digit - 48)) WIDEST ≡ kept_number (take (i + 1) word)
 kept_more word i value digit h e low high k =
     let d : digit_value digit + 48 ≡ digit = digit_value_digit digit (low, high) in
     let same : digit - 48 ≡ digit_value (get_or word i 0) = omega (arith, d) ∙ ap digit_value e in

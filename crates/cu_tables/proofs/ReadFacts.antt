@@ -10,41 +10,42 @@ use Rattle.cu_tables.specs.Steps.Reads.{HasRead, ReadsHeader, ReadsRow}
 use Rattle.cu_tables.specs.Tables.{rows_below, table}
 use Rattle.cu_tables.proofs.Whole.{all_of, front_of}
 
--- a read that found a row
-pub reads_row : (a b : Reader (Bor (List ℕ))) (text : List ℕ) (done : List (List (List ℕ))) (row : List (List ℕ)) → HasRead a text done
-    → ReadRecord (λ (s : Bor (List ℕ)). Some s.now) a b true row → b.first ≡ true → b.flexible ≡ a.flexible
-    → ReadsRow b text done row true
-reads_row a b text done row h r first same =
-    let m = rows-more (λ (s : Bor (List ℕ)). Some s.now) a b row default_config st.StartRecord (strip_bom text) h.unread done h.config h.source h.reached r in
-    let all = front_of default_config b.state (strip_bom text) m.0 (done ++ (row ∷ [])) m.2 in (
-      record {
-        trim = r.3 ∙ h.trim;
-        ready = inl first;
-        config = r.2 ∙ h.config;
-        flexible = same ∙ h.flexible;
-        unread = m.0;
-        source = m.1;
-        reached = m.2;
-      },
-      (_, all ∙ append_assoc done (row ∷ []) _),
-    )
+module _ (a b : Reader (Bor (List ℕ))) (text : List ℕ) (done : List (List (List ℕ))) (row : List (List ℕ)) where
+  -- a read that found a row
+  pub reads_row : HasRead a text done
+      → ReadRecord (λ (s : Bor (List ℕ)). Some s.now) a b true row → b.first ≡ true → b.flexible ≡ a.flexible
+      → ReadsRow b text done row true
+  reads_row h r first same =
+      let m = rows-more (λ (s : Bor (List ℕ)). Some s.now) a b row default_config st.StartRecord (strip_bom text) h.unread done h.config h.source h.reached r in
+      let all = front_of default_config b.state (strip_bom text) m.0 (done ++ (row ∷ [])) m.2 in (
+        record {
+          trim = r.3 ∙ h.trim;
+          ready = inl first;
+          config = r.2 ∙ h.config;
+          flexible = same ∙ h.flexible;
+          unread = m.0;
+          source = m.1;
+          reached = m.2;
+        },
+        (_, all ∙ append_assoc done (row ∷ []) _),
+      )
 
--- a read that found none
-pub reads_none : (a b : Reader (Bor (List ℕ))) (text : List ℕ) (done : List (List (List ℕ))) (row : List (List ℕ)) → HasRead a text done
-    → ReadRecord (λ (s : Bor (List ℕ)). Some s.now) a b false row → table text ≡ done
-reads_none a b text done row h r =
-    sym (all_of default_config (strip_bom text) done (
-      a.state,
-      h.unread,
-      h.reached,
-      rows-end (λ (s : Bor (List ℕ)). Some s.now) a b row default_config h.unread h.config h.source r,
-    ))
+  -- a read that found none
+  pub reads_none : HasRead a text done
+      → ReadRecord (λ (s : Bor (List ℕ)). Some s.now) a b false row → table text ≡ done
+  reads_none h r =
+      sym (all_of default_config (strip_bom text) done (
+        a.state,
+        h.unread,
+        h.reached,
+        rows-end (λ (s : Bor (List ℕ)). Some s.now) a b row default_config h.unread h.config h.source r,
+      ))
 
--- a read, whether it found a row or none
-pub reads : (a b : Reader (Bor (List ℕ))) (text : List ℕ) (done : List (List (List ℕ))) (row : List (List ℕ)) (found : Bool) → HasRead a text done
-    → ReadRecord (λ (s : Bor (List ℕ)). Some s.now) a b found row → b.first ≡ true → b.flexible ≡ a.flexible → ReadsRow b text done row found
-reads a b text done row true h r first same = reads_row a b text done row h r first same
-reads a b text done row false h r first same = reads_none a b text done row h r
+  -- a read, whether it found a row or none
+  pub reads : (found : Bool) → HasRead a text done
+      → ReadRecord (λ (s : Bor (List ℕ)). Some s.now) a b found row → b.first ≡ true → b.flexible ≡ a.flexible → ReadsRow b text done row found
+  reads true h r first same = reads_row h r first same
+  reads false h r first same = reads_none h r
 
 -- what holds of the rows behind none is said of the whole table
 pub whole_table : (P : List (List (List ℕ)) → Type 0) (it : Reader (Bor (List ℕ))) (text : List ℕ) → HasRead it text []

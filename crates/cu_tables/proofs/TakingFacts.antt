@@ -24,29 +24,25 @@ abbrev pub Leads : {T A R U : Type 0} → Result A R → (T → Type 0) → (T �
 Leads all Holds given t (Ok done) = (all ≡ given t []) × Holds t
 Leads all Holds given t (Err why) = all ≡ Err why
 
-front_taken : {T A R : Type 0} {takes : T → List (List ℕ) → T → Type 0} {refuses : T → List (List ℕ) → R → Type 0} {Holds : T → Type 0}
-    {given : T → List (List (List ℕ)) → Result A R} (f : Follows takes refuses Holds given)
-    → (s t : T) (rows rest : List (List (List ℕ))) → TakesAll takes s rows t → Holds s → (given s (rows ++ rest) ≡ given t rest) × Holds t
-front_taken {Holds = Holds} {given = given} f s t [] rest h k = (ap (λ x. given x rest) (sym h), subst Holds (sym h) k)
-front_taken f s t (row ∷ rows) rest h k =
-    let more = front_taken f h.0 t rows rest h.2 (f.kept s row h.0 h.1 k) in
-    (f.taken s row h.0 (rows ++ rest) h.1 k ∙ more.0, more.1)
+module _ {T A R : Type 0} {takes : T → List (List ℕ) → T → Type 0} {refuses : T → List (List ℕ) → R → Type 0} {Holds : T → Type 0}
+    {given : T → List (List (List ℕ)) → Result A R} (f : Follows takes refuses Holds given) where
+  front_taken : (s t : T) (rows rest : List (List (List ℕ))) → TakesAll takes s rows t → Holds s → (given s (rows ++ rest) ≡ given t rest) × Holds t
+  front_taken s t [] rest h k = (ap (λ x. given x rest) (sym h), subst Holds (sym h) k)
+  front_taken s t (row ∷ rows) rest h k =
+      let more = front_taken h.0 t rows rest h.2 (f.kept s row h.0 h.1 k) in
+      (f.taken s row h.0 (rows ++ rest) h.1 k ∙ more.0, more.1)
 
-pub walked : {T A R U : Type 0} {takes : T → List (List ℕ) → T → Type 0} {refuses : T → List (List ℕ) → R → Type 0} {Holds : T → Type 0}
-    {given : T → List (List (List ℕ)) → Result A R} (f : Follows takes refuses Holds given)
-    → (s t : T) (rows : List (List (List ℕ))) (answer : Result U R) → Holds s → Ends takes refuses s rows t answer → Leads (given s rows) Holds given t answer
-walked f s t rows (Ok done) k h = rw (append-nil rows) at (front_taken f s t rows [] h k)
-walked {given = given} f s t rows (Err why) k (front, row, rest, m, e, taken, refused) =
-    let before = front_taken f s m front (row ∷ rest) taken k in
-    ap (given s) e ∙ before.0 ∙ f.refused m row why rest refused before.1
+  pub walked : {U : Type 0} (s t : T) (rows : List (List (List ℕ))) (answer : Result U R) → Holds s → Ends takes refuses s rows t answer → Leads (given s rows) Holds given t answer
+  walked s t rows (Ok done) k h = rw (append-nil rows) at (front_taken s t rows [] h k)
+  walked s t rows (Err why) k (front, row, rest, m, e, taken, refused) =
+      let before = front_taken s m front (row ∷ rest) taken k in
+      ap (given s) e ∙ before.0 ∙ f.refused m row why rest refused before.1
 
--- the same of the rows below a header
-pub walked_below : {T A R U : Type 0} {takes : T → List (List ℕ) → T → Type 0} {refuses : T → List (List ℕ) → R → Type 0} {Holds : T → Type 0}
-    {given : T → List (List (List ℕ)) → Result A R} (f : Follows takes refuses Holds given)
-    → (s t : T) (rows : Option (List (List (List ℕ)))) (no_header : R) (answer : Result U R) → Holds s → EndsBelow takes refuses no_header s rows t answer
-    → Leads (below no_header (given s) rows) Holds given t answer
-walked_below f s t None no_header answer k h = rw h.0 refl
-walked_below f s t (Some rows) no_header answer k h = walked f s t rows answer k h
+  -- the same of the rows below a header
+  pub walked_below : {U : Type 0} (s t : T) (rows : Option (List (List (List ℕ)))) (no_header : R) (answer : Result U R) → Holds s → EndsBelow takes refuses no_header s rows t answer
+      → Leads (below no_header (given s) rows) Holds given t answer
+  walked_below s t None no_header answer k h = rw h.0 refl
+  walked_below s t (Some rows) no_header answer k h = walked s t rows answer k h
 
 -- what holds of the refusal of a table without the header, and of each row's refusal, holds of every refusal
 pub refusal_is : {T R U : Type 0} (takes : T → List (List ℕ) → T → Type 0) (refuses : T → List (List ℕ) → R → Type 0) (Is : R → Type 0)

@@ -3,6 +3,7 @@ use Rattle.std.specs.Prelude.{ℕ, List, [], ◌∷◌, Option, Some, None, byte
 use Rattle.std.specs.Cmp.Lexicographic.{pointwise}
 use Rattle.csv.specs.Reading.{default_config, records, strip_bom}
 use Rattle.cu_model.specs.Numbers.{is_number_word, number_value}
+use Rattle.cu_tables.specs.declared.fields.TheConstants.{WIDEST}
 
 -- the rows of a table text, each the bytes of its fields
 abbrev pub table : List ℕ → List (List (List ℕ))
@@ -19,7 +20,7 @@ rows_below names (row ∷ rows) = if pointwise bytes_eq row names then Some rows
 
 -- a number as a row keeps it: one too wide for 32 bits is the widest, which is past each limit
 abbrev pub kept_number : List ℕ → ℕ
-kept_number word = min (number_value word) 4294967295
+kept_number word = min (number_value word) WIDEST
 
 -- the number that a field of a row names, where it is a number word
 abbrev pub number_in : List (List ℕ) → ℕ → Option ℕ

@@ -2,9 +2,13 @@ ghost use Rattle.std.specs.Prelude.{◌≡◌, ◌<◌, ◌≤◌, ◌+◌, ◌*
 ghost use Rattle.std.specs.Cmp.Lexicographic.{pointwise};
 ghost use Rattle.csv.specs.Records.{fields_of};
 ghost use Rattle.cu_model.specs.Numbers.{is_number_word};
+ghost use Rattle.cu_tables.specs.declared.fields.TheConstants.{WIDEST};
 ghost use Rattle.cu_tables.specs.Tables.{field_of, kept_number, number_in};
 
 use csv::ByteRecord;
+
+/// The widest number that a field is read as: one too wide for 32 bits counts as this one.
+pub const WIDEST: u32 = u32::MAX;
 
 /// The bytes of one field of a row, counted from 0.
 pub fn field(row: &ByteRecord, index: usize) -> &[u8]
@@ -43,7 +47,7 @@ fn number_of(word: &[u8]) -> Option<u32>
 fn with_digit(value: u32, digit: u8) -> u32
     requires low { 48 ≤ digit }
     requires high { digit ≤ 57 }
-    ensures { result ≡ min (value * 10 + (digit - 48)) 4294967295 }
+    ensures { result ≡ min (value * 10 + (digit - 48)) WIDEST }
 {
     value
         .saturating_mul(10)

@@ -3,7 +3,8 @@
 //! Its promise to the crates above: a taker is handed exactly the rows of the text, until it refuses one
 //! (`specs/Taking.antt`), and what a [`RowWriter`] wrote is read back. What a reader answers of its checks, whatever its
 //! refusals are, is said once in `specs/Checks.antt`. It stands on `cu_model`, and on the crate `csv`, of whose reader and
-//! writer nothing is seen above. What only its own functions cite is in `specs/Steps`.
+//! writer nothing is seen above. How far csv's reader and writer have come is its own; what only its functions cite of that is
+//! in `specs/Steps`.
 #![tactic(auto)]
 
 mod fields;
