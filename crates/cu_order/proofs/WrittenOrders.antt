@@ -112,28 +112,28 @@ nodes_again count before (node ∷ rest) few e a d =
     ∙ nodes_again count (before ++ (node ∷ [])) rest few (omega (arith, e, long)) (All-tail (λ x. x < count) node rest a) (subst (IsDistinct eqb) (sym joined) d)
     ∙ ap Ok joined
 
--- an order has each node once
+module _ (o : OrderValue) (f : IsOrder o) where
+  -- an order has each node once
+  in_range : All (λ node. node < length o.node_at) o.node_at
+  in_range = All-from_get_or (λ node. node < length o.node_at) o.node_at 0
+      (λ rank h.
+      let there = f.ranked rank (get_or o.node_at rank 0) (slice_get-get_or o.node_at rank 0 h) in
+      let below = slice_get_within o.rank_of (get_or o.node_at rank 0) rank there in
+      let same = f.same in
+      omega (arith, below, same))
 
-in_range : (o : OrderValue) → IsOrder o → All (λ node. node < length o.node_at) o.node_at
-in_range o f = All-from_get_or (λ node. node < length o.node_at) o.node_at 0
-    (λ rank h.
-    let there = f.ranked rank (get_or o.node_at rank 0) (slice_get-get_or o.node_at rank 0 h) in
-    let below = slice_get_within o.rank_of (get_or o.node_at rank 0) rank there in
-    let same = f.same in
-    omega (arith, below, same))
+  once : IsDistinct eqb o.node_at
+  once = IsDistinct-from_AllPairs Decides-eqb o.node_at
+      (λ i j d lt h e.
+      let first = f.ranked i (get_or o.node_at i d) (slice_get-get_or o.node_at i d (omega (arith, lt, h))) in
+      let second = f.ranked j (get_or o.node_at j d) (slice_get-get_or o.node_at j d h) in
+      let moved : slice_get o.rank_of (get_or o.node_at j d) ≡ Some i = subst (λ node. slice_get o.rank_of node ≡ Some i) e first in
+      let same : i ≡ j = cc (moved, second) in
+      absurd (omega (arith, lt, same)))
 
-once : (o : OrderValue) → IsOrder o → IsDistinct eqb o.node_at
-once o f = IsDistinct-from_AllPairs Decides-eqb o.node_at
-    (λ i j d lt h e.
-    let first = f.ranked i (get_or o.node_at i d) (slice_get-get_or o.node_at i d (omega (arith, lt, h))) in
-    let second = f.ranked j (get_or o.node_at j d) (slice_get-get_or o.node_at j d h) in
-    let moved : slice_get o.rank_of (get_or o.node_at j d) ≡ Some i = subst (λ node. slice_get o.rank_of node ≡ Some i) e first in
-    let same : i ≡ j = cc (moved, second) in
-    absurd (omega (arith, lt, same)))
-
--- what is written is read as the same order
-pub again : (o : OrderValue) → IsOrder o → order_of (length o.node_at) (rows_text (map node_row o.node_at)) ≡ Ok o.node_at
-unfolding order_of
-again o f =
-    ap (λ (rows : List (List (List ℕ))). nodes_from (length o.node_at) [] rows) (table_written (length o.node_at) o.node_at f.few (in_range o f))
-    ∙ nodes_again (length o.node_at) [] o.node_at f.few (omega arith) (in_range o f) (once o f)
+  -- what is written is read as the same order
+  pub again : order_of (length o.node_at) (rows_text (map node_row o.node_at)) ≡ Ok o.node_at
+  unfolding order_of
+  again =
+      ap (λ (rows : List (List (List ℕ))). nodes_from (length o.node_at) [] rows) (table_written (length o.node_at) o.node_at f.few in_range)
+      ∙ nodes_again (length o.node_at) [] o.node_at f.few (omega arith) in_range once

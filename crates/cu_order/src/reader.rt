@@ -1,51 +1,19 @@
 //! Reading an order from a text.
 
-ghost use Rattle.std.specs.Prelude.{◌≡◌, ◌<◌, ◌≤◌, ℕ, List, [], IfErr, IfOk, Ok, Some, false, length, slice_index_or};
-ghost use Rattle.csv.specs.Records.{fields_of};
+ghost use Rattle.std.specs.Prelude.{◌≡◌, ◌≤◌, [], IfErr, IfOk, Ok, Some, length};
 ghost use Rattle.cu_model.specs.declared.limits.TheConstants.{MAX_NODES};
 ghost use Rattle.cu_model.specs.Orders.{IsOrder, ListsEachNodeOnce};
-ghost use Rattle.cu_tables.specs.Checks.{Adds, Checked, Gives, IsRefused};
+ghost use Rattle.cu_tables.specs.Checks.{Adds, Gives, IsRefused};
 ghost use Rattle.cu_order.specs.OrderTexts.{node_fault, node_of_row, order_of};
-ghost use Rattle.cu_order.specs.Steps.Listed.{IsListed, number_of_row};
+ghost use Rattle.cu_order.specs.Steps.Listed.{IsListed};
 ghost use Rattle.cu_order.specs.declared.refusals.OrderRefusal.TheVariants as refusal;
 
-use crate::OrderRefusal;
+use crate::refusals::OrderRefusal;
+use crate::rows::check_row;
 use csv::ByteRecord;
 use cu_model::{NoMemory, Order};
-use cu_tables::{TakesRows, each_row, number_at};
+use cu_tables::{TakesRows, each_row};
 use std::alloc::Global;
-
-// The number of a row, none where the row isn't one number word.
-fn number_of_row(row: &ByteRecord) -> Option<u32>
-    ensures { result ≡ number_of_row (fields_of row.now) }
-{
-    if row.len() != 1 {
-        return None;
-    }
-    number_at(row, 0)
-}
-
-// The node of the row with this number, or the first check that the row fails. The flags tell the nodes of the rows before
-// it.
-fn check_row(row: &ByteRecord, number: u32, seen: &[bool]) -> Result<u32, OrderRefusal>
-    requires { length seen.now ≤ MAX_NODES }
-    ensures checked { (before : List ℕ) → IsListed seen.now before → number ≡ length before
-        → Checked (node_fault (length seen.now) before (fields_of row.now))
-        (node_of_row (fields_of row.now)) result }
-    ensures range { IfOk result (λ node. node < length seen.now) }
-    ensures unseen { IfOk result (λ node. slice_index_or seen.now node false ≡ false) }
-{
-    let Some(node) = number_of_row(row) else {
-        return Err(OrderRefusal::Number { row: number });
-    };
-    if node as usize >= seen.len() {
-        return Err(OrderRefusal::Range { row: number });
-    }
-    if seen[node as usize] {
-        return Err(OrderRefusal::Twice { row: number });
-    }
-    Ok(node)
-}
 
 // The nodes of the rows so far, and a flag for each node that tells whether it is one of them.
 #[derive(Drop)]
