@@ -1,6 +1,6 @@
 -- What is written is read as the same profiles.
 use Rattle.std.proofs.Common.{◌≡◌, ◌∙◌, ◌<◌, ◌≤◌, ◌+◌, ◌^◌, ℕ, List, [], ◌∷◌, ◌++◌, Bool, true, false, Option, Some, None, Result, Ok, length, map, min, refl, sym, ap, arith}
-use Rattle.std.specs.Prelude.{All, decimal, nat_lt, ◌==◌, ◌||◌, ◌&&◌, not, if◌then◌else◌, sum_by}
+use Rattle.std.specs.Prelude.{All, decimal, nat_lt, ◌==◌, ◌||◌, not, if◌then◌else◌, sum_by}
 use Rattle.std.specs.List.{cons_option, filter_map}
 use Rattle.std.specs.Option.{option_or}
 use Rattle.std.proofs.lemmas.Bool.{and_parts, eq-eqb, eqb-true, leb-true, ltb-true, ne_eqb}
@@ -18,11 +18,14 @@ use Rattle.cu_model.specs.Numbers.{is_number_word}
 use Rattle.cu_model.specs.Profiles.{is_in_limit, is_rule_in_limit, IsProfile}
 use Rattle.cu_model.proofs.FaultLaws.{piece_fault_none_from}
 use Rattle.cu_tables.specs.Checks.{below, unless}
+use Rattle.cu_tables.specs.declared.fields.TheConstants.{WIDEST}
 use Rattle.cu_tables.specs.Tables.{kept_number, rows_below, table}
+use Rattle.cu_tables.proofs.FieldFacts.{and_three}
 use Rattle.cu_tables.proofs.Numerals.{decimal_value, decimal_word}
 use Rattle.cu_tables.proofs.Round.{table_of_rows}
 use Rattle.cu_profile.specs.declared.refusals.ProfileRefusal.{ProfileRefusal}
 use Rattle.cu_profile.specs.declared.refusals.ProfileRefusal.TheVariants.{Header, Fields, Number, Sequence, TooMany}
+use Rattle.cu_profile.specs.declared.rows.TheConstants.{MAX_ROWS}
 use Rattle.cu_profile.specs.ProfileTexts.{begin_with, by_profile, faulted, has_numbers, header, may_follow, missing, piece_of_fields, piece_of_row, piece_row_fault, profile_checked, profile_number, profile_of_rows, profiles_of_groups, profiles_of_rows, profiles_of_text, rows_fault, then_more, wrong_kind}
 use Rattle.cu_profile.specs.Written.{kind_word, piece_row, rows_from, rule_number, table_of}
 use Rattle.cu_profile.proofs.RowFacts.{rows_next}
@@ -41,10 +44,10 @@ rule_within (Closed value) h = let k = eqb-true value 0 h in omega (arith, k)
 in_limit : (piece : Piece) → IsInLimit piece → (piece.from < day) × (rule_number piece.rule ≤ MAX_UNTIL)
 in_limit piece h = let k = and_parts (nat_lt piece.from day) (is_rule_in_limit piece.rule) h in (ltb-true piece.from day k.0, rule_within piece.rule k.1)
 
-number_kept : (n : ℕ) → n ≤ 4294967295 → kept_number (decimal n) ≡ n
+number_kept : (n : ℕ) → n ≤ WIDEST → kept_number (decimal n) ≡ n
 number_kept n h =
-    let kept : min n 4294967295 ≡ n = omega (arith, h) in
-    ap (λ (v : ℕ). min v 4294967295) (decimal_value n (omega (arith, h))) ∙ kept
+    let kept : min n WIDEST ≡ n = omega (arith, h) in
+    ap (λ (v : ℕ). min v WIDEST) (decimal_value n (omega (arith, h))) ∙ kept
 
 fields_read : (from : ℕ) (rule : Rule) → piece_of_fields (kind_word rule) from (rule_number rule) ≡ Some (record { from = from; rule = rule })
 fields_read from (Travel seconds) = refl
@@ -60,9 +63,6 @@ piece_written number piece h =
 
 -- the rows of a profile pass their checks
 
-and_all : (a b c : Bool) → a ≡ true → b ≡ true → c ≡ true → (a && b && c) ≡ true
-and_all a b c ea eb ec = rw (ea, eb, ec) refl
-
 passes_all : (b1 b2 b3 b4 b5 : Bool) (x1 x2 x3 x4 x5 : ProfileRefusal) → b1 ≡ false → b2 ≡ true → b3 ≡ true → b4 ≡ true → b5 ≡ false
     → (if b1 then Some x1 else if not b2 then Some x2 else if not b3 then Some x3 else if not b4 then Some x4 else if b5 then Some x5 else None) ≡ None
 passes_all b1 b2 b3 b4 b5 x1 x2 x3 x4 x5 e1 e2 e3 e4 e5 = rw (e1, e2, e3, e4, e5) refl
@@ -70,20 +70,20 @@ passes_all b1 b2 b3 b4 b5 x1 x2 x3 x4 x5 e1 e2 e3 e4 e5 = rw (e1, e2, e3, e4, e5
 number_written : (number : ℕ) (piece : Piece) → number ≤ MAX_PROFILES → profile_number (piece_row number piece) ≡ number
 number_written number piece h = decimal_value number (omega (arith, h))
 
-row_written : (row number : ℕ) (last : Option ℕ) (piece : Piece) → row < 4294967295 → number < MAX_PROFILES → may_follow last number ≡ true → IsInLimit piece
+row_written : (row number : ℕ) (last : Option ℕ) (piece : Piece) → row < MAX_ROWS → number < MAX_PROFILES → may_follow last number ≡ true → IsInLimit piece
     → piece_row_fault row last (piece_row number piece) ≡ None
 row_written row number last piece small few follows h =
     let (from, seconds) = in_limit piece h in
     let same = number_written number piece (omega (arith, few)) in
-    passes_all (row == 4294967295) (length (piece_row number piece) == 4) (has_numbers (piece_row number piece)) (may_follow last (profile_number (piece_row number piece)))
+    passes_all (row == MAX_ROWS) (length (piece_row number piece) == 4) (has_numbers (piece_row number piece)) (may_follow last (profile_number (piece_row number piece)))
     (profile_number (piece_row number piece) == MAX_PROFILES) (TooMany row) (Fields row) (Number row) (Sequence row) (TooMany row)
-    (ne_eqb row 4294967295 (λ e. absurd (omega (arith, small, e)))) refl
-    (and_all (is_number_word (decimal number)) (is_number_word (decimal piece.from)) (is_number_word (decimal (rule_number piece.rule)))
+    (ne_eqb row MAX_ROWS (λ e. absurd (omega (arith, small, e)))) refl
+    (and_three (is_number_word (decimal number)) (is_number_word (decimal piece.from)) (is_number_word (decimal (rule_number piece.rule)))
     (decimal_word number (omega (arith, few))) (decimal_word piece.from (omega (arith, from))) (decimal_word (rule_number piece.rule) (omega (arith, seconds))))
     (ap (may_follow last) same ∙ follows)
     (ap (λ (n : ℕ). n == MAX_PROFILES) same ∙ ne_eqb number MAX_PROFILES (λ e. absurd (omega (arith, few, e))))
 
-row_next : (row number : ℕ) (last : Option ℕ) (piece : Piece) (rest : List (List (List ℕ))) → row < 4294967295 → number < MAX_PROFILES → may_follow last number ≡ true → IsInLimit piece
+row_next : (row number : ℕ) (last : Option ℕ) (piece : Piece) (rest : List (List (List ℕ))) → row < MAX_ROWS → number < MAX_PROFILES → may_follow last number ≡ true → IsInLimit piece
     → rows_fault row last (piece_row number piece ∷ rest) ≡ rows_fault (row + 1) (Some number) rest
 row_next row number last piece rest small few follows h =
     rows_next row last (piece_row number piece) rest (row_written row number last piece small few follows h)
@@ -103,7 +103,7 @@ next_follows : (number : ℕ) → may_follow (Some number) (number + 1) ≡ true
 next_follows number = or_right (number + 1 == number) (number + 1 == number + 1) (eq-eqb (number + 1) (number + 1) refl)
 
 rows_of_profile : (row number : ℕ) (last : Option ℕ) (pieces : List Piece) (rest : List (List (List ℕ))) → All IsInLimit pieces → 0 < length pieces
-    → number < MAX_PROFILES → may_follow last number ≡ true → row + length pieces ≤ 4294967295
+    → number < MAX_PROFILES → may_follow last number ≡ true → row + length pieces ≤ MAX_ROWS
     → rows_fault row last (map (piece_row number) pieces ++ rest) ≡ rows_fault (row + length pieces) (Some number) rest
 rows_of_profile row number last [] rest a some few follows small = absurd (omega (arith, some))
 rows_of_profile row number last (piece ∷ []) rest a some few follows small =
@@ -119,7 +119,7 @@ some_pieces [] v = absurd (cc v.starts)
 some_pieces (piece ∷ pieces) v = omega arith
 
 rows_pass : (row number : ℕ) (last : Option ℕ) (profiles : List (List Piece)) → All IsProfile profiles → may_follow last number ≡ true
-    → number + length profiles ≤ MAX_PROFILES → row + sum_by length profiles ≤ 4294967295 → rows_fault row last (rows_from number profiles) ≡ None
+    → number + length profiles ≤ MAX_PROFILES → row + sum_by length profiles ≤ MAX_ROWS → rows_fault row last (rows_from number profiles) ≡ None
 rows_pass row number last [] v follows few small = refl
 rows_pass row number last (profile ∷ profiles) v follows few small =
     let valid = All-head IsProfile profile profiles v in

@@ -24,21 +24,22 @@ fallen_within index (piece ∷ next ∷ pieces) found e = elim (cases_Bool (nat_
 abbrev Within : ℕ → ℕ → Option PieceFault → Type 0
 Within first last fault = (found : PieceFault) → fault ≡ Some found → fault_row first found ≤ last
 
-or_within : (first last : ℕ) (a b : Option PieceFault) → Within first last a → Within first last b → Within first last (option_or a b)
-or_within first last None b h k found e = k found e
-or_within first last (Some fault) b h k found e = h found e
+module _ (first last : ℕ) where
+  or_within : (a b : Option PieceFault) → Within first last a → Within first last b → Within first last (option_or a b)
+  or_within None b h k found e = k found e
+  or_within (Some fault) b h k found e = h found e
 
-map_within : (first last : ℕ) (name : ℕ → PieceFault) (o : Option ℕ) → ((i : ℕ) → o ≡ Some i → fault_row first (name i) ≤ last) → Within first last (option_map name o)
-map_within first last name None h found e = absurd (cc e)
-map_within first last name (Some i) h found e = let same : name i ≡ found = cc e in subst (λ (f : PieceFault). fault_row first f ≤ last) same (h i refl)
+  map_within : (name : ℕ → PieceFault) (o : Option ℕ) → ((i : ℕ) → o ≡ Some i → fault_row first (name i) ≤ last) → Within first last (option_map name o)
+  map_within name None h found e = absurd (cc e)
+  map_within name (Some i) h found e = let same : name i ≡ found = cc e in subst (λ (f : PieceFault). fault_row first f ≤ last) same (h i refl)
+
+  if_within : (test : Bool) (o : Option PieceFault) → Within first last o → Within first last (if test then o else None)
+  if_within true o h found e = h found e
+  if_within false o h found e = absurd (cc e)
 
 start_within : (first n : ℕ) (starts : Bool) → Within first (first + n) (if starts then None else Some Start)
 start_within first n true found e = absurd (cc e)
 start_within first n false found e = let same : Start ≡ found = cc e in subst (λ (f : PieceFault). fault_row first f ≤ first + n) same (omega arith)
-
-if_within : (first last : ℕ) (test : Bool) (o : Option PieceFault) → Within first last o → Within first last (if test then o else None)
-if_within first last true o h found e = h found e
-if_within first last false o h found e = absurd (cc e)
 
 position_within : (first : ℕ) (pieces : List Piece) (test : Piece → Bool) (i : ℕ) → position test pieces ≡ Some i → first + i ≤ first + length pieces
 position_within first pieces test i e = let k = (position-Some test pieces i (record { from = 0; rule = Travel 0 }) e).0 in omega (arith, k)

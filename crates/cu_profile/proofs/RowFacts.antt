@@ -12,6 +12,7 @@ use Rattle.cu_tables.proofs.TakingFacts.{Follows}
 use Rattle.cu_profile.specs.declared.refusals.ProfileRefusal.{ProfileRefusal}
 use Rattle.cu_profile.specs.declared.progress.ProfileRows.{ProfileRows}
 use Rattle.cu_profile.specs.declared.rows.PieceRow.{PieceRow}
+use Rattle.cu_profile.specs.declared.rows.TheConstants.{MAX_ROWS}
 use Rattle.cu_profile.specs.ProfileTexts.{begin_with, by_profile, has_numbers, may_follow, missing, onto, piece_of_row, piece_row_fault, profile_number, profiles_of_groups, rows_fault, then_more, wrong_kind}
 use Rattle.cu_profile.specs.Steps.ReadRows.{AddsRow, BeginsRow, EndsProfile, EndsRows, groups_behind, IsBetweenRows, joined, last_profile, last_profile_with, RefusesRow, rows_behind, TakesRow}
 use Rattle.cu_profile.proofs.KeptProfiles.{joined_kept, kept_few}
@@ -29,7 +30,7 @@ passes false true true true false x1 x2 x3 x4 x5 e = (refl, refl)
 -- a row that passes its checks is of a profile that may follow, and of none too many
 row_passes : (number : ℕ) (last : Option ℕ) (row : List (List ℕ)) → piece_row_fault number last row ≡ None → (may_follow last (profile_number row) ≡ true) × (profile_number row ≢ MAX_PROFILES)
 row_passes number last row e =
-    let k = passes (number == 4294967295) (length row == 4) (has_numbers row) (may_follow last (profile_number row)) (profile_number row == MAX_PROFILES) _ _ _ _ _ e in
+    let k = passes (number == MAX_ROWS) (length row == 4) (has_numbers row) (may_follow last (profile_number row)) (profile_number row == MAX_PROFILES) _ _ _ _ _ e in
     (k.0, eqb-false (profile_number row) MAX_PROFILES k.1)
 
 or-true : (a b : Bool) → (a || b) ≡ true → (a ≡ true) ⊎ (b ≡ true)

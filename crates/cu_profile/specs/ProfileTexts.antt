@@ -13,6 +13,7 @@ use Rattle.cu_model.specs.Numbers.{is_number_word, number_value}
 use Rattle.cu_tables.specs.Checks.{below, unless}
 use Rattle.cu_tables.specs.Tables.{field_of, kept_number, rows_below, table}
 use Rattle.cu_profile.specs.declared.refusals.ProfileRefusal.{ProfileRefusal}
+use Rattle.cu_profile.specs.declared.rows.TheConstants.{MAX_ROWS}
 use Rattle.cu_profile.specs.declared.refusals.ProfileRefusal.TheVariants.{Header, Fields, Number, Sequence, TooMany, Row}
 
 abbrev pub header : List (List ℕ)
@@ -34,7 +35,7 @@ may_follow (Some last) profile = (profile == last) || (profile == last + 1)
 -- the first check that a row fails by itself, where it has this number and the row before it is of the last profile
 abbrev pub piece_row_fault : ℕ → Option ℕ → List (List ℕ) → Option ProfileRefusal
 piece_row_fault number last row =
-    if number == 4294967295 then Some (TooMany number)
+    if number == MAX_ROWS then Some (TooMany number)
     else if not (length row == 4) then Some (Fields number)
     else if not (has_numbers row) then Some (Number number)
     else if not (may_follow last (profile_number row)) then Some (Sequence number)

@@ -2,7 +2,8 @@
 //!
 //! Its promise to the crates above: [`read_profiles`] gives exactly the profiles that a text names, or the first check that
 //! it fails (`profiles_of_text` in `specs/ProfileTexts.antt`), and what [`write_profiles`] writes is read back as the same.
-//! It stands on `cu_model` and `cu_tables`. What only its own functions cite is in `specs/Steps`.
+//! It stands on `cu_model` and `cu_tables`. The checks of a row and what the reader keeps from row to row are its own; what
+//! only they cite is in `specs/Steps`.
 #![tactic(auto)]
 
 mod progress;

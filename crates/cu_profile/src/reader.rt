@@ -1,9 +1,10 @@
 //! Reading profiles, row by row, and a whole text of them.
 
-ghost use Rattle.std.specs.Prelude.{◌≡◌, ◌+◌, ◌<◌, ◌≤◌, ◌-◌, ◌^◌, ◌++◌, [], All, IfErr, IfOk, Ok, OnErr, OnOk, Some, length, option_to_list, sum_by};
+ghost use Rattle.std.specs.Prelude.{◌≡◌, ◌+◌, ◌<◌, ◌≤◌, ◌^◌, ◌++◌, [], All, IfErr, IfOk, Ok, OnErr, OnOk, Some, length, option_to_list, sum_by};
 ghost use Rattle.std.specs.Option.{option_or};
 ghost use Rattle.cu_model.specs.Profiles.{IsProfile};
 ghost use Rattle.cu_tables.specs.Checks.{Gives, IsRefused};
+ghost use Rattle.cu_profile.specs.declared.rows.TheConstants.{MAX_ROWS};
 ghost use Rattle.cu_profile.specs.ProfileTexts.{fault_row, missing, profile_checked, profiles_of_text};
 ghost use Rattle.cu_profile.specs.Steps.ReadRows.{AddsRow, BeginsRow, EndsProfile, EndsRows, IsBetweenRows, IsNew, KeepsProfile, RefusesRow, TakesRow, rows_behind};
 ghost use Rattle.cu_profile.specs.declared.refusals.ProfileRefusal.TheVariants as refusal;
@@ -68,7 +69,7 @@ impl ProfileRows {
 
     // Adds a row to the last profile.
     fn add_row(&mut self, line: PieceRow) -> Result<(), NoMemory>
-        requires { self.old.row < 2 ^ 32 - 1 }
+        requires { self.old.row < MAX_ROWS }
         ensures { OnOk result (AddsRow self.old self.new line) }
     {
         add_piece(line.piece, self.row, &mut self.pieces, &mut self.wrong_kind)?;

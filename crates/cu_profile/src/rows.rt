@@ -1,7 +1,8 @@
 //! The header, and the checks of one row.
 
-ghost use Rattle.std.specs.Prelude.{◌≡◌, ◌<◌, ◌-◌, ◌^◌, IfSome, OnOk, length, map};
+ghost use Rattle.std.specs.Prelude.{◌≡◌, ◌<◌, IfSome, OnOk, length, map};
 ghost use Rattle.csv.specs.Records.{fields_of};
+ghost use Rattle.cu_profile.specs.declared.rows.TheConstants.{MAX_ROWS};
 ghost use Rattle.cu_profile.specs.ProfileTexts.{header, may_follow, piece_of_fields};
 ghost use Rattle.cu_profile.specs.Steps.ReadRows.{RowChecked, numbers_of};
 
@@ -9,6 +10,9 @@ use crate::refusals::ProfileRefusal;
 use csv::ByteRecord;
 use cu_model::{MAX_PROFILES, Piece, Rule};
 use cu_tables::{field, number_at};
+
+/// The most rows of a table of profiles, so that each has a number of 32 bits, and so has their count.
+pub const MAX_ROWS: u32 = u32::MAX;
 
 /// The names of the four columns.
 pub(crate) fn header() -> [&'static [u8]; 4]
@@ -45,9 +49,9 @@ pub(crate) fn check_row(
 ) -> Result<PieceRow, ProfileRefusal>
     ensures checked { IfSome last (λ profile. profile < MAX_PROFILES)
         → RowChecked number last (fields_of row.now) result }
-    ensures number { OnOk result (number < 2 ^ 32 - 1) }
+    ensures few { OnOk result (number < MAX_ROWS) }
 {
-    if number == u32::MAX {
+    if number == MAX_ROWS {
         return Err(ProfileRefusal::TooMany { row: number });
     }
     if row.len() != 4 {
