@@ -1,6 +1,7 @@
 -- Draws, step by step.
 use Rattle.std.proofs.Common.{◌≡◌, ◌∙◌, ◌<◌, ◌+◌, ◌*◌, ◌/◌, ◌%◌, ◌^◌, ℕ, zero, suc, refl, ap, arith}
 use Rattle.std.proofs.lemmas.Nat.{mod_below}
+use Rattle.cu_roads.specs.declared.draws.TheConstants.{INCREMENT, MULTIPLIER}
 use Rattle.cu_roads.specs.Draws.{after, drawn, stepped}
 
 pub drawn_below : (below state : ℕ) → 0 < below → drawn below state < below
@@ -28,11 +29,11 @@ after_more (suc first) more state =
     after_more first more (stepped state) ∙ ap (λ (n : ℕ). after n state) e
 
 -- one step, in two operations that stay within 64 bits
-pub step_is : (state old : ℕ) → state ≡ old → (state * 6364136223846793005 % 2 ^ 64 + 1442695040888963407) % 2 ^ 64 ≡ stepped old
+pub step_is : (state old : ℕ) → state ≡ old → (state * MULTIPLIER % 2 ^ 64 + INCREMENT) % 2 ^ 64 ≡ stepped old
 unfolding stepped
 step_is state old e = omega (arith, e)
 
 pub number_is : (state old divisor below : ℕ) → state ≡ old → divisor ≡ below
-    → (state * 6364136223846793005 % 2 ^ 64 + 1442695040888963407) % 2 ^ 64 / 2 ^ 33 % divisor ≡ drawn below old
+    → (state * MULTIPLIER % 2 ^ 64 + INCREMENT) % 2 ^ 64 / 2 ^ 33 % divisor ≡ drawn below old
 unfolding drawn
 number_is state old divisor below e f = rw (step_is state old e, f) refl

@@ -1,5 +1,5 @@
 -- Days and roads drawn one after the other.
-use Rattle.std.proofs.Common.{rules, ◌≡◌, ◌∙◌, ◌≤◌, ◌+◌, ◌*◌, ℕ, zero, suc, List, [], ◌∷◌, ◌++◌, Some, None, refl, ap, sym, arith, append_assoc, length, length-append}
+use Rattle.std.proofs.Common.{rules, ◌≡◌, ◌∙◌, ◌≤◌, ◌<◌, ◌+◌, ◌*◌, ℕ, zero, suc, List, [], ◌∷◌, ◌++◌, Some, None, refl, ap, sym, arith, append_assoc, length, length-append}
 use Rattle.std.specs.Prelude.{MatchResult, Result, Ok, Err}
 use Rattle.std.specs.Result.{IsOk}
 use Rattle.std.proofs.lemmas.List.{append-nil}
@@ -12,21 +12,22 @@ use Rattle.cu_model.specs.declared.roads.RoadArc.{RoadArc}
 use Rattle.cu_model.specs.Faults.{piece_fault}
 use Rattle.cu_model.specs.Profiles.{IsProfile}
 use Rattle.cu_model.proofs.FaultLaws.{piece_fault_none_from}
+use Rattle.cu_roads.specs.declared.grids.TheConstants.{EXTRA_RANGE, FREE_RANGE, LEAST_FREE, PROFILES}
 use Rattle.cu_roads.specs.Draws.{after, drawn, stepped}
 use Rattle.cu_roads.specs.Grids.{RoadEnds, drawn_day, drawn_days, drawn_roads, rush_hour}
 use Rattle.cu_roads.specs.Steps.DrawnRoads.{AddsRoads}
 use Rattle.cu_roads.proofs.DrawSteps.{after_more, after_none, after_one, drawn_below}
 
-rush_profile : (free extra : ℕ) → free ≤ 119 → 1 ≤ extra → extra ≤ 600 → IsProfile (rush_hour free extra)
+rush_profile : (free extra : ℕ) → free < LEAST_FREE + FREE_RANGE → 1 ≤ extra → extra ≤ EXTRA_RANGE → IsProfile (rush_hour free extra)
 rush_profile free extra f some few = search rules
 
 -- a drawn day is a profile
 pub day_profile : (state : ℕ) → IsProfile (drawn_day state)
 unfolding drawn_day
 day_profile state =
-    let free = drawn_below 100 state (omega arith) in
-    let extra = drawn_below 600 (stepped state) (omega arith) in
-    rush_profile (20 + drawn 100 state) (1 + drawn 600 (stepped state)) (omega (arith, free)) (omega arith) (omega (arith, extra))
+    let free = drawn_below FREE_RANGE state (omega arith) in
+    let extra = drawn_below EXTRA_RANGE (stepped state) (omega arith) in
+    rush_profile (LEAST_FREE + drawn FREE_RANGE state) (1 + drawn EXTRA_RANGE (stepped state)) (omega (arith, free)) (omega arith) (omega (arith, extra))
 
 pub day_length : (state : ℕ) → length (drawn_day state) ≡ 4
 unfolding drawn_day
@@ -51,7 +52,7 @@ drawn_roads-append [] ys state = ap (drawn_roads ys) (sym (after_none state))
 drawn_roads-append (x ∷ xs) ys state =
     let step : after (length xs) (stepped state) ≡ after (length (x ∷ xs)) state =
     ap (after (length xs)) (sym (after_one state)) ∙ after_more 1 (length xs) state ∙ (let e : 1 + length xs ≡ length (x ∷ xs) = omega arith in ap (λ (n : ℕ). after n state) e) in
-    let road : RoadArc = record { tail = x.tail; head = x.head; profile = drawn 64 state } in
+    let road : RoadArc = record { tail = x.tail; head = x.head; profile = drawn PROFILES state } in
     ap (λ (roads : List RoadArc). road ∷ roads) (drawn_roads-append xs ys (stepped state))
     ∙ ap (λ (s : ℕ). road ∷ (drawn_roads xs (stepped state) ++ drawn_roads ys s)) step
 
@@ -64,7 +65,7 @@ pub adds_none : (roads : List RoadArc) (state : ℕ) → AddsRoads [] roads stat
 adds_none roads state = record { roads = sym (append-nil roads); state = sym (after_none state) }
 
 -- one road
-pub adds_one : (roads : List RoadArc) (state tail head profile : ℕ) → profile ≡ drawn 64 state
+pub adds_one : (roads : List RoadArc) (state tail head profile : ℕ) → profile ≡ drawn PROFILES state
     → AddsRoads (record { tail = tail; head = head } ∷ []) roads state (roads ++ (record { tail = tail; head = head; profile = profile } ∷ [])) (stepped state)
 adds_one roads state tail head profile e = record { roads = rw e refl; state = sym (after_one state) }
 
@@ -100,7 +101,7 @@ flat_more f n =
     ∙ ap (λ (xs : List _). flat_map f (range_with_len 0 n) ++ xs) (append-nil (f (0 + n)))
     ∙ ap (λ (k : ℕ). flat_map f (range_with_len 0 n) ++ f k) e
 
-pub day_is : (free extra state : ℕ) → free ≡ drawn 100 state → extra ≡ drawn 600 (stepped state) → rush_hour (20 + free) (1 + extra) ≡ drawn_day state
+pub day_is : (free extra state : ℕ) → free ≡ drawn FREE_RANGE state → extra ≡ drawn EXTRA_RANGE (stepped state) → rush_hour (LEAST_FREE + free) (1 + extra) ≡ drawn_day state
 unfolding drawn_day
 day_is free extra state e f = rw (e, f) refl
 

@@ -16,6 +16,7 @@ use Rattle.cu_model.specs.Networks.{IsNetwork}
 use Rattle.cu_model.specs.Profiles.{IsProfile}
 use Rattle.cu_profile.specs.Written.{table_of}
 use Rattle.cu_roads.specs.declared.places.Place.{Place}
+use Rattle.cu_roads.specs.declared.grids.TheConstants.{DISTANCE, MAX_SIDE, PROFILES}
 use Rattle.cu_roads.specs.Draws.{after, drawn, stepped}
 use Rattle.cu_roads.specs.Grids.{RoadEnds, drawn_day, drawn_days, drawn_roads, ends_of_node, ends_to, grid_ends, grid_network, grid_place, grid_places, next_row_ends, right_ends}
 use Rattle.cu_roads.specs.NetworkTexts.{network_of}
@@ -34,46 +35,47 @@ range_below n = λ i d h.
     let is = get_or-range_with_len 0 n i d inside in
     omega (arith, is, inside)
 
-row_within : (width height node : ℕ) → node < width * height → node / width < height
-row_within width height node h = elim (cases_lt (node / width) height) [
-  | inl within ↦ within
-  | inr past ↦
+module _ (width height : ℕ) where
+  row_within : (node : ℕ) → node < width * height → node / width < height
+  row_within node h = elim (cases_lt (node / width) height) [
+    | inl within ↦ within
+    | inr past ↦
+        let whole : node / width * width + node % width ≡ node = div-add-mod' node width in
+        let wide : height * width ≤ node / width * width = mul-le height width (node / width) width past (omega arith) in
+        let turned : height * width ≡ width * height = mul_comm height width in
+        absurd (omega (arith, h, whole, wide, turned))
+  ]
+
+  right_within : (node : ℕ) → node < width * height → node % width + 1 < width → node + 1 < width * height
+  right_within node h right =
       let whole : node / width * width + node % width ≡ node = div-add-mod' node width in
-      let wide : height * width ≤ node / width * width = mul-le height width (node / width) width past (omega arith) in
-      let turned : height * width ≡ width * height = mul_comm height width in
-      absurd (omega (arith, h, whole, wide, turned))
-]
+      let next : node / width * width + (node % width + 1) < width * height = mul-add-lt (node / width) width (node % width + 1) height (row_within node h) right in
+      omega (arith, whole, next)
 
-right_within : (width height node : ℕ) → node < width * height → node % width + 1 < width → node + 1 < width * height
-right_within width height node h right =
-    let whole : node / width * width + node % width ≡ node = div-add-mod' node width in
-    let next : node / width * width + (node % width + 1) < width * height = mul-add-lt (node / width) width (node % width + 1) height (row_within width height node h) right in
-    omega (arith, whole, next)
+  next_row_within : (node : ℕ) → 1 ≤ width → node / width + 1 < height → node + width < width * height
+  next_row_within node wide next =
+      let whole : node / width * width + node % width ≡ node = div-add-mod' node width in
+      let row : (node / width + 1) * width + node % width < width * height = mul-add-lt (node / width + 1) width (node % width) height next (mod_below node width (omega (arith, wide))) in
+      let more : (node / width + 1) * width ≡ node / width * width + 1 * width = add-mul (node / width) 1 width in
+      omega (arith, whole, row, more)
 
-next_row_within : (width height node : ℕ) → 1 ≤ width → node / width + 1 < height → node + width < width * height
-next_row_within width height node wide next =
-    let whole : node / width * width + node % width ≡ node = div-add-mod' node width in
-    let row : (node / width + 1) * width + node % width < width * height = mul-add-lt (node / width + 1) width (node % width) height next (mod_below node width (omega (arith, wide))) in
-    let more : (node / width + 1) * width ≡ node / width * width + 1 * width = add-mul (node / width) 1 width in
-    omega (arith, whole, row, more)
+  -- their places
 
--- their places
+  place_within : (node : ℕ) → 1 ≤ width → width ≤ MAX_SIDE → height ≤ MAX_SIDE → node < width * height → IsPlace (grid_place width node)
+  place_within node wide few_wide few_high h =
+      let x : node % width < width = mod_below node width (omega (arith, wide)) in
+      let y = row_within node h in
+      (omega (arith, x, few_wide), omega (arith, y, few_high))
 
-place_within : (width height node : ℕ) → 1 ≤ width → width ≤ 512 → height ≤ 512 → node < width * height → IsPlace (grid_place width node)
-place_within width height node wide few_wide few_high h =
-    let x : node % width < width = mod_below node width (omega (arith, wide)) in
-    let y = row_within width height node h in
-    (omega (arith, x, few_wide), omega (arith, y, few_high))
+  places_within : 1 ≤ width → width ≤ MAX_SIDE → height ≤ MAX_SIDE → All IsPlace (grid_places width height)
+  unfolding grid_places
+  places_within wide few_wide few_high =
+      All-map IsPlace (grid_place width) (range_with_len 0 (width * height))
+      (λ i d h. place_within (get_or (range_with_len 0 (width * height)) i d) wide few_wide few_high (range_below (width * height) i d h))
 
-places_within : (width height : ℕ) → 1 ≤ width → width ≤ 512 → height ≤ 512 → All IsPlace (grid_places width height)
-unfolding grid_places
-places_within width height wide few_wide few_high =
-    All-map IsPlace (grid_place width) (range_with_len 0 (width * height))
-    (λ i d h. place_within width height (get_or (range_with_len 0 (width * height)) i d) wide few_wide few_high (range_below (width * height) i d h))
-
-length-places : (width height : ℕ) → length (grid_places width height) ≡ width * height
-unfolding grid_places
-length-places width height = length-map-range_with_len (grid_place width) 0 (width * height)
+  length-places : length (grid_places width height) ≡ width * height
+  unfolding grid_places
+  length-places = length-map-range_with_len (grid_place width) 0 (width * height)
 
 -- their roads
 
@@ -134,12 +136,12 @@ few_grid_ends width height =
     let count = length-range_with_len 0 (width * height) in
     omega (arith, few, count)
 
-roads_between : (nodes : ℕ) (ends : List RoadEnds) (state : ℕ) → All (IsWithin nodes) ends → All (IsBetween nodes 64) (drawn_roads ends state)
-roads_between nodes [] state a = All-nil (IsBetween nodes 64)
+roads_between : (nodes : ℕ) (ends : List RoadEnds) (state : ℕ) → All (IsWithin nodes) ends → All (IsBetween nodes PROFILES) (drawn_roads ends state)
+roads_between nodes [] state a = All-nil (IsBetween nodes PROFILES)
 roads_between nodes (x ∷ xs) state a =
     let within = All-head (IsWithin nodes) x xs a in
-    let road : RoadArc = record { tail = x.tail; head = x.head; profile = drawn 64 state } in
-    All-cons (IsBetween nodes 64) road (drawn_roads xs (stepped state)) (within.0, within.1, drawn_below 64 state (omega arith))
+    let road : RoadArc = record { tail = x.tail; head = x.head; profile = drawn PROFILES state } in
+    All-cons (IsBetween nodes PROFILES) road (drawn_roads xs (stepped state)) (within.0, within.1, drawn_below PROFILES state (omega arith))
     (roads_between nodes xs (stepped state) (All-tail (IsWithin nodes) x xs a))
 
 -- their profiles
@@ -169,43 +171,43 @@ days_pieces count state =
     let long = length-range_with_len 0 count in
     omega (arith, sum, long)
 
-grid_sound : (start width height : ℕ) → 1 ≤ width → width ≤ 512 → height ≤ 512 → IsNetwork (grid_network start width height).network
+grid_sound : (start width height : ℕ) → 1 ≤ width → width ≤ MAX_SIDE → height ≤ MAX_SIDE → IsNetwork (grid_network start width height).network
 unfolding grid_network
 grid_sound start width height wide few_wide few_high =
     let ends = grid_ends width height in
-    let nodes : width * height ≤ 512 * 512 = mul-le width height 512 512 few_wide few_high in
+    let nodes : width * height ≤ MAX_SIDE * MAX_SIDE = mul-le width height MAX_SIDE MAX_SIDE few_wide few_high in
     let roads = few_grid_ends width height in
-    let long = length-drawn_roads ends (after 128 start) in
-    let kinds = length-days 64 start in
+    let long = length-drawn_roads ends (after (2 * PROFILES) start) in
+    let kinds = length-days PROFILES start in
     record {
       few_nodes = nodes;
       few_arcs = omega (arith, nodes, roads, long);
       few_profiles = omega (arith, kinds);
-      in_range = subst (λ (n : ℕ). All (IsBetween (width * height) n) (drawn_roads ends (after 128 start))) (sym kinds)
-          (roads_between (width * height) ends (after 128 start) (all_ends_within width height wide));
-      valid = days_valid 64 start;
+      in_range = subst (λ (n : ℕ). All (IsBetween (width * height) n) (drawn_roads ends (after (2 * PROFILES) start))) (sym kinds)
+          (roads_between (width * height) ends (after (2 * PROFILES) start) (all_ends_within width height wide));
+      valid = days_valid PROFILES start;
     }
 
-pub grid_again : (start width height : ℕ) → 1 ≤ width → width ≤ 512 → height ≤ 512
+pub grid_again : (start width height : ℕ) → 1 ≤ width → width ≤ MAX_SIDE → height ≤ MAX_SIDE
     → network_of (written_network (grid_network start width height)).nodes (written_network (grid_network start width height)).roads
     (written_network (grid_network start width height)).profiles ≡ Ok (grid_network start width height)
 unfolding grid_network
 grid_again start width height wide few_wide few_high =
     written_again (grid_network start width height) (grid_sound start width height wide few_wide few_high) (places_within width height wide few_wide few_high)
-    (length-places width height) (let sum = days_pieces 64 start in omega (arith, sum))
+    (length-places width height) (let sum = days_pieces PROFILES start in omega (arith, sum))
 
 pub grid_texts : (start width height : ℕ) (nodes roads profiles : List ℕ) → nodes ≡ rows_text (node_table (grid_places width height))
-    → roads ≡ rows_text (arc_table (drawn_roads (grid_ends width height) (after 128 start))) → profiles ≡ rows_text (table_of (drawn_days 64 start))
+    → roads ≡ rows_text (arc_table (drawn_roads (grid_ends width height) (after (2 * PROFILES) start))) → profiles ≡ rows_text (table_of (drawn_days PROFILES start))
     → ◌≡◌ {A = ThreeTexts} (record { nodes = nodes; roads = roads; profiles = profiles }) (written_network (grid_network start width height))
 unfolding grid_network written_network
 grid_texts start width height nodes roads profiles e f g = rw (e, f, g) refl
 
 -- by columns and rows
 
-place_is : (a b x y : ℕ) → a ≡ x → b ≡ y → ◌≡◌ {A = Place} (record { x = a * 100; y = b * 100 }) (record { x = x * 100; y = y * 100 })
+place_is : (a b x y : ℕ) → a ≡ x → b ≡ y → ◌≡◌ {A = Place} (record { x = a * DISTANCE; y = b * DISTANCE }) (record { x = x * DISTANCE; y = y * DISTANCE })
 place_is a b x y e f = rw (e, f) refl
 
-pub place_by_rows : (width height x y : ℕ) → x < width → y < height → slice_get (grid_places width height) (y * width + x) ≡ Some (record { x = x * 100; y = y * 100 })
+pub place_by_rows : (width height x y : ℕ) → x < width → y < height → slice_get (grid_places width height) (y * width + x) ≡ Some (record { x = x * DISTANCE; y = y * DISTANCE })
 unfolding grid_places
 place_by_rows width height x y h k =
     let node = y * width + x in

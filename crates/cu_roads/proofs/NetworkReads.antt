@@ -10,25 +10,26 @@ use Rattle.cu_roads.specs.declared.refusals.RoadRefusal.{RoadRefusal}
 use Rattle.cu_roads.specs.declared.refusals.RoadRefusal.TheVariants.{Profiles}
 use Rattle.cu_roads.specs.NetworkTexts.{arcs_of_text, joined, network_of, places_of_text, with_places, with_profiles}
 
--- places that are refused
-pub nodes-refused : (nodes roads profiles : List ℕ) (why : RoadRefusal) → places_of_text nodes ≡ Err why → network_of nodes roads profiles ≡ Err why
-unfolding network_of
-nodes-refused nodes roads profiles why e = ap (λ (given : Result (List Place) RoadRefusal). with_places given roads profiles) e
+module _ (nodes roads profiles : List ℕ) where
+  -- places that are refused
+  pub nodes-refused : (why : RoadRefusal) → places_of_text nodes ≡ Err why → network_of nodes roads profiles ≡ Err why
+  unfolding network_of
+  nodes-refused why e = ap (λ (given : Result (List Place) RoadRefusal). with_places given roads profiles) e
 
--- profiles that are refused, behind the places
-pub profiles-refused : (nodes roads profiles : List ℕ) (places : List Place) (why : ProfileRefusal)
-    → places_of_text nodes ≡ Ok places → profiles_of_text profiles ≡ Err why → network_of nodes roads profiles ≡ Err (Profiles why)
-unfolding network_of
-profiles-refused nodes roads profiles places why e f =
-    ap (λ (given : Result (List Place) RoadRefusal). with_places given roads profiles) e
-    ∙ ap (λ (given : Result (List (List Piece)) ProfileRefusal). with_profiles places roads given) f
+  -- profiles that are refused, behind the places
+  pub profiles-refused : (places : List Place) (why : ProfileRefusal)
+      → places_of_text nodes ≡ Ok places → profiles_of_text profiles ≡ Err why → network_of nodes roads profiles ≡ Err (Profiles why)
+  unfolding network_of
+  profiles-refused places why e f =
+      ap (λ (given : Result (List Place) RoadRefusal). with_places given roads profiles) e
+      ∙ ap (λ (given : Result (List (List Piece)) ProfileRefusal). with_profiles places roads given) f
 
--- roads, refused or not, behind the places and the profiles
-pub arcs-joined : (nodes roads profiles : List ℕ) (places : List Place) (pieces : List (List Piece)) (node_count profile_count : ℕ) (arcs : Result (List RoadArc) RoadRefusal)
-    → places_of_text nodes ≡ Ok places → profiles_of_text profiles ≡ Ok pieces → node_count ≡ length places → profile_count ≡ length pieces
-    → arcs_of_text node_count profile_count roads ≡ arcs → network_of nodes roads profiles ≡ joined places pieces arcs
-unfolding network_of
-arcs-joined nodes roads profiles places pieces node_count profile_count arcs e f n m g =
-    ap (λ (given : Result (List Place) RoadRefusal). with_places given roads profiles) e
-    ∙ ap (λ (given : Result (List (List Piece)) ProfileRefusal). with_profiles places roads given) f
-    ∙ ap (λ (given : Result (List RoadArc) RoadRefusal). joined places pieces given) ((rw (n, m) at g))
+  -- roads, refused or not, behind the places and the profiles
+  pub arcs-joined : (places : List Place) (pieces : List (List Piece)) (node_count profile_count : ℕ) (arcs : Result (List RoadArc) RoadRefusal)
+      → places_of_text nodes ≡ Ok places → profiles_of_text profiles ≡ Ok pieces → node_count ≡ length places → profile_count ≡ length pieces
+      → arcs_of_text node_count profile_count roads ≡ arcs → network_of nodes roads profiles ≡ joined places pieces arcs
+  unfolding network_of
+  arcs-joined places pieces node_count profile_count arcs e f n m g =
+      ap (λ (given : Result (List Place) RoadRefusal). with_places given roads profiles) e
+      ∙ ap (λ (given : Result (List (List Piece)) ProfileRefusal). with_profiles places roads given) f
+      ∙ ap (λ (given : Result (List RoadArc) RoadRefusal). joined places pieces given) ((rw (n, m) at g))

@@ -1,7 +1,7 @@
 -- What is written of a network is read as the same network.
 use Rattle.std.proofs.Common.{◌≡◌, ◌∙◌, ◌≤◌, ◌<◌, ◌^◌, ℕ, List, ◌∷◌, Bool, true, false, Option, Some, None, refl, ap, arith, length, map}
 use Rattle.std.specs.Prelude.{All, Result, Ok, decimal, nat_le, nat_lt, not, ◌&&◌, ◌==◌, if◌then◌else◌, sum_by}
-use Rattle.std.proofs.lemmas.Bool.{eq-eqb, le-leb, lt-ltb, ne_eqb}
+use Rattle.std.proofs.lemmas.Bool.{and_from, eq-eqb, le-leb, lt-ltb, ne_eqb}
 use Rattle.csv.proofs.RoundTrip.{rows_text}
 use Rattle.csv.specs.Writing.{fields_text, is_blank}
 use Rattle.cu_model.specs.declared.limits.TheConstants.{MAX_ARCS, MAX_NODES}
@@ -10,6 +10,7 @@ use Rattle.cu_model.specs.Networks.{IsNetwork}
 use Rattle.cu_model.specs.Numbers.{is_number_word, number_value}
 use Rattle.cu_tables.specs.Checks.{below, unless}
 use Rattle.cu_tables.specs.Tables.{rows_below, table}
+use Rattle.cu_tables.proofs.FieldFacts.{and_four, and_three}
 use Rattle.cu_tables.proofs.Numerals.{decimal_value, decimal_word}
 use Rattle.cu_tables.proofs.Round.{table_of_rows}
 use Rattle.cu_profile.proofs.AgainFacts.{again}
@@ -28,22 +29,13 @@ use Rattle.cu_roads.proofs.WrittenRows.{IsReadBack, rows_pass, rows_plain, rows_
 abbrev pub IsPlace : Place → Type 0
 IsPlace place = (place.x ≤ MAX_COORDINATE) × (place.y ≤ MAX_COORDINATE)
 
-and_two : (a b : Bool) → a ≡ true → b ≡ true → (a && b) ≡ true
-and_two a b ea eb = rw (ea, eb) refl
-
-and_three : (a b c : Bool) → a ≡ true → b ≡ true → c ≡ true → (a && b && c) ≡ true
-and_three a b c ea eb ec = rw (ea, eb, ec) refl
-
-and_four : (a b c d : Bool) → a ≡ true → b ≡ true → c ≡ true → d ≡ true → (a && b && c && d) ≡ true
-and_four a b c d ea eb ec ed = rw (ea, eb, ec, ed) refl
-
 below_is : (n limit : ℕ) → n < 2 ^ 64 → n < limit → nat_lt (number_value (decimal n)) limit ≡ true
 below_is n limit small h = ap (λ (v : ℕ). nat_lt v limit) (decimal_value n small) ∙ lt-ltb n limit h
 
 coordinate_word : (n : ℕ) → n ≤ MAX_COORDINATE → is_coordinate (decimal n) ≡ true
 coordinate_word n h =
     let small : n < 2 ^ 64 = omega (arith, h) in
-    and_two (is_number_word (decimal n)) (nat_le (number_value (decimal n)) MAX_COORDINATE) (decimal_word n small)
+    and_from (is_number_word (decimal n)) (nat_le (number_value (decimal n)) MAX_COORDINATE) (decimal_word n small)
     (ap (λ (v : ℕ). nat_le v MAX_COORDINATE) (decimal_value n small) ∙ le-leb n MAX_COORDINATE h)
 
 passes_four : (b1 b2 b3 b4 : Bool) (x1 x2 x3 x4 : RoadRefusal) → b1 ≡ true → b2 ≡ true → b3 ≡ false → b4 ≡ true
@@ -91,7 +83,7 @@ arc_passes nodes profiles number arc n p few (tail, head, profile) =
     (decimal_word number small) (decimal_word arc.tail t) (decimal_word arc.head h) (decimal_word arc.profile q))
     (ne_eqb number MAX_ARCS (λ e. absurd (omega (arith, few, e))))
     (eq-eqb (value_at row 0) number (decimal_value number small))
-    (and_two (nat_lt (value_at row 1) nodes) (nat_lt (value_at row 2) nodes) (below_is arc.tail nodes t tail) (below_is arc.head nodes h head))
+    (and_from (nat_lt (value_at row 1) nodes) (nat_lt (value_at row 2) nodes) (below_is arc.tail nodes t tail) (below_is arc.head nodes h head))
     (below_is arc.profile profiles q profile)
 
 arc_same : (a b c : ℕ) (arc : RoadArc) → a ≡ arc.tail → b ≡ arc.head → c ≡ arc.profile → ◌≡◌ {A = RoadArc} (record { tail = a; head = b; profile = c }) arc

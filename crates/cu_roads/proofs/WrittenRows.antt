@@ -34,23 +34,22 @@ pub record IsReadBack {T : Type 0} (row : ℕ → T → List (List ℕ)) (fault 
   pub same : (number : ℕ) (x : T) → Fits x → value (row number x) ≡ x
   pub plain : (number : ℕ) (x : T) → read_back (row number x) ≡ row number x
 
-pub rows_pass : {T : Type 0} {row : ℕ → T → List (List ℕ)} {fault : ℕ → List (List ℕ) → Option RoadRefusal} {value : List (List ℕ) → T} {limit : ℕ} {Fits : T → Type 0}
-    (b : IsReadBack row fault value limit Fits) (number : ℕ) (xs : List T) → All Fits xs → number + length xs ≤ limit → first_fault fault number (rows_from row number xs) ≡ None
-rows_pass b number [] a few = refl
-rows_pass {row = row} {fault = fault} {Fits = Fits} b number (x ∷ xs) a few =
-    ap (λ (o : Option RoadRefusal). option_or o (first_fault fault (number + 1) (rows_from row (number + 1) xs))) (b.passes number x (omega (arith, few)) (All-head Fits x xs a))
-    ∙ rows_pass b (number + 1) xs (All-tail Fits x xs a) (omega (arith, few))
+module _ {T : Type 0} {row : ℕ → T → List (List ℕ)} {fault : ℕ → List (List ℕ) → Option RoadRefusal} {value : List (List ℕ) → T} {limit : ℕ} {Fits : T → Type 0}
+    (b : IsReadBack row fault value limit Fits) where
+  pub rows_pass : (number : ℕ) (xs : List T) → All Fits xs → number + length xs ≤ limit → first_fault fault number (rows_from row number xs) ≡ None
+  rows_pass number [] a few = refl
+  rows_pass number (x ∷ xs) a few =
+      ap (λ (o : Option RoadRefusal). option_or o (first_fault fault (number + 1) (rows_from row (number + 1) xs))) (b.passes number x (omega (arith, few)) (All-head Fits x xs a))
+      ∙ rows_pass (number + 1) xs (All-tail Fits x xs a) (omega (arith, few))
 
-pub rows_same : {T : Type 0} {row : ℕ → T → List (List ℕ)} {fault : ℕ → List (List ℕ) → Option RoadRefusal} {value : List (List ℕ) → T} {limit : ℕ} {Fits : T → Type 0}
-    (b : IsReadBack row fault value limit Fits) (number : ℕ) (xs : List T) → All Fits xs → map value (rows_from row number xs) ≡ xs
-rows_same b number [] a = refl
-rows_same {T} {row = row} {value = value} {Fits = Fits} b number (x ∷ xs) a =
-    ap (λ (y : T). y ∷ map value (rows_from row (number + 1) xs)) (b.same number x (All-head Fits x xs a))
-    ∙ ap (λ (ys : List T). x ∷ ys) (rows_same b (number + 1) xs (All-tail Fits x xs a))
+  pub rows_same : (number : ℕ) (xs : List T) → All Fits xs → map value (rows_from row number xs) ≡ xs
+  rows_same number [] a = refl
+  rows_same number (x ∷ xs) a =
+      ap (λ (y : T). y ∷ map value (rows_from row (number + 1) xs)) (b.same number x (All-head Fits x xs a))
+      ∙ ap (λ (ys : List T). x ∷ ys) (rows_same (number + 1) xs (All-tail Fits x xs a))
 
-pub rows_plain : {T : Type 0} {row : ℕ → T → List (List ℕ)} {fault : ℕ → List (List ℕ) → Option RoadRefusal} {value : List (List ℕ) → T} {limit : ℕ} {Fits : T → Type 0}
-    (b : IsReadBack row fault value limit Fits) (number : ℕ) (xs : List T) → map read_back (rows_from row number xs) ≡ rows_from row number xs
-rows_plain b number [] = refl
-rows_plain {row = row} b number (x ∷ xs) =
-    ap (λ (r : List (List ℕ)). r ∷ map read_back (rows_from row (number + 1) xs)) (b.plain number x)
-    ∙ ap (λ (rows : List (List (List ℕ))). row number x ∷ rows) (rows_plain b (number + 1) xs)
+  pub rows_plain : (number : ℕ) (xs : List T) → map read_back (rows_from row number xs) ≡ rows_from row number xs
+  rows_plain number [] = refl
+  rows_plain number (x ∷ xs) =
+      ap (λ (r : List (List ℕ)). r ∷ map read_back (rows_from row (number + 1) xs)) (b.plain number x)
+      ∙ ap (λ (rows : List (List (List ℕ))). row number x ∷ rows) (rows_plain (number + 1) xs)

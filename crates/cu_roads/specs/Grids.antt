@@ -5,7 +5,7 @@ use Rattle.cu_model.specs.declared.profiles.Piece.{Piece}
 use Rattle.cu_model.specs.declared.profiles.Rule.TheVariants.{Travel, Until}
 use Rattle.cu_model.specs.declared.roads.RoadArc.{RoadArc}
 use Rattle.cu_roads.specs.declared.places.Place.{Place}
-use Rattle.cu_roads.specs.declared.grids.TheConstants.{MAX_SIDE}
+use Rattle.cu_roads.specs.declared.grids.TheConstants.{DISTANCE, EASING, EXTRA_RANGE, FREE_RANGE, LEAST_FREE, MAX_SIDE, PROFILES, RUSH}
 use Rattle.cu_roads.specs.NetworkTexts.{NetworkRead}
 use Rattle.cu_roads.specs.Draws.{after, drawn, stepped}
 
@@ -15,7 +15,7 @@ IsSide count = (1 ≤ count) × (count ≤ MAX_SIDE)
 
 -- node y * width + x lies at (100x, 100y), where x is below the width
 abbrev pub grid_place : ℕ → ℕ → Place
-grid_place width node = record { x = node % width * 100; y = node / width * 100 }
+grid_place width node = record { x = node % width * DISTANCE; y = node / width * DISTANCE }
 
 unfoldable pub grid_places : ℕ → ℕ → List Place
 grid_places width height = map (grid_place width) (range_with_len 0 (width * height))
@@ -24,14 +24,14 @@ grid_places width height = map (grid_place width) (range_with_len 0 (width * hei
 abbrev pub rush_hour : ℕ → ℕ → List Piece
 rush_hour free extra =
     record { from = 0; rule = Travel free }
-    ∷ record { from = 25200; rule = Travel (free + extra) }
-    ∷ record { from = 32400; rule = Until (32400 + free + extra) }
-    ∷ record { from = 32400 + extra; rule = Travel free }
+    ∷ record { from = RUSH; rule = Travel (free + extra) }
+    ∷ record { from = EASING; rule = Until (EASING + free + extra) }
+    ∷ record { from = EASING + extra; rule = Travel free }
     ∷ []
 
 -- the day whose two numbers are drawn from this state on
 unfoldable pub drawn_day : ℕ → List Piece
-drawn_day state = rush_hour (20 + drawn 100 state) (1 + drawn 600 (stepped state))
+drawn_day state = rush_hour (LEAST_FREE + drawn FREE_RANGE state) (1 + drawn EXTRA_RANGE (stepped state))
 
 -- so many days, drawn from this state on
 unfoldable pub drawn_days : ℕ → ℕ → List (List Piece)
@@ -65,19 +65,19 @@ grid_ends width height = flat_map (ends_of_node width height) (range_with_len 0 
 -- roads with these ends, each with one of 64 profiles, drawn from this state on
 abbrev pub drawn_roads : List RoadEnds → ℕ → List RoadArc
 drawn_roads [] state = []
-drawn_roads (ends ∷ rest) state = record { tail = ends.tail; head = ends.head; profile = drawn 64 state } ∷ drawn_roads rest (stepped state)
+drawn_roads (ends ∷ rest) state = record { tail = ends.tail; head = ends.head; profile = drawn PROFILES state } ∷ drawn_roads rest (stepped state)
 
 -- the network of the grid of this width and height, drawn from this state on: first the days of its 64 profiles, and then its roads
 unfoldable pub grid_network : ℕ → ℕ → ℕ → NetworkRead
 grid_network start width height = record {
   network = record {
     nodes = width * height;
-    arcs = drawn_roads (grid_ends width height) (after 128 start);
-    profiles = drawn_days 64 start;
+    arcs = drawn_roads (grid_ends width height) (after (2 * PROFILES) start);
+    profiles = drawn_days PROFILES start;
   };
   places = grid_places width height;
 }
 
 -- the state after all draws of this grid
 unfoldable pub behind_grid : ℕ → ℕ → ℕ → ℕ
-behind_grid start width height = after (128 + length (grid_ends width height)) start
+behind_grid start width height = after (2 * PROFILES + length (grid_ends width height)) start

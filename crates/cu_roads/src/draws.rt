@@ -6,9 +6,9 @@ ghost use Rattle.cu_roads.specs.Draws.{drawn, stepped};
 use std::marker::Model;
 
 // The multiplier and the increment of Knuth's MMIX.
-const MULTIPLIER: u64 = 6_364_136_223_846_793_005;
+pub const MULTIPLIER: u64 = 6_364_136_223_846_793_005;
 
-const INCREMENT: u64 = 1_442_695_040_888_963_407;
+pub const INCREMENT: u64 = 1_442_695_040_888_963_407;
 
 /// Numbers drawn one after the other. From one start they are always the same. Contracts see it as its state of 64 bits.
 #[derive(Clone, Copy, Debug)]

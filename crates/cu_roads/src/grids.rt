@@ -2,6 +2,7 @@
 
 ghost use Rattle.std.specs.Prelude.{◌≡◌, ◌<◌, ◌+◌, ◌*◌, ◌∷◌, ◌++◌, [], ℕ, Some, Ok, IfOk, OnErr, OnOk, length, nat_lt, slice_get};
 ghost use Rattle.cu_model.specs.Profiles.{IsProfile};
+ghost use Rattle.cu_roads.specs.declared.grids.TheConstants.{DISTANCE, PROFILES};
 ghost use Rattle.cu_roads.specs.Draws.{after};
 ghost use Rattle.cu_roads.specs.Grids.{IsSide, behind_grid, drawn_day, drawn_days, drawn_roads, ends_of_node, ends_to, grid_ends, grid_network, grid_places};
 ghost use Rattle.cu_roads.specs.NetworkTexts.{network_of};
@@ -20,15 +21,23 @@ use std::marker::Model;
 pub const MAX_SIDE: u32 = 512;
 
 // How many profiles a grid has.
-const PROFILES: u32 = 64;
+pub const PROFILES: u32 = 64;
 
 // The distance between neighbours.
-const DISTANCE: u32 = 100;
+pub const DISTANCE: u32 = 100;
 
 // The second of the day, 7:00, at which the rush hour begins, and that, 9:00, from which it eases.
-const RUSH: u32 = 25_200;
+pub const RUSH: u32 = 25_200;
 
-const EASING: u32 = 32_400;
+pub const EASING: u32 = 32_400;
+
+// The least number of seconds that a day takes at all hours, and the number below which those on top of it are drawn.
+pub const LEAST_FREE: u32 = 20;
+
+pub const FREE_RANGE: u32 = 100;
+
+// The number below which the seconds are drawn that a day takes more in the rush hour, but for the first of them.
+pub const EXTRA_RANGE: u32 = 600;
 
 /// The three texts of a grid network. Contracts see three lists of bytes.
 #[derive(Debug, Drop)]
@@ -97,7 +106,7 @@ pub fn grid_roads(width: u32, height: u32) -> u32
 pub fn grid_by_rows()
     ensures place { (width height x y : ℕ) → x < width → y < height
         → slice_get (grid_places width height) (y * width + x)
-        ≡ Some (record { x = x * 100; y = y * 100 }) }
+        ≡ Some (record { x = x * DISTANCE; y = y * DISTANCE }) }
     ensures roads { (width height x y : ℕ) → x < width
         → ends_of_node width height (y * width + x)
         ≡ ends_to (nat_lt (x + 1) width) (y * width + x) (y * width + (x + 1))
@@ -112,8 +121,8 @@ pub fn draw_day(draws: &mut Draws) -> [Piece; 4]
     ensures valid { IsProfile result }
     ensures state { draws.new ≡ after 2 draws.old }
 {
-    let free = 20 + draws.next(100);
-    let extra = 1 + draws.next(600);
+    let free = LEAST_FREE + draws.next(FREE_RANGE);
+    let extra = 1 + draws.next(EXTRA_RANGE);
     [
         Piece {
             from: 0,
@@ -147,8 +156,8 @@ fn draw_profile(alloc: Global, draws: &mut Draws) -> Result<Profile, NoMemory>
 
 // Draws the profiles of a grid.
 fn draw_days(alloc: Global, draws: &mut Draws) -> Result<Vec<Profile>, NoMemory>
-    ensures days { IfOk result (λ profiles. profiles.items ≡ drawn_days 64 draws.old) }
-    ensures state { OnOk result (draws.new ≡ after 128 draws.old) }
+    ensures days { IfOk result (λ profiles. profiles.items ≡ drawn_days PROFILES draws.old) }
+    ensures state { OnOk result (draws.new ≡ after (2 * PROFILES) draws.old) }
 {
     let mut profiles = Vec::new(alloc);
     for _ in 0..PROFILES {

@@ -1,9 +1,10 @@
-//! Network texts: the tables of nodes, roads and profiles that give a road network and the places of its nodes.
+//! Network texts: the tables of nodes, profiles and roads that give a road network and the places of its nodes.
 //!
 //! Its promise to the crates above: [`read_network`] gives exactly the network and the places that the texts name, or the
 //! first check that they fail (`network_of` in `specs/NetworkTexts.antt`); and [`grid`] writes the texts of a grid network,
 //! drawn from a state of 64 bits, which are read as exactly that network (`grid_network` in `specs/Grids.antt`). It stands
-//! on `cu_model`, `cu_tables` and `cu_profile`. What only its own functions cite is in `specs/Steps`.
+//! on `cu_model`, `cu_tables` and `cu_profile`. The checks of a row, what the readers keep from row to row and the writing of
+//! a table are its own; what only they cite is in `specs/Steps`.
 #![tactic(auto)]
 
 mod arcs;

@@ -17,10 +17,10 @@ use cu_model::{MAX_PROFILES, Network, Profile};
 use cu_profile::{ProfileRefusal, read_profiles};
 use std::alloc::Global;
 
-/// Reads a network and the places of its nodes from the tables `node,x,y`, `arc,tail,head,profile` and
-/// `profile,from,kind,value`, each with its header first.
+/// Reads a network and the places of its nodes from the tables `node,x,y`, `profile,from,kind,value` and
+/// `arc,tail,head,profile`, each with its header first.
 ///
-/// The nodes are read first, then the profiles, then the roads, each row by row; the first check that fails is the refusal.
+/// They are read in that order, each row by row; the first check that fails is the refusal.
 /// The checks of a row, in their order: of a node `Fields`, `Number`, `TooManyNodes`, `Sequence`; of a road `Fields`,
 /// `Number`, `TooManyArcs`, `Sequence`, `NodeRange`, `ProfileRange`. A number word is one or more ASCII digits, with any
 /// leading zeros and of any length. Loops, parallel roads and profiles that no road uses are accepted. `NoMemory` may come

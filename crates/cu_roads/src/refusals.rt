@@ -5,7 +5,8 @@ use cu_model::NoMemory;
 use cu_profile::ProfileRefusal;
 use thiserror::Error;
 
-/// A table of a network that isn't the one of its profiles.
+/// A table of a network that isn't the one of its profiles. Of all three the nodes are checked first, then the profiles, and
+/// the roads last.
 #[derive(Clone, Copy, Debug, PartialEq, Eq)]
 pub enum File {
     /// The table `node,x,y`.
@@ -14,7 +15,8 @@ pub enum File {
     Roads,
 }
 
-/// Why three texts aren't a network. Rows are numbered from 0, behind the header.
+/// Why three texts aren't a network: the first check that fails, of the nodes, then of the profiles, then of the roads. Rows
+/// are numbered from 0, behind the header.
 #[derive(Clone, Copy, Debug, PartialEq, Eq, Error)]
 pub enum RoadRefusal {
     /// The first row isn't the header of the table, or there is none.

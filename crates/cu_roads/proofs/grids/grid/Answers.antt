@@ -1,9 +1,10 @@
-use Rattle.std.proofs.Common.{◌≡◌, ◌∙◌, ℕ, List, Ok, arith, length, ap, sym, subst}
+use Rattle.std.proofs.Common.{◌≡◌, ◌∙◌, ◌*◌, ℕ, List, Ok, arith, length, ap, sym, subst}
 use Rattle.csv.proofs.RoundTrip.{rows_text}
 use Rattle.cu_model.specs.declared.profiles.Piece.{Piece}
 use Rattle.cu_model.specs.declared.roads.RoadArc.{RoadArc}
 use Rattle.cu_profile.specs.Written.{table_of}
 use Rattle.cu_roads.specs.declared.places.Place.{Place}
+use Rattle.cu_roads.specs.declared.grids.TheConstants.{PROFILES}
 use Rattle.cu_roads.specs.Draws.{after}
 use Rattle.cu_roads.specs.Grids.{behind_grid, drawn_roads, grid_ends, grid_network}
 use Rattle.cu_roads.specs.NetworkTexts.{network_of}
@@ -15,12 +16,12 @@ use Rattle.cu_roads.proofs.grids.grid.Goals.{After-drop-profiles-2}
 
 pub write_profiles-requires-clause-profiles : goal.write_profiles-requires-clause-profiles
 write_profiles-requires-clause-profiles c =
-    let count = length-days 64 c.args.draws.now in
+    let count = length-days PROFILES c.args.draws.now in
     rw (c.deref-3.ensures.value, c.in_ok-profiles.ensures.days) (omega (arith, count))
 
 pub write_profiles-requires-clause-pieces : goal.write_profiles-requires-clause-pieces
 write_profiles-requires-clause-pieces c =
-    let sum = days_pieces 64 c.args.draws.now in
+    let sum = days_pieces PROFILES c.args.draws.now in
     rw (c.deref-3.ensures.value, c.in_ok-profiles.ensures.days) (omega (arith, sum))
 
 texts : (c : After-drop-profiles-2)
@@ -46,4 +47,4 @@ pub returns-clause-behind : goal.returns-clause-behind
 unfolding behind_grid
 returns-clause-behind c =
     let count = length (grid_ends c.args.width c.args.height) in
-    c.in_ok-roads.ensures.state ∙ ap (after count) c.in_ok-profiles.ensures.state ∙ after_more 128 count c.args.draws.now
+    c.in_ok-roads.ensures.state ∙ ap (after count) c.in_ok-profiles.ensures.state ∙ after_more (2 * PROFILES) count c.args.draws.now
