@@ -6,13 +6,10 @@ use Rattle.std.proofs.lemmas.Bool.{cases_Bool, eqb-true}
 use Rattle.std.proofs.lemmas.Map.Steps.{length-le_from_distinct_below}
 use Rattle.cu_links.specs.Chains.{link_at}
 use Rattle.cu_links.specs.Steps.Kept.{IsDeep}
-use Rattle.cu_links.proofs.Links.{link_within}
-
-pub same_pair : (o : Option (ℕ × ℕ)) (a b : ℕ × ℕ) → o ≡ Some a → o ≡ Some b → a ≡ b
-same_pair o a b p q = cc (p, q)
+use Rattle.cu_links.proofs.Links.{link_within, same_value}
 
 pub same_from : (o : Option (ℕ × ℕ)) (a b c d : ℕ) → o ≡ Some (a, b) → o ≡ Some (c, d) → a ≡ c
-same_from o a b c d p q = ap (λ (l : ℕ × ℕ). l.0) (same_pair o (a, b) (c, d) p q)
+same_from o a b c d p q = ap (λ (l : ℕ × ℕ). l.0) (same_value o (a, b) (c, d) p q)
 
 pub deep_same : (links : List (Option (ℕ × ℕ))) (n m place : ℕ) → IsDeep links n place → IsDeep links m place → n ≡ m
 deep_same links zero zero place d e = refl

@@ -6,6 +6,9 @@ use Rattle.std.proofs.lemmas.Option.{slice_get-get_or, slice_get_read}
 use Rattle.cu_links.specs.Chains.{link_at, link_or_none}
 use Rattle.cu_links.specs.Steps.Kept.{IsNoted, linked}
 
+pub same_value : {X : Type 0} (o : Option X) (a b : X) → o ≡ Some a → o ≡ Some b → a ≡ b
+same_value o a b p q = cc (p, q)
+
 pub get_here : {X : Type 0} (xs : List X) (i : ℕ) (x : X) → i < length xs → slice_get (slice_set xs i x) i ≡ Some x
 get_here [] i x lt = absurd (omega (arith, lt))
 get_here (y ∷ ys) zero x lt = refl
@@ -23,18 +26,19 @@ set_long [] i x = refl
 set_long (y ∷ ys) zero x = refl
 set_long (y ∷ ys) (suc i) x = ap (λ (n : ℕ). suc n) (set_long ys i x)
 
-pub link_here : (links : List (Option (ℕ × ℕ))) (place : ℕ) (link : Option (ℕ × ℕ)) → place < length links → link_at (slice_set links place link) place ≡ link
-link_here links place link lt = ap link_or_none (get_here links place link lt)
+module _ (links : List (Option (ℕ × ℕ))) (place : ℕ) where
+  pub link_here : (link : Option (ℕ × ℕ)) → place < length links → link_at (slice_set links place link) place ≡ link
+  link_here link lt = ap link_or_none (get_here links place link lt)
 
-pub link_other : (links : List (Option (ℕ × ℕ))) (place other : ℕ) (link : Option (ℕ × ℕ)) → place ≢ other → link_at (slice_set links place link) other ≡ link_at links other
-link_other links place other link ne = ap link_or_none (get_other links place other link ne)
+  pub link_other : (other : ℕ) (link : Option (ℕ × ℕ)) → place ≢ other → link_at (slice_set links place link) other ≡ link_at links other
+  link_other other link ne = ap link_or_none (get_other links place other link ne)
 
--- a link that is read by its index
-pub link_of : (links : List (Option (ℕ × ℕ))) (place : ℕ) (link : Option (ℕ × ℕ)) → place < length links → get_or links place None ≡ link → link_at links place ≡ link
-link_of links place link lt e = ap link_or_none (slice_get-get_or links place None lt) ∙ e
+  -- a link that is read by its index
+  pub link_of : (link : Option (ℕ × ℕ)) → place < length links → get_or links place None ≡ link → link_at links place ≡ link
+  link_of link lt e = ap link_or_none (slice_get-get_or links place None lt) ∙ e
 
-pub link_read : (links : List (Option (ℕ × ℕ))) (place : ℕ) (link : Option (ℕ × ℕ)) → place < length links → link ≡ get_or links place link → link_at links place ≡ link
-link_read links place link lt e = ap link_or_none (slice_get_read links (length links) place link refl lt e)
+  pub link_read : (link : Option (ℕ × ℕ)) → place < length links → link ≡ get_or links place link → link_at links place ≡ link
+  link_read link lt e = ap link_or_none (slice_get_read links (length links) place link refl lt e)
 
 pub some_link : (o : Option (ℕ × ℕ)) → is_some o ≡ true → (link : ℕ × ℕ) × (o ≡ Some link)
 some_link None e = absurd (cc e)
@@ -77,9 +81,6 @@ noted_more noted count place other (i, lt, e) = (i, omega (arith, lt), get_other
 pub noted_new : (noted : List ℕ) (count place : ℕ) → count < length noted → IsNoted (slice_set noted count place) (count + 1) place
 noted_new noted count place lt = (count, omega arith, get_here noted count place lt)
 
-same_place : (a b : ℕ) (o : Option ℕ) → o ≡ Some a → o ≡ Some b → a ≡ b
-same_place a b o p q = cc (p, q)
-
 -- what is noted stays a place
 pub places_more : (links : List (Option (ℕ × ℕ))) (noted : List ℕ) (count place : ℕ) → count < length noted → place < length links
     → ((i p : ℕ) → i < count → slice_get noted i ≡ Some p → p < length links) → (i p : ℕ) → i < count + 1 → slice_get (slice_set noted count place) i ≡ Some p → p < length links
@@ -87,7 +88,7 @@ places_more links noted count place fits lt all i p below e =
     elim (cases_eq count i) [
       | inl same ↦
           let here : slice_get (slice_set noted count place) i ≡ Some place = subst (λ (k : ℕ). slice_get (slice_set noted count place) k ≡ Some place) same (get_here noted count place fits) in
-          let is : p ≡ place = same_place p place _ e here in
+          let is : p ≡ place = same_value _ p place e here in
           omega (arith, is, lt)
       | inr other ↦ all i p (omega (arith, below, other)) (sym (get_other noted count i place other) ∙ e)
     ]

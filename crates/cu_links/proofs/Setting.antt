@@ -5,8 +5,8 @@ use Rattle.std.proofs.lemmas.Bool.{cases_eq}
 use Rattle.std.proofs.Math.Seq.{take-append_seam}
 use Rattle.cu_links.specs.Chains.{IsChain, IsOnChainTo, link_at}
 use Rattle.cu_links.specs.Steps.Kept.{IsDeep, IsGrounded, IsKept, IsNoted, MayGrow, Relinks, linked}
-use Rattle.cu_links.proofs.Depths.{same_from, same_pair}
-use Rattle.cu_links.proofs.Links.{link_here, link_other, linked_few, linked_more, linked_same, noted_more, noted_new, places_more, set_long}
+use Rattle.cu_links.proofs.Depths.{same_from}
+use Rattle.cu_links.proofs.Links.{link_here, link_other, linked_few, linked_more, linked_same, noted_more, noted_new, places_more, same_value, set_long}
 
 chain_push : (links : List (Option (ℕ × ℕ))) (a : ℕ) (steps : List (ℕ × ℕ)) (b c label : ℕ) → IsChain links a steps b → link_at links c ≡ Some (b, label) → IsChain links a (steps ++ ((c, label) ∷ [])) c
 chain_push links a [] b c label same at = (at ∙ ap (λ (p : ℕ). Some (p, label)) (sym same), refl)
@@ -48,7 +48,7 @@ grow_set links count after place from label g lt inside apart is =
           elim (cases_eq place q) [
             | inl same ↦
                 let here : link_at (slice_set links place (Some (from, label))) q ≡ Some (from, label) = subst (λ (p : ℕ). link_at (slice_set links place (Some (from, label))) p ≡ Some (from, label)) same (link_here links place (Some (from, label)) lt) in
-                let first : link.0 ≡ from = ap (λ (l : ℕ × ℕ). l.0) (same_pair (link_at (slice_set links place (Some (from, label))) q) link (from, label) e here) in
+                let first : link.0 ≡ from = ap (λ (l : ℕ × ℕ). l.0) (same_value (link_at (slice_set links place (Some (from, label))) q) link (from, label) e here) in
                 omega (arith, first, inside, long)
             | inr other ↦
                 let before = g.within q link (sym (link_other links place q (Some (from, label)) other) ∙ e) in
@@ -141,7 +141,8 @@ kept_room links noted count k =
     let count_ = g.all in
     omega (arith, room, few, count_)
 
-none_at : (links : List (Option (ℕ × ℕ))) (place : ℕ) → All (λ link. link ≡ None) links → link_at links place ≡ None
+-- where nothing is linked, no place is
+pub none_at : (links : List (Option (ℕ × ℕ))) (place : ℕ) → All (λ link. link ≡ None) links → link_at links place ≡ None
 none_at [] place all = refl
 none_at (x ∷ xs) zero all = all 0 x (omega arith)
 none_at (x ∷ xs) (suc place) all = none_at xs place (λ k d lt. all (suc k) d (omega (arith, lt)))

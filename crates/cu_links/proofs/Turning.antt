@@ -81,13 +81,37 @@ step_by old now last place next from label (suc n) lt long d kept steps chain ah
       refl,
     )
 
--- one more link is turned
-pub turning_step : (old now : List (Option (ℕ × ℕ))) (last place : ℕ) (next : Option (ℕ × ℕ)) (from label : ℕ) → (t : IsTurning old now last place next) → place < length now → link_at now place ≡ Some (from, label)
-    → (u : IsTurning old (slice_set now place next) last from (Some (place, label))) × (suc u.depth ≡ t.depth)
-turning_step old now last place next from label t lt at = step_by old now last place next from label t.depth lt t.long t.deep t.kept t.steps t.chain t.ahead t.relinks at
+module _ (old now : List (Option (ℕ × ℕ))) (last place : ℕ) (next : Option (ℕ × ℕ)) where
+  -- one more link is turned
+  pub turning_step : (from label : ℕ) (t : IsTurning old now last place next) → place < length now → link_at now place ≡ Some (from, label)
+      → (u : IsTurning old (slice_set now place next) last from (Some (place, label))) × (suc u.depth ≡ t.depth)
+  turning_step from label t lt at = step_by old now last place next from label t.depth lt t.long t.deep t.kept t.steps t.chain t.ahead t.relinks at
 
-pub turning_depth : (old now : List (Option (ℕ × ℕ))) (last place : ℕ) (next : Option (ℕ × ℕ)) → (t : IsTurning old now last place next) → depth_by (length old) old place ≡ t.depth
-turning_depth old now last place next t = depth_whole old t.depth place t.deep
+  -- the place from which the link leads is one
+  pub turning_within : (from label : ℕ) (t : IsTurning old now last place next) → AreWithin old → link_at now place ≡ Some (from, label) → from < length now
+  turning_within from label t within at =
+      let below = within place (from, label) (sym (t.kept place t.depth t.deep (omega arith)) ∙ at) in
+      let long = t.long in
+      omega (arith, below, long)
+
+  pub turning_depth : (t : IsTurning old now last place next) → depth_by (length old) old place ≡ t.depth
+  turning_depth t = depth_whole old t.depth place t.deep
+
+  -- the first place was reached
+  pub turning_end : (t : IsTurning old now last place next) → place < length now → link_at now place ≡ None → IsTurned old (slice_set now place next) last place
+  turning_end t lt at = record {
+    steps = t.steps;
+    chain = t.chain;
+    whole = sym (t.kept place t.depth t.deep (omega arith)) ∙ at;
+    followed = followed_from old now place next t.depth lt t.deep t.steps last t.chain t.ahead;
+  }
+
+  pub turning_relinks : (t : IsTurning old now last place next) → Relinks old (slice_set now place next) place
+  turning_relinks t q link e =
+      elim (cases_eq place q) [
+        | inl is ↦ inl (sym is)
+        | inr other ↦ inr (t.relinks q link (sym (link_other now place q next other) ∙ e))
+      ]
 
 -- fewer links lead to the place that is next
 pub turning_lower : (old now moved : List (Option (ℕ × ℕ))) (last place from : ℕ) (next after : Option (ℕ × ℕ)) → (t : IsTurning old now last place next) → (u : IsTurning old moved last from after) → suc u.depth ≡ t.depth
@@ -96,27 +120,3 @@ turning_lower old now moved last place from next after t u less =
     let a = turning_depth old now last place next t in
     let b = turning_depth old moved last from after u in
     omega (arith, a, b, less)
-
--- the first place was reached
-pub turning_end : (old now : List (Option (ℕ × ℕ))) (last place : ℕ) (next : Option (ℕ × ℕ)) → (t : IsTurning old now last place next) → place < length now → link_at now place ≡ None
-    → IsTurned old (slice_set now place next) last place
-turning_end old now last place next t lt at = record {
-  steps = t.steps;
-  chain = t.chain;
-  whole = sym (t.kept place t.depth t.deep (omega arith)) ∙ at;
-  followed = followed_from old now place next t.depth lt t.deep t.steps last t.chain t.ahead;
-}
-
-pub turning_relinks : (old now : List (Option (ℕ × ℕ))) (last place : ℕ) (next : Option (ℕ × ℕ)) → (t : IsTurning old now last place next) → Relinks old (slice_set now place next) place
-turning_relinks old now last place next t q link e =
-    elim (cases_eq place q) [
-      | inl is ↦ inl (sym is)
-      | inr other ↦ inr (t.relinks q link (sym (link_other now place q next other) ∙ e))
-    ]
-
--- the place from which the link leads is one
-pub turning_within : (old now : List (Option (ℕ × ℕ))) (last place : ℕ) (next : Option (ℕ × ℕ)) (from label : ℕ) → (t : IsTurning old now last place next) → AreWithin old → link_at now place ≡ Some (from, label) → from < length now
-turning_within old now last place next from label t within at =
-    let below = within place (from, label) (sym (t.kept place t.depth t.deep (omega arith)) ∙ at) in
-    let long = t.long in
-    omega (arith, below, long)
