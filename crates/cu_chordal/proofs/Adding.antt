@@ -3,7 +3,6 @@ use Rattle.std.proofs.Common.{◌≡◌, ◌≤◌, ◌<◌, ◌+◌, ℕ, zero,
 use Rattle.std.specs.Prelude.{All, slice_get}
 use Rattle.std.specs.List.{Contains, AllPairs, IsDistinct}
 use Rattle.std.specs.List.Sorted.{IsStrictlyIncreasing, IsPermutation, IsSorted}
-use Rattle.std.proofs.lemmas.Bool.Decides.{eqb_tells}
 use Rattle.std.proofs.lemmas.List.{length-replicate, get_or-replicate}
 use Rattle.std.proofs.lemmas.List.Elements.{All-replicate, All-contains}
 use Rattle.std.proofs.lemmas.List.Kept.{AllPairs-from_increasing}
@@ -22,25 +21,12 @@ use Rattle.cu_chordal.specs.Steps.Closing.{AddsRank, Appends, AreClosed, AreChil
 use Rattle.cu_chordal.specs.Lists.{edges_to}
 use Rattle.cu_chordal.specs.Steps.Flat.{IsTable, edges_in, graph_in, paired}
 use Rattle.cu_chordal.specs.Steps.Links.{AreLinks}
-use Rattle.cu_chordal.proofs.Members.{all_from_members}
+use Rattle.cu_chordal.proofs.Members.{all_from_members, flips}
 use Rattle.cu_chordal.proofs.Tables.{edge_from_up_of, length_paired}
 use Rattle.cu_chordal.proofs.Steps.{children_more, closed_more, table_more}
 use Rattle.cu_chordal.proofs.Closed.{AreUps, parent_least, ups_more, closure_all, chordal_all}
 use Rattle.cu_chordal.specs.declared.graph.TheConstants.{MAX_EDGES}
 use Rattle.cu_chordal.proofs.Linked.{adjacent_in_range}
-
-flips : (x y : ℕ) → eqb x y ≡ eqb y x
-flips x y =
-    elim (eqb_tells x y) [
-      | inl at ↦ elim (eqb_tells y x) [
-        | inl back ↦ at.0 ∙ sym back.0
-        | inr off ↦ absurd (off.1 (sym at.1))
-      ]
-      | inr off ↦ elim (eqb_tells y x) [
-        | inl back ↦ absurd (off.1 (sym back.1))
-        | inr away ↦ off.0 ∙ sym away.0
-      ]
-    ]
 
 pub sorted_part : (gathered part : List ℕ) → IsDistinct eqb gathered → IsPermutation gathered part → IsSorted nat_cmp part → IsStrictlyIncreasing part
 sorted_part gathered part once moved sorted = IsStrictlyIncreasing-from_distinct part (IsNonDecreasingBy-from_sort (λ (x : ℕ). x) part sorted)
@@ -159,37 +145,37 @@ pub record IsClosing (g : NetworkValue) (o : OrderValue) (ranks rank : ℕ) (clo
   pub ready : IsReady ranks rank closing
   pub ups : AreUps g o rank (edges_in closing.table)
 
-pub closing_none : (g : NetworkValue) (o : OrderValue) (ranks : ℕ) (closing : Closing) → IsReady ranks 0 closing → IsClosing g o ranks 0 closing
-closing_none g o ranks closing f = record { ready = f; ups = λ x y lt. absurd (omega (arith, lt)) }
+module _ (g : NetworkValue) (o : OrderValue) where
+  pub closing_none : (ranks : ℕ) (closing : Closing) → IsReady ranks 0 closing → IsClosing g o ranks 0 closing
+  closing_none ranks closing f = record { ready = f; ups = λ x y lt. absurd (omega (arith, lt)) }
 
-pub closing_more : (g : NetworkValue) (o : OrderValue) (ranks rank : ℕ) (old new : Closing) (links : List ℕ) → IsClosing g o ranks rank old
-    → AreLinks g o rank links → IsReady (length old.stamps.items) (rank + 1) new
-    → AddsRank links rank (edges_in old.table) (edges_in new.table) → IsClosing g o ranks (rank + 1) new
-closing_more g o ranks rank old new links f linked ready added = record {
-  ready = subst (λ n. IsReady n (rank + 1) new) f.ready.marks ready;
-  ups = ups_more g o (edges_in old.table) (edges_in new.table) links ranks rank f.ready.edges f.ups linked.exact added;
-}
+  pub closing_more : (ranks rank : ℕ) (old new : Closing) (links : List ℕ) → IsClosing g o ranks rank old → AreLinks g o rank links
+      → IsReady (length old.stamps.items) (rank + 1) new → AddsRank links rank (edges_in old.table) (edges_in new.table) → IsClosing g o ranks (rank + 1) new
+  closing_more ranks rank old new links f linked ready added = record {
+    ready = subst (λ n. IsReady n (rank + 1) new) f.ready.marks ready;
+    ups = ups_more g o (edges_in old.table) (edges_in new.table) links ranks rank f.ready.edges f.ups linked.exact added;
+  }
 
--- what is asked of a rank's links
-pub links_asked : (g : NetworkValue) (o : OrderValue) (ranks rank : ℕ) (closing : Closing) (links : List ℕ) → ranks ≡ g.nodes
-    → IsClosing g o ranks rank closing → AreLinks g o rank links → All (λ y. (rank ≤ y) × (y < length closing.stamps.items)) links
-links_asked g o ranks rank closing links at f linked k d h = let r = linked.in_range k d h in (r.0, omega (arith, r.1, at, f.ready.marks))
+  -- what is asked of a rank's links
+  pub links_asked : (ranks rank : ℕ) (closing : Closing) (links : List ℕ) → ranks ≡ g.nodes → IsClosing g o ranks rank closing → AreLinks g o rank links
+      → All (λ y. (rank ≤ y) × (y < length closing.stamps.items)) links
+  links_asked ranks rank closing links at f linked k d h = let r = linked.in_range k d h in (r.0, omega (arith, r.1, at, f.ready.marks))
 
-pub joined_in_range : (g : NetworkValue) (o : OrderValue) → IsOrder o → length o.node_at ≡ g.nodes → (m x : ℕ) (zs : List ℕ) (y : ℕ) → PathBelow g o m x zs y → x < g.nodes
-joined_in_range g o f long m x [] y p = adjacent_in_range g o x y f long p
-joined_in_range g o f long m x (z ∷ zs) y p = adjacent_in_range g o x z f long p.0
+  pub joined_in_range : IsOrder o → length o.node_at ≡ g.nodes → (m x : ℕ) (zs : List ℕ) (y : ℕ) → PathBelow g o m x zs y → x < g.nodes
+  joined_in_range f long m x [] y p = adjacent_in_range g o x y f long p
+  joined_in_range f long m x (z ∷ zs) y p = adjacent_in_range g o x z f long p.0
 
-pub edge_in_range : (g : NetworkValue) (o : OrderValue) → IsOrder o → length o.node_at ≡ g.nodes → (x y : ℕ) → IsEdge g o x y → x < g.nodes
-edge_in_range g o f long x y e = joined_in_range g o f long (min x y) x e.1.0 y e.1.1
+  pub edge_in_range : IsOrder o → length o.node_at ≡ g.nodes → (x y : ℕ) → IsEdge g o x y → x < g.nodes
+  edge_in_range f long x y e = joined_in_range f long (min x y) x e.1.0 y e.1.1
 
--- when all ranks were added
-pub closing_all : (g : NetworkValue) (o : OrderValue) (ranks rank : ℕ) (closing : Closing) → IsOrder o → length o.node_at ≡ g.nodes → ranks ≡ g.nodes → rank ≡ ranks → IsClosing g o ranks rank closing
-    → IsTable ranks closing.table × IsChordal (graph_in ranks closing.table) × IsClosureOf g o (graph_in ranks closing.table)
-closing_all g o ranks rank closing ordered long at last f =
-    let edges : List Ends = edges_in closing.table in
-    let closed : AreClosed edges ranks ranks = subst (AreClosed edges ranks) last f.ready.edges in
-    let ups : AreUps g o ranks edges = subst (λ k. AreUps g o k edges) last f.ups in (
-      subst (λ k. IsTable k closing.table) last f.ready.layout,
-      chordal_all g o edges ranks (omega (arith, at, long, ordered.few)) closed ups,
-      record { ranks = at; edges = closure_all g o edges (subst (λ k. AreClosed edges k k) at closed) (subst (λ k. AreUps g o k edges) at ups) (edge_in_range g o ordered long) },
-    )
+  -- when all ranks were added
+  pub closing_all : (ranks rank : ℕ) (closing : Closing) → IsOrder o → length o.node_at ≡ g.nodes → ranks ≡ g.nodes → rank ≡ ranks → IsClosing g o ranks rank closing
+      → IsTable ranks closing.table × IsChordal (graph_in ranks closing.table) × IsClosureOf g o (graph_in ranks closing.table)
+  closing_all ranks rank closing ordered long at last f =
+      let edges : List Ends = edges_in closing.table in
+      let closed : AreClosed edges ranks ranks = subst (AreClosed edges ranks) last f.ready.edges in
+      let ups : AreUps g o ranks edges = subst (λ k. AreUps g o k edges) last f.ups in (
+        subst (λ k. IsTable k closing.table) last f.ready.layout,
+        chordal_all g o edges ranks (omega (arith, at, long, ordered.few)) closed ups,
+        record { ranks = at; edges = closure_all g o edges (subst (λ k. AreClosed edges k k) at closed) (subst (λ k. AreUps g o k edges) at ups) (edge_in_range ordered long) },
+      )

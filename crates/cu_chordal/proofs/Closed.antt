@@ -49,30 +49,25 @@ parent_least edges k rank y rising p c =
     let read = get_or_from_slice_get (up_of edges k) 0 rank 0 p in
     omega (arith, least, read)
 
-source_is_up : (g : NetworkValue) (o : OrderValue) (edges : List Ends) (links : List ℕ) (rank y : ℕ) → IsRising edges → AreUps g o rank edges
-    → ((z : ℕ) → Contains links z ↔ ((rank ≤ z) × Adjacent g o rank z))
-    → IsSource edges links rank y → IsUp g o rank y
-source_is_up g o edges links rank y rising f linked (ne, inl c) = let both = (linked y).0 c in (omega (arith, both.0, ne), ([], both.1))
-source_is_up g o edges links rank y rising f linked (ne, inr child) =
-    let up_y : IsUp g o child.0 y = (f child.0 y child.1).0 (edge_from_up_of edges child.0 y child.3) in
-    let up_rank : IsUp g o child.0 rank = (f child.0 rank child.1).0 (edge_from_up_of edges child.0 rank (member_at (up_of edges child.0) rank 0 child.2)) in
-    let least : rank ≤ y = parent_least edges child.0 rank y rising child.2 child.3 in
-    up_from_child g o child.0 rank y up_rank up_y (omega (arith, least, ne))
+module _ (g : NetworkValue) (o : OrderValue) (edges : List Ends) (links : List ℕ) (rank y : ℕ) (rising : IsRising edges) (f : AreUps g o rank edges) (linked : ((z : ℕ) → Contains links z ↔ ((rank ≤ z) × Adjacent g o rank z))) where
+  source_is_up : IsSource edges links rank y → IsUp g o rank y
+  source_is_up (ne, inl c) = let both = (linked y).0 c in (omega (arith, both.0, ne), ([], both.1))
+  source_is_up (ne, inr child) =
+      let up_y : IsUp g o child.0 y = (f child.0 y child.1).0 (edge_from_up_of edges child.0 y child.3) in
+      let up_rank : IsUp g o child.0 rank = (f child.0 rank child.1).0 (edge_from_up_of edges child.0 rank (member_at (up_of edges child.0) rank 0 child.2)) in
+      let least : rank ≤ y = parent_least edges child.0 rank y rising child.2 child.3 in
+      up_from_child g o child.0 rank y up_rank up_y (omega (arith, least, ne))
 
-up_is_source : (g : NetworkValue) (o : OrderValue) (edges : List Ends) (links : List ℕ) (rank y : ℕ) → IsRising edges → AreUps g o rank edges
-    → ((z : ℕ) → Contains links z ↔ ((rank ≤ z) × Adjacent g o rank z))
-    → IsUp g o rank y → IsSource edges links rank y
-up_is_source g o edges links rank y rising f linked up =
-    elim (from_link_or_child g o (parent_of edges) rank y (parents_least g o edges rank rising f) up.0 up.1) [
-      | inl next ↦ ((λ e. omega (arith, e, up.0)), inl ((linked y).1 (omega (arith, up.0), next)))
-      | inr child ↦ ((λ e. omega (arith, e, up.0)), inr (child.0, child.1, child.2, up_of_from_edge edges child.0 y ((f child.0 y child.1).1 child.3)))
-    ]
+  up_is_source : IsUp g o rank y → IsSource edges links rank y
+  up_is_source up =
+      elim (from_link_or_child g o (parent_of edges) rank y (parents_least g o edges rank rising f) up.0 up.1) [
+        | inl next ↦ ((λ e. omega (arith, e, up.0)), inl ((linked y).1 (omega (arith, up.0), next)))
+        | inr child ↦ ((λ e. omega (arith, e, up.0)), inr (child.0, child.1, child.2, up_of_from_edge edges child.0 y ((f child.0 y child.1).1 child.3)))
+      ]
 
--- what a rank's higher neighbours are gathered from is what they are
-pub source_up : (g : NetworkValue) (o : OrderValue) (edges : List Ends) (links : List ℕ) (rank y : ℕ) → IsRising edges → AreUps g o rank edges
-    → ((z : ℕ) → Contains links z ↔ ((rank ≤ z) × Adjacent g o rank z))
-    → IsSource edges links rank y ↔ IsUp g o rank y
-source_up g o edges links rank y rising f linked = (source_is_up g o edges links rank y rising f linked, up_is_source g o edges links rank y rising f linked)
+  -- what a rank's higher neighbours are gathered from is what they are
+  pub source_up : IsSource edges links rank y ↔ IsUp g o rank y
+  source_up = (source_is_up, up_is_source)
 
 pub not_before : (edges : List Ends) (ranks rank y : ℕ) → AreClosed edges ranks rank → HasEdge edges rank y → ⊥
 not_before edges ranks rank y f c =

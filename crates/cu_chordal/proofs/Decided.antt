@@ -3,13 +3,14 @@ use Rattle.std.proofs.Common.{◌≡◌, ◌<◌, ◌+◌, ℕ, zero, suc, List,
 use Rattle.std.specs.Prelude.{slice_get}
 use Rattle.std.specs.List.{Contains}
 use Rattle.std.proofs.lemmas.Bool.{cases_eq, cases_lt}
-use Rattle.std.proofs.lemmas.Option.{same_Some, slice_get_within}
+use Rattle.std.proofs.lemmas.Option.{same_Some}
 use Rattle.cu_model.specs.declared.roads.RoadArc.{RoadArc}
 use Rattle.cu_model.specs.Networks.{NetworkValue}
 use Rattle.cu_model.specs.Orders.{OrderValue}
 use Rattle.cu_chordal.specs.Edges.{Adjacent, IsEdge, JoinedBelow, LinksRanks, PathBelow}
 use Rattle.cu_chordal.specs.WrongParts.{AreHigherNeighbours}
 use Rattle.cu_chordal.proofs.Joined.{cut_path, path_append, path_more}
+use Rattle.cu_chordal.proofs.Linked.{road_within}
 use Rattle.cu_chordal.proofs.Members.{here, there, member_cases, none_in_nil}
 
 -- it holds, or it is refuted
@@ -37,7 +38,7 @@ some_cases (Some x) = inr (x, refl)
 none_is_some : {X : Type 0} (o : Option X) (x : X) → o ≡ None → o ≡ Some x → ⊥
 none_is_some o x e f = cc
 
-some_decided : (o : Option ℕ) (x : ℕ) → Decided (o ≡ Some x)
+pub some_decided : (o : Option ℕ) (x : ℕ) → Decided (o ≡ Some x)
 some_decided o x =
     elim (some_cases o) [
       | inl none ↦ inr (none_is_some o x none)
@@ -47,12 +48,12 @@ some_decided o x =
       ]
     ]
 
-both_decided : (P Q : Type 0) → Decided P → Decided Q → Decided (P × Q)
+pub both_decided : (P Q : Type 0) → Decided P → Decided Q → Decided (P × Q)
 both_decided P Q (inl p) (inl q) = inl (p, q)
 both_decided P Q (inl p) (inr off) = inr (λ both. off both.1)
 both_decided P Q (inr off) q = inr (λ both. off both.0)
 
-either_decided : (P Q : Type 0) → Decided P → Decided Q → Decided (P ⊎ Q)
+pub either_decided : (P Q : Type 0) → Decided P → Decided Q → Decided (P ⊎ Q)
 either_decided P Q (inl p) q = inl (inl p)
 either_decided P Q (inr off) (inl q) = inl (inr q)
 either_decided P Q (inr off) (inr none) = inr (λ either. elim either [
@@ -74,63 +75,63 @@ below_decided P f (suc n) =
       ]
     ]
 
--- a road's ends, by rank
-road_ends : (g : NetworkValue) (o : OrderValue) (a x y : ℕ) (arc : RoadArc) → slice_get g.arcs a ≡ Some arc → LinksRanks g o a x y
-    → (slice_get o.rank_of arc.tail ≡ Some x) × (slice_get o.rank_of arc.head ≡ Some y)
-road_ends g o a x y arc at (u, v, (road, there, tail, head), low, high) =
-    let same : arc ≡ road = same_Some arc road (sym at ∙ there) in (
-      ap (λ (r : RoadArc). slice_get o.rank_of r.tail) same ∙ ap (slice_get o.rank_of) tail ∙ low,
-      ap (λ (r : RoadArc). slice_get o.rank_of r.head) same ∙ ap (slice_get o.rank_of) head ∙ high,
-    )
+module _ (g : NetworkValue) (o : OrderValue) where
+  -- a road's ends, by rank
+  road_ends : (a x y : ℕ) (arc : RoadArc) → slice_get g.arcs a ≡ Some arc → LinksRanks g o a x y → (slice_get o.rank_of arc.tail ≡ Some x) × (slice_get o.rank_of arc.head ≡ Some y)
+  road_ends a x y arc at (u, v, (road, there, tail, head), low, high) =
+      let same : arc ≡ road = same_Some arc road (sym at ∙ there) in (
+        ap (λ (r : RoadArc). slice_get o.rank_of r.tail) same ∙ ap (slice_get o.rank_of) tail ∙ low,
+        ap (λ (r : RoadArc). slice_get o.rank_of r.head) same ∙ ap (slice_get o.rank_of) head ∙ high,
+      )
 
-link_decided : (g : NetworkValue) (o : OrderValue) (x y a : ℕ) → Decided (LinksRanks g o a x y)
-link_decided g o x y a =
-    elim (some_cases (slice_get g.arcs a)) [
-      | inl none ↦ inr (λ p. none_is_some (slice_get g.arcs a) p.2.0 none p.2.1)
-      | inr some ↦
-          let arc : RoadArc = some.0 in
-          elim (both_decided _ _ (some_decided (slice_get o.rank_of arc.tail) x) (some_decided (slice_get o.rank_of arc.head) y)) [
-            | inl both ↦ inl (arc.tail, arc.head, (arc, some.1, refl, refl), both.0, both.1)
-            | inr off ↦ inr (λ p. off (road_ends g o a x y arc some.1 p))
-          ]
-    ]
-
-road_within : (g : NetworkValue) (o : OrderValue) (x y a : ℕ) → LinksRanks g o a x y ⊎ LinksRanks g o a y x → a < length g.arcs
-road_within g o x y a (inl p) = slice_get_within g.arcs a p.2.0 p.2.1
-road_within g o x y a (inr p) = slice_get_within g.arcs a p.2.0 p.2.1
-
-adjacent_decided : (g : NetworkValue) (o : OrderValue) (x y : ℕ) → Decided (Adjacent g o x y)
-adjacent_decided g o x y =
-    elim (below_decided (λ a. LinksRanks g o a x y ⊎ LinksRanks g o a y x) (λ a. either_decided _ _ (link_decided g o x y a) (link_decided g o y x a)) (length g.arcs)) [
-      | inl found ↦ inl (found.0, found.2)
-      | inr none ↦ inr (λ c. none (c.0, road_within g o x y c.0 c.1, c.1))
-    ]
-
--- a path of no inner rank, or one that is cut at the highest
-no_inner : (g : NetworkValue) (o : OrderValue) (x : ℕ) (zs : List ℕ) (y : ℕ) → PathBelow g o 0 x zs y → Adjacent g o x y
-no_inner g o x [] y p = p
-no_inner g o x (z ∷ zs) y p = absurd (omega (arith, p.1))
-
-pub joined_decided : (g : NetworkValue) (o : OrderValue) (m x y : ℕ) → Decided (JoinedBelow g o m x y)
-joined_decided g o zero x y =
-    elim (adjacent_decided g o x y) [
-      | inl next ↦ inl ([], next)
-      | inr off ↦ inr (λ j. off (no_inner g o x j.0 y j.1))
-    ]
-joined_decided g o (suc m) x y =
-    elim (joined_decided g o m x y) [
-      | inl stays ↦ inl (stays.0, path_more g o m (suc m) x stays.0 y (omega arith) stays.1)
-      | inr apart ↦ elim (both_decided _ _ (joined_decided g o m x m) (joined_decided g o m m y)) [
-        | inl (j, k) ↦ inl (
-          j.0 ++ (m ∷ k.0),
-          path_append g o (suc m) x m j.0 k.0 y (omega arith) (path_more g o m (suc m) x j.0 m (omega arith) j.1) (path_more g o m (suc m) m k.0 y (omega arith) k.1),
-        )
-        | inr off ↦ inr (λ j. elim (cut_path g o m x j.0 y j.1) [
-          | inl stays ↦ apart stays
-          | inr both ↦ off both
-        ])
+  link_decided : (x y a : ℕ) → Decided (LinksRanks g o a x y)
+  link_decided x y a =
+      elim (some_cases (slice_get g.arcs a)) [
+        | inl none ↦ inr (λ p. none_is_some (slice_get g.arcs a) p.2.0 none p.2.1)
+        | inr some ↦
+            let arc : RoadArc = some.0 in
+            elim (both_decided _ _ (some_decided (slice_get o.rank_of arc.tail) x) (some_decided (slice_get o.rank_of arc.head) y)) [
+              | inl both ↦ inl (arc.tail, arc.head, (arc, some.1, refl, refl), both.0, both.1)
+              | inr off ↦ inr (λ p. off (road_ends a x y arc some.1 p))
+            ]
       ]
-    ]
+
+  pub between_within : (x y a : ℕ) → LinksRanks g o a x y ⊎ LinksRanks g o a y x → a < length g.arcs
+  between_within x y a (inl p) = road_within g o a x y p
+  between_within x y a (inr p) = road_within g o a y x p
+
+  adjacent_decided : (x y : ℕ) → Decided (Adjacent g o x y)
+  adjacent_decided x y =
+      elim (below_decided (λ a. LinksRanks g o a x y ⊎ LinksRanks g o a y x) (λ a. either_decided _ _ (link_decided x y a) (link_decided y x a)) (length g.arcs)) [
+        | inl found ↦ inl (found.0, found.2)
+        | inr none ↦ inr (λ c. none (c.0, between_within x y c.0 c.1, c.1))
+      ]
+
+  -- a path of no inner rank, or one that is cut at the highest
+  no_inner : (x : ℕ) (zs : List ℕ) (y : ℕ) → PathBelow g o 0 x zs y → Adjacent g o x y
+  no_inner x [] y p = p
+  no_inner x (z ∷ zs) y p = absurd (omega (arith, p.1))
+
+  pub joined_decided : (m x y : ℕ) → Decided (JoinedBelow g o m x y)
+  joined_decided zero x y =
+      elim (adjacent_decided x y) [
+        | inl next ↦ inl ([], next)
+        | inr off ↦ inr (λ j. off (no_inner x j.0 y j.1))
+      ]
+  joined_decided (suc m) x y =
+      elim (joined_decided m x y) [
+        | inl stays ↦ inl (stays.0, path_more g o m (suc m) x stays.0 y (omega arith) stays.1)
+        | inr apart ↦ elim (both_decided _ _ (joined_decided m x m) (joined_decided m m y)) [
+          | inl (j, k) ↦ inl (
+            j.0 ++ (m ∷ k.0),
+            path_append g o (suc m) x m j.0 k.0 y (omega arith) (path_more g o m (suc m) x j.0 m (omega arith) j.1) (path_more g o m (suc m) m k.0 y (omega arith) k.1),
+          )
+          | inr off ↦ inr (λ j. elim (cut_path g o m x j.0 y j.1) [
+            | inl stays ↦ apart stays
+            | inr both ↦ off both
+          ])
+        ]
+      ]
 
 less_decided : (x y : ℕ) → Decided (x < y)
 less_decided x y =

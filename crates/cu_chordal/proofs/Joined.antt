@@ -9,63 +9,62 @@ use Rattle.cu_chordal.specs.Edges.{Adjacent, PathBelow, JoinedBelow, IsEdge}
 abbrev pub IsUp : NetworkValue → OrderValue → ℕ → ℕ → Type 0
 IsUp g o c x = (c < x) × JoinedBelow g o c c x
 
-pub adjacent_back : (g : NetworkValue) (o : OrderValue) (x y : ℕ) → Adjacent g o x y → Adjacent g o y x
-adjacent_back g o x y (a, inl j) = (a, inr j)
-adjacent_back g o x y (a, inr j) = (a, inl j)
+module _ (g : NetworkValue) (o : OrderValue) where
+  pub adjacent_back : (x y : ℕ) → Adjacent g o x y → Adjacent g o y x
+  adjacent_back x y (a, inl j) = (a, inr j)
+  adjacent_back x y (a, inr j) = (a, inl j)
 
-pub path_append : (g : NetworkValue) (o : OrderValue) (m x z : ℕ) (zs ws : List ℕ) (y : ℕ) → z < m → PathBelow g o m x zs z → PathBelow g o m z ws y → PathBelow g o m x (zs ++ (z ∷ ws)) y
-path_append g o m x z [] ws y lt p q = (p, lt, q)
-path_append g o m x z (k ∷ zs) ws y lt p q = (p.0, p.1, path_append g o m k z zs ws y lt p.2 q)
+  pub path_append : (m x z : ℕ) (zs ws : List ℕ) (y : ℕ) → z < m → PathBelow g o m x zs z → PathBelow g o m z ws y → PathBelow g o m x (zs ++ (z ∷ ws)) y
+  path_append m x z [] ws y lt p q = (p, lt, q)
+  path_append m x z (k ∷ zs) ws y lt p q = (p.0, p.1, path_append m k z zs ws y lt p.2 q)
 
-pub path_more : (g : NetworkValue) (o : OrderValue) (m n x : ℕ) (zs : List ℕ) (y : ℕ) → m ≤ n → PathBelow g o m x zs y → PathBelow g o n x zs y
-path_more g o m n x [] y le p = p
-path_more g o m n x (z ∷ zs) y le p = (p.0, omega (arith, p.1, le), path_more g o m n z zs y le p.2)
+  pub path_more : (m n x : ℕ) (zs : List ℕ) (y : ℕ) → m ≤ n → PathBelow g o m x zs y → PathBelow g o n x zs y
+  path_more m n x [] y le p = p
+  path_more m n x (z ∷ zs) y le p = (p.0, omega (arith, p.1, le), path_more m n z zs y le p.2)
 
-pub joined_back : (g : NetworkValue) (o : OrderValue) (m x : ℕ) (zs : List ℕ) (y : ℕ) → PathBelow g o m x zs y → JoinedBelow g o m y x
-joined_back g o m x [] y p = ([], adjacent_back g o x y p)
-joined_back g o m x (z ∷ zs) y p =
-    let back = joined_back g o m z zs y p.2 in
-    (back.0 ++ (z ∷ []), path_append g o m y z back.0 [] x p.1 back.1 (adjacent_back g o x z p.0))
+  pub joined_back : (m x : ℕ) (zs : List ℕ) (y : ℕ) → PathBelow g o m x zs y → JoinedBelow g o m y x
+  joined_back m x [] y p = ([], adjacent_back x y p)
+  joined_back m x (z ∷ zs) y p =
+      let back = joined_back m z zs y p.2 in
+      (back.0 ++ (z ∷ []), path_append m y z back.0 [] x p.1 back.1 (adjacent_back x z p.0))
 
--- cut at the bound
-pub cut_path : (g : NetworkValue) (o : OrderValue) (m x : ℕ) (zs : List ℕ) (y : ℕ) → PathBelow g o (suc m) x zs y
-    → JoinedBelow g o m x y ⊎ (JoinedBelow g o m x m × JoinedBelow g o m m y)
-cut_path g o m x [] y p = inl ([], p)
-cut_path g o m x (z ∷ zs) y p =
-    elim (cases_eq z m) [
-      | inl same ↦
-          let at_bound : JoinedBelow g o m x m = ([], subst (λ (k : ℕ). Adjacent g o x k) same p.0) in
-          elim (cut_path g o m z zs y p.2) [
-            | inl stays ↦ inr (at_bound, subst (λ (k : ℕ). JoinedBelow g o m k y) same stays)
-            | inr c ↦ inr (at_bound, c.1)
-          ]
-      | inr other ↦
-          elim (cut_path g o m z zs y p.2) [
-            | inl stays ↦ inl (z ∷ stays.0, (p.0, omega (arith, p.1, other), stays.1))
-            | inr c ↦ inr ((z ∷ c.0.0, (p.0, omega (arith, p.1, other), c.0.1)), c.1)
-          ]
-    ]
+  -- cut at the bound
+  pub cut_path : (m x : ℕ) (zs : List ℕ) (y : ℕ) → PathBelow g o (suc m) x zs y → JoinedBelow g o m x y ⊎ (JoinedBelow g o m x m × JoinedBelow g o m m y)
+  cut_path m x [] y p = inl ([], p)
+  cut_path m x (z ∷ zs) y p =
+      elim (cases_eq z m) [
+        | inl same ↦
+            let at_bound : JoinedBelow g o m x m = ([], subst (λ (k : ℕ). Adjacent g o x k) same p.0) in
+            elim (cut_path m z zs y p.2) [
+              | inl stays ↦ inr (at_bound, subst (λ (k : ℕ). JoinedBelow g o m k y) same stays)
+              | inr c ↦ inr (at_bound, c.1)
+            ]
+        | inr other ↦
+            elim (cut_path m z zs y p.2) [
+              | inl stays ↦ inl (z ∷ stays.0, (p.0, omega (arith, p.1, other), stays.1))
+              | inr c ↦ inr ((z ∷ c.0.0, (p.0, omega (arith, p.1, other), c.0.1)), c.1)
+            ]
+      ]
 
--- down to the highest inner rank: two ranks joined below a bound are linked, or both are joined below a lower rank to it
-highest_inner : (g : NetworkValue) (o : OrderValue) (m x y : ℕ) → JoinedBelow g o m x y
-    → Adjacent g o x y ⊎ ((c : ℕ) × (c < m) × JoinedBelow g o c x c × JoinedBelow g o c c y)
-highest_inner g o zero x y ([], p) = inl p
-highest_inner g o zero x y (z ∷ zs, p) = absurd (omega (arith, p.1))
-highest_inner g o (suc m) x y j =
-    elim (cut_path g o m x j.0 y j.1) [
-      | inl stays ↦
-          elim (highest_inner g o m x y stays) [
-            | inl next ↦ inl next
-            | inr c ↦ inr (c.0, omega (arith, c.1), c.2, c.3)
-          ]
-      | inr c ↦ inr (m, omega arith, c.0, c.1)
-    ]
+  -- down to the highest inner rank: two ranks joined below a bound are linked, or both are joined below a lower rank to it
+  highest_inner : (m x y : ℕ) → JoinedBelow g o m x y → Adjacent g o x y ⊎ ((c : ℕ) × (c < m) × JoinedBelow g o c x c × JoinedBelow g o c c y)
+  highest_inner zero x y ([], p) = inl p
+  highest_inner zero x y (z ∷ zs, p) = absurd (omega (arith, p.1))
+  highest_inner (suc m) x y j =
+      elim (cut_path m x j.0 y j.1) [
+        | inl stays ↦
+            elim (highest_inner m x y stays) [
+              | inl next ↦ inl next
+              | inr c ↦ inr (c.0, omega (arith, c.1), c.2, c.3)
+            ]
+        | inr c ↦ inr (m, omega arith, c.0, c.1)
+      ]
 
--- two ranks that a lower rank is joined to below itself are joined below any greater bound
-pub through : (g : NetworkValue) (o : OrderValue) (c x y m : ℕ) → c < m → JoinedBelow g o c c x → JoinedBelow g o c c y → JoinedBelow g o m x y
-through g o c x y m lt j k =
-    let back = joined_back g o c c j.0 x j.1 in
-    (back.0 ++ (c ∷ k.0), path_append g o m x c back.0 k.0 y lt (path_more g o c m x back.0 c (omega (arith, lt)) back.1) (path_more g o c m c k.0 y (omega (arith, lt)) k.1))
+  -- two ranks that a lower rank is joined to below itself are joined below any greater bound
+  pub through : (c x y m : ℕ) → c < m → JoinedBelow g o c c x → JoinedBelow g o c c y → JoinedBelow g o m x y
+  through c x y m lt j k =
+      let back = joined_back c c j.0 x j.1 in
+      (back.0 ++ (c ∷ k.0), path_append m x c back.0 k.0 y lt (path_more c m x back.0 c (omega (arith, lt)) back.1) (path_more c m c k.0 y (omega (arith, lt)) k.1))
 
 -- what is known of the parent of each rank below r that has higher neighbours
 abbrev pub HasParents : NetworkValue → OrderValue → (ℕ → Option ℕ) → ℕ → Type 0

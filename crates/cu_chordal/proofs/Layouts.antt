@@ -8,7 +8,7 @@ use Rattle.std.proofs.lemmas.List.{get_or_read, get_or_default}
 use Rattle.std.proofs.lemmas.List.Edits.{length-between}
 use Rattle.std.proofs.lemmas.List.Kept.{AllPairs-from_increasing}
 use Rattle.std.proofs.lemmas.List.Sorted.{searched}
-use Rattle.std.proofs.lemmas.Option.{slice_get-get_or, slice_get_within, get_or_from_slice_get}
+use Rattle.std.proofs.lemmas.Option.{same_Some, slice_get-get_or, slice_get_within, get_or_from_slice_get}
 use Rattle.std.proofs.lemmas.Bool.{cases_lt, cases_eq}
 use Rattle.cu_chordal.specs.declared.graph.Ends.{Ends}
 use Rattle.cu_chordal.specs.Graphs.{ChordalValue, FindsEdge, HasEdge, IsChordal, NumbersEdges, up_of, down_of, first_edge_of}
@@ -18,36 +18,71 @@ use Rattle.cu_chordal.specs.declared.table.EdgeTable.{EdgeTable}
 use Rattle.cu_chordal.specs.declared.graph.TheConstants.{MAX_EDGES}
 use Rattle.cu_chordal.proofs.Tables.{length_paired, paired_at, down_grouped, down_of_from_edge, down_rising, edge_from_down_of, edge_from_up_of, up_rising, up_of_from_edge, numbered, increasing_from_pairs}
 
-pub edges_read : (ranks : ℕ) (table : EdgeTable) (lower : List (List ℕ)) (graph : ChordalValue) → IsLaidOut ranks table lower → graph_in ranks table ≡ graph
-    → (length table.lows.items ≡ length graph.edges) × (length table.highs.items ≡ length graph.edges) × (length graph.edges ≤ MAX_EDGES)
-edges_read ranks table lower graph f shown =
-    let same : length (edges_in table) ≡ length table.lows.items = length_paired table.lows.items table.highs.items f.upper.pairs in
-    subst (λ (v : ChordalValue). (length table.lows.items ≡ length v.edges) × (length table.highs.items ≡ length v.edges) × (length v.edges ≤ MAX_EDGES)) shown
-    (sym same, sym f.upper.pairs ∙ sym same, f.sound.few_edges)
+-- a graph that is laid out in a table and lists of lower neighbours, and what is read of it
+module _ (ranks : ℕ) (table : EdgeTable) (lower : List (List ℕ)) (graph : ChordalValue) (f : IsLaidOut ranks table lower) (shown : graph_in ranks table ≡ graph) where
+  pub edges_read : (length table.lows.items ≡ length graph.edges) × (length table.highs.items ≡ length graph.edges) × (length graph.edges ≤ MAX_EDGES)
+  edges_read =
+      let same : length (edges_in table) ≡ length table.lows.items = length_paired table.lows.items table.highs.items f.upper.pairs in
+      subst (λ (v : ChordalValue). (length table.lows.items ≡ length v.edges) × (length table.highs.items ≡ length v.edges) × (length v.edges ≤ MAX_EDGES)) shown
+      (sym same, sym f.upper.pairs ∙ sym same, f.sound.few_edges)
 
-pub ends_read : (ranks : ℕ) (table : EdgeTable) (lower : List (List ℕ)) (graph : ChordalValue) → IsLaidOut ranks table lower → graph_in ranks table ≡ graph
-    → (edge low high : ℕ) → edge < length graph.edges → low ≡ get_or table.lows.items edge low → high ≡ get_or table.highs.items edge high
-    → slice_get graph.edges edge ≡ Some (record { low = low; high = high })
-ends_read ranks table lower graph f shown edge low high below low_read high_read =
-    let long = edges_read ranks table lower graph f shown in
-    let in_lows : edge < length table.lows.items = omega (arith, long.0, below) in
-    let in_highs : edge < length table.highs.items = omega (arith, long.1, below) in
-    let there = paired_at table.lows.items table.highs.items edge in_lows in_highs in
-    let at_low : get_or table.lows.items edge 0 ≡ low = sym (get_or_read table.lows.items edge low in_lows low_read 0) in
-    let at_high : get_or table.highs.items edge 0 ≡ high = sym (get_or_read table.highs.items edge high in_highs high_read 0) in
-    subst (λ (v : ChordalValue). slice_get v.edges edge ≡ Some (record { low = low; high = high })) shown
-    (subst (λ x. slice_get (edges_in table) edge ≡ Some (record { low = x; high = high })) at_low
-    (subst (λ y. slice_get (edges_in table) edge ≡ Some (record { low = get_or table.lows.items edge 0; high = y })) at_high there))
+  pub ends_read : (edge low high : ℕ) → edge < length graph.edges → low ≡ get_or table.lows.items edge low → high ≡ get_or table.highs.items edge high
+      → slice_get graph.edges edge ≡ Some (record { low = low; high = high })
+  ends_read edge low high below low_read high_read =
+      let long = edges_read in
+      let in_lows : edge < length table.lows.items = omega (arith, long.0, below) in
+      let in_highs : edge < length table.highs.items = omega (arith, long.1, below) in
+      let there = paired_at table.lows.items table.highs.items edge in_lows in_highs in
+      let at_low : get_or table.lows.items edge 0 ≡ low = sym (get_or_read table.lows.items edge low in_lows low_read 0) in
+      let at_high : get_or table.highs.items edge 0 ≡ high = sym (get_or_read table.highs.items edge high in_highs high_read 0) in
+      subst (λ (v : ChordalValue). slice_get v.edges edge ≡ Some (record { low = low; high = high })) shown
+      (subst (λ x. slice_get (edges_in table) edge ≡ Some (record { low = x; high = high })) at_low
+      (subst (λ y. slice_get (edges_in table) edge ≡ Some (record { low = get_or table.lows.items edge 0; high = y })) at_high there))
+
+  pub sound_read : IsChordal graph
+  sound_read = subst IsChordal shown f.sound
+
+  pub numbers_read : (rank first : ℕ) → rank < graph.ranks → first ≡ first_edge_of graph.edges rank → NumbersEdges graph.edges rank first
+  numbers_read rank first below count i high e =
+      subst (λ n. slice_get graph.edges (n + i) ≡ Some (record { low = rank; high = high })) (sym count) (numbered graph.edges rank i high sound_read.rising e)
+
+  pub up_read : (rank : ℕ) (part : List ℕ) → part ≡ up_of (edges_in table) rank → part ≡ up_of graph.edges rank
+  up_read rank part e = e ∙ ap (λ (v : ChordalValue). up_of v.edges rank) shown
+
+  within_ranks : (rank : ℕ) → rank < graph.ranks → rank < ranks
+  within_ranks rank below = subst (λ (v : ChordalValue). rank < v.ranks) (sym shown) below
+
+  pub rank_there : (rank : ℕ) → rank < graph.ranks → (rank + 1 < length table.starts.items) × (rank < length lower)
+  rank_there rank below =
+      let lt = within_ranks rank below in
+      (omega (arith, lt, f.upper.groups.long), omega (arith, lt, f.down.long))
+
+  pub down_read : (rank : ℕ) (part : List ℕ) → rank < graph.ranks → slice_get lower rank ≡ Some part → part ≡ down_of graph.edges rank
+  down_read rank part below at =
+      subst (λ (v : ChordalValue). part ≡ down_of v.edges rank) shown (same_Some part _ (sym at ∙ f.down.each rank (within_ranks rank below)))
+
+  -- the first edge of a rank is read among the starts, and those behind it are few
+  module _ (rank first : ℕ) (below : rank < graph.ranks) (read : first ≡ get_or table.starts.items rank first) where
+    first_at : (first ≡ first_edge_of graph.edges rank) × (first + length (up_of graph.edges rank) ≤ MAX_EDGES)
+    first_at =
+        let lt = within_ranks rank below in
+        let groups = f.upper.groups in
+        let first_read : first ≡ get_or table.starts.items rank 0 = get_or_read table.starts.items rank first (omega (arith, lt, groups.long)) read 0 in
+        let rising = groups.rising rank lt in
+        let within = groups.within (rank + 1) (omega (arith, lt)) in
+        let part = ap length (sym (groups.part rank lt)) ∙ length-between table.highs.items (get_or table.starts.items rank 0) (get_or table.starts.items (rank + 1) 0) within in
+        let long = edges_read in
+        subst (λ (v : ChordalValue). (first ≡ first_edge_of v.edges rank) × (first + length (up_of v.edges rank) ≤ MAX_EDGES)) shown
+        (first_read ∙ f.upper.first rank (omega (arith, lt)), omega (arith, first_read, rising, within, part, long.1, long.2))
+
+    pub first_count : first ≡ first_edge_of graph.edges rank
+    first_count = first_at.0
+
+    pub first_few : first + length (up_of graph.edges rank) ≤ MAX_EDGES
+    first_few = first_at.1
 
 pub up_increasing : (graph : ChordalValue) → IsChordal graph → (rank : ℕ) → IsStrictlyIncreasing (up_of graph.edges rank)
 up_increasing graph f rank = increasing_from_pairs (up_of graph.edges rank) (up_rising graph.edges rank f.rising)
-
-pub numbers_read : (ranks : ℕ) (table : EdgeTable) (lower : List (List ℕ)) (graph : ChordalValue) → IsLaidOut ranks table lower → graph_in ranks table ≡ graph
-    → (rank first : ℕ) → rank < graph.ranks → first ≡ first_edge_of graph.edges rank
-    → NumbersEdges graph.edges rank first
-numbers_read ranks table lower graph f shown rank first below count i high e =
-    let sound : IsChordal graph = subst IsChordal shown f.sound in
-    subst (λ n. slice_get graph.edges (n + i) ≡ Some (record { low = rank; high = high })) (sym count) (numbered graph.edges rank i high sound.rising e)
 
 place_of_edge : (edges : List Ends) (k : ℕ) (e : Ends) → slice_get edges k ≡ Some e → (k < length edges) × (get_or edges k e ≡ e)
 place_of_edge edges k e at = (slice_get_within edges k e at, get_or_from_slice_get edges k e e at)
@@ -91,40 +126,6 @@ edge_found graph low high first index numbers up same found = numbers index high
 pub edge_missed : (graph : ChordalValue) (low high : ℕ) (up : List ℕ) → up ≡ up_of graph.edges low → FindsIndex up high None → FindsEdge graph.edges low high None
 edge_missed graph low high up same none = λ edge. none (subst (λ xs. Contains xs high) (sym same) (up_of_from_edge graph.edges low high edge))
 
-first_at : (ranks : ℕ) (table : EdgeTable) (lower : List (List ℕ)) (graph : ChordalValue) → IsLaidOut ranks table lower → graph_in ranks table ≡ graph
-    → (rank first : ℕ) → rank < graph.ranks → first ≡ get_or table.starts.items rank first → (first ≡ first_edge_of graph.edges rank) × (first + length (up_of graph.edges rank) ≤ MAX_EDGES)
-first_at ranks table lower graph f shown rank first below read =
-    let lt : rank < ranks = subst (λ (v : ChordalValue). rank < v.ranks) (sym shown) below in
-    let groups = f.upper.groups in
-    let first_read : first ≡ get_or table.starts.items rank 0 = get_or_read table.starts.items rank first (omega (arith, lt, groups.long)) read 0 in
-    let rising = groups.rising rank lt in
-    let within = groups.within (rank + 1) (omega (arith, lt)) in
-    let part = ap length (sym (groups.part rank lt)) ∙ length-between table.highs.items (get_or table.starts.items rank 0) (get_or table.starts.items (rank + 1) 0) within in
-    let long = edges_read ranks table lower graph f shown in
-    subst (λ (v : ChordalValue). (first ≡ first_edge_of v.edges rank) × (first + length (up_of v.edges rank) ≤ MAX_EDGES)) shown
-    (first_read ∙ f.upper.first rank (omega (arith, lt)), omega (arith, first_read, rising, within, part, long.1, long.2))
-
-pub first_count : (ranks : ℕ) (table : EdgeTable) (lower : List (List ℕ)) (graph : ChordalValue) → IsLaidOut ranks table lower → graph_in ranks table ≡ graph
-    → (rank first : ℕ) → rank < graph.ranks → first ≡ get_or table.starts.items rank first → first ≡ first_edge_of graph.edges rank
-first_count ranks table lower graph f shown rank first below read = (first_at ranks table lower graph f shown rank first below read).0
-
-pub first_few : (ranks : ℕ) (table : EdgeTable) (lower : List (List ℕ)) (graph : ChordalValue) → IsLaidOut ranks table lower → graph_in ranks table ≡ graph
-    → (rank first : ℕ) → rank < graph.ranks → first ≡ get_or table.starts.items rank first → first + length (up_of graph.edges rank) ≤ MAX_EDGES
-first_few ranks table lower graph f shown rank first below read = (first_at ranks table lower graph f shown rank first below read).1
-
-pub up_read : (ranks : ℕ) (table : EdgeTable) (lower : List (List ℕ)) (graph : ChordalValue) → IsLaidOut ranks table lower → graph_in ranks table ≡ graph
-    → (rank : ℕ) (part : List ℕ) → part ≡ up_of (edges_in table) rank → part ≡ up_of graph.edges rank
-up_read ranks table lower graph f shown rank part e = e ∙ ap (λ (v : ChordalValue). up_of v.edges rank) shown
-
-pub sound_read : (ranks : ℕ) (table : EdgeTable) (lower : List (List ℕ)) (graph : ChordalValue) → IsLaidOut ranks table lower → graph_in ranks table ≡ graph → IsChordal graph
-sound_read ranks table lower graph f shown = subst IsChordal shown f.sound
-
-pub rank_there : (ranks : ℕ) (table : EdgeTable) (lower : List (List ℕ)) (graph : ChordalValue) → IsLaidOut ranks table lower
-    → graph_in ranks table ≡ graph → (rank : ℕ) → rank < graph.ranks → (rank + 1 < length table.starts.items) × (rank < length lower)
-rank_there ranks table lower graph f shown rank below =
-    let lt : rank < ranks = subst (λ (v : ChordalValue). rank < v.ranks) (sym shown) below in
-    (omega (arith, lt, f.upper.groups.long), omega (arith, lt, f.down.long))
-
 -- what is asked where the lower neighbours are grouped
 pub lower_asks : (ranks : ℕ) (table : EdgeTable) (keys : List ℕ) → keys ≡ table.highs.items → IsTable ranks table → IsChordal (graph_in ranks table)
     → (length keys ≤ MAX_EDGES) × All (λ key. key < ranks) keys
@@ -150,15 +151,6 @@ down_members edges rank part same x = subst (λ xs. Contains xs x ↔ HasEdge ed
 
 pub down_increasing : (graph : ChordalValue) → IsChordal graph → (rank : ℕ) → IsStrictlyIncreasing (down_of graph.edges rank)
 down_increasing graph f rank = increasing_from_pairs (down_of graph.edges rank) (down_rising graph.edges rank f.rising)
-
-same_list : (xs ys : List ℕ) → Some xs ≡ Some ys → xs ≡ ys
-same_list xs ys e = cc
-
-pub down_read : (ranks : ℕ) (table : EdgeTable) (lower : List (List ℕ)) (graph : ChordalValue) → IsLaidOut ranks table lower → graph_in ranks table ≡ graph
-    → (rank : ℕ) (part : List ℕ) → rank < graph.ranks → slice_get lower rank ≡ Some part → part ≡ down_of graph.edges rank
-down_read ranks table lower graph f shown rank part below at =
-    let lt : rank < ranks = subst (λ (v : ChordalValue). rank < v.ranks) (sym shown) below in
-    subst (λ (v : ChordalValue). part ≡ down_of v.edges rank) shown (same_list part _ (sym at ∙ f.down.each rank lt))
 
 pub index_small : (xs : List ℕ) (up : List ℕ) (first x index : ℕ) → up ≡ xs → first + length xs ≤ MAX_EDGES → FindsIndex up x (Some index) → first + index < MAX_EDGES
 index_small xs up first x index same few found = let within = slice_get_within up index x found in let long = ap length same in omega (arith, within, long, few)

@@ -59,53 +59,59 @@ one_high g o a x y v w p q =
     let head : p.1 ≡ q.1 = sym p.2.3 ∙ ap (λ (r : RoadArc). r.head) arc ∙ q.2.3 in
     some_same (slice_get o.rank_of p.1) y w p.4 (ap (slice_get o.rank_of) head ∙ q.4)
 
-road_within : (g : NetworkValue) (o : OrderValue) (a x y : ℕ) → LinksRanks g o a x y → a < length g.arcs
+pub road_within : (g : NetworkValue) (o : OrderValue) (a x y : ℕ) → LinksRanks g o a x y → a < length g.arcs
 road_within g o a x y p = slice_get_within g.arcs a p.2.0 p.2.1
 
-link_at : (g : NetworkValue) (o : OrderValue) (lows highs : List ℕ) (rank y a u v : ℕ) → AreRankEnds g o (length g.arcs) lows highs
-    → a < length g.arcs → LinksRanks g o a u v → min u v ≡ rank → max u v ≡ y → Contains (group_of lows highs rank) y
-link_at g o lows highs rank y a u v f below p low high =
-    let e = f.each a below in
-    let at_u : e.0 ≡ u = one_low g o a e.0 e.1 u v e.2 p in
-    let at_v : e.1 ≡ v = one_high g o a e.0 e.1 u v e.2 p in
-    in_group lows highs rank y a (omega (arith, below, f.lows_long)) (omega (arith, below, f.highs_long))
-    (e.3 ∙ ap (λ k. min k e.1) at_u ∙ ap (min u) at_v ∙ low) (e.4 ∙ ap (λ k. max k e.1) at_u ∙ ap (max u) at_v ∙ high)
+-- the ends of all roads, and what they link
+module _ (g : NetworkValue) (o : OrderValue) (lows highs : List ℕ) (f : AreRankEnds g o (length g.arcs) lows highs) where
+  link_at : (rank y a u v : ℕ) → a < length g.arcs → LinksRanks g o a u v → min u v ≡ rank → max u v ≡ y → Contains (group_of lows highs rank) y
+  link_at rank y a u v below p low high =
+      let e = f.each a below in
+      let at_u : e.0 ≡ u = one_low g o a e.0 e.1 u v e.2 p in
+      let at_v : e.1 ≡ v = one_high g o a e.0 e.1 u v e.2 p in
+      in_group lows highs rank y a (omega (arith, below, f.lows_long)) (omega (arith, below, f.highs_long))
+      (e.3 ∙ ap (λ k. min k e.1) at_u ∙ ap (min u) at_v ∙ low) (e.4 ∙ ap (λ k. max k e.1) at_u ∙ ap (max u) at_v ∙ high)
 
-link_there : (g : NetworkValue) (o : OrderValue) (lows highs : List ℕ) (rank y : ℕ) → AreRankEnds g o (length g.arcs) lows highs → rank ≤ y
-    → Adjacent g o rank y → Contains (group_of lows highs rank) y
-link_there g o lows highs rank y f le (a, inl p) = link_at g o lows highs rank y a rank y f (road_within g o a rank y p) p (omega (arith, le)) (omega (arith, le))
-link_there g o lows highs rank y f le (a, inr p) = link_at g o lows highs rank y a y rank f (road_within g o a y rank p) p (omega (arith, le)) (omega (arith, le))
+  link_there : (rank y : ℕ) → rank ≤ y → Adjacent g o rank y → Contains (group_of lows highs rank) y
+  link_there rank y le (a, inl p) = link_at rank y a rank y (road_within g o a rank y p) p (omega (arith, le)) (omega (arith, le))
+  link_there rank y le (a, inr p) = link_at rank y a y rank (road_within g o a y rank p) p (omega (arith, le)) (omega (arith, le))
 
-link_sound : (g : NetworkValue) (o : OrderValue) (lows highs : List ℕ) (rank y : ℕ) → AreRankEnds g o (length g.arcs) lows highs
-    → Contains (group_of lows highs rank) y → (rank ≤ y) × Adjacent g o rank y
-link_sound g o lows highs rank y f c =
-    let m = group_member lows highs rank y c in
-    let e = f.each m.0 (omega (arith, m.1, f.lows_long)) in
-    let low : min e.0 e.1 ≡ rank = sym e.3 ∙ m.3 in
-    let high : max e.0 e.1 ≡ y = sym e.4 ∙ m.4 in
-    elim (cases_lt e.1 e.0) [
-      | inl down ↦
-          let at : e.1 ≡ rank = omega (arith, low, down) in
-          let to : e.0 ≡ y = omega (arith, high, down) in
-          (omega (arith, at, to, down), (m.0, inr (subst (λ k. LinksRanks g o m.0 y k) at (subst (λ k. LinksRanks g o m.0 k e.1) to e.2))))
-      | inr up ↦
-          let at : e.0 ≡ rank = omega (arith, low, up) in
-          let to : e.1 ≡ y = omega (arith, high, up) in
-          (omega (arith, at, to, up), (m.0, inl (subst (λ k. LinksRanks g o m.0 k y) at (subst (λ k. LinksRanks g o m.0 e.0 k) to e.2))))
-    ]
+  link_sound : (rank y : ℕ) → Contains (group_of lows highs rank) y → (rank ≤ y) × Adjacent g o rank y
+  link_sound rank y c =
+      let m = group_member lows highs rank y c in
+      let e = f.each m.0 (omega (arith, m.1, f.lows_long)) in
+      let low : min e.0 e.1 ≡ rank = sym e.3 ∙ m.3 in
+      let high : max e.0 e.1 ≡ y = sym e.4 ∙ m.4 in
+      elim (cases_lt e.1 e.0) [
+        | inl down ↦
+            let at : e.1 ≡ rank = omega (arith, low, down) in
+            let to : e.0 ≡ y = omega (arith, high, down) in
+            (omega (arith, at, to, down), (m.0, inr (subst (λ k. LinksRanks g o m.0 y k) at (subst (λ k. LinksRanks g o m.0 k e.1) to e.2))))
+        | inr up ↦
+            let at : e.0 ≡ rank = omega (arith, low, up) in
+            let to : e.1 ≡ y = omega (arith, high, up) in
+            (omega (arith, at, to, up), (m.0, inl (subst (λ k. LinksRanks g o m.0 k y) at (subst (λ k. LinksRanks g o m.0 e.0 k) to e.2))))
+      ]
 
-link_below : (g : NetworkValue) (o : OrderValue) (lows highs : List ℕ) (rank y : ℕ) → AreRankEnds g o (length g.arcs) lows highs → Contains (group_of lows highs rank) y → y < g.nodes
-link_below g o lows highs rank y f c =
-    let m = group_member lows highs rank y c in
-    let e = f.each m.0 (omega (arith, m.1, f.lows_long)) in
-    omega (arith, e.4, e.5, e.6, m.4)
+  link_below : (rank y : ℕ) → Contains (group_of lows highs rank) y → y < g.nodes
+  link_below rank y c =
+      let m = group_member lows highs rank y c in
+      let e = f.each m.0 (omega (arith, m.1, f.lows_long)) in
+      omega (arith, e.4, e.5, e.6, m.4)
 
--- grouped, they are the links
-group_links : (g : NetworkValue) (o : OrderValue) (lows highs : List ℕ) (rank : ℕ) → AreRankEnds g o (length g.arcs) lows highs → AreLinks g o rank (group_of lows highs rank)
-group_links g o lows highs rank f = record {
-  exact = λ y. (link_sound g o lows highs rank y f, λ both. link_there g o lows highs rank y f both.0 both.1);
-  in_range = all_from_members (λ y. (rank ≤ y) × (y < g.nodes)) (group_of lows highs rank) (λ y c. ((link_sound g o lows highs rank y f c).0, link_below g o lows highs rank y f c));
-}
+  -- grouped, they are the links
+  group_links : (rank : ℕ) → AreLinks g o rank (group_of lows highs rank)
+  group_links rank = record {
+    exact = λ y. (link_sound rank y, λ both. link_there rank y both.0 both.1);
+    in_range = all_from_members (λ y. (rank ≤ y) × (y < g.nodes)) (group_of lows highs rank) (λ y c. ((link_sound rank y c).0, link_below rank y c));
+  }
+
+  -- what is asked where the roads are grouped
+  pub ends_in_range : All (λ key. key < g.nodes) lows
+  ends_in_range k d h =
+      let e = f.each k (omega (arith, h, f.lows_long)) in
+      let same = get_or_default lows k d 0 h in
+      omega (arith, same, e.3, e.5, e.6)
 
 pub links_from_ends : (g : NetworkValue) (o : OrderValue) (lows highs : List ℕ) (groups : List (List ℕ)) → AreRankEnds g o (length g.arcs) lows highs
     → AreGroups lows highs g.nodes groups → HoldsLinks g o groups
@@ -114,7 +120,7 @@ links_from_ends g o lows highs groups f h = record {
   each = λ rank part at.
       let within = slice_get_within groups rank part at in
       let same : group_of lows highs rank ≡ part = same_Some _ _ (sym (h.each rank (omega (arith, within, h.long))) ∙ at) in
-      subst (AreLinks g o rank) same (group_links g o lows highs rank f);
+      subst (AreLinks g o rank) same (group_links g o lows highs f rank);
 }
 
 -- the same with what is handed over
@@ -122,13 +128,6 @@ pub ends_given : (g : NetworkValue) (o : OrderValue) (lows highs given_lows give
     → AreRankEnds g o (length g.arcs) lows highs → AreRankEnds g o (length g.arcs) given_lows given_highs
 ends_given g o lows highs given_lows given_highs lows_same highs_same f =
     subst (λ xs. AreRankEnds g o (length g.arcs) xs given_highs) (sym lows_same) (subst (AreRankEnds g o (length g.arcs) lows) (sym highs_same) f)
-
--- what is asked where the roads are grouped
-pub ends_in_range : (g : NetworkValue) (o : OrderValue) (lows highs : List ℕ) → AreRankEnds g o (length g.arcs) lows highs → All (λ key. key < g.nodes) lows
-ends_in_range g o lows highs f = λ k d h.
-    let e = f.each k (omega (arith, h, f.lows_long)) in
-    let same = get_or_default lows k d 0 h in
-    omega (arith, same, e.3, e.5, e.6)
 
 -- one more road
 pub ends_more : (g : NetworkValue) (o : OrderValue) (a x y : ℕ) (arc : RoadArc) (lows highs lows_new highs_new : List ℕ) → AreRankEnds g o a lows highs

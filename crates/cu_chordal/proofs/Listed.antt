@@ -26,59 +26,60 @@ pub record AreLaid (starts uppers : List ℕ) (ranks : ℕ) : Type 0 where
   pub first : get_or starts 0 0 ≡ 0
   pub laid : (k : ℕ) → k < ranks → IsLaid starts uppers k
 
-pub fewer_laid : (starts uppers : List ℕ) (few ranks : ℕ) → few ≤ ranks → AreLaid starts uppers ranks → AreLaid starts uppers few
-fewer_laid starts uppers few ranks le f = record { first = f.first; laid = λ k lt. f.laid k (omega (arith, lt, le)) }
+module _ (starts uppers : List ℕ) where
+  pub fewer_laid : (few ranks : ℕ) → few ≤ ranks → AreLaid starts uppers ranks → AreLaid starts uppers few
+  fewer_laid few ranks le f = record { first = f.first; laid = λ k lt. f.laid k (omega (arith, lt, le)) }
 
-pub below_lows : (starts uppers : List ℕ) (ranks : ℕ) → All (λ (e : Ends). e.low < ranks) (edges_below starts uppers ranks)
-below_lows starts uppers zero = λ k d h. absurd (omega (arith, h))
-below_lows starts uppers (suc rank) =
-    All-append (λ (e : Ends). e.low < suc rank) (edges_below starts uppers rank) (edges_to rank (part_at starts uppers rank))
-    (All-weaker (λ (e : Ends). e.low < rank) (λ (e : Ends). e.low < suc rank) (λ e h. omega (arith, h)) (edges_below starts uppers rank) (below_lows starts uppers rank))
-    (lows_of_edges_to rank (part_at starts uppers rank) (λ (e : Ends). e.low < suc rank) (λ y c. omega arith))
+  pub below_lows : (ranks : ℕ) → All (λ (e : Ends). e.low < ranks) (edges_below starts uppers ranks)
+  below_lows zero = λ k d h. absurd (omega (arith, h))
+  below_lows (suc rank) =
+      All-append (λ (e : Ends). e.low < suc rank) (edges_below starts uppers rank) (edges_to rank (part_at starts uppers rank))
+      (All-weaker (λ (e : Ends). e.low < rank) (λ (e : Ends). e.low < suc rank) (λ e h. omega (arith, h)) (edges_below starts uppers rank) (below_lows rank))
+      (lows_of_edges_to rank (part_at starts uppers rank) (λ (e : Ends). e.low < suc rank) (λ y c. omega arith))
 
--- the higher neighbours of a rank are its part
-pub up_below : (starts uppers : List ℕ) (ranks rank : ℕ) → rank < ranks → up_of (edges_below starts uppers ranks) rank ≡ part_at starts uppers rank
-up_below starts uppers zero rank lt = absurd (omega (arith, lt))
-up_below starts uppers (suc ranks) rank lt =
-    let edges : List Ends = edges_below starts uppers ranks in
-    let part : List ℕ = part_at starts uppers ranks in
-    elim (cases_eq rank ranks) [
-      | inl same ↦
-          let last : up_of (edges ++ edges_to ranks part) ranks ≡ part = up_append edges (edges_to ranks part) ranks
-          ∙ ap (λ xs. xs ++ up_of (edges_to ranks part) ranks) (up_none edges ranks (below_lows starts uppers ranks)) ∙ up_edges_to ranks part in
-          subst (λ k. up_of (edges ++ edges_to ranks part) k ≡ part_at starts uppers k) (sym same) last
-      | inr other ↦
-          let below : rank < ranks = omega (arith, lt, other) in
-          up_before edges ranks rank part below ∙ up_below starts uppers ranks rank below
-    ]
+  -- the higher neighbours of a rank are its part
+  pub up_below : (ranks rank : ℕ) → rank < ranks → up_of (edges_below starts uppers ranks) rank ≡ part_at starts uppers rank
+  up_below zero rank lt = absurd (omega (arith, lt))
+  up_below (suc ranks) rank lt =
+      let edges : List Ends = edges_below starts uppers ranks in
+      let part : List ℕ = part_at starts uppers ranks in
+      elim (cases_eq rank ranks) [
+        | inl same ↦
+            let last : up_of (edges ++ edges_to ranks part) ranks ≡ part = up_append edges (edges_to ranks part) ranks
+            ∙ ap (λ xs. xs ++ up_of (edges_to ranks part) ranks) (up_none edges ranks (below_lows ranks)) ∙ up_edges_to ranks part in
+            subst (λ k. up_of (edges ++ edges_to ranks part) k ≡ part_at starts uppers k) (sym same) last
+        | inr other ↦
+            let below : rank < ranks = omega (arith, lt, other) in
+            up_before edges ranks rank part below ∙ up_below ranks rank below
+      ]
 
--- an entry of a part is an edge, and an edge is an entry
-pub entry_from_edge : (starts uppers : List ℕ) (ranks x y : ℕ) → x < ranks → HasEdge (edges_below starts uppers ranks) x y → Contains (part_at starts uppers x) y
-entry_from_edge starts uppers ranks x y lt e = subst (λ xs. Contains xs y) (up_below starts uppers ranks x lt) (up_of_from_edge (edges_below starts uppers ranks) x y e)
+  -- an entry of a part is an edge, and an edge is an entry
+  pub entry_from_edge : (ranks x y : ℕ) → x < ranks → HasEdge (edges_below starts uppers ranks) x y → Contains (part_at starts uppers x) y
+  entry_from_edge ranks x y lt e = subst (λ xs. Contains xs y) (up_below ranks x lt) (up_of_from_edge (edges_below starts uppers ranks) x y e)
 
-pub edge_from_entry : (starts uppers : List ℕ) (ranks x y : ℕ) → x < ranks → Contains (part_at starts uppers x) y → HasEdge (edges_below starts uppers ranks) x y
-edge_from_entry starts uppers ranks x y lt c = edge_from_up_of (edges_below starts uppers ranks) x y (subst (λ xs. Contains xs y) (sym (up_below starts uppers ranks x lt)) c)
+  pub edge_from_entry : (ranks x y : ℕ) → x < ranks → Contains (part_at starts uppers x) y → HasEdge (edges_below starts uppers ranks) x y
+  edge_from_entry ranks x y lt c = edge_from_up_of (edges_below starts uppers ranks) x y (subst (λ xs. Contains xs y) (sym (up_below ranks x lt)) c)
 
-pub length_part : (starts uppers : List ℕ) (rank : ℕ) → IsLaid starts uppers rank → length (part_at starts uppers rank) ≡ get_or starts (rank + 1) 0 - get_or starts rank 0
-length_part starts uppers rank f = length-between uppers (get_or starts rank 0) (get_or starts (rank + 1) 0) f.1
+  pub length_part : (rank : ℕ) → IsLaid starts uppers rank → length (part_at starts uppers rank) ≡ get_or starts (rank + 1) 0 - get_or starts rank 0
+  length_part rank f = length-between uppers (get_or starts rank 0) (get_or starts (rank + 1) 0) f.1
 
-pub length_below : (starts uppers : List ℕ) (ranks : ℕ) → AreLaid starts uppers ranks → length (edges_below starts uppers ranks) ≡ get_or starts ranks 0
-length_below starts uppers zero f = sym f.first
-length_below starts uppers (suc rank) f =
-    let before = length_below starts uppers rank (fewer_laid starts uppers rank (suc rank) (omega arith) f) in
-    let laid = f.laid rank (omega arith) in
-    let both = length-append (edges_below starts uppers rank) (edges_to rank (part_at starts uppers rank)) in
-    let own = length_edges_to rank (part_at starts uppers rank) in
-    let part = length_part starts uppers rank laid in
-    let next : get_or starts (rank + 1) 0 ≡ get_or starts (suc rank) 0 = ap (λ k. get_or starts k 0) (omega arith) in
-    omega (arith, before, laid.0, both, own, part, next)
+  pub length_below : (ranks : ℕ) → AreLaid starts uppers ranks → length (edges_below starts uppers ranks) ≡ get_or starts ranks 0
+  length_below zero f = sym f.first
+  length_below (suc rank) f =
+      let before = length_below rank (fewer_laid rank (suc rank) (omega arith) f) in
+      let laid = f.laid rank (omega arith) in
+      let both = length-append (edges_below starts uppers rank) (edges_to rank (part_at starts uppers rank)) in
+      let own = length_edges_to rank (part_at starts uppers rank) in
+      let part = length_part rank laid in
+      let next : get_or starts (rank + 1) 0 ≡ get_or starts (suc rank) 0 = ap (λ k. get_or starts k 0) (omega arith) in
+      omega (arith, before, laid.0, both, own, part, next)
 
-pub start_most : (starts uppers : List ℕ) (ranks : ℕ) → AreLaid starts uppers ranks → get_or starts ranks 0 ≤ length uppers
-start_most starts uppers zero f = omega (arith, f.first)
-start_most starts uppers (suc rank) f =
-    let laid = f.laid rank (omega arith) in
-    let next : get_or starts (rank + 1) 0 ≡ get_or starts (suc rank) 0 = ap (λ k. get_or starts k 0) (omega arith) in
-    omega (arith, laid.1, next)
+  pub start_most : (ranks : ℕ) → AreLaid starts uppers ranks → get_or starts ranks 0 ≤ length uppers
+  start_most zero f = omega (arith, f.first)
+  start_most (suc rank) f =
+      let laid = f.laid rank (omega arith) in
+      let next : get_or starts (rank + 1) 0 ≡ get_or starts (suc rank) 0 = ap (λ k. get_or starts k 0) (omega arith) in
+      omega (arith, laid.1, next)
 
 -- what is known of the parts of the first so many ranks
 pub record ArePartsOf (starts uppers : List ℕ) (ranks some : ℕ) : Type 0 where

@@ -5,7 +5,7 @@ use Rattle.std.specs.List.{Contains, AllPairs}
 use Rattle.std.proofs.lemmas.Bool.{cases_eq}
 use Rattle.std.proofs.lemmas.List.{append-nil, length_push, get_or_push, get_or_append_left, length-append, take-append-le, drop_at, take_all, length-set, get_or-set_same, get_or-set_other, length-replicate}
 use Rattle.std.proofs.lemmas.List.Elements.{All-append, All-weaker}
-use Rattle.std.proofs.lemmas.Option.{slice_get_within, slice_get-get_or, get_or_from_slice_get}
+use Rattle.std.proofs.lemmas.Option.{none-some, same_Some, slice_get_within, slice_get-get_or, get_or_from_slice_get}
 use Rattle.std.proofs.lemmas.Slice.{between_is}
 use Rattle.cu_chordal.specs.declared.graph.Ends.{Ends}
 use Rattle.cu_chordal.specs.declared.closure.Children.{Children}
@@ -165,15 +165,6 @@ latest_skips edges parent rank (Some child) off f = (
       ],
 )
 
-none_is_some : (x : ℕ) → None ≡ Some x → ⊥
-none_is_some x e = cc
-
-same_some : (x y : ℕ) → Some x ≡ Some y → x ≡ y
-same_some x y e = cc
-
-same_option : (x y : Option ℕ) → Some x ≡ Some y → x ≡ y
-same_option x y e = cc
-
 set_read_same : (xs : List (Option ℕ)) (i : ℕ) (x o : Option ℕ) → slice_get (set xs i x) i ≡ Some o → o ≡ x
 set_read_same xs i x o e =
     let within : i < length (set xs i x) = slice_get_within (set xs i x) i o e in
@@ -196,12 +187,12 @@ children_step edges ranks rank part None children children_new below range own f
   before_long = ap length h.1 ∙ f.before_long;
   begin = λ parent o le e.
       let old : slice_get children.latest.items parent ≡ Some o = ap (λ xs. slice_get xs parent) (sym h.0) ∙ e in
-      latest_skips (edges ++ edges_to rank part) parent rank o (λ p. none_is_some parent (sym own ∙ p))
+      latest_skips (edges ++ edges_to rank part) parent rank o (λ p. none-some parent (sym own ∙ p))
       (latest_stays edges rank parent rank part o (omega arith) (f.begin parent o (omega (arith, le)) old));
   onward = λ k parent o lt p e.
       let old : slice_get children.before.items k ≡ Some o = ap (λ xs. slice_get xs k) (sym h.1) ∙ e in
       elim (cases_eq k rank) [
-        | inl same ↦ absurd (none_is_some parent (sym own ∙ ap (parent_of (edges ++ edges_to rank part)) (sym same) ∙ p))
+        | inl same ↦ absurd (none-some parent (sym own ∙ ap (parent_of (edges ++ edges_to rank part)) (sym same) ∙ p))
         | inr other ↦
             let less : k < rank = omega (arith, lt, other) in
             latest_stays edges rank parent k part o (omega (arith, less)) (f.onward k parent o less (sym (parent_before edges rank k part less) ∙ p) old)
@@ -219,14 +210,14 @@ children_step edges ranks rank part (Some first) children children_new below ran
             (omega arith, own ∙ ap Some (sym same), λ k above lt. absurd (omega (arith, above, lt)))
         | inr other ↦
             let old : slice_get children.latest.items parent ≡ Some o = set_read_other children.latest.items first parent (Some rank) o other now in
-            latest_skips (edges ++ edges_to rank part) parent rank o (λ p. other (sym (same_some first parent (sym own ∙ p))))
+            latest_skips (edges ++ edges_to rank part) parent rank o (λ p. other (sym (same_Some first parent (sym own ∙ p))))
             (latest_stays edges rank parent rank part o (omega arith) (f.begin parent o (omega (arith, le)) old))
       ];
   onward = λ k parent o lt p e.
       let now : slice_get (set children.before.items rank (slice_index_or children.latest.items first None)) k ≡ Some o = ap (λ xs. slice_get xs k) (sym h.1) ∙ e in
       elim (cases_eq k rank) [
         | inl same ↦
-            let at_parent : parent ≡ first = same_some parent first (sym p ∙ ap (parent_of (edges ++ edges_to rank part)) same ∙ own) in
+            let at_parent : parent ≡ first = same_Some parent first (sym p ∙ ap (parent_of (edges ++ edges_to rank part)) same ∙ own) in
             let found : o ≡ slice_index_or children.latest.items first None =
             set_read_same children.before.items rank (slice_index_or children.latest.items first None) o
             (subst (λ j. slice_get (set children.before.items rank (slice_index_or children.latest.items first None)) j ≡ Some o) same now) in

@@ -7,6 +7,7 @@ use Rattle.std.proofs.lemmas.Bool.{cases_eq, cases_order, eq-eqb}
 use Rattle.std.proofs.lemmas.Bool.Decides.{nat_tests, eqb_tells}
 use Rattle.std.proofs.lemmas.List.Elements.{All-head, All-tail, All-cons}
 use Rattle.std.proofs.lemmas.List.Kept.{AllPairs-cons}
+use Rattle.std.proofs.lemmas.Option.{same_Some}
 use Rattle.cu_chordal.specs.declared.graph.Ends.{Ends}
 use Rattle.cu_chordal.specs.Graphs.{ComesBefore, IsRising, HasEdge, one_if, up_of, down_of, first_edge_of}
 use Rattle.cu_chordal.specs.Groups.{group_of}
@@ -68,7 +69,7 @@ up_skip e es rank off =
       | inr other ↦ ap (λ b. cond b (e.high ∷ up_of es rank) (up_of es rank)) other.0
     ]
 
-same_ends : (e : Ends) (x y : ℕ) → e.low ≡ x → e.high ≡ y → e ≡ record { low = x; high = y }
+pub same_ends : (e : Ends) (x y : ℕ) → e.low ≡ x → e.high ≡ y → e ≡ record { low = x; high = y }
 same_ends e x y p q = subst (λ k. e ≡ record { low = k; high = y }) p (subst (λ h. e ≡ record { low = e.low; high = h }) q refl)
 
 pub edge_from_up_of : (edges : List Ends) (rank y : ℕ) → Contains (up_of edges rank) y → HasEdge edges rank y
@@ -189,14 +190,15 @@ down_rising (e ∷ es) rank f =
       | inr off ↦ subst (AllPairs (λ x y. x < y)) (sym (down_skip e es rank off)) rest
     ]
 
-push_step : (b : Bool) (v : ℕ) (xs ys zs : List ℕ) → xs ≡ ys ++ zs → cond b (v ∷ xs) xs ≡ cond b (v ∷ ys) ys ++ zs
-push_step true v xs ys zs e = ap (λ l. v ∷ l) e
-push_step false v xs ys zs e = e
+-- a value that is kept or not goes before what is added behind
+pub kept_append : (b : Bool) (v : ℕ) (xs ys zs : List ℕ) → xs ≡ ys ++ zs → cond b (v ∷ xs) xs ≡ cond b (v ∷ ys) ys ++ zs
+kept_append true v xs ys zs e = ap (λ l. v ∷ l) e
+kept_append false v xs ys zs e = e
 
 -- edges added behind
 pub up_append : (xs ys : List Ends) (rank : ℕ) → up_of (xs ++ ys) rank ≡ up_of xs rank ++ up_of ys rank
 up_append [] ys rank = refl
-up_append (e ∷ xs) ys rank = push_step (e.low == rank) e.high _ _ (up_of ys rank) (up_append xs ys rank)
+up_append (e ∷ xs) ys rank = kept_append (e.low == rank) e.high _ _ (up_of ys rank) (up_append xs ys rank)
 
 pub up_edges_to : (rank : ℕ) (part : List ℕ) → up_of (edges_to rank part) rank ≡ part
 up_edges_to rank [] = refl
@@ -266,9 +268,6 @@ rising_append edges rank part f low g =
 at_step : (x k a : ℕ) → x ≡ k → one_if (nat_lt x k) + a ≡ a
 at_step x k a h = grind (arith, nat_tests)
 
-below_step : (x k a : ℕ) → x < k → one_if (nat_lt x k) + a ≡ suc a
-below_step x k a h = grind (arith, nat_tests)
-
 no_lower : (e : Ends) (es : List Ends) (rank : ℕ) → IsRising (e ∷ es) → e.low ≡ rank → All (λ (x : Ends). rank ≤ x.low) es
 no_lower e es rank f at =
     all_from_members (λ (x : Ends). rank ≤ x.low) es
@@ -289,9 +288,6 @@ none_above e es rank y f above c =
           ]
     ]
 
-some_same : (x y : ℕ) → Some x ≡ Some y → x ≡ y
-some_same x y e = cc
-
 numbered_first : (e : Ends) (es : List Ends) (rank i y : ℕ) → IsRising (e ∷ es) → e.low ≡ rank → slice_get (e.high ∷ up_of es rank) i ≡ Some y
     → ((j : ℕ) → slice_get (up_of es rank) j ≡ Some y → slice_get es (first_edge_of es rank + j) ≡ Some (record { low = rank; high = y }))
     → slice_get (e ∷ es) (first_edge_of (e ∷ es) rank + i) ≡ Some (record { low = rank; high = y })
@@ -299,7 +295,7 @@ numbered_first e es rank zero y f at g deeper =
     let none = first_none es rank (no_lower e es rank f at) in
     let step = at_step e.low rank (first_edge_of es rank) at in
     let place : 0 ≡ first_edge_of (e ∷ es) rank + 0 = omega (arith, step, none) in
-    let same : e ≡ record { low = rank; high = y } = same_ends e rank y at (some_same e.high y g) in
+    let same : e ≡ record { low = rank; high = y } = same_ends e rank y at (same_Some e.high y g) in
     subst (λ n. slice_get (e ∷ es) n ≡ Some (record { low = rank; high = y })) place (ap Some same)
 numbered_first e es rank (suc i) y f at g deeper =
     let step = at_step e.low rank (first_edge_of es rank) at in
@@ -315,7 +311,7 @@ numbered (e ∷ es) rank i y f g =
       | inr apart ↦ elim apart [
         | inl less ↦
             let deeper = numbered es rank i y (pairs_tail ComesBefore e es f) (ap (λ xs. slice_get xs i) (sym (up_skip e es rank (λ at. omega (arith, at, less)))) ∙ g) in
-            let step = below_step e.low rank (first_edge_of es rank) less in
+            let step = first_all_step e.low rank (first_edge_of es rank) (first_edge_of es rank) less refl in
             let place : suc (first_edge_of es rank + i) ≡ first_edge_of (e ∷ es) rank + i = omega (arith, step) in
             subst (λ n. slice_get (e ∷ es) n ≡ Some (record { low = rank; high = y })) place deeper
         | inr above ↦ absurd (none_above e es rank y f above (member_at (up_of (e ∷ es) rank) y i g))
