@@ -8,7 +8,7 @@ use Rattle.std.proofs.lemmas.Bool.{cases_eq, eqb-true, eq-eqb}
 use Rattle.std.proofs.lemmas.List.{length_push, get_or_push, get_or_append_left}
 use Rattle.std.proofs.lemmas.List.Kept.{AllPairs-cons, AllPairs-from_increasing}
 use Rattle.std.proofs.lemmas.List.Elements.{All-cons, All-contains, Contains-append_cases, Contains-append_right}
-use Rattle.std.proofs.lemmas.Option.{slice_get-get_or, slice_get_within, get_or_from_slice_get}
+use Rattle.std.proofs.lemmas.Option.{none-some, same_Some, slice_get-get_or, slice_get_within, get_or_from_slice_get}
 use Rattle.cu_chordal.specs.declared.graph.Ends.{Ends}
 use Rattle.cu_chordal.specs.Graphs.{ChordalValue, HasEdge, IsChordal, parent_of, up_of}
 use Rattle.cu_chordal.proofs.Members.{here, there, member_at, member_cases, none_in_nil, pairs_head, pairs_tail}
@@ -16,13 +16,13 @@ use Rattle.cu_chordal.proofs.Tables.{edge_from_up_of, up_of_from_edge, increasin
 use Rattle.cu_chordal.proofs.Closed.{parent_least}
 use Rattle.cu_elimtree.specs.Trees.{HoldsAncestorNeighbours, HoldsHigherNeighbours, IsTree, IsTreeOf, Rises, ancestors_of, climb, flat}
 
--- the parents so far
 -- a step up: the rank itself, and then its parent and on
 pub climb_step : (fuel : ℕ) (parents : List (Option ℕ)) (from parent : Option ℕ) (rank : ℕ) → 0 < fuel → from ≡ Some rank → parent ≡ flat (slice_get parents rank)
     → climb fuel parents from ≡ rank ∷ climb (fuel - 1) parents parent
 climb_step zero parents from parent rank some is up = absurd (omega (arith, some))
 climb_step (suc fuel) parents from parent rank some is up = let left : suc fuel - 1 ≡ fuel = omega arith in rw (is, up, left) refl
 
+-- the parents so far
 pub record AreParents (graph : ChordalValue) (rank : ℕ) (parents : List (Option ℕ)) : Type 0 where
   pub long : length parents ≡ rank
   pub each : (k : ℕ) → k < rank → slice_get parents k ≡ Some (parent_of graph.edges k)
@@ -57,122 +57,114 @@ edge_range graph f x y c = subst (λ (e : Ends). (e.low < e.high) × (e.high < g
 parent_edge : (graph : ChordalValue) (rank parent : ℕ) → parent_of graph.edges rank ≡ Some parent → HasEdge graph.edges rank parent
 parent_edge graph rank parent e = edge_from_up_of graph.edges rank parent (member_at (up_of graph.edges rank) parent 0 e)
 
-same_option : (x y : Option ℕ) → Some x ≡ Some y → x ≡ y
-same_option x y e = cc
+-- a rank that has a parent is one of the list
+pub parent_there : (o : Option (Option ℕ)) (p : ℕ) → flat o ≡ Some p → o ≡ Some (Some p)
+parent_there None p e = absurd (none-some p e)
+parent_there (Some o) p e = ap Some e
 
 parent_read : (graph : ChordalValue) (parents : List (Option ℕ)) (rank : ℕ) (o : Option ℕ) → IsTreeOf graph parents → slice_get parents rank ≡ Some o → parent_of graph.edges rank ≡ o
 parent_read graph parents rank o f e =
     let within : rank < length parents = slice_get_within parents rank o e in
-    same_option (parent_of graph.edges rank) o (sym (f.each rank (omega (arith, within, f.long))) ∙ e)
+    same_Some (parent_of graph.edges rank) o (sym (f.each rank (omega (arith, within, f.long))) ∙ e)
 
--- the parents are a tree
-pub tree_of : (graph : ChordalValue) (parents : List (Option ℕ)) → IsChordal graph → IsTreeOf graph parents → IsTree parents
-tree_of graph parents sound f = record {
-  few = omega (arith, f.long, sound.few_ranks);
-  rises = λ rank parent e.
-      let range = edge_range graph sound rank parent (parent_edge graph rank parent (parent_read graph parents rank (Some parent) f e)) in
-      (range.0, omega (arith, range.1, f.long));
-}
+-- a chordal graph and its ranks' parents
+module _ (graph : ChordalValue) (parents : List (Option ℕ)) (sound : IsChordal graph) (f : IsTreeOf graph parents) where
+  -- the parents are a tree
+  pub tree_of : IsTree parents
+  tree_of = record {
+    few = omega (arith, f.long, sound.few_ranks);
+    rises = λ rank parent e.
+        let range = edge_range graph sound rank parent (parent_edge graph rank parent (parent_read graph parents rank (Some parent) f e)) in
+        (range.0, omega (arith, range.1, f.long));
+  }
 
--- a rank with a higher neighbour has a parent, which is that or is joined to it
-next_up : (graph : ChordalValue) (parents : List (Option ℕ)) (rank high : ℕ) → IsChordal graph → IsTreeOf graph parents → HasEdge graph.edges rank high
-    → (p : ℕ) × (flat (slice_get parents rank) ≡ Some p) × (rank < p) × (p < graph.ranks) × ((high ≡ p) ⊎ HasEdge graph.edges p high)
-next_up graph parents rank high sound f edge =
-    let range = edge_range graph sound rank high edge in
-    let member : Contains (up_of graph.edges rank) high = up_of_from_edge graph.edges rank high edge in
-    let p : ℕ = get_or (up_of graph.edges rank) 0 0 in
-    let is_parent : parent_of graph.edges rank ≡ Some p = slice_get-get_or (up_of graph.edges rank) 0 0 (omega (arith, member.1)) in
-    let to_parent = parent_edge graph rank p is_parent in
-    let parent_range = edge_range graph sound rank p to_parent in
-    let least : p ≤ high = parent_least graph.edges rank p high sound.rising is_parent member in
-    let read : flat (slice_get parents rank) ≡ Some p = ap flat (f.each rank (omega (arith, range.0, range.1))) ∙ is_parent in (
-      p,
-      read,
-      parent_range.0,
-      parent_range.1,
-      elim (cases_eq high p) [
-        | inl same ↦ inl same
-        | inr other ↦ inr (sound.chordal rank p high to_parent edge (omega (arith, least, other)))
-      ],
-    )
+  -- a rank with a higher neighbour has a parent, which is that or is joined to it
+  next_up : (rank high : ℕ) → HasEdge graph.edges rank high → (p : ℕ) × (flat (slice_get parents rank) ≡ Some p) × (rank < p) × (p < graph.ranks) × ((high ≡ p) ⊎ HasEdge graph.edges p high)
+  next_up rank high edge =
+      let range = edge_range graph sound rank high edge in
+      let member : Contains (up_of graph.edges rank) high = up_of_from_edge graph.edges rank high edge in
+      let p : ℕ = get_or (up_of graph.edges rank) 0 0 in
+      let is_parent : parent_of graph.edges rank ≡ Some p = slice_get-get_or (up_of graph.edges rank) 0 0 (omega (arith, member.1)) in
+      let to_parent = parent_edge graph rank p is_parent in
+      let parent_range = edge_range graph sound rank p to_parent in
+      let least : p ≤ high = parent_least graph.edges rank p high sound.rising is_parent member in
+      let read : flat (slice_get parents rank) ≡ Some p = ap flat (f.each rank (omega (arith, range.0, range.1))) ∙ is_parent in (
+        p,
+        read,
+        parent_range.0,
+        parent_range.1,
+        elim (cases_eq high p) [
+          | inl same ↦ inl same
+          | inr other ↦ inr (sound.chordal rank p high to_parent edge (omega (arith, least, other)))
+        ],
+      )
 
-climbs : (graph : ChordalValue) (parents : List (Option ℕ)) (fuel rank high : ℕ) → IsChordal graph → IsTreeOf graph parents → rank < graph.ranks
-    → graph.ranks ≤ rank + fuel → (high ≡ rank) ⊎ HasEdge graph.edges rank high
-    → Contains (climb fuel parents (Some rank)) high
-climbs graph parents zero rank high sound f below enough at = absurd (omega (arith, below, enough))
-climbs graph parents (suc fuel) rank high sound f below enough (inl same) =
-    subst (Contains (rank ∷ climb fuel parents (flat (slice_get parents rank)))) (sym same) (here rank (climb fuel parents (flat (slice_get parents rank))))
-climbs graph parents (suc fuel) rank high sound f below enough (inr edge) =
-    let up = next_up graph parents rank high sound f edge in
-    let deeper = climbs graph parents fuel up.0 high sound f up.3 (omega (arith, enough, up.2)) up.4 in
-    there rank (climb fuel parents (flat (slice_get parents rank))) high (subst (λ o. Contains (climb fuel parents o) high) (sym up.1) deeper)
+  climbs : (fuel rank high : ℕ) → rank < graph.ranks → graph.ranks ≤ rank + fuel → (high ≡ rank) ⊎ HasEdge graph.edges rank high → Contains (climb fuel parents (Some rank)) high
+  climbs zero rank high below enough at = absurd (omega (arith, below, enough))
+  climbs (suc fuel) rank high below enough (inl same) =
+      subst (Contains (rank ∷ climb fuel parents (flat (slice_get parents rank)))) (sym same) (here rank (climb fuel parents (flat (slice_get parents rank))))
+  climbs (suc fuel) rank high below enough (inr edge) =
+      let up = next_up rank high edge in
+      let deeper = climbs fuel up.0 high up.3 (omega (arith, enough, up.2)) up.4 in
+      there rank (climb fuel parents (flat (slice_get parents rank))) high (subst (λ o. Contains (climb fuel parents o) high) (sym up.1) deeper)
 
--- the ancestors of a rank contain its higher neighbours
-pub holds_higher : (graph : ChordalValue) (parents : List (Option ℕ)) → IsChordal graph → IsTreeOf graph parents → HoldsHigherNeighbours graph parents
-holds_higher graph parents sound f rank high edge =
-    let range = edge_range graph sound rank high edge in
-    climbs graph parents (length parents) rank high sound f (omega (arith, range.0, range.1)) (omega (arith, f.long)) (inr edge)
+  -- the ancestors of a rank contain its higher neighbours
+  pub holds_higher : HoldsHigherNeighbours graph parents
+  holds_higher rank high edge =
+      let range = edge_range graph sound rank high edge in
+      climbs (length parents) rank high (omega (arith, range.0, range.1)) (omega (arith, f.long)) (inr edge)
 
-none_some : (p : ℕ) → None ≡ Some p → ⊥
-none_some p e = cc
+  -- and of each ancestor those of that ancestor
+  climb_upwards : (fuel : ℕ) (o : Option ℕ) (low high : ℕ) → ((r : ℕ) → o ≡ Some r → graph.ranks ≤ r + fuel) → HasEdge graph.edges low high → Contains (climb fuel parents o) low
+      → Contains (climb fuel parents o) high
+  climb_upwards zero o low high enough edge c = absurd (none_in_nil low c)
+  climb_upwards (suc fuel) None low high enough edge c = absurd (none_in_nil low c)
+  climb_upwards (suc fuel) (Some r) low high enough edge c =
+      let above_r : List ℕ = climb fuel parents (flat (slice_get parents r)) in
+      elim (member_cases r above_r low c) [
+        | inl same ↦
+            let at : HasEdge graph.edges r high = subst (λ k. HasEdge graph.edges k high) (sym same) edge in
+            let range = edge_range graph sound r high at in
+            climbs (suc fuel) r high (omega (arith, range.0, range.1)) (enough r refl) (inr at)
+        | inr rest ↦
+            let deeper = climb_upwards fuel (flat (slice_get parents r)) low high
+            (λ p e. let up = tree_of.rises r p (parent_there (slice_get parents r) p e) in let le = enough r refl in omega (arith, up.0, le)) edge rest in
+            there r above_r high deeper
+      ]
 
-parent_there : (o : Option (Option ℕ)) (p : ℕ) → flat o ≡ Some p → o ≡ Some (Some p)
-parent_there None p e = absurd (none_some p e)
-parent_there (Some o) p e = ap Some e
+  pub holds_upwards : HoldsAncestorNeighbours graph parents
+  holds_upwards rank low high c edge = climb_upwards (length parents) (Some rank) low high (λ r e. omega (arith, f.long)) edge c
 
--- ancestors rise
-above : (parents : List (Option ℕ)) (fuel least : ℕ) (o : Option ℕ) → Rises parents → ((r : ℕ) → o ≡ Some r → least ≤ r) → All (λ x. least ≤ x) (climb fuel parents o)
-above parents zero least o f start = λ k d h. absurd (omega (arith, h))
-above parents (suc fuel) least None f start = λ k d h. absurd (omega (arith, h))
-above parents (suc fuel) least (Some r) f start =
-    All-cons (λ x. least ≤ x) r (climb fuel parents (flat (slice_get parents r))) (start r refl)
-    (above parents fuel least (flat (slice_get parents r)) f (λ p e. let up = f r p (parent_there (slice_get parents r) p e) in let low = start r refl in omega (arith, up.0, low)))
+module _ (parents : List (Option ℕ)) (f : Rises parents) where
+  -- ancestors rise
+  above : (fuel least : ℕ) (o : Option ℕ) → ((r : ℕ) → o ≡ Some r → least ≤ r) → All (λ x. least ≤ x) (climb fuel parents o)
+  above zero least o start = λ k d h. absurd (omega (arith, h))
+  above (suc fuel) least None start = λ k d h. absurd (omega (arith, h))
+  above (suc fuel) least (Some r) start =
+      All-cons (λ x. least ≤ x) r (climb fuel parents (flat (slice_get parents r))) (start r refl)
+      (above fuel least (flat (slice_get parents r)) (λ p e. let up = f r p (parent_there (slice_get parents r) p e) in let low = start r refl in omega (arith, up.0, low)))
 
-climb_pairs : (parents : List (Option ℕ)) (fuel : ℕ) (o : Option ℕ) → Rises parents → AllPairs (λ x y. x < y) (climb fuel parents o)
-climb_pairs parents zero o f = λ i j d lt h. absurd (omega (arith, h))
-climb_pairs parents (suc fuel) None f = λ i j d lt h. absurd (omega (arith, h))
-climb_pairs parents (suc fuel) (Some r) f =
-    AllPairs-cons (λ x y. x < y) r (climb fuel parents (flat (slice_get parents r)))
-    (above parents fuel (suc r) (flat (slice_get parents r)) f (λ p e. let up = f r p (parent_there (slice_get parents r) p e) in omega (arith, up.0)))
-    (climb_pairs parents fuel (flat (slice_get parents r)) f)
+  climb_pairs : (fuel : ℕ) (o : Option ℕ) → AllPairs (λ x y. x < y) (climb fuel parents o)
+  climb_pairs zero o = λ i j d lt h. absurd (omega (arith, h))
+  climb_pairs (suc fuel) None = λ i j d lt h. absurd (omega (arith, h))
+  climb_pairs (suc fuel) (Some r) =
+      AllPairs-cons (λ x y. x < y) r (climb fuel parents (flat (slice_get parents r)))
+      (above fuel (suc r) (flat (slice_get parents r)) (λ p e. let up = f r p (parent_there (slice_get parents r) p e) in omega (arith, up.0)))
+      (climb_pairs fuel (flat (slice_get parents r)))
+
+  -- ancestors are ranks
+  climb_below : (fuel : ℕ) (o : Option ℕ) → ((r : ℕ) → o ≡ Some r → r < length parents) → All (λ x. x < length parents) (climb fuel parents o)
+  climb_below zero o start = λ k d h. absurd (omega (arith, h))
+  climb_below (suc fuel) None start = λ k d h. absurd (omega (arith, h))
+  climb_below (suc fuel) (Some r) start =
+      All-cons (λ x. x < length parents) r (climb fuel parents (flat (slice_get parents r))) (start r refl)
+      (climb_below fuel (flat (slice_get parents r)) (λ p e. (f r p (parent_there (slice_get parents r) p e)).1))
 
 pub ancestors_rise : (parents : List (Option ℕ)) (rank : ℕ) → IsTree parents → IsStrictlyIncreasing (ancestors_of parents rank)
-ancestors_rise parents rank f = increasing_from_pairs (ancestors_of parents rank) (climb_pairs parents (length parents) (Some rank) f.rises)
-
--- and of each ancestor those of that ancestor
-climb_upwards : (graph : ChordalValue) (parents : List (Option ℕ)) (fuel : ℕ) (o : Option ℕ) (low high : ℕ) → IsChordal graph → IsTreeOf graph parents → ((r : ℕ) → o ≡ Some r → graph.ranks ≤ r + fuel)
-    → HasEdge graph.edges low high → Contains (climb fuel parents o) low → Contains (climb fuel parents o) high
-climb_upwards graph parents zero o low high sound f enough edge c = absurd (none_in_nil low c)
-climb_upwards graph parents (suc fuel) None low high sound f enough edge c = absurd (none_in_nil low c)
-climb_upwards graph parents (suc fuel) (Some r) low high sound f enough edge c =
-    let above_r : List ℕ = climb fuel parents (flat (slice_get parents r)) in
-    elim (member_cases r above_r low c) [
-      | inl same ↦
-          let at : HasEdge graph.edges r high = subst (λ k. HasEdge graph.edges k high) (sym same) edge in
-          let range = edge_range graph sound r high at in
-          climbs graph parents (suc fuel) r high sound f (omega (arith, range.0, range.1)) (enough r refl) (inr at)
-      | inr rest ↦
-          let deeper = climb_upwards graph parents fuel (flat (slice_get parents r)) low high sound f
-          (λ p e. let up = (tree_of graph parents sound f).rises r p (parent_there (slice_get parents r) p e) in let le = enough r refl in omega (arith, up.0, le)) edge rest in
-          there r above_r high deeper
-    ]
-
-pub holds_upwards : (graph : ChordalValue) (parents : List (Option ℕ)) → IsChordal graph → IsTreeOf graph parents → HoldsAncestorNeighbours graph parents
-holds_upwards graph parents sound f rank low high c edge = climb_upwards graph parents (length parents) (Some rank) low high sound f (λ r e. omega (arith, f.long)) edge c
-
--- ancestors are ranks
-climb_below : (parents : List (Option ℕ)) (fuel : ℕ) (o : Option ℕ) → Rises parents → ((r : ℕ) → o ≡ Some r → r < length parents) → All (λ x. x < length parents) (climb fuel parents o)
-climb_below parents zero o f start = λ k d h. absurd (omega (arith, h))
-climb_below parents (suc fuel) None f start = λ k d h. absurd (omega (arith, h))
-climb_below parents (suc fuel) (Some r) f start =
-    All-cons (λ x. x < length parents) r (climb fuel parents (flat (slice_get parents r))) (start r refl)
-    (climb_below parents fuel (flat (slice_get parents r)) f (λ p e. (f r p (parent_there (slice_get parents r) p e)).1))
-
-same_rank : (x y : ℕ) → Some x ≡ Some y → x ≡ y
-same_rank x y e = cc
+ancestors_rise parents rank f = increasing_from_pairs (ancestors_of parents rank) (climb_pairs parents f.rises (length parents) (Some rank))
 
 pub ancestors_below : (parents : List (Option ℕ)) (rank : ℕ) → IsTree parents → rank < length parents → All (λ x. x < length parents) (ancestors_of parents rank)
-ancestors_below parents rank f below = climb_below parents (length parents) (Some rank) f.rises (λ r e. subst (λ k. k < length parents) (same_rank rank r e) below)
+ancestors_below parents rank f below = climb_below parents f.rises (length parents) (Some rank) (λ r e. subst (λ k. k < length parents) (same_Some rank r e) below)
 
 -- what was yielded and what is left are what there was
 pub yielded_first : {S A : Type 0} (rest : S → List A) (s : S) (xs : List A) (t : S) → Yields (YieldsFirst rest) s xs t → rest s ≡ xs ++ rest t
