@@ -83,49 +83,50 @@ AreRightBelow h m = (x y : ℕ) (w : List ℕ) → min x y < m → IsLowWalk h.n
 pub has_least : (h : HierarchyValue) (m : ℕ) → AreRightBelow h m → (x y s : ℕ) (w : List ℕ) → min x y < m → IsLowWalk h.network h.order x w y → (a : ℕ) × IsLeastLowDrive h.network h.order x y s a
 has_least h m right x y s w lt l = (drive h.network (unpacked_walk h x y s) s, (right x y w lt l).1 s)
 
--- the unpacked walk arrives when the first way does
-pub own_walk : (h : HierarchyValue) → IsBuilt h → (u v t : ℕ) → AreRightBelow h (min u v) → (way : Way) → way_from h u v t ≡ Some way → (arrival : ℕ) → IsCandidate h.network h.order u v way → Arrives h.network h.order u v t way arrival
-    → drive h.network (unpacked_walk h u v t) t ≡ arrival
-own_walk h f u v t right (Road a) e arrival c r =
-    let walk : unpacked_walk h u v t ≡ a ∷ [] = ap (unpacked_way h.network (unpacked h (min u v)) u v t) e in
-    ap (λ (w : List ℕ). drive h.network w t) walk ∙ r
-own_walk h f u v t right (Via m) e arrival c r =
-    let mu = c.0 in
-    let mv = c.1 in
-    let first = unpacked_walk h u m t in
-    let s = drive h.network first t in
-    let walk : unpacked_walk h u v t ≡ first ++ unpacked_walk h m v s = unpacked-via h (middles_fall h f.sound) u v t m e in
-    let one : s ≡ r.0 = least_unique h.network h.order u m t s r.0 ((right u m c.2.0 (omega (arith, mu, mv)) c.2.1).1 t) r.1 in
-    let later = (right m v c.3.0 (omega (arith, mu, mv)) c.3.1).1 s in
-    let two : drive h.network (unpacked_walk h m v s) s ≡ arrival =
-    least_unique h.network h.order m v s (drive h.network (unpacked_walk h m v s) s) arrival later
-    (subst (λ (x : ℕ). IsLeastLowDrive h.network h.order m v x arrival) (sym one) r.2) in
-    ap (λ (w : List ℕ). drive h.network w t) walk ∙ drive-append h.network first (unpacked_walk h m v s) t ∙ two
+module _ (h : HierarchyValue) (f : IsBuilt h) where
+  -- the unpacked walk arrives when the first way does
+  pub own_walk : (u v t : ℕ) → AreRightBelow h (min u v) → (way : Way) → way_from h u v t ≡ Some way → (arrival : ℕ) → IsCandidate h.network h.order u v way
+      → Arrives h.network h.order u v t way arrival → drive h.network (unpacked_walk h u v t) t ≡ arrival
+  own_walk u v t right (Road a) e arrival c r =
+      let walk : unpacked_walk h u v t ≡ a ∷ [] = ap (unpacked_way h.network (unpacked h (min u v)) u v t) e in
+      ap (λ (w : List ℕ). drive h.network w t) walk ∙ r
+  own_walk u v t right (Via m) e arrival c r =
+      let mu = c.0 in
+      let mv = c.1 in
+      let first = unpacked_walk h u m t in
+      let s = drive h.network first t in
+      let walk : unpacked_walk h u v t ≡ first ++ unpacked_walk h m v s = unpacked-via h (middles_fall h f.sound) u v t m e in
+      let one : s ≡ r.0 = least_unique h.network h.order u m t s r.0 ((right u m c.2.0 (omega (arith, mu, mv)) c.2.1).1 t) r.1 in
+      let later = (right m v c.3.0 (omega (arith, mu, mv)) c.3.1).1 s in
+      let two : drive h.network (unpacked_walk h m v s) s ≡ arrival =
+      least_unique h.network h.order m v s (drive h.network (unpacked_walk h m v s) s) arrival later
+      (subst (λ (x : ℕ). IsLeastLowDrive h.network h.order m v x arrival) (sym one) r.2) in
+      ap (λ (w : List ℕ). drive h.network w t) walk ∙ drive-append h.network first (unpacked_walk h m v s) t ∙ two
 
-right_one : (h : HierarchyValue) → IsBuilt h → (u v : ℕ) (w : List ℕ) → AreRightBelow h (min u v) → IsLowWalk h.network h.order u w v → IsRight h u v
-right_one h f u v w right l =
-    let g = h.network in
-    let o = h.order in
-    let n = f.sound.network in
-    let has = has_least h (min u v) right in
-    let some : list_from h u v ≢ [] = λ empty.
-    let c = candidate_below g o n u v has (min u v) (omega arith) (omega arith) w 0 l.1 in
-    (built_list h f u v w l).none empty c.way c.candidate in (
-      some,
-      λ t.
-          let (way, e) = way_there (list_from h u v) (list_from_spelled h f.sound u v) some (t % day) in
-          let first = built_first h f u v t way e in
-          let own = own_walk h f u v t right way e first.arrival first.candidate first.arrives in
-          record {
-            reached = (unpacked_walk h u v t, unpacked-low h f.sound u v t l.0 some, refl);
-            least = λ w2 l2. let p = first_least g o n u v t way has first w2 l2 in omega (arith, p, own);
-          },
-    )
+  right_one : (u v : ℕ) (w : List ℕ) → AreRightBelow h (min u v) → IsLowWalk h.network h.order u w v → IsRight h u v
+  right_one u v w right l =
+      let g = h.network in
+      let o = h.order in
+      let n = f.sound.network in
+      let has = has_least h (min u v) right in
+      let some : list_from h u v ≢ [] = λ empty.
+      let c = candidate_below g o n u v has (min u v) (omega arith) (omega arith) w 0 l.1 in
+      (built_list h f u v w l).none empty c.way c.candidate in (
+        some,
+        λ t.
+            let (way, e) = way_there (list_from h u v) (list_from_spelled h f.sound u v) some (t % day) in
+            let first = built_first h f u v t way e in
+            let own = own_walk u v t right way e first.arrival first.candidate first.arrives in
+            record {
+              reached = (unpacked_walk h u v t, unpacked-low h f.sound u v t l.0 some, refl);
+              least = λ w2 l2. let p = first_least g o n u v t way has first w2 l2 in omega (arith, p, own);
+            },
+      )
 
-pub right_below : (h : HierarchyValue) → IsBuilt h → (m : ℕ) → AreRightBelow h m
-right_below h f zero x y w lt l = absurd (omega (arith, lt))
-right_below h f (suc m) x y w lt l = right_one h f x y w (λ x2 y2 w2 less l2. right_below h f m x2 y2 w2 (omega (arith, less, lt)) l2) l
+  pub right_below : (m : ℕ) → AreRightBelow h m
+  right_below zero x y w lt l = absurd (omega (arith, lt))
+  right_below (suc m) x y w lt l = right_one x y w (λ x2 y2 w2 less l2. right_below m x2 y2 w2 (omega (arith, less, lt)) l2) l
 
--- in a built hierarchy, where a low walk leads the list isn't empty, and the unpacked walk arrives first of all low walks
-pub built_least : (h : HierarchyValue) → IsBuilt h → (u v : ℕ) → HasLowWalk h.network h.order u v → IsRight h u v
-built_least h f u v k = right_below h f (suc (min u v)) u v k.0 (omega arith) k.1
+  -- in a built hierarchy, where a low walk leads the list isn't empty, and the unpacked walk arrives first of all low walks
+  pub built_least : (u v : ℕ) → HasLowWalk h.network h.order u v → IsRight h u v
+  built_least u v k = right_below (suc (min u v)) u v k.0 (omega arith) k.1

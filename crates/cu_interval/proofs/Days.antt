@@ -21,71 +21,72 @@ use Rattle.cu_interval.specs.FirstWays.{Arrives, IsCandidate, IsFirstWay}
 use Rattle.cu_interval.specs.Hierarchies.{HierarchyValue, IsBuilt, start_of, end_of, list_of_some, number_from, way_from}
 use Rattle.cu_interval.proofs.Lookups.{number_found}
 
--- a road's value repeats by whole days
-pub leads-days : (g : NetworkValue) (o : OrderValue) → IsNetwork g → (a u v k t : ℕ) → LeadsRanks g o a u v → arc_value g a (k * day + t) ≡ k * day + arc_value g a t
-leads-days g o n a u v k t l =
-    let (pieces, valid, same) = arc_value-by_profile g n a (leads_within g a l.0 l.1 l.2) in
-    same (k * day + t) ∙ many_days (profile_value pieces) (profile_value-days pieces valid) k t ∙ ap (λ (x : ℕ). k * day + x) (sym (same t))
+module _ (g : NetworkValue) (o : OrderValue) (n : IsNetwork g) where
+  -- a road's value repeats by whole days
+  pub leads-days : (a u v k t : ℕ) → LeadsRanks g o a u v → arc_value g a (k * day + t) ≡ k * day + arc_value g a t
+  leads-days a u v k t l =
+      let (pieces, valid, same) = arc_value-by_profile g n a (leads_within g a l.0 l.1 l.2) in
+      same (k * day + t) ∙ many_days (profile_value pieces) (profile_value-days pieces valid) k t ∙ ap (λ (x : ℕ). k * day + x) (sym (same t))
 
--- a low walk's arrival repeats by whole days
-pub below-days : (g : NetworkValue) (o : OrderValue) → IsNetwork g → (m u : ℕ) (w : List ℕ) (v k t : ℕ) → WalkBelow g o m u w v → drive g w (k * day + t) ≡ k * day + drive g w t
-below-days g o n m u [] v k t h = absurd h
-below-days g o n m u (a ∷ []) v k t h = leads-days g o n a u v k t h
-below-days g o n m u (a ∷ b ∷ w) v k t h =
-    let (x, j, lt, more) = h in
-    ap (drive g (b ∷ w)) (leads-days g o n a u x k t j) ∙ below-days g o n m x (b ∷ w) v k (arc_value g a t) more
+  -- a low walk's arrival repeats by whole days
+  pub below-days : (m u : ℕ) (w : List ℕ) (v k t : ℕ) → WalkBelow g o m u w v → drive g w (k * day + t) ≡ k * day + drive g w t
+  below-days m u [] v k t h = absurd h
+  below-days m u (a ∷ []) v k t h = leads-days a u v k t h
+  below-days m u (a ∷ b ∷ w) v k t h =
+      let (x, j, lt, more) = h in
+      ap (drive g (b ∷ w)) (leads-days a u x k t j) ∙ below-days m x (b ∷ w) v k (arc_value g a t) more
 
-pub least-days : (g : NetworkValue) (o : OrderValue) → IsNetwork g → (u v k t a : ℕ) → IsLeastLowDrive g o u v t a → IsLeastLowDrive g o u v (k * day + t) (k * day + a)
-least-days g o n u v k t a f =
-    let (w, l, e) = f.reached in
-    record {
-      reached = (w, l, below-days g o n _ u w v k t l.1 ∙ ap (λ (x : ℕ). k * day + x) e);
-      least = λ w2 l2.
-          let p = f.least w2 l2 in
-          let q = below-days g o n _ u w2 v k t l2.1 in
-          omega (arith, p, q);
-    }
-
-pub least-back : (g : NetworkValue) (o : OrderValue) → IsNetwork g → (u v k t b : ℕ) → IsLeastLowDrive g o u v (k * day + t) b → (a : ℕ) × (b ≡ k * day + a) × IsLeastLowDrive g o u v t a
-least-back g o n u v k t b f =
-    let (w, l, e) = f.reached in
-    let d = below-days g o n _ u w v k t l.1 in
-    let is : b ≡ k * day + drive g w t = sym e ∙ d in (
-      drive g w t,
-      is,
+  pub least-days : (u v k t a : ℕ) → IsLeastLowDrive g o u v t a → IsLeastLowDrive g o u v (k * day + t) (k * day + a)
+  least-days u v k t a f =
+      let (w, l, e) = f.reached in
       record {
-        reached = (w, l, refl);
+        reached = (w, l, below-days _ u w v k t l.1 ∙ ap (λ (x : ℕ). k * day + x) e);
         least = λ w2 l2.
             let p = f.least w2 l2 in
-            let q = below-days g o n _ u w2 v k t l2.1 in
-            omega (arith, p, q, is);
-      },
-    )
+            let q = below-days _ u w2 v k t l2.1 in
+            omega (arith, p, q);
+      }
 
-arrives-days : (g : NetworkValue) (o : OrderValue) → IsNetwork g → (u v k t : ℕ) (way : Way) (a : ℕ) → IsCandidate g o u v way → Arrives g o u v t way a → Arrives g o u v (k * day + t) way (k * day + a)
-arrives-days g o n u v k t (Road r) a c f = leads-days g o n r u v k t c ∙ ap (λ (x : ℕ). k * day + x) f
-arrives-days g o n u v k t (Via m) a c f = (k * day + f.0, least-days g o n u m k t f.0 f.1, least-days g o n m v k f.0 a f.2)
+  pub least-back : (u v k t b : ℕ) → IsLeastLowDrive g o u v (k * day + t) b → (a : ℕ) × (b ≡ k * day + a) × IsLeastLowDrive g o u v t a
+  least-back u v k t b f =
+      let (w, l, e) = f.reached in
+      let d = below-days _ u w v k t l.1 in
+      let is : b ≡ k * day + drive g w t = sym e ∙ d in (
+        drive g w t,
+        is,
+        record {
+          reached = (w, l, refl);
+          least = λ w2 l2.
+              let p = f.least w2 l2 in
+              let q = below-days _ u w2 v k t l2.1 in
+              omega (arith, p, q, is);
+        },
+      )
 
-arrives-back : (g : NetworkValue) (o : OrderValue) → IsNetwork g → (u v k t : ℕ) (way : Way) (b : ℕ) → IsCandidate g o u v way → Arrives g o u v (k * day + t) way b → (a : ℕ) × (b ≡ k * day + a) × Arrives g o u v t way a
-arrives-back g o n u v k t (Road r) b c f = (arc_value g r t, sym f ∙ leads-days g o n r u v k t c, refl)
-arrives-back g o n u v k t (Via m) b c f =
-    let (x, e, one) = least-back g o n u m k t f.0 f.1 in
-    let (y, i, two) = least-back g o n m v k x b (subst (λ (z : ℕ). IsLeastLowDrive g o m v z b) e f.2) in
-    (y, i, (x, one, two))
+  arrives-days : (u v k t : ℕ) (way : Way) (a : ℕ) → IsCandidate g o u v way → Arrives g o u v t way a → Arrives g o u v (k * day + t) way (k * day + a)
+  arrives-days u v k t (Road r) a c f = leads-days r u v k t c ∙ ap (λ (x : ℕ). k * day + x) f
+  arrives-days u v k t (Via m) a c f = (k * day + f.0, least-days u m k t f.0 f.1, least-days m v k f.0 a f.2)
 
--- a first way is one on every later day
-pub first-days : (g : NetworkValue) (o : OrderValue) → IsNetwork g → (u v k t : ℕ) (way : Way) → IsFirstWay g o u v t way → IsFirstWay g o u v (k * day + t) way
-first-days g o n u v k t way f = record {
-  candidate = f.candidate;
-  arrival = k * day + f.arrival;
-  arrives = arrives-days g o n u v k t way f.arrival f.candidate f.arrives;
-  first = λ other later c a.
-      let (x, e, y) = arrives-back g o n u v k t other later c a in
-      elim (f.first other x c y) [
-        | inl less ↦ inl (omega (arith, less, e))
-        | inr tie ↦ inr (let same = tie.0 in omega (arith, same, e), tie.1)
-      ];
-}
+  arrives-back : (u v k t : ℕ) (way : Way) (b : ℕ) → IsCandidate g o u v way → Arrives g o u v (k * day + t) way b → (a : ℕ) × (b ≡ k * day + a) × Arrives g o u v t way a
+  arrives-back u v k t (Road r) b c f = (arc_value g r t, sym f ∙ leads-days r u v k t c, refl)
+  arrives-back u v k t (Via m) b c f =
+      let (x, e, one) = least-back u m k t f.0 f.1 in
+      let (y, i, two) = least-back m v k x b (subst (λ (z : ℕ). IsLeastLowDrive g o m v z b) e f.2) in
+      (y, i, (x, one, two))
+
+  -- a first way is one on every later day
+  pub first-days : (u v k t : ℕ) (way : Way) → IsFirstWay g o u v t way → IsFirstWay g o u v (k * day + t) way
+  first-days u v k t way f = record {
+    candidate = f.candidate;
+    arrival = k * day + f.arrival;
+    arrives = arrives-days u v k t way f.arrival f.candidate f.arrives;
+    first = λ other later c a.
+        let (x, e, y) = arrives-back u v k t other later c a in
+        elim (f.first other x c y) [
+          | inl less ↦ inl (omega (arith, less, e))
+          | inr tie ↦ inr (let same = tie.0 in omega (arith, same, e), tie.1)
+        ];
+  }
 
 first_by : (h : HierarchyValue) → IsBuilt h → (u v low high : ℕ) (dir : Dir) → start_of (record { low = low; high = high }) dir ≡ u → end_of (record { low = low; high = high }) dir ≡ v → (o : Option ℕ) → number_from 0 h.edges low high ≡ o
     → (s : ℕ) (way : Way) → s < day → way_in (list_of_some h o dir) s ≡ Some way → IsFirstWay h.network h.order u v s way

@@ -11,7 +11,7 @@ use Rattle.cu_interval.specs.declared.ways.Way.TheVariants.{Road, Via}
 use Rattle.cu_interval.specs.Low.{LeadsRanks, WalkBelow, IsLowWalk, IsLeastLowDrive}
 use Rattle.cu_interval.specs.WayLists.{GoesFirst}
 use Rattle.cu_interval.specs.FirstWays.{IsFirstWay}
-use Rattle.cu_interval.proofs.Walks.{below-append, below-fifo, below-onward}
+use Rattle.cu_interval.proofs.Walks.{below-append, below-fifo, below-onward, low_step}
 use Rattle.cu_interval.proofs.Simple.{Through, inner_below, through_below}
 use Rattle.cu_interval.proofs.Candidates.{GoesBefore, candidate_below}
 
@@ -22,10 +22,6 @@ record SplitAt (g : NetworkValue) (o : OrderValue) (m u z : ℕ) (w : List ℕ) 
   to : WalkBelow g o m u front z
   on : WalkBelow g o m z back v
   whole : w ≡ front ++ back
-
-low_step : (g : NetworkValue) (o : OrderValue) (m x a u : ℕ) (w : List ℕ) (v : ℕ) → x < m → LeadsRanks g o a u x → WalkBelow g o m x w v → WalkBelow g o m u (a ∷ w) v
-low_step g o m x a u [] v lt j h = absurd h
-low_step g o m x a u (b ∷ w) v lt j h = (x, j, lt, h)
 
 split_at : (g : NetworkValue) (o : OrderValue) (m u z : ℕ) (w xs : List ℕ) (v : ℕ) → Through g o m u w xs v → list_any (eqb z) xs ≡ true → SplitAt g o m u z w v
 split_at g o m u z [] xs v h e = absurd h

@@ -2,6 +2,7 @@ pub mod ArcLists
 pub mod BuiltWalks
 pub mod Candidates
 pub mod Days
+pub mod EndsLaws
 pub mod EditExamples
 pub mod Examples
 pub mod FirstExamples

@@ -1,14 +1,16 @@
 -- Look-ups in a hierarchy: what is found by the ends of an edge is what stands at its number.
-use Rattle.std.proofs.Common.{◌≡◌, ◌<◌, ◌+◌, ◌∙◌, ◌%◌, ℕ, zero, suc, Bool, List, [], ◌∷◌, Option, Some, None, refl, ap, subst, arith, inl, inr, ◌⊎◌, true, false, leb, ltb, if◌then◌else◌, ◌&&◌, eqb}
+use Rattle.std.proofs.Common.{◌≡◌, ◌+◌, ◌∙◌, ◌%◌, ℕ, zero, suc, Bool, List, [], ◌∷◌, Option, Some, None, refl, ap, subst, arith, inl, inr, ◌⊎◌, true, false, leb, ltb, if◌then◌else◌, ◌&&◌, eqb}
 use Rattle.std.specs.Prelude.{All, slice_get}
 use Rattle.std.proofs.lemmas.Bool.{cases_eq, cases_lt}
 use Rattle.cu_model.proofs.RoadLaws.{all_at}
 use Rattle.std.specs.Option.{option_map}
+use Rattle.std.proofs.Math.Bool.{and-false}
 use Rattle.cu_model.specs.Begun.{later_of}
 use Rattle.cu_model.specs.Days.{day}
 use Rattle.cu_chordal.specs.declared.graph.Ends.{Ends}
 use Rattle.cu_chordal.specs.Graphs.{ComesBefore, FindsEdge, IsRising}
 use Rattle.cu_chordal.proofs.Members.{member_at, pairs_head, pairs_tail}
+use Rattle.cu_chordal.proofs.Tables.{same_ends}
 use Rattle.cu_interval.specs.declared.ways.Dir.{Dir}
 use Rattle.cu_interval.specs.declared.ways.Dir.TheVariants.{Up, Down}
 use Rattle.cu_interval.specs.declared.ways.Way.{Way}
@@ -16,15 +18,12 @@ use Rattle.cu_interval.specs.declared.ways.Way.TheVariants.{Via}
 use Rattle.cu_interval.specs.declared.ways.Entry.{Entry}
 use Rattle.cu_interval.specs.WayLists.{entry_in, way_in, way_at}
 use Rattle.cu_interval.specs.Hierarchies.{HierarchyValue, IsHierarchy, IsWellFormed, start_of, end_of, number_from, list_of, list_of_some, list_from, way_from}
+use Rattle.cu_interval.proofs.EndsLaws.{ends_rise}
 use Rattle.cu_interval.proofs.Fuel.{MiddlesFall}
 
 -- a number that is found is that of an edge with these ends
 abbrev pub Finds : ℕ → List Ends → ℕ → ℕ → ℕ → Type 0
 Finds n edges low high k = (j : ℕ) × (k ≡ n + j) × (slice_get edges j ≡ Some (record { low = low; high = high }))
-
-false_second : (b : Bool) → (b && false) ≡ false
-false_second true = refl
-false_second false = refl
 
 found_later : (n : ℕ) (x : Ends) (xs : List Ends) (low high k : ℕ) → number_from n (x ∷ xs) low high ≡ Some k
     → (number_from (suc n) xs low high ≡ Some k → Finds (suc n) xs low high k)
@@ -33,9 +32,6 @@ found_later n x xs low high k e more misses =
     let rest : number_from (suc n) xs low high ≡ Some k = subst (λ (b : Bool). (if b then Some n else number_from (suc n) xs low high) ≡ Some k) misses e in
     let (j, is, at) = more rest in
     (suc j, omega (arith, is), at)
-
-same_ends : (x : Ends) (low high : ℕ) → x.low ≡ low → x.high ≡ high → x ≡ record { low = low; high = high }
-same_ends x low high a b = ap (λ (l : ℕ). record { low = l; high = x.high }) a ∙ ap (λ (h : ℕ). record { low = low; high = h }) b
 
 pub number_found : (n : ℕ) (edges : List Ends) (low high k : ℕ) → number_from n edges low high ≡ Some k → Finds n edges low high k
 number_found n [] low high k e = absurd (cc e)
@@ -50,7 +46,7 @@ number_found n (x ∷ xs) low high k e =
             let is : k ≡ n = cc (here, e) in
             let same : x ≡ record { low = low; high = high } = same_ends x low high a b in
             (0, omega (arith, is), ap Some same)
-        | inr b ↦ later (let second : eqb x.high high ≡ false = grind (arith, b) in rw second (false_second (eqb x.low low)))
+        | inr b ↦ later (let second : eqb x.high high ≡ false = grind (arith, b) in rw second (and-false (eqb x.low low)))
       ]
       | inr a ↦ later (let first : eqb x.low low ≡ false = grind (arith, a) in rw first refl)
     ]
@@ -116,7 +112,7 @@ middles_fall h f u v t m e = let w = well_formed h f u v t (Via m) e in (w.0, w.
 
 not_here : (x : Ends) (low high : ℕ) → ComesBefore x (record { low = low; high = high }) → (eqb x.low low && eqb x.high high) ≡ false
 not_here x low high (inl lt) = let first : eqb x.low low ≡ false = grind (arith, lt) in rw first refl
-not_here x low high (inr k) = let lt = k.1 in let second : eqb x.high high ≡ false = grind (arith, lt) in rw second (false_second (eqb x.low low))
+not_here x low high (inr k) = let lt = k.1 in let second : eqb x.high high ≡ false = grind (arith, lt) in rw second (and-false (eqb x.low low))
 
 -- where edges rise, the edge with a number is found by its ends
 pub number_at : (n : ℕ) (edges : List Ends) (j low high : ℕ) → IsRising edges → slice_get edges j ≡ Some (record { low = low; high = high }) → number_from n edges low high ≡ Some (n + j)
@@ -148,38 +144,37 @@ number_finds edges f low high (Some k) at =
     let sum : 0 + k ≡ k = omega arith in
     number_at 0 edges k low high f at ∙ ap Some sum
 
--- the list that leads from one end of an edge to the other is the edge's
-pub list_from-edge : (h : HierarchyValue) → IsHierarchy h → (edge : ℕ) (dir : Dir) (ends : Ends) → slice_get h.edges edge ≡ Some ends → list_from h (start_of ends dir) (end_of ends dir) ≡ list_of h edge dir
-list_from-edge h f edge Up ends e =
-    let range = all_at (λ (x : Ends). (x.low < x.high) × (x.high < h.network.nodes)) h.edges edge ends f.graph.in_range e in
-    let lt : ltb ends.low ends.high ≡ true = let p = range.0 in grind (arith, p) in
-    let at : number_from 0 h.edges ends.low ends.high ≡ Some edge = number_finds h.edges f.graph.rising ends.low ends.high (Some edge) e in
-    rw (lt, at) refl
-list_from-edge h f edge Down ends e =
-    let range = all_at (λ (x : Ends). (x.low < x.high) × (x.high < h.network.nodes)) h.edges edge ends f.graph.in_range e in
-    let ge : ltb ends.high ends.low ≡ false = let p = range.0 in grind (arith, p) in
-    let at : number_from 0 h.edges ends.low ends.high ≡ Some edge = number_finds h.edges f.graph.rising ends.low ends.high (Some edge) e in
-    rw (ge, at) refl
+module _ (h : HierarchyValue) (f : IsHierarchy h) where
+  -- the list that leads from one end of an edge to the other is the edge's
+  pub list_from-edge : (edge : ℕ) (dir : Dir) (ends : Ends) → slice_get h.edges edge ≡ Some ends → list_from h (start_of ends dir) (end_of ends dir) ≡ list_of h edge dir
+  list_from-edge edge Up ends e =
+      let lt : ltb ends.low ends.high ≡ true = let p = ends_rise h f edge ends e in grind (arith, p) in
+      let at : number_from 0 h.edges ends.low ends.high ≡ Some edge = number_finds h.edges f.graph.rising ends.low ends.high (Some edge) e in
+      rw (lt, at) refl
+  list_from-edge edge Down ends e =
+      let ge : ltb ends.high ends.low ≡ false = let p = ends_rise h f edge ends e in grind (arith, p) in
+      let at : number_from 0 h.edges ends.low ends.high ≡ Some edge = number_finds h.edges f.graph.rising ends.low ends.high (Some edge) e in
+      rw (ge, at) refl
 
-list_by : (h : HierarchyValue) → IsHierarchy h → (u v low high : ℕ) (dir : Dir) → start_of (record { low = low; high = high }) dir ≡ u → end_of (record { low = low; high = high }) dir ≡ v → (o : Option ℕ) → number_from 0 h.edges low high ≡ o
-    → All (λ (e : Entry). IsWellFormed h u v e.way) (list_of_some h o dir)
-list_by h f u v low high dir su sv None e = λ k d lt. absurd (omega (arith, lt))
-list_by h f u v low high dir su sv (Some edge) e =
-    let (j, is, there) = number_found 0 h.edges low high edge e in
-    let same : j ≡ edge = omega (arith, is) in
-    let at : slice_get h.edges edge ≡ Some (record { low = low; high = high }) = subst (λ (n : ℕ). slice_get h.edges n ≡ Some (record { low = low; high = high })) same there in
-    let formed = f.formed edge dir (record { low = low; high = high }) at in
-    subst (λ (x : ℕ). All (λ (e : Entry). IsWellFormed h x v e.way) (list_of h edge dir)) su
-    (subst (λ (y : ℕ). All (λ (e : Entry). IsWellFormed h (start_of (record { low = low; high = high }) dir) y e.way) (list_of h edge dir)) sv formed)
+  list_by : (u v low high : ℕ) (dir : Dir) → start_of (record { low = low; high = high }) dir ≡ u → end_of (record { low = low; high = high }) dir ≡ v → (o : Option ℕ)
+      → number_from 0 h.edges low high ≡ o → All (λ (e : Entry). IsWellFormed h u v e.way) (list_of_some h o dir)
+  list_by u v low high dir su sv None e = λ k d lt. absurd (omega (arith, lt))
+  list_by u v low high dir su sv (Some edge) e =
+      let (j, is, there) = number_found 0 h.edges low high edge e in
+      let same : j ≡ edge = omega (arith, is) in
+      let at : slice_get h.edges edge ≡ Some (record { low = low; high = high }) = subst (λ (n : ℕ). slice_get h.edges n ≡ Some (record { low = low; high = high })) same there in
+      let formed = f.formed edge dir (record { low = low; high = high }) at in
+      subst (λ (x : ℕ). All (λ (e : Entry). IsWellFormed h x v e.way) (list_of h edge dir)) su
+      (subst (λ (y : ℕ). All (λ (e : Entry). IsWellFormed h (start_of (record { low = low; high = high }) dir) y e.way) (list_of h edge dir)) sv formed)
 
--- every way in a list of a hierarchy is well formed
-pub list_formed : (h : HierarchyValue) → IsHierarchy h → (u v : ℕ) → All (λ (e : Entry). IsWellFormed h u v e.way) (list_from h u v)
-list_formed h f u v =
-    elim (cases_lt u v) [
-      | inl lt ↦
-          let up : ltb u v ≡ true = grind (arith, lt) in
-          rw up (list_by h f u v u v Up refl refl (number_from 0 h.edges u v) refl)
-      | inr ge ↦
-          let down : ltb u v ≡ false = grind (arith, ge) in
-          rw down (list_by h f u v v u Down refl refl (number_from 0 h.edges v u) refl)
-    ]
+  -- every way in a list of a hierarchy is well formed
+  pub list_formed : (u v : ℕ) → All (λ (e : Entry). IsWellFormed h u v e.way) (list_from h u v)
+  list_formed u v =
+      elim (cases_lt u v) [
+        | inl lt ↦
+            let up : ltb u v ≡ true = grind (arith, lt) in
+            rw up (list_by u v u v Up refl refl (number_from 0 h.edges u v) refl)
+        | inr ge ↦
+            let down : ltb u v ≡ false = grind (arith, ge) in
+            rw down (list_by u v v u Down refl refl (number_from 0 h.edges v u) refl)
+      ]

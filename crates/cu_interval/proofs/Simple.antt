@@ -26,35 +26,42 @@ pub record IsSimple (g : NetworkValue) (o : OrderValue) (m u : ℕ) (w : List �
   pub few : length arcs ≤ m + 1
   pub no_later : (t : ℕ) → drive g arcs t ≤ drive g w t
 
-pub through_below : (g : NetworkValue) (o : OrderValue) (m u : ℕ) (w xs : List ℕ) (v : ℕ) → Through g o m u w xs v → WalkBelow g o m u w v
-through_below g o m u [] xs v h = absurd h
-through_below g o m u (a ∷ []) xs v h = h.0
-through_below g o m u (a ∷ b ∷ w) [] v h = absurd h
-through_below g o m u (a ∷ b ∷ w) (x ∷ xs) v h = (x, h.0, h.1, through_below g o m x (b ∷ w) xs v h.2)
+module _ (g : NetworkValue) (o : OrderValue) (m : ℕ) where
+  pub through_below : (u : ℕ) (w xs : List ℕ) (v : ℕ) → Through g o m u w xs v → WalkBelow g o m u w v
+  through_below u [] xs v h = absurd h
+  through_below u (a ∷ []) xs v h = h.0
+  through_below u (a ∷ b ∷ w) [] v h = absurd h
+  through_below u (a ∷ b ∷ w) (x ∷ xs) v h = (x, h.0, h.1, through_below x (b ∷ w) xs v h.2)
 
-through_step : (g : NetworkValue) (o : OrderValue) (m x a u : ℕ) (w xs : List ℕ) (v : ℕ) → x < m → LeadsRanks g o a u x → Through g o m x w xs v → Through g o m u (a ∷ w) (x ∷ xs) v
-through_step g o m x a u [] xs v lt j h = absurd h
-through_step g o m x a u (b ∷ w) xs v lt j h = (j, lt, h)
+  through_step : (x a u : ℕ) (w xs : List ℕ) (v : ℕ) → x < m → LeadsRanks g o a u x → Through g o m x w xs v → Through g o m u (a ∷ w) (x ∷ xs) v
+  through_step x a u [] xs v lt j h = absurd h
+  through_step x a u (b ∷ w) xs v lt j h = (j, lt, h)
 
-pub inner_below : (g : NetworkValue) (o : OrderValue) (m u : ℕ) (w xs : List ℕ) (v q : ℕ) → Through g o m u w xs v → list_any (eqb q) xs ≡ true → q < m
-inner_below g o m u [] xs v q h e = absurd h
-inner_below g o m u (a ∷ []) xs v q h e = absurd (go xs h.1 e)
-  where
-    go : (xs : List ℕ) → xs ≡ [] → list_any (eqb q) xs ≡ true → ⊥
-    go [] n e = cc e
-    go (x ∷ xs) n e = cc n
-inner_below g o m u (a ∷ b ∷ w) [] v q h e = absurd h
-inner_below g o m u (a ∷ b ∷ w) (x ∷ xs) v q h e =
-    elim (or_cases (eqb q x) (list_any (eqb q) xs) e) [
-      | inl here ↦ subst (λ (k : ℕ). k < m) (sym (eqb-true q x here)) h.1
-      | inr there ↦ inner_below g o m x (b ∷ w) xs v q h.2 there
-    ]
+  pub inner_below : (u : ℕ) (w xs : List ℕ) (v q : ℕ) → Through g o m u w xs v → list_any (eqb q) xs ≡ true → q < m
+  inner_below u [] xs v q h e = absurd h
+  inner_below u (a ∷ []) xs v q h e = absurd (go xs h.1 e)
+    where
+      go : (xs : List ℕ) → xs ≡ [] → list_any (eqb q) xs ≡ true → ⊥
+      go [] n e = cc e
+      go (x ∷ xs) n e = cc n
+  inner_below u (a ∷ b ∷ w) [] v q h e = absurd h
+  inner_below u (a ∷ b ∷ w) (x ∷ xs) v q h e =
+      elim (or_cases (eqb q x) (list_any (eqb q) xs) e) [
+        | inl here ↦ subst (λ (k : ℕ). k < m) (sym (eqb-true q x here)) h.1
+        | inr there ↦ inner_below x (b ∷ w) xs v q h.2 there
+      ]
 
-inner_length : (g : NetworkValue) (o : OrderValue) (m u : ℕ) (w xs : List ℕ) (v : ℕ) → Through g o m u w xs v → length w ≡ length xs + 1
-inner_length g o m u [] xs v h = absurd h
-inner_length g o m u (a ∷ []) xs v h = rw h.1 refl
-inner_length g o m u (a ∷ b ∷ w) [] v h = absurd h
-inner_length g o m u (a ∷ b ∷ w) (x ∷ xs) v h = omega (arith, inner_length g o m x (b ∷ w) xs v h.2)
+  inner_length : (u : ℕ) (w xs : List ℕ) (v : ℕ) → Through g o m u w xs v → length w ≡ length xs + 1
+  inner_length u [] xs v h = absurd h
+  inner_length u (a ∷ []) xs v h = rw h.1 refl
+  inner_length u (a ∷ b ∷ w) [] v h = absurd h
+  inner_length u (a ∷ b ∷ w) (x ∷ xs) v h = omega (arith, inner_length x (b ∷ w) xs v h.2)
+
+  pub bound : (u : ℕ) (w xs : List ℕ) (v : ℕ) → Through g o m u w xs v → IsDistinct eqb xs → length w ≤ m + 1
+  bound u w xs v h d =
+      let n = length-le_from_distinct_below xs m d (λ q e. inner_below u w xs v q h e) in
+      let l = inner_length u w xs v h in
+      omega (arith, n, l)
 
 -- from an inner rank on
 record Rest (g : NetworkValue) (o : OrderValue) (m x : ℕ) (w : List ℕ) (v : ℕ) : Type 0 where
@@ -99,12 +106,6 @@ drop_to g o f m x u (a ∷ b ∷ w) (y ∷ ys) v h d e =
                 omega (arith, rise, more);
           }
     ]
-
-pub bound : (g : NetworkValue) (o : OrderValue) (m u : ℕ) (w xs : List ℕ) (v : ℕ) → Through g o m u w xs v → IsDistinct eqb xs → length w ≤ m + 1
-bound g o m u w xs v h d =
-    let n = length-le_from_distinct_below xs m d (λ q e. inner_below g o m u w xs v q h e) in
-    let l = inner_length g o m u w xs v h in
-    omega (arith, n, l)
 
 or_left : (a b : Bool) → (a || b) ≡ false → a ≡ false
 or_left false b e = refl

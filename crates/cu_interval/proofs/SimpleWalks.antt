@@ -121,21 +121,22 @@ inner_by h f u v t lower (Via m) e first =
       distinct_join m xs ys dx dy (λ z i. inner_below h.network h.order m u w1 xs m z one i) (λ z i. inner_below h.network h.order m m w2 ys v z two i) apart,
     )
 
-inner_below_all : (h : HierarchyValue) → IsBuilt h → (m : ℕ) → HaveInnerBelow h m
-inner_below_all h f zero x y t w lt l = absurd (omega (arith, lt))
-inner_below_all h f (suc m) x y t w lt l =
-    let some = (right_below h f (suc m) x y w lt l).0 in
-    let (way, e) = way_there (list_from h x y) (list_from_spelled h f.sound x y) some (t % day) in
-    inner_by h f x y t (λ x2 y2 t2 w2 less l2. inner_below_all h f m x2 y2 t2 w2 (omega (arith, less, lt)) l2) way e (built_first h f x y t way e)
+module _ (h : HierarchyValue) (f : IsBuilt h) where
+  inner_below_all : (m : ℕ) → HaveInnerBelow h m
+  inner_below_all zero x y t w lt l = absurd (omega (arith, lt))
+  inner_below_all (suc m) x y t w lt l =
+      let some = (right_below h f (suc m) x y w lt l).0 in
+      let (way, e) = way_there (list_from h x y) (list_from_spelled h f.sound x y) some (t % day) in
+      inner_by h f x y t (λ x2 y2 t2 w2 less l2. inner_below_all m x2 y2 t2 w2 (omega (arith, less, lt)) l2) way e (built_first h f x y t way e)
 
--- the inner ranks of an unpacked walk are different
-pub built_simple : (h : HierarchyValue) → IsBuilt h → (u v t : ℕ) → HasLowWalk h.network h.order u v → HasInner h u v t
-built_simple h f u v t k = inner_below_all h f (suc (min u v)) u v t k.0 (omega arith) k.1
+  -- the inner ranks of an unpacked walk are different
+  pub built_simple : (u v t : ℕ) → HasLowWalk h.network h.order u v → HasInner h u v t
+  built_simple u v t k = inner_below_all (suc (min u v)) u v t k.0 (omega arith) k.1
 
--- so the walk has fewer roads than there are nodes
-pub built_short : (h : HierarchyValue) → IsBuilt h → (u v t : ℕ) → u < h.network.nodes → v < h.network.nodes → HasLowWalk h.network h.order u v → length (unpacked_walk h u v t) < h.network.nodes
-built_short h f u v t lu lv k =
-    let (xs, through, different) = built_simple h f u v t k in
-    let few = bound h.network h.order (min u v) u (unpacked_walk h u v t) xs v through different in
-    let apart = k.1.0 in
-    omega (arith, few, lu, lv, apart)
+  -- so the walk has fewer roads than there are nodes
+  pub built_short : (u v t : ℕ) → u < h.network.nodes → v < h.network.nodes → HasLowWalk h.network h.order u v → length (unpacked_walk h u v t) < h.network.nodes
+  built_short u v t lu lv k =
+      let (xs, through, different) = built_simple u v t k in
+      let few = bound h.network h.order (min u v) u (unpacked_walk h u v t) xs v through different in
+      let apart = k.1.0 in
+      omega (arith, few, lu, lv, apart)

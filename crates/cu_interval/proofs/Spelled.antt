@@ -75,7 +75,7 @@ beyond s e g es le =
     let is : entry_in (g ∷ es) s ≡ Some w.0 = rw (le_test g.from s le) w.1 in
     shown (e ∷ g ∷ es) s (entry_in (g ∷ es) s) (second_of _ (entry_in (g ∷ es) s) w.0 is)
 
-same_entry : (e f : Entry) → e.from ≡ f.from → e.way ≡ f.way → e ≡ f
+pub same_entry : (e f : Entry) → e.from ≡ f.from → e.way ≡ f.way → e ≡ f
 same_entry e f a b = ap (λ (n : ℕ). record { from = n; way = e.way }) a ∙ ap (λ (w : Way). record { from = f.from; way = w }) b
 
 -- the way at the first second

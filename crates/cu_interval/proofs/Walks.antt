@@ -1,52 +1,64 @@
 -- Low walks: joined, and allowed a higher bound.
-use Rattle.std.proofs.Common.{◌≤◌, ◌<◌, ℕ, suc, List, [], ◌∷◌, ◌++◌, subst, arith, inl, inr, ◌⊎◌}
+use Rattle.std.proofs.Common.{◌≤◌, ◌<◌, ℕ, suc, List, [], ◌∷◌, ◌++◌, length, subst, arith, inl, inr, ◌⊎◌}
 use Rattle.std.proofs.lemmas.Bool.{cases_eq}
 use Rattle.cu_model.specs.Networks.{NetworkValue, IsNetwork}
 use Rattle.cu_model.specs.Orders.{OrderValue}
 use Rattle.cu_model.specs.Roads.{arc_value, drive}
 use Rattle.cu_model.proofs.RoadLaws.{arc_value-onward, arc_value-fifo, drive-append, leads_within}
-use Rattle.cu_interval.specs.Low.{LeadsRanks, WalkBelow}
+use Rattle.cu_interval.specs.Low.{IsLowWalk, LeadsRanks, WalkBelow}
 
--- a road that may be driven arrives no earlier than it leaves
-pub leads-onward : (g : NetworkValue) (o : OrderValue) → IsNetwork g → (a u v t : ℕ) → LeadsRanks g o a u v → t ≤ arc_value g a t
-leads-onward g o n a u v t l = arc_value-onward g n a (leads_within g a l.0 l.1 l.2) t
+module _ (g : NetworkValue) (o : OrderValue) (n : IsNetwork g) where
+  -- a road that may be driven arrives no earlier than it leaves
+  pub leads-onward : (a u v t : ℕ) → LeadsRanks g o a u v → t ≤ arc_value g a t
+  leads-onward a u v t l = arc_value-onward g n a (leads_within g a l.0 l.1 l.2) t
 
--- leaving later it never arrives earlier
-pub leads-fifo : (g : NetworkValue) (o : OrderValue) → IsNetwork g → (a u v t s : ℕ) → LeadsRanks g o a u v → t ≤ s → arc_value g a t ≤ arc_value g a s
-leads-fifo g o n a u v t s l le = arc_value-fifo g n a (leads_within g a l.0 l.1 l.2) t s le
+  -- leaving later it never arrives earlier
+  pub leads-fifo : (a u v t s : ℕ) → LeadsRanks g o a u v → t ≤ s → arc_value g a t ≤ arc_value g a s
+  leads-fifo a u v t s l le = arc_value-fifo g n a (leads_within g a l.0 l.1 l.2) t s le
 
--- a higher bound allows more
-pub below-more : (g : NetworkValue) (o : OrderValue) (m n u : ℕ) (w : List ℕ) (v : ℕ) → m ≤ n → WalkBelow g o m u w v → WalkBelow g o n u w v
-below-more g o m n u [] v le h = h
-below-more g o m n u (a ∷ []) v le h = h
-below-more g o m n u (a ∷ b ∷ w) v le h =
-    let (x, j, lt, more) = h in (x, j, omega (arith, lt, le), below-more g o m n x (b ∷ w) v le more)
+  -- a walk below a bound arrives no earlier than it starts
+  pub below-onward : (m u : ℕ) (w : List ℕ) (v t : ℕ) → WalkBelow g o m u w v → t ≤ drive g w t
+  below-onward m u [] v t h = absurd h
+  below-onward m u (a ∷ []) v t h = leads-onward a u v t h
+  below-onward m u (a ∷ b ∷ w) v t h =
+      let (x, j, lt, more) = h in
+      let p = leads-onward a u x t j in
+      let q = below-onward m x (b ∷ w) v (arc_value g a t) more in
+      omega (arith, p, q)
 
--- two walks that meet at a rank below the bound
-pub below-append : (g : NetworkValue) (o : OrderValue) (m u x : ℕ) (v w : List ℕ) (y : ℕ) → x < m → WalkBelow g o m u v x → WalkBelow g o m x w y → WalkBelow g o m u (v ++ w) y
-below-append g o m u x [] w y lt h k = absurd h
-below-append g o m u x (a ∷ []) [] y lt h k = absurd k
-below-append g o m u x (a ∷ []) (b ∷ w) y lt h k = (x, h, lt, k)
-below-append g o m u x (a ∷ b ∷ v) w y lt h k =
-    let (z, j, low, more) = h in (z, j, low, below-append g o m z x (b ∷ v) w y lt more k)
+  -- leaving later never arrives earlier
+  pub below-fifo : (m u : ℕ) (w : List ℕ) (v t s : ℕ) → WalkBelow g o m u w v → t ≤ s → drive g w t ≤ drive g w s
+  below-fifo m u [] v t s h le = absurd h
+  below-fifo m u (a ∷ []) v t s h le = leads-fifo a u v t s h le
+  below-fifo m u (a ∷ b ∷ w) v t s h le =
+      let (x, j, lt, more) = h in
+      below-fifo m x (b ∷ w) v (arc_value g a t) (arc_value g a s) more (leads-fifo a u x t s j le)
 
--- a walk below a bound arrives no earlier than it starts
-pub below-onward : (g : NetworkValue) (o : OrderValue) → IsNetwork g → (m u : ℕ) (w : List ℕ) (v t : ℕ) → WalkBelow g o m u w v → t ≤ drive g w t
-below-onward g o n m u [] v t h = absurd h
-below-onward g o n m u (a ∷ []) v t h = leads-onward g o n a u v t h
-below-onward g o n m u (a ∷ b ∷ w) v t h =
-    let (x, j, lt, more) = h in
-    let p = leads-onward g o n a u x t j in
-    let q = below-onward g o n m x (b ∷ w) v (arc_value g a t) more in
-    omega (arith, p, q)
+module _ (g : NetworkValue) (o : OrderValue) where
+  -- a higher bound allows more
+  pub below-more : (m n u : ℕ) (w : List ℕ) (v : ℕ) → m ≤ n → WalkBelow g o m u w v → WalkBelow g o n u w v
+  below-more m n u [] v le h = h
+  below-more m n u (a ∷ []) v le h = h
+  below-more m n u (a ∷ b ∷ w) v le h =
+      let (x, j, lt, more) = h in (x, j, omega (arith, lt, le), below-more m n x (b ∷ w) v le more)
 
--- leaving later never arrives earlier
-pub below-fifo : (g : NetworkValue) (o : OrderValue) → IsNetwork g → (m u : ℕ) (w : List ℕ) (v t s : ℕ) → WalkBelow g o m u w v → t ≤ s → drive g w t ≤ drive g w s
-below-fifo g o n m u [] v t s h le = absurd h
-below-fifo g o n m u (a ∷ []) v t s h le = leads-fifo g o n a u v t s h le
-below-fifo g o n m u (a ∷ b ∷ w) v t s h le =
-    let (x, j, lt, more) = h in
-    below-fifo g o n m x (b ∷ w) v (arc_value g a t) (arc_value g a s) more (leads-fifo g o n a u x t s j le)
+  -- two walks that meet at a rank below the bound
+  pub below-append : (m u x : ℕ) (v w : List ℕ) (y : ℕ) → x < m → WalkBelow g o m u v x → WalkBelow g o m x w y → WalkBelow g o m u (v ++ w) y
+  below-append m u x [] w y lt h k = absurd h
+  below-append m u x (a ∷ []) [] y lt h k = absurd k
+  below-append m u x (a ∷ []) (b ∷ w) y lt h k = (x, h, lt, k)
+  below-append m u x (a ∷ b ∷ v) w y lt h k =
+      let (z, j, low, more) = h in (z, j, low, below-append m z x (b ∷ v) w y lt more k)
+
+  -- a low walk has a road
+  pub low_some : (u : ℕ) (walk : List ℕ) (v : ℕ) → IsLowWalk g o u walk v → 0 < length walk
+  low_some u [] v l = absurd l.1
+  low_some u (a ∷ walk) v l = omega arith
+
+  -- a walk with a road before it, to a rank below the bound
+  pub low_step : (m x a u : ℕ) (w : List ℕ) (v : ℕ) → x < m → LeadsRanks g o a u x → WalkBelow g o m x w v → WalkBelow g o m u (a ∷ w) v
+  low_step m x a u [] v lt j h = absurd h
+  low_step m x a u (b ∷ w) v lt j h = (x, j, lt, h)
 
 -- a walk, cut at the bound: it stays below it, or it goes to it and on from it and is no later
 pub record CutAt (g : NetworkValue) (o : OrderValue) (m u : ℕ) (w : List ℕ) (v : ℕ) : Type 0 where
@@ -87,13 +99,9 @@ below-cut g o f m u (a ∷ b ∷ w) v h =
             | inr c ↦ inr (record {
               first = a ∷ c.first;
               second = c.second;
-              to = go x a u c.first m (omega (arith, lt, other)) j c.to;
+              to = low_step g o m x a u c.first m (omega (arith, lt, other)) j c.to;
               on = c.on;
               no_later = λ t. c.no_later (arc_value g a t);
             })
           ]
     ]
-  where
-    go : (x a u : ℕ) (w : List ℕ) (m : ℕ) → x < m → LeadsRanks g o a u x → WalkBelow g o m x w m → WalkBelow g o m u (a ∷ w) m
-    go x a u [] m lt j h = absurd h
-    go x a u (b ∷ w) m lt j h = (x, j, lt, h)

@@ -59,6 +59,7 @@ impl EdgeArcs {
         requires { list_number edge dir < length self.now }
         ensures there { slice_get self.now (list_number edge dir) ≡ Some result.now }
         ensures rising { IsStrictlyIncreasing result.now }
+        ensures few { length result.now ≤ MAX_ARCS }
     {
         match dir {
             Dir::Up => self.lists.group(2 * edge),

@@ -2,6 +2,7 @@
 use Rattle.std.specs.Prelude.{ℕ, List, Option, Some, None, ◌≡◌, ◌<◌, ◌≤◌, ◌*◌, ◌^◌, ◌↔◌, length, slice_get, All}
 use Rattle.std.specs.List.{Contains}
 use Rattle.std.specs.List.Sorted.{IsStrictlyIncreasing}
+use Rattle.cu_model.specs.declared.limits.TheConstants.{MAX_ARCS}
 use Rattle.cu_model.specs.Networks.{NetworkValue}
 use Rattle.cu_model.specs.Orders.{OrderValue}
 use Rattle.cu_chordal.specs.declared.graph.Ends.{Ends}
@@ -29,7 +30,8 @@ pub record AreListed (g : NetworkValue) (o : OrderValue) (edges : List Ends) (bo
   pub each : (edge : ℕ) (dir : Dir) (ends : Ends) → slice_get edges edge ≡ Some ends
       → AreArcsUntil g o (start_of ends dir) (end_of ends dir) bound (group_of numbers arcs (list_number edge dir))
 
--- lists of roads, each of them rising
+-- lists of roads, each of them rising and no longer than a network has roads
 pub record AreLists (lists : List (List ℕ)) : Type 0 where
   pub few : length lists < 2 ^ 32
   pub rising : All IsStrictlyIncreasing lists
+  pub short : All (λ list. length list ≤ MAX_ARCS) lists

@@ -6,7 +6,7 @@ use Rattle.cu_interval.specs.EdgeArcs.{AreEdgeArcs}
 use Rattle.cu_interval.specs.Steps.ArcLists.{AreListed}
 use Rattle.cu_model.specs.declared.limits.TheConstants.{MAX_ARCS}
 use Rattle.cu_chordal.specs.Groups.{AreGroups}
-use Rattle.cu_interval.proofs.ArcLists.{listed_all, lists_rise}
+use Rattle.cu_interval.proofs.ArcLists.{groups_short, listed_all, lists_rise}
 use Rattle.cu_interval.proofs.edge_arcs.EdgeArcs.of.Goals as goal
 
 pub of-requires-clause-few : goal.of-requires-clause-few
@@ -39,4 +39,9 @@ invariant_of-result g c = record {
       lists_rise (g.N.Roads.network c.args.roads.now) c.args.order.now c.args.graph.now.edges c.in_ok-lists.lists
       (made (g.N.Roads.network c.args.roads.now) c.args.order.now c.args.graph.now.edges c.in_ok-listed.listed.numbers.items c.in_ok-listed.listed.arcs.items c.deref.result.now c.deref-2.result.now c.edges.result
       c.in_ok-lists.lists c.in_ok-listed.ensures.listed c.deref.ensures.value c.deref-2.ensures.value c.edges.ensures.count c.in_ok-lists.ensures);
+  short =
+      let keys = ap length c.deref.ensures.value in
+      let values = ap length c.deref-2.ensures.value in
+      groups_short c.deref.result.now c.deref-2.result.now _ MAX_ARCS c.in_ok-lists.lists (omega (arith, keys, values, c.in_ok-listed.ensures.listed.pairs)) (omega (arith, keys, c.in_ok-listed.ensures.few))
+      c.in_ok-lists.ensures;
 }
