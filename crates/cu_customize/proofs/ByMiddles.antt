@@ -1,6 +1,6 @@
 -- Leaving out slow ways by middles changes nothing.
-use Rattle.std.proofs.Common.{◌≡◌, ◌≤◌, ◌<◌, ◌^◌, ◌++◌, ◌⊎◌, ℕ, List, [], ◌∷◌, Option, Some, None, refl, subst, arith, inl, inr, min}
-use Rattle.std.specs.Prelude.{All, IsSome}
+use Rattle.std.proofs.Common.{◌≡◌, ◌≤◌, ◌<◌, ◌++◌, ◌⊎◌, ℕ, List, [], ◌∷◌, Some, subst, arith, inl, inr, min}
+use Rattle.std.specs.Prelude.{All}
 use Rattle.std.specs.List.{Contains}
 use Rattle.std.proofs.lemmas.Bool.{cases_lt}
 use Rattle.std.proofs.lemmas.List.Elements.{All-contains, Contains-append_cases, Contains-append_left, Contains-append_right}
@@ -19,16 +19,11 @@ use Rattle.cu_interval.proofs.Unpacked.{way_there}
 use Rattle.cu_customize.specs.declared.by_middles.WayOver.{WayOver}
 use Rattle.cu_customize.specs.declared.settling.Settled.{Settled}
 use Rattle.cu_customize.specs.Functions.{FunctionsState}
-use Rattle.cu_customize.specs.Settling.{ArrivesBy, function_from, through}
+use Rattle.cu_customize.specs.Settling.{ArrivesBy, function_from}
 use Rattle.cu_customize.specs.Steps.Best.{IsBestOf, IsOpenAmong, IsOpenWay}
 use Rattle.cu_customize.specs.Steps.ByMiddles.{HasQuick, IsBestBut, IsBound, IsNeverBefore, IsSlow, IsWayOver}
 use Rattle.cu_customize.proofs.Bests.{best_never, best_without}
-
--- along two functions that are there somebody arrives
-through_some : (first second : Option (ℕ → ℕ)) (t : ℕ) → IsSome first → IsSome second → (x : ℕ) × (through first second t ≡ Some x)
-through_some None second t one two = absurd (cc one)
-through_some (Some f) None t one two = absurd (cc two)
-through_some (Some f) (Some g) t one two = (min (g (f t)) (2 ^ 62), refl)
+use Rattle.cu_customize.proofs.Halves.{through_some}
 
 -- a member of a list with one more at its end
 member_last : (ways : List Way) (way other : Way) → Contains (ways ++ way ∷ []) other → Contains ways other ⊎ (way ≡ other)

@@ -24,7 +24,7 @@ use Rattle.cu_customize.specs.Functions.{FunctionsState, kept_state, value_kept}
 use Rattle.cu_customize.specs.Settling.{ArrivesBy, IsCandidateBy, IsSettledList, function_from, through, value_at}
 use Rattle.cu_customize.specs.Steps.Kept.{AreDropped, DropsEdge, Keeps}
 use Rattle.cu_customize.proofs.Filing.{get_set_other, get_set_same}
-use Rattle.cu_customize.proofs.Halves.{first_is, second_is}
+use Rattle.cu_customize.proofs.Halves.{both_some, first_is, second_is}
 use Rattle.cu_customize.proofs.Keeping.{number_below, push_before, push_last}
 use Rattle.cu_customize.proofs.LowFunctions.{down_edge, runs_by, up_edge}
 use Rattle.cu_customize.proofs.Lows.{IsDailyValueOf}
@@ -157,11 +157,6 @@ alike_back edges f b u v alike = record {
   roads = λ a. sym (alike.roads a);
   halves = λ m mu mv one two. let (first, second) = alike.halves m mu mv one two in (sym first, sym second);
 }
-
-both_some : (first second : Option (ℕ → ℕ)) (t a : ℕ) → through first second t ≡ Some a → IsSome first × IsSome second
-both_some None second t a e = absurd (cc e)
-both_some (Some f) None t a e = absurd (cc e)
-both_some (Some f) (Some b) t a e = (refl, refl)
 
 candidate_alike : (edges : List Ends) (arcs : List ℕ) (f b : FunctionsState) (u v : ℕ) → AreAlike edges f b u v → (way : Way) → IsCandidateBy edges arcs f u v way → IsCandidateBy edges arcs b u v way
 candidate_alike edges arcs f b u v alike (Road a) (held, some) = (held, subst (λ (x : Option (ℕ → ℕ)). IsSome x) (alike.roads a) some)

@@ -17,6 +17,18 @@ use Rattle.cu_customize.specs.Steps.Best.{IsOpenWay, IsWayFunction}
 use Rattle.cu_customize.specs.Steps.ByMiddles.{IsEarlierThrough, IsNeverBefore, IsNeverEarlier, IsWayOver}
 use Rattle.cu_customize.proofs.LowFunctions.{down_edge, down_function, up_edge, up_function}
 
+-- along two functions that are there somebody arrives
+pub through_some : (first second : Option (ℕ → ℕ)) (t : ℕ) → IsSome first → IsSome second → (x : ℕ) × (through first second t ≡ Some x)
+through_some None second t one two = absurd (cc one)
+through_some (Some f) None t one two = absurd (cc two)
+through_some (Some f) (Some g) t one two = (min (g (f t)) (2 ^ 62), refl)
+
+-- and where somebody does both are
+pub both_some : (first second : Option (ℕ → ℕ)) (t a : ℕ) → through first second t ≡ Some a → IsSome first × IsSome second
+both_some None second t a e = absurd (cc e)
+both_some (Some f) None t a e = absurd (cc e)
+both_some (Some f) (Some b) t a e = (refl, refl)
+
 -- a function that takes no time isn't there
 timeless : (f : Option (ℕ → ℕ)) → AreTravelsOf None f → IsSome f → ⊥
 timeless None h some = absurd (cc some)

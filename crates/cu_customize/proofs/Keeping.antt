@@ -1,5 +1,5 @@
 -- Functions that are kept: they are those of the network and order, and all halves of the next edge are among them.
-use Rattle.std.proofs.Common.{◌≡◌, ◌≢◌, ◌<◌, ◌+◌, ◌*◌, ◌/◌, ◌%◌, ◌∙◌, ◌++◌, ℕ, Bool, true, false, List, [], ◌∷◌, Option, Some, None, refl, sym, ap, subst, arith, inl, inr, length, get_or, ltb, min}
+use Rattle.std.proofs.Common.{◌≡◌, ◌≢◌, ◌<◌, ◌+◌, ◌*◌, ◌/◌, ◌%◌, ◌∙◌, ◌++◌, ℕ, Bool, true, false, List, [], ◌∷◌, Option, Some, refl, sym, ap, subst, arith, inl, inr, length, get_or, ltb, min}
 use Rattle.std.specs.Prelude.{All, slice_get}
 use Rattle.std.specs.Option.{option_map}
 use Rattle.std.proofs.lemmas.Bool.{cases_eq, cases_lt, ltb-true}
@@ -22,13 +22,12 @@ use Rattle.cu_interval.specs.declared.ways.Entry.{Entry}
 use Rattle.cu_interval.specs.EdgeArcs.{AreEdgeArcs}
 use Rattle.cu_interval.specs.FirstWays.{IsBuiltList}
 use Rattle.cu_interval.specs.Hierarchies.{end_of, list_number, number_from, start_of}
-use Rattle.cu_interval.specs.Low.{IsLeastLowDrive}
 use Rattle.cu_interval.proofs.Lookups.{number_found}
 use Rattle.cu_customize.specs.Functions.{AreFunctionsOf, IsLowFunction, IsRoadFunction, kept_state, road_if, value_kept}
 use Rattle.cu_customize.specs.Settling.{IsSettledList, KnowsHalves}
 use Rattle.cu_customize.specs.Steps.Kept.{IsBuiltTo}
 use Rattle.cu_customize.proofs.Lows.{HasLeastBelow, IsDailyValueOf, settled_low}
-use Rattle.cu_customize.proofs.LowFunctions.{low_edge, low_edge_back, settled_built}
+use Rattle.cu_customize.proofs.LowFunctions.{least_low, low_edge, low_edge_back, settled_built}
 use Rattle.cu_customize.proofs.Settles.{setting_at}
 
 road_is : (g : NetworkValue) (a : ℕ) (b : Bool) → is_closed_arc g a ≡ b → IsRoadFunction g a (road_if b g a)
@@ -96,18 +95,14 @@ kept_least g o edges functions lists edge dir ends listed is at x y t w lt l =
       | inl less ↦
           let (j, there) = place_of edges (record { low = x; high = y }) (low_edge g o edges listed x y (w, l) less) in
           let before = number_below edges listed.sorted j edge (record { low = x; high = y }) ends there at (omega (arith, lt, less)) in
-          least_of (value_kept (slice_get functions (list_number j Up))) (is.low j Up (record { low = x; high = y }) there (number_in edge j dir Up before))
+          least_low g o x y t (value_kept (slice_get functions (list_number j Up))) (is.low j Up (record { low = x; high = y }) there (number_in edge j dir Up before)) (w, l)
       | inr more ↦
           let apart = l.0 in
           let less : y < x = omega (arith, more, apart) in
           let (j, there) = place_of edges (record { low = y; high = x }) (low_edge_back g o edges listed x y (w, l) less) in
           let before = number_below edges listed.sorted j edge (record { low = y; high = x }) ends there at (omega (arith, lt, less)) in
-          least_of (value_kept (slice_get functions (list_number j Down))) (is.low j Down (record { low = y; high = x }) there (number_in edge j dir Down before))
+          least_low g o x y t (value_kept (slice_get functions (list_number j Down))) (is.low j Down (record { low = y; high = x }) there (number_in edge j dir Down before)) (w, l)
     ]
-  where
-    least_of : (f : Option (ℕ → ℕ)) → IsLowFunction g o x y f → (a : ℕ) × IsLeastLowDrive g o x y t a
-    least_of None h = absurd (h (w, l))
-    least_of (Some f) h = (f t, h t)
 
 -- each list number is that of an edge and a direction
 pub number_parts : (edges : List Ends) (k : ℕ) → k < 2 * length edges → (edge : ℕ) × (dir : Dir) × (ends : Ends) × (k ≡ list_number edge dir) × (slice_get edges edge ≡ Some ends)

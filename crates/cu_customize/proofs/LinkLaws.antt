@@ -12,10 +12,10 @@ use Rattle.cu_arrival.specs.Runs.{run_at, run_value, rule_value, rule_number, ar
 use Rattle.cu_arrival.proofs.RunLaws.{value_in_day}
 use Rattle.cu_arrival.specs.Steps.Stretches.{arrives}
 use Rattle.cu_model.proofs.Tiling.{IsTiled, tiled_push}
-use Rattle.cu_customize.specs.declared.linking.Place.{Place}
+use Rattle.cu_customize.specs.declared.linking.Reached.{Reached}
 use Rattle.cu_customize.specs.Words.{IsDayList, end_run, after_shift, after_arrival, is_fixed}
 use Rattle.cu_customize.specs.declared.words.TheConstants.{MAX_NUMBER}
-use Rattle.cu_customize.specs.Steps.Linking.{IsPlace, IsSaid, Says, Continues}
+use Rattle.cu_customize.specs.Steps.Linking.{IsReached, IsSaid, Says, Continues}
 use Rattle.cu_customize.proofs.DayLists.{next_from, value_after}
 
 -- an item that is there is the same by any other
@@ -23,18 +23,18 @@ pub get_or-same : {A : Type 0} (xs : List A) (i : ℕ) (d e : A) → i < length 
 get_or-same xs i d e inside = get_or_from_slice_get xs i (get_or xs i e) d (slice_get-get_or xs i e inside)
 
 -- a place that begins by a second begins by every later one
-pub place_later : (words : List Run) (place : Place) (t s : ℕ) → IsPlace words place t → t ≤ s → IsPlace words place s
+pub place_later : (words : List Run) (place : Reached) (t s : ℕ) → IsReached words place t → t ≤ s → IsReached words place s
 place_later words place t s is h =
     let (run, there, begun) = is.begun in
     record { whole = is.whole; begun = (run, there, omega (arith, begun, h)); next = is.next }
 
 -- where the runs of a place stand
-pub record IsSpan (words : List Run) (place : Place) (t : ℕ) (d : Run) : Type 0 where
+pub record IsSpan (words : List Run) (place : Reached) (t : ℕ) (d : Run) : Type 0 where
   pub inside : place.index + 1 < length words
   pub begun : place.midnight + (get_or words place.index d).from ≤ t
   pub end : place.end ≡ place.midnight + (get_or words (place.index + 1) d).from
 
-pub place_span : (words : List Run) (place : Place) (t : ℕ) (d : Run) → IsPlace words place t → IsSpan words place t d
+pub place_span : (words : List Run) (place : Reached) (t : ℕ) (d : Run) → IsReached words place t → IsSpan words place t d
 place_span words place t d is =
     let (run, there, begun) = is.begun in
     let (next, after, end) = is.next in
@@ -45,7 +45,7 @@ place_span words place t d is =
     }
 
 -- a place begins before it ends
-pub place_end : (words : List Run) (place : Place) (t : ℕ) → IsDayList words → IsPlace words place t → IsPlace words place place.end
+pub place_end : (words : List Run) (place : Reached) (t : ℕ) → IsDayList words → IsReached words place t → IsReached words place place.end
 place_end words place t over is =
     let (run, there, begun) = is.begun in
     let span = place_span words place t run is in
@@ -55,7 +55,7 @@ place_end words place t over is =
     record { whole = is.whole; begun = (run, there, omega (arith, span.end, from, order)); next = is.next }
 
 -- what the run of a place says
-pub place_value : (words : List Run) (place : Place) (t0 t seconds : ℕ) (d : Run) → IsDayList words → IsPlace words place t0 → t0 ≤ t + seconds
+pub place_value : (words : List Run) (place : Reached) (t0 t seconds : ℕ) (d : Run) → IsDayList words → IsReached words place t0 → t0 ≤ t + seconds
     → t + seconds < place.end → arrival_value words (t + seconds) ≡ arrives (after_shift (get_or words place.index d).rule seconds place.midnight) t
 place_value words place t0 t seconds d over is h before =
     let span = place_span words place t0 d is in
@@ -67,7 +67,7 @@ Reaches second first from until old new t = (f : ℕ → ℕ) → IsSaid f old f
     → ((s : ℕ) → from ≤ s → s < until → f s ≡ arrival_value second (first s)) → IsSaid f new t
 
 -- a further word after a drive of so many seconds
-pub shift_pushed : (second old xs new : List Run) (place : Place) (seconds from at t until t0 : ℕ) (word read : Run) → IsDayList second → IsPlace second place t0
+pub shift_pushed : (second old xs new : List Run) (place : Reached) (seconds from at t until t0 : ℕ) (word read : Run) → IsDayList second → IsReached second place t0
     → t0 ≤ at + seconds → at + seconds < place.end → from ≤ at → at < until → t ≡ at
     → read ≡ get_or second place.index read → word.from ≡ at → word.rule ≡ after_shift read.rule seconds place.midnight → new ≡ xs ++ word ∷ []
     → Reaches second (arrives (Shift seconds)) from until old xs t
@@ -87,7 +87,7 @@ arrival_word (Shift d) arrival midnight s = omega arith
 arrival_word (Fixed c) arrival midnight s = omega arith
 
 -- a further word after an arrival at one second
-pub fixed_pushed : (second old new : List Run) (rule : RunRule) (place : Place) (arrival from until : ℕ) (word read : Run) → IsDayList second → IsPlace second place arrival
+pub fixed_pushed : (second old new : List Run) (rule : RunRule) (place : Reached) (arrival from until : ℕ) (word read : Run) → IsDayList second → IsReached second place arrival
     → arrival < place.end → from < until → is_fixed rule ≡ true → arrival ≡ arrives rule from
     → read ≡ get_or second place.index read → word.from ≡ from → word.rule ≡ after_arrival read.rule arrival place.midnight → new ≡ old ++ word ∷ []
     → Continues second (arrives rule) from until old new

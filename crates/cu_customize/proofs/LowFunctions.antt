@@ -75,7 +75,7 @@ pub up_function : (edges : List Ends) (f : FunctionsState) (m v : ℕ) → m < v
 up_function edges f m v lt = let test : ltb m v ≡ true = grind (arith, lt) in rw test refl
 
 -- only an edge has a function
-some_edge : (edges : List Ends) (f : FunctionsState) (low high : ℕ) (dir : Dir) (number : Option ℕ) → number_from 0 edges low high ≡ number → IsSome (shortcut_of f number dir) → HasEdge edges low high
+pub some_edge : (edges : List Ends) (f : FunctionsState) (low high : ℕ) (dir : Dir) (number : Option ℕ) → number_from 0 edges low high ≡ number → IsSome (shortcut_of f number dir) → HasEdge edges low high
 some_edge edges f low high dir None e some = absurd (cc some)
 some_edge edges f low high dir (Some k) e some =
     let (j, same, at) = number_found 0 edges low high k e in
@@ -118,6 +118,11 @@ low_some g o u v (Some f) h some = let (w, l, e) = (h 0).reached in (w, l)
 some_low : (g : NetworkValue) (o : OrderValue) (u v : ℕ) (f : Option (ℕ → ℕ)) → IsLowFunction g o u v f → HasLowWalk g o u v → IsSome f
 some_low g o u v None h walk = absurd (h walk)
 some_low g o u v (Some f) h walk = refl
+
+-- so where a low walk leads there is a least one
+pub least_low : (g : NetworkValue) (o : OrderValue) (u v t : ℕ) (f : Option (ℕ → ℕ)) → IsLowFunction g o u v f → HasLowWalk g o u v → (a : ℕ) × IsLeastLowDrive g o u v t a
+least_low g o u v t None h walk = absurd (h walk)
+least_low g o u v t (Some f) h walk = (f t, h t)
 
 -- both halves of a triangle
 pub record AreHalves (g : NetworkValue) (o : OrderValue) (edges : List Ends) (f : FunctionsState) (u m v : ℕ) : Type 0 where

@@ -45,7 +45,7 @@ arrives_once g o u v t (Via m) a b p q =
     least_unique g o m v q.0 a b (subst (λ (x : ℕ). IsLeastLowDrive g o m v x a) one p.2) q.2
 
 -- a candidate's arrival is that of a low walk
-candidate_walk : (g : NetworkValue) (o : OrderValue) (u v t : ℕ) (way : Way) (a : ℕ) → u ≢ v → IsCandidate g o u v way → Arrives g o u v t way a
+pub candidate_walk : (g : NetworkValue) (o : OrderValue) (u v t : ℕ) (way : Way) (a : ℕ) → u ≢ v → IsCandidate g o u v way → Arrives g o u v t way a
     → (w : List ℕ) × IsLowWalk g o u w v × (drive g w t ≡ a)
 candidate_walk g o u v t (Road r) a apart leads arrives = (r ∷ [], (apart, leads), arrives)
 candidate_walk g o u v t (Via m) a apart (mu, mv, one, two) (between, first, second) =

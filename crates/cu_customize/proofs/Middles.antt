@@ -35,14 +35,8 @@ use Rattle.cu_customize.proofs.MergeLaws.{read_there}
 use Rattle.cu_customize.proofs.SeenLaws.{window_found}
 use Rattle.cu_customize.specs.Windows.{TakesInWindows}
 use Rattle.cu_customize.proofs.WindowLaws.{starts_in_day}
-use Rattle.cu_customize.proofs.TravelLaws.{least_always, most_always}
-use Rattle.cu_customize.proofs.Halves.{first_is, knows_first, knows_second, second_is}
-
--- where there is an arrival through both there are both
-pub both_some : (first second : Option (ℕ → ℕ)) (t a : ℕ) → through first second t ≡ Some a → IsSome first × IsSome second
-both_some None second t a e = absurd (cc e)
-both_some (Some f) None t a e = absurd (cc e)
-both_some (Some f) (Some b) t a e = (refl, refl)
+use Rattle.cu_customize.proofs.TravelLaws.{least_always, most_always, take_longer}
+use Rattle.cu_customize.proofs.Halves.{both_some, first_is, knows_first, knows_second, second_is}
 
 -- what may be settled has triangles
 pub task_triangles : (g : NetworkValue) (task : Task) → IsTask g task → HasTriangles g task
@@ -120,8 +114,8 @@ near_some g task m one two most a b halves good late early soon quick is_most fe
 pub far_some : (g : NetworkValue) (task : Task) (m one two most : ℕ) (a b : List Run) → (m < task.leg.from) × (m < task.leg.to)
     → (function_from task.graph.now.edges (state_of g task) task.leg.from m ≡ Some (arrival_value a)) × (function_from task.graph.now.edges (state_of g task) m task.leg.to ≡ Some (arrival_value b))
     → Takes a one → Takes b two → most ≡ min (one + two) (2 ^ 64 - 1) → MAX_NUMBER - day < most → IsFar g task
-far_some g task m one two most a b (from, to) (first, second) (t, lt, takes) (s, less, more) is_most late =
-    let far : TakeLonger (MAX_NUMBER - day) (Some (arrival_value a)) (Some (arrival_value b)) = (t, s, lt, less, omega (arith, takes, more, is_most, late)) in
+far_some g task m one two most a b (from, to) (first, second) takes more is_most late =
+    let far : TakeLonger (MAX_NUMBER - day) (Some (arrival_value a)) (Some (arrival_value b)) = take_longer a b one two most (MAX_NUMBER - day) takes more is_most late in
     (m, from, to, rw (first, second) far)
 
 -- the way by a middle, of which both halves have a function

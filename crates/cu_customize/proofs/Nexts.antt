@@ -1,8 +1,8 @@
 -- The next list: what it is settled from, and what its gathered candidates are.
-use Rattle.std.proofs.Common.{◌≡◌, ◌≢◌, ◌<◌, ◌+◌, ◌^◌, ◌∙◌, ◌++◌, ℕ, List, [], ◌∷◌, Option, Some, None, sym, subst, arith, inl, inr, length, map, min, take}
+use Rattle.std.proofs.Common.{◌≡◌, ◌≢◌, ◌<◌, ◌+◌, ◌^◌, ◌∙◌, ◌++◌, ℕ, List, [], ◌∷◌, Option, Some, None, sym, subst, arith, inl, inr, length, map, min}
 use Rattle.std.specs.Prelude.{All, slice_get}
 use Rattle.std.specs.List.Sorted.{IsStrictlyIncreasing}
-use Rattle.std.proofs.lemmas.List.{length-map, length-append, length-take-le}
+use Rattle.std.proofs.lemmas.List.{length-map, length-append}
 use Rattle.std.proofs.lemmas.Option.{slice_get_within}
 use Rattle.cu_model.specs.Days.{day}
 use Rattle.cu_model.specs.Networks.{NetworkValue, IsNetwork}
@@ -34,24 +34,12 @@ use Rattle.cu_customize.proofs.Keeping.{arcs_in, kept_are, kept_halves, next_bui
 use Rattle.cu_customize.proofs.Dropped.{AreAlike, arrives_alike, daily_alike, kept_alike, settled_alike}
 use Rattle.cu_customize.proofs.Loops.{few_rising}
 use Rattle.cu_customize.proofs.EdgeTasks.{all_below, leads, task_settled, triangles_between}
-use Rattle.cu_customize.proofs.Middles.{both_some}
+use Rattle.cu_customize.proofs.Halves.{both_some}
 use Rattle.cu_customize.proofs.Settles.{setting_at}
 use Rattle.cu_customize.proofs.Bounds.{least-near, least-onward}
 use Rattle.cu_customize.proofs.DayLists.{repeats}
 use Rattle.cu_customize.proofs.LowFunctions.{IsSetting, down_edge, halves_at, up_edge}
 use Rattle.cu_customize.proofs.Lows.{IsDailyValueOf}
-
--- so many are taken
-pub roads_taken : (arcs : List ℕ) (i number : ℕ) → i < length arcs → number ≡ i → length (map Road (take i arcs)) ≡ number
-roads_taken arcs i number inside same = let size = length-map (take i arcs) Road in let some = length-take-le i arcs (omega (arith, inside)) in omega (arith, size, some, same)
-
-pub ways_taken : (arcs middles : List ℕ) (i number : ℕ) → i < length middles → number ≡ length arcs + i → length (map Road arcs ++ map Via (take i middles)) ≡ number
-ways_taken arcs middles i number inside same =
-    let both = length-append (map Road arcs) (map Via (take i middles)) in
-    let roads = length-map arcs Road in
-    let size = length-map (take i middles) Via in
-    let some = length-take-le i middles (omega (arith, inside)) in
-    omega (arith, both, roads, size, some, same)
 
 -- there are fewer candidates than numbers
 pub few_ways : (g : NetworkValue) (task : Task) → IsTask g task → (length task.arcs.now + length task.triangles.now < NOBODY) × (length (ways_of task) ≡ length task.arcs.now + length task.triangles.now)

@@ -12,9 +12,9 @@ use Rattle.cu_arrival.specs.declared.runs.RunRule.TheVariants.{Shift}
 use Rattle.cu_arrival.specs.Runs.{run_at, run_value, rule_value, arrival_value}
 use Rattle.cu_arrival.proofs.RunLaws.{value_in_day}
 use Rattle.cu_arrival.specs.Steps.Stretches.{arrives}
-use Rattle.cu_customize.specs.declared.linking.Place.{Place}
+use Rattle.cu_customize.specs.declared.linking.Reached.{Reached}
 use Rattle.cu_customize.specs.Words.{IsDayList, IsFunctionWords, composed, end_run}
-use Rattle.cu_customize.specs.Steps.Linking.{Begins, Continues, IsPlace, IsSaid, Says}
+use Rattle.cu_customize.specs.Steps.Linking.{Begins, Continues, IsReached, IsSaid, Says}
 use Rattle.cu_customize.specs.Steps.Bounded.{IsAt}
 use Rattle.cu_customize.proofs.DayLists.{item_from}
 use Rattle.cu_customize.proofs.MergeLaws.{read_there}
@@ -76,10 +76,10 @@ closed_until f xs until some in_day said =
     )
 
 -- what the composition has come to at a second
-pub record IsLinking (first second linked : List Run) (reached : Place) (from until index at : ℕ) : Type 0 where
+pub record IsLinking (first second linked : List Run) (reached : Reached) (from until index at : ℕ) : Type 0 where
   pub order : (from ≤ at) × (at ≤ until)
   pub run : at < until → IsAt first index at
-  pub place : IsPlace second reached (arrival_value first at)
+  pub place : IsReached second reached (arrival_value first at)
   pub said : IsSaid (composed_from from first second) linked at
 
 -- what it says of that second
@@ -89,18 +89,18 @@ at_read words i t read is at before is_read =
     at_value words is i t next.from t read next at (read_there words i read (omega (arith, inside)) is_read) after (omega arith) (omega arith) later
 
 module _ (first second : List Run) (f : IsFunctionWords first) (from until : ℕ) (some : from < until) (in_day : until ≤ day) where
-  pub linking_none : (linked : List Run) (place : Place) (index : ℕ) (read : Run) → Begins from linked → IsAt first index from → read ≡ get_or first index read
-      → IsPlace second place (arrives read.rule from) → IsLinking first second linked place from until index from
+  pub linking_none : (linked : List Run) (place : Reached) (index : ℕ) (read : Run) → Begins from linked → IsAt first index from → read ≡ get_or first index read
+      → IsReached second place (arrives read.rule from) → IsLinking first second linked place from until index from
   linking_none linked place index read begins at is_read is_place =
       let value = at_read first index from read f.over_day at (omega (arith, some, in_day)) is_read in
       record {
         order = (omega arith, omega (arith, some));
         run = λ more. at;
-        place = subst (λ (t : ℕ). IsPlace second place t) (sym value) is_place;
+        place = subst (λ (t : ℕ). IsReached second place t) (sym value) is_place;
         said = begins (composed_from from first second) (λ s h. composed_early from first second s h);
       }
 
-  module _ (linked : List Run) (place : Place) (index at : ℕ) (is : IsLinking first second linked place from until index at) where
+  module _ (linked : List Run) (place : Reached) (index at : ℕ) (is : IsLinking first second linked place from until index at) where
     -- a further run follows
     pub linking_next : at < until → index + 1 < length first
     linking_next before =
@@ -121,13 +121,13 @@ module _ (first second : List Run) (f : IsFunctionWords first) (from until : ℕ
           let inside = linking_next before in
           at_value first f.over_day index at end s run next (is.run before) (read_there first index run (omega (arith, inside)) is_run) next_there (omega (arith, is_end)) late early
 
-      pub linking_place : IsPlace second place (arrives run.rule at)
+      pub linking_place : IsReached second place (arrives run.rule at)
       linking_place =
           let order = linking_order in
           let value = linking_value at (omega arith) order.0 in
-          subst (λ (t : ℕ). IsPlace second place t) value is.place
+          subst (λ (t : ℕ). IsReached second place t) value is.place
 
-      pub linking_more : (new : List Run) (last : Place) → IsPlace second last (arrives run.rule (end - 1)) → Continues second (arrives run.rule) at end linked new
+      pub linking_more : (new : List Run) (last : Reached) → IsReached second last (arrives run.rule (end - 1)) → Continues second (arrives run.rule) at end linked new
           → IsLinking first second new last from until (index + 1) end
       linking_more new last arrived continued =
           let order = linking_order in

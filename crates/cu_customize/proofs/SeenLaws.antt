@@ -1,5 +1,5 @@
 -- A candidate that is left out in windows in which it is late.
-use Rattle.std.proofs.Common.{◌≡◌, ◌≤◌, ◌<◌, ◌+◌, ◌-◌, ◌^◌, ◌∙◌, ℕ, zero, suc, List, refl, sym, ap, subst, arith, inl, inr, get_or, min, ltb, true, false}
+use Rattle.std.proofs.Common.{◌≡◌, ◌≤◌, ◌<◌, ◌+◌, ◌∙◌, ℕ, zero, suc, List, refl, sym, ap, subst, arith, inl, inr, get_or, min, ltb, true, false}
 use Rattle.std.specs.Prelude.{nat_le, nat_lt, if◌then◌else◌}
 use Rattle.std.proofs.lemmas.Bool.{cases_lt}
 use Rattle.std.proofs.lemmas.Bool.Decides.{nat_tests}
@@ -9,7 +9,7 @@ use Rattle.cu_customize.specs.declared.merging.Candidate.{Candidate}
 use Rattle.cu_customize.specs.declared.merging.Least.{Least}
 use Rattle.cu_customize.specs.declared.merging.Next.{Next}
 use Rattle.cu_customize.specs.declared.windows.Limits.{Limits}
-use Rattle.cu_customize.specs.declared.windows.TheConstants.{WINDOWS}
+use Rattle.cu_customize.specs.declared.windows.TheConstants.{NO_LIMIT, WINDOWS}
 use Rattle.cu_customize.specs.declared.windows.Windows.{Windows}
 use Rattle.cu_customize.specs.Least.{Held, least_arrival, least_way, tie_with, way_with}
 use Rattle.cu_customize.specs.Steps.Merging.{IsAddedWithin, IsMerging, IsSeen, least_held}
@@ -52,10 +52,10 @@ module _ (windows : Windows) where
     seen_to : ℕ → ℕ → ℕ
     seen_to zero s = f s
     seen_to (suc n) s =
-        if nat_le (window_start windows n) s then (if nat_lt (get_or most n 0) (min (get_or lower n 0) (2 ^ 32 - 1)) then old s else f s) else seen_to n s
+        if nat_le (window_start windows n) s then (if nat_lt (get_or most n 0) (min (get_or lower n 0) NO_LIMIT) then old s else f s) else seen_to n s
 
     seen_in : (n window s : ℕ) → window < n → IsIn windows window s
-        → seen_to n s ≡ (if nat_lt (get_or most window 0) (min (get_or lower window 0) (2 ^ 32 - 1)) then old s else f s)
+        → seen_to n s ≡ (if nat_lt (get_or most window 0) (min (get_or lower window 0) NO_LIMIT) then old s else f s)
     unfolding seen_to
     seen_in zero window s lt inside = absurd (omega (arith, lt))
     seen_in (suc n) window s lt inside = elim (cases_lt window n) [
@@ -68,7 +68,7 @@ module _ (windows : Windows) where
           let same : window ≡ n = omega (arith, lt, ge) in
           let begun : window_start windows n ≤ s = subst (λ (k : ℕ). window_start windows k ≤ s) same inside.0 in
           let test = le_test (window_start windows n) s begun in
-          rw test (ap (λ (k : ℕ). if nat_lt (get_or most k 0) (min (get_or lower k 0) (2 ^ 32 - 1)) then old s else f s) (sym same))
+          rw test (ap (λ (k : ℕ). if nat_lt (get_or most k 0) (min (get_or lower k 0) NO_LIMIT) then old s else f s) (sym same))
     ]
 
     pub seen : ℕ → ℕ
@@ -77,15 +77,15 @@ module _ (windows : Windows) where
     pub seen_late : (window s : ℕ) → window < WINDOWS → IsIn windows window s → IsLate lower most window → seen s ≡ old s
     unfolding seen
     seen_late window s inside within late =
-        let test : ltb (get_or most window 0) (min (get_or lower window 0) (2 ^ 32 - 1)) ≡ true = grind (arith, nat_tests, late) in
+        let test : ltb (get_or most window 0) (min (get_or lower window 0) NO_LIMIT) ≡ true = grind (arith, nat_tests, late) in
         seen_in 32 window s inside within ∙ (rw test refl)
 
     pub seen_linked : (window s : ℕ) → window < WINDOWS → IsIn windows window s → (IsLate lower most window → ⊥) → seen s ≡ f s
     unfolding seen
-    seen_linked window s inside within early = elim (cases_lt (get_or most window 0) (min (get_or lower window 0) (2 ^ 32 - 1))) [
+    seen_linked window s inside within early = elim (cases_lt (get_or most window 0) (min (get_or lower window 0) NO_LIMIT)) [
       | inl lt ↦ absurd (early lt)
       | inr ge ↦
-          let test : ltb (get_or most window 0) (min (get_or lower window 0) (2 ^ 32 - 1)) ≡ false = grind (arith, nat_tests, ge) in
+          let test : ltb (get_or most window 0) (min (get_or lower window 0) NO_LIMIT) ≡ false = grind (arith, nat_tests, ge) in
           seen_in 32 window s inside within ∙ (rw test refl)
     ]
 
@@ -127,7 +127,7 @@ added_within windows lower most f way old new takes both window t inside within 
     let in_day = starts_in_day windows (window + 1) in
     let early = within.1 in
     let is = both t (omega (arith, in_day, early)) in
-    elim (cases_lt (get_or most window 0) (min (get_or lower window 0) (2 ^ 32 - 1))) [
+    elim (cases_lt (get_or most window 0) (min (get_or lower window 0) NO_LIMIT)) [
       | inl late ↦
           let same = seen_late windows lower most f (too_late old) window t inside within late in
           let value = is.0 in

@@ -1,5 +1,5 @@
 -- The least and the greatest travel time of a function, run by run.
-use Rattle.std.proofs.Common.{◌≡◌, ◌≤◌, ◌<◌, ◌+◌, ◌-◌, ◌∙◌, ℕ, List, sym, ap, subst, arith, inl, inr, length, get_or, min, max}
+use Rattle.std.proofs.Common.{◌≡◌, ◌≤◌, ◌<◌, ◌+◌, ◌-◌, ◌^◌, ◌∙◌, ℕ, List, Some, sym, ap, subst, arith, inl, inr, length, get_or, min, max}
 use Rattle.std.proofs.lemmas.Bool.{cases_lt}
 use Rattle.cu_model.specs.Days.{day, IsOnward}
 use Rattle.cu_model.proofs.DayLaws.{day_parts}
@@ -8,8 +8,9 @@ use Rattle.cu_arrival.specs.declared.runs.RunRule.{RunRule}
 use Rattle.cu_arrival.specs.declared.runs.RunRule.TheVariants.{Shift, Fixed}
 use Rattle.cu_arrival.specs.Runs.{arrival_value}
 use Rattle.cu_arrival.specs.Steps.Stretches.{arrives}
+use Rattle.cu_customize.specs.Settling.{TakeLonger}
 use Rattle.cu_customize.specs.Words.{IsDayList, IsFunctionWords, end_run}
-use Rattle.cu_customize.specs.Travels.{TakesAtLeast, TakesAtMost}
+use Rattle.cu_customize.specs.Travels.{Takes, TakesAtLeast, TakesAtMost}
 use Rattle.cu_customize.proofs.DayLists.{repeats, next_from, from_in_day, starts_from, two_words, has_next, value_in_force}
 use Rattle.cu_customize.proofs.LinkLaws.{get_or-same}
 
@@ -144,3 +145,8 @@ most_always words most f takes t =
     let here = takes s lt in
     let later = repeats words f.over_day k s lt in
     subst (λ (x : ℕ). arrival_value words x ≤ x + most) (sym e) (omega (arith, here, later))
+
+-- two functions that take longer together than this, by the sum of what each takes at some second
+pub take_longer : (first second : List Run) (one two sum most : ℕ) → Takes first one → Takes second two → sum ≡ min (one + two) (2 ^ 64 - 1) → most < sum
+    → TakeLonger most (Some (arrival_value first)) (Some (arrival_value second))
+take_longer first second one two sum most (t, lt, takes) (s, less, more) is_sum above = (t, s, lt, less, omega (arith, takes, more, is_sum, above))

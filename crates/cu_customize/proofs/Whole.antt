@@ -1,5 +1,5 @@
 -- Once all lists are built they make a built hierarchy.
-use Rattle.std.proofs.Common.{◌≡◌, ◌≢◌, ◌<◌, ◌+◌, ◌*◌, ◌∙◌, ℕ, suc, List, [], Option, Some, None, refl, sym, ap, subst, arith, inl, inr, length, get_or, min, ltb, true, false}
+use Rattle.std.proofs.Common.{◌≡◌, ◌≢◌, ◌<◌, ◌+◌, ◌*◌, ◌∙◌, ℕ, suc, List, [], Option, Some, refl, sym, ap, subst, arith, inl, inr, length, get_or, min, ltb, true, false}
 use Rattle.std.specs.Prelude.{All, slice_get}
 use Rattle.std.specs.Option.{option_map}
 use Rattle.std.proofs.lemmas.Bool.{cases_lt}
@@ -19,14 +19,14 @@ use Rattle.cu_interval.specs.declared.ways.Way.{Way}
 use Rattle.cu_interval.specs.declared.ways.Way.TheVariants.{Road, Via}
 use Rattle.cu_interval.specs.FirstWays.{IsBuiltList, IsCandidate}
 use Rattle.cu_interval.specs.Hierarchies.{HierarchyValue, IsBuilt, IsHierarchyOf, IsWellFormed, end_of, entries_or_none, graph_of, list_from, list_number, list_of, number_from, start_of}
-use Rattle.cu_interval.specs.Low.{HasLowWalk, IsLeastLowDrive}
+use Rattle.cu_interval.specs.Low.{HasLowWalk}
 use Rattle.cu_interval.specs.WayLists.{IsWayList, way_in}
 use Rattle.cu_interval.proofs.Lookups.{number_at}
 use Rattle.cu_interval.proofs.Spelled.{entries_rise}
-use Rattle.cu_customize.specs.Functions.{IsLowFunction, value_kept}
+use Rattle.cu_customize.specs.Functions.{value_kept}
 use Rattle.cu_customize.specs.Steps.Kept.{IsBuiltTo}
 use Rattle.cu_customize.proofs.Keeping.{list_there, number_parts, number_within}
-use Rattle.cu_customize.proofs.LowFunctions.{low_edge, low_edge_back}
+use Rattle.cu_customize.proofs.LowFunctions.{least_low, low_edge, low_edge_back}
 use Rattle.cu_customize.proofs.Lows.{HasLeastBelow, built_some}
 
 -- each entry is in force at its own second
@@ -55,17 +55,13 @@ module _ (g : NetworkValue) (o : OrderValue) (graph : ChordalValue) (functions :
       elim (cases_lt x y) [
         | inl less ↦
             let (j, there) = place_of graph.edges (record { low = x; high = y }) (low_edge g o graph.edges closed.edges x y (w, l) less) in
-            least_of (value_kept (slice_get functions (list_number j Up))) (is.low j Up (record { low = x; high = y }) there (number_within j (length graph.edges) Up (slice_get_within graph.edges j (record { low = x; high = y }) there)))
+            least_low g o x y t (value_kept (slice_get functions (list_number j Up))) (is.low j Up (record { low = x; high = y }) there (number_within j (length graph.edges) Up (slice_get_within graph.edges j (record { low = x; high = y }) there))) (w, l)
         | inr more ↦
             let apart = l.0 in
             let less : y < x = omega (arith, more, apart) in
             let (j, there) = place_of graph.edges (record { low = y; high = x }) (low_edge_back g o graph.edges closed.edges x y (w, l) less) in
-            least_of (value_kept (slice_get functions (list_number j Down))) (is.low j Down (record { low = y; high = x }) there (number_within j (length graph.edges) Down (slice_get_within graph.edges j (record { low = y; high = x }) there)))
+            least_low g o x y t (value_kept (slice_get functions (list_number j Down))) (is.low j Down (record { low = y; high = x }) there (number_within j (length graph.edges) Down (slice_get_within graph.edges j (record { low = y; high = x }) there))) (w, l)
       ]
-    where
-      least_of : (f : Option (ℕ → ℕ)) → IsLowFunction g o x y f → (a : ℕ) × IsLeastLowDrive g o x y t a
-      least_of None h = absurd (h (w, l))
-      least_of (Some f) h = (f t, h t)
 
   list_built : (edge : ℕ) (dir : Dir) (ends : Ends) → slice_get graph.edges edge ≡ Some ends → IsBuiltList g o (start_of ends dir) (end_of ends dir) (list_of made edge dir)
   list_built edge dir ends at =

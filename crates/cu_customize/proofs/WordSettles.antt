@@ -30,7 +30,7 @@ use Rattle.cu_customize.specs.Words.{IsFunctionWords}
 use Rattle.cu_customize.proofs.EdgeTasks.{all_below, common_found, leads, task_settled, triangles_between}
 use Rattle.cu_customize.proofs.Keeping.{number_within}
 use Rattle.cu_customize.proofs.LowFunctions.{down_edge, up_edge}
-use Rattle.cu_customize.proofs.Middles.{both_some}
+use Rattle.cu_customize.proofs.Halves.{both_some}
 use Rattle.cu_customize.proofs.Nexts.{pulled_runs}
 
 -- with no middle there is no triangle

@@ -1,8 +1,8 @@
 -- The windows of a day, and how long a function takes in each of them.
-use Rattle.std.specs.Prelude.{ℕ, zero, suc, List, ◌≡◌, ◌≤◌, ◌<◌, ◌+◌, ◌-◌, ◌*◌, ◌%◌, ◌^◌, ◌⊎◌, min, nat_lt, if◌then◌else◌}
+use Rattle.std.specs.Prelude.{ℕ, zero, suc, List, ◌≡◌, ◌≤◌, ◌<◌, ◌+◌, ◌*◌, ◌%◌, ◌⊎◌, min, nat_lt, if◌then◌else◌}
 use Rattle.std.proofs.Common.{get_or}
 use Rattle.cu_model.specs.Days.{day}
-use Rattle.cu_customize.specs.declared.windows.TheConstants.{WINDOWS}
+use Rattle.cu_customize.specs.declared.windows.TheConstants.{NO_LIMIT, WINDOWS}
 use Rattle.cu_customize.specs.declared.windows.Windows.{Windows}
 
 -- the second at which a window begins, and the end of the day behind the last one
@@ -58,6 +58,6 @@ IsLowered f from until old new = (new ≡ old) ⊎ TakesUpToBetween f from until
 abbrev pub AreLowered : Windows → (ℕ → ℕ) → List ℕ → List ℕ → Type 0
 AreLowered windows f old new = (i : ℕ) → i < WINDOWS → IsLowered f (window_start windows i) (window_start windows (i + 1)) (get_or old i 0) (get_or new i 0)
 
--- in this window one takes longer than another takes at most, which is less than the greatest number
+-- in this window one takes longer than another takes at most, where that is a limit
 abbrev pub IsLate : List ℕ → List ℕ → ℕ → Type 0
-IsLate lower most window = get_or most window 0 < min (get_or lower window 0) (2 ^ 32 - 1)
+IsLate lower most window = get_or most window 0 < min (get_or lower window 0) NO_LIMIT

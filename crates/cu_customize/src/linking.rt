@@ -2,14 +2,14 @@
 //! the operation that time-dependent contraction hierarchies call link, here word by word into a list that is used
 //! again.
 
-ghost use Rattle.std.specs.Prelude.{◌≡◌, ◌≤◌, ◌<◌, ◌+◌, ◌-◌, ◌^◌, ◌%◌, ℕ, IfOk, Some, All, length, slice_get};
+ghost use Rattle.std.specs.Prelude.{◌≡◌, ◌≤◌, ◌<◌, ◌+◌, ◌-◌, ◌^◌, ℕ, IfOk, All};
 ghost use Rattle.cu_model.specs.declared.limits.TheConstants.{DAY};
 ghost use Rattle.cu_arrival.specs.declared.runs.Run.{Run};
 ghost use Rattle.cu_arrival.specs.declared.runs.RunRule.TheVariants.{Shift};
 ghost use Rattle.cu_arrival.specs.Runs.{arrival_value, rule_number};
 ghost use Rattle.cu_arrival.specs.Steps.Stretches.{arrives};
 ghost use Rattle.cu_customize.specs.Words.{IsDayList, IsFunctionWords, composed};
-ghost use Rattle.cu_customize.specs.Steps.Linking.{Begins, IsPlace, Continues};
+ghost use Rattle.cu_customize.specs.Steps.Linking.{Begins, IsReached, Continues};
 
 use crate::words::{MAX_NUMBER, Word, index_at};
 use cu_model::{DAY, NoMemory};
@@ -19,7 +19,7 @@ const END: u64 = DAY as u64;
 
 // A run of the second function, on the day that begins at `midnight`, until the absolute second `end`.
 #[derive(Clone, Copy)]
-struct Place {
+struct Reached {
     index: usize,
     midnight: u64,
     end: u64,
@@ -83,14 +83,14 @@ fn begin(from: u64, linked: &mut Vec<Word>) -> Result<(), NoMemory>
 }
 
 // The place of an absolute second.
-fn place_at(second: &[Word], time: u64) -> Place
+fn place_at(second: &[Word], time: u64) -> Reached
     requires over_day { IsDayList second.now }
     requires time { time ≤ 2 ^ 46 }
-    ensures { IsPlace second.now result time }
+    ensures { IsReached second.now result time }
 {
     let midnight = time / END * END;
     let index = index_at(second, time - midnight);
-    Place {
+    Reached {
         index,
         midnight,
         end: midnight + second[index + 1].from(),
@@ -99,22 +99,22 @@ fn place_at(second: &[Word], time: u64) -> Place
 
 // The place that begins where one ends: the next run's, or the first one's of the next day.
 #[inline(always)]
-fn following(second: &[Word], place: Place) -> Place
+fn following(second: &[Word], place: Reached) -> Reached
     requires over_day { IsDayList second.now }
-    requires place { IsPlace second.now place place.end }
+    requires place { IsReached second.now place place.end }
     requires time { place.end ≤ 2 ^ 62 }
-    ensures place { IsPlace second.now result place.end }
+    ensures place { IsReached second.now result place.end }
     ensures later { place.end < result.end }
 {
     let next = place.index + 1;
     if next + 1 < second.len() {
-        Place {
+        Reached {
             index: next,
             midnight: place.midnight,
             end: place.midnight + second[next + 1].from(),
         }
     } else {
-        Place {
+        Reached {
             index: 0,
             midnight: place.midnight + END,
             end: place.midnight + END + second[1].from(),
@@ -124,11 +124,11 @@ fn following(second: &[Word], place: Place) -> Place
 
 // The place of an absolute second, from one that begins no later.
 #[inline(always)]
-fn reach(second: &[Word], from: Place, time: u64) -> Place
+fn reach(second: &[Word], from: Reached, time: u64) -> Reached
     requires over_day { IsDayList second.now }
-    requires place { IsPlace second.now from time }
+    requires place { IsReached second.now from time }
     requires time { time ≤ 2 ^ 46 }
-    ensures place { IsPlace second.now result time }
+    ensures place { IsReached second.now result time }
     ensures holds { time < result.end }
 {
     let mut place = from;
@@ -142,19 +142,19 @@ fn reach(second: &[Word], from: Place, time: u64) -> Place
 #[inline(always)]
 fn link_run(
     second: &[Word],
-    place: Place,
+    place: Reached,
     run: Word,
     at: u64,
     until: u64,
     linked: &mut Vec<Word>,
-) -> Result<Place, NoMemory>
+) -> Result<Reached, NoMemory>
     requires over_day { IsDayList second.now }
     requires limits { All (λ (word : Run). rule_number word.rule ≤ MAX_NUMBER) second.now }
     requires limit { rule_number run.rule ≤ MAX_NUMBER }
     requires some { at < until }
     requires in_day { until ≤ DAY }
-    requires place { IsPlace second.now place (arrives run.rule at) }
-    ensures place { IfOk result (λ last. IsPlace second.now last (arrives run.rule (until - 1))) }
+    requires place { IsReached second.now place (arrives run.rule at) }
+    ensures place { IfOk result (λ last. IsReached second.now last (arrives run.rule (until - 1))) }
     ensures linked { IfOk result (λ _.
         Continues second.now (arrives run.rule) at until linked.old.items linked.new.items) }
 {
@@ -171,20 +171,20 @@ fn link_run(
 // The same for a run that takes so many seconds, from the place in force at its first arrival.
 fn link_shift(
     second: &[Word],
-    first_place: Place,
+    first_place: Reached,
     seconds: u64,
     from: u64,
     until: u64,
     linked: &mut Vec<Word>,
-) -> Result<Place, NoMemory>
+) -> Result<Reached, NoMemory>
     requires over_day { IsDayList second.now }
     requires limits { All (λ (word : Run). rule_number word.rule ≤ MAX_NUMBER) second.now }
     requires limit { seconds ≤ MAX_NUMBER }
     requires some { from < until }
     requires in_day { until ≤ DAY }
-    requires place { IsPlace second.now first_place (from + seconds) }
+    requires place { IsReached second.now first_place (from + seconds) }
     requires holds { from + seconds < first_place.end }
-    ensures place { IfOk result (λ last. IsPlace second.now last (until - 1 + seconds)) }
+    ensures place { IfOk result (λ last. IsReached second.now last (until - 1 + seconds)) }
     ensures linked { IfOk result (λ _.
         Continues second.now (arrives (Shift seconds)) from until
         linked.old.items linked.new.items) }

@@ -2,14 +2,13 @@
 //! time-dependent contraction hierarchies call merge, here of compositions, one candidate after the other. Of those
 //! that arrive as early the one with the lowest number is the least, in whatever order they come.
 
-ghost use Rattle.std.specs.Prelude.{◌≡◌, ◌≢◌, ◌≤◌, ◌<◌, ◌+◌, ◌-◌, ◌*◌, ◌^◌, ◌↔◌, ℕ, [], Some, IfOk, OnErr, IsTrue, All, min, length, nat_lt, slice_get, if◌then◌else◌};
-ghost use Rattle.std.specs.List.{AllAdjacentBelow};
+ghost use Rattle.std.specs.Prelude.{◌≡◌, ◌≢◌, ◌≤◌, ◌<◌, ◌+◌, ◌-◌, ◌↔◌, ℕ, [], Some, IfOk, OnErr, IsTrue, min, length, nat_lt, slice_get, if◌then◌else◌};
 ghost use Rattle.cu_model.specs.declared.limits.TheConstants.{DAY};
 ghost use Rattle.cu_arrival.specs.declared.runs.Run.{Run};
-ghost use Rattle.cu_arrival.specs.Runs.{arrival_value, rule_number};
+ghost use Rattle.cu_arrival.specs.Runs.{arrival_value};
 ghost use Rattle.cu_arrival.specs.Steps.Stretches.{arrives};
 ghost use Rattle.cu_model.specs.Growing.{IsPushed, last_says};
-ghost use Rattle.cu_customize.specs.declared.windows.TheConstants.{WINDOWS};
+ghost use Rattle.cu_customize.specs.declared.windows.TheConstants.{NO_LIMIT, WINDOWS};
 ghost use Rattle.cu_customize.specs.Windows.{AreLowered, IsLate, TakesInWindows, window_start};
 ghost use Rattle.cu_customize.specs.Words.{IsCompactDay, IsDayList, IsFunctionWords, composed, end_run, is_fixed};
 ghost use Rattle.cu_customize.specs.Least.{KeepsDayOrder, IsWayRuns, least_arrival, least_way, tie_with, way_with};
@@ -394,7 +393,7 @@ fn is_late(limits: Limits<'_>, window: usize) -> bool
 // Is a number above another one?
 #[inline(always)]
 fn is_above(lower: u32, most: u32) -> bool
-    ensures { IsTrue result ↔ (most < min lower (2 ^ 32 - 1)) }
+    ensures { IsTrue result ↔ (most < min lower NO_LIMIT) }
 {
     lower > most
 }

@@ -40,6 +40,9 @@ const WHOLE: usize = 2 * WINDOWS;
 // How many reaches there are.
 const REACHES: usize = WHOLE + 1;
 
+/// No limit of what a function takes in a window: the greatest number that one has room for.
+pub const NO_LIMIT: u32 = u32::MAX;
+
 /// A travel time that is no bound: greater ones have none.
 pub const UNKNOWN: u16 = 65_535;
 
@@ -266,7 +269,7 @@ impl Bounds {
         let most = u32::from(self.most[window]) + u32::from(second.most_over[reach]);
         // Unknown where one of the two is. As great a sum of two that are known is dropped too: it only loses a limit.
         if most >= u32::from(UNKNOWN) {
-            return u32::MAX;
+            return NO_LIMIT;
         }
         most
     }
@@ -341,7 +344,7 @@ fn window_of(windows: Windows, from: u64, until: u64, travels: Travels) -> Windo
 // A travel time, or 65,535 where it is greater.
 #[inline(always)]
 fn short(seconds: u64) -> u16
-    ensures { result ≡ min seconds 65535 }
+    ensures { result ≡ min seconds UNKNOWN }
 {
     seconds.min(u64::from(UNKNOWN)) as u16
 }

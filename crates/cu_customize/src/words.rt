@@ -35,6 +35,7 @@ pub struct Word {
 impl Model for Word {
     ghost use Rattle.std.specs.Prelude.{◌≤◌, ◌/◌, ◌^◌, ℕ};
     ghost use Rattle.std.proofs.Common.{ap};
+    ghost use Rattle.cu_model.specs.declared.limits.TheConstants.{DAY};
     ghost use Rattle.cu_arrival.specs.declared.runs.Run.{Run};
     ghost use Rattle.cu_customize.specs.Words.{run_of_bits, bits_of_run, bits_back};
 
@@ -42,7 +43,7 @@ impl Model for Word {
 
     ghost view = { λ word. run_of_bits word.bits };
 
-    ghost invariant = { λ word. word.bits / 2 ^ 47 ≤ 86400 };
+    ghost invariant = { λ word. word.bits / 2 ^ 47 ≤ DAY };
 
     ghost inverse = { λ run. record { bits = bits_of_run run } };
 

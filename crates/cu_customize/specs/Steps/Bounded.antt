@@ -6,7 +6,7 @@ use Rattle.std.proofs.Common.{get_or}
 use Rattle.cu_model.specs.Days.{day}
 use Rattle.cu_arrival.specs.declared.runs.Run.{Run}
 use Rattle.cu_arrival.specs.Runs.{arrival_value}
-use Rattle.cu_customize.specs.declared.windows.TheConstants.{WINDOWS}
+use Rattle.cu_customize.specs.declared.windows.TheConstants.{NO_LIMIT, UNKNOWN, WINDOWS}
 use Rattle.cu_customize.specs.declared.windows.Bounds.{Bounds}
 use Rattle.cu_customize.specs.declared.windows.Window.{Window}
 use Rattle.cu_customize.specs.declared.windows.Windows.{Windows}
@@ -21,7 +21,7 @@ IsReach windows first last reach =
 
 -- from one second until another it takes no more, unless this is the number for what isn't known
 abbrev pub TakesIfKnown : (ℕ → ℕ) → ℕ → ℕ → ℕ → Type 0
-TakesIfKnown f from until most = most < 65535 → TakesUpToBetween f from until most
+TakesIfKnown f from until most = most < UNKNOWN → TakesUpToBetween f from until most
 
 -- so in each window
 abbrev pub TakesIfKnownInWindows : Windows → (ℕ → ℕ) → List ℕ → Type 0
@@ -56,9 +56,9 @@ AreKnown f (Some bounds) = AreBounds f (box_value bounds)
 abbrev pub IsWithinReach : Windows → ℕ → ℕ → Type 0
 IsWithinReach windows reach s = (reach_start windows reach ≤ s) × (s < reach_end windows reach)
 
--- from one second until another it takes no more, unless this is the greatest number
+-- from one second until another it takes no more, where this is a limit
 abbrev pub IsUpper : (ℕ → ℕ) → ℕ → ℕ → ℕ → Type 0
-IsUpper f from until most = most < 2 ^ 32 - 1 → TakesUpToBetween f from until most
+IsUpper f from until most = most < NO_LIMIT → TakesUpToBetween f from until most
 
 -- a function with what it takes
 pub record IsTravelled (words : List Run) (least most : ℕ) (bounds : Option (Box Bounds)) : Type 0 where

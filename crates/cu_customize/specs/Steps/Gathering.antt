@@ -23,7 +23,7 @@ use Rattle.cu_customize.specs.declared.task.Halves.{Halves}
 use Rattle.cu_customize.specs.declared.task.Task.{Task}
 use Rattle.cu_customize.specs.declared.triangles.Triangle.{Triangle}
 use Rattle.cu_customize.specs.declared.words.TheConstants.{MAX_NUMBER}
-use Rattle.cu_customize.specs.declared.windows.TheConstants.{WINDOWS}
+use Rattle.cu_customize.specs.declared.windows.TheConstants.{NO_LIMIT, WINDOWS}
 use Rattle.cu_customize.specs.declared.windows.Windows.{Windows}
 use Rattle.cu_customize.specs.Functions.{FunctionsState, kept_state}
 use Rattle.cu_customize.specs.Least.{Held, KeepsDayOrder, least_arrival, least_way}
@@ -61,9 +61,9 @@ HasBy g task t by = (way : Way) × IsOpenIn g task (ways_of task) way × ((arriv
 abbrev pub IsBound : NetworkValue → Task → ℕ → Type 0
 IsBound g task most = (most ≡ 2 ^ 64 - 1) ⊎ ((t : ℕ) → t < day → HasBy g task t (t + most))
 
--- from one second until another some candidate takes no longer than this, unless this is the greatest number
+-- from one second until another some candidate takes no longer than this, where this is a limit
 abbrev pub IsLimit : NetworkValue → Task → ℕ → ℕ → ℕ → Type 0
-IsLimit g task from until limit = limit < 2 ^ 32 - 1 → (t : ℕ) → from ≤ t → t < until → HasBy g task t (t + limit)
+IsLimit g task from until limit = limit < NO_LIMIT → (t : ℕ) → from ≤ t → t < until → HasBy g task t (t + limit)
 
 -- so in each window
 abbrev pub AreLimits : NetworkValue → Task → Windows → List ℕ → Type 0
@@ -139,11 +139,11 @@ IsLeastAt g task IsOne ways held t = IsNobodys IsOne held t ⊎ ((way : Way) × 
 abbrev pub IsGathered : NetworkValue → Task → List Way → List Held → Type 0
 IsGathered g task ways held = (t : ℕ) → t < day → IsLeastAt g task (IsOpenIn g task ways) ways held t
 
--- of those of these ways that may be the least then: a merger has them under their numbers among the candidates
+-- so of those of these ways that may be the least then, each under its number among all candidates
 abbrev pub IsGatheredBut : NetworkValue → Task → List Way → List Held → Type 0
 IsGatheredBut g task ways held = (t : ℕ) → t < day → IsLeastAt g task (IsRival g task ways t) (ways_of task) held t
 
--- one more way is gathered at a second, whatever ways are before it
+-- one way more is gathered at a second, whichever were before it
 abbrev pub GathersAt : NetworkValue → Task → Way → List Held → List Held → ℕ → Type 0
 GathersAt g task way old new t = (ways : List Way)
     → IsLeastAt g task (IsRival g task ways t) (ways_of task) old t → IsLeastAt g task (IsRival g task (ways ++ way ∷ []) t) (ways_of task) new t
@@ -152,7 +152,7 @@ GathersAt g task way old new t = (ways : List Way)
 abbrev pub Gathers : NetworkValue → Task → Way → List Held → List Held → Type 0
 Gathers g task way old new = (t : ℕ) → t < day → GathersAt g task way old new t
 
--- so many of the middles are gathered behind the roads
+-- where the roads were gathered all candidates are
 abbrev pub GathersMiddles : NetworkValue → Task → List Held → List Held → Type 0
 GathersMiddles g task old new = IsGatheredBut g task (map Road task.arcs.now) old → IsGathered g task (ways_of task) new
 
@@ -171,11 +171,12 @@ FindsHalves g task middle None = IsOpenWay task.graph.now.edges (state_of g task
 FindsHalves g task middle (Some halves) = (function_from task.graph.now.edges (state_of g task) task.leg.from middle ≡ Some (arrival_value halves.first.now))
     × (function_from task.graph.now.edges (state_of g task) middle task.leg.to ≡ Some (arrival_value halves.second.now))
 
--- none where it is never the least, if this is a bound
+-- none where it is never the least, if some candidate takes no longer than this at each second
 abbrev pub FindsRival : NetworkValue → Task → ℕ → ℕ → Option Halves → Type 0
 FindsRival g task most middle None = IsBound g task most → IsNoRival g task middle
 FindsRival g task most middle (Some halves) = FindsHalves g task middle (Some halves)
 
+-- the middle of the triangle with a number
 abbrev pub middle_at : Task → ℕ → ℕ
 middle_at task i = get_or (middles_in task.triangles.now) i 0
 
@@ -184,7 +185,7 @@ abbrev pub IsLower : NetworkValue → Task → Windows → ℕ → List ℕ → 
 IsLower g task windows middle lower = AreEach (λ window least.
     (t arrival : ℕ) → IsIn windows window t → ArrivesIn g task t (Via middle) arrival → t + least ≤ arrival) lower WINDOWS
 
--- a way by a middle that may be the least somewhere, with what it takes at least
+-- a way by the middle of a triangle, with the place of what it takes at least
 pub record IsRank (task : Task) (windows : Windows) (lowers : List (List ℕ)) (rank : Rank) : Type 0 where
   pub triangle : rank.triangle < length task.triangles.now
   pub place : rank.place < length lowers
@@ -193,11 +194,11 @@ pub record IsRank (task : Task) (windows : Windows) (lowers : List (List ℕ)) (
 abbrev pub AreRanks : Task → Windows → Rivals → Type 0
 AreRanks task windows rivals = All (IsRank task windows rivals.lowers.items) rivals.ranks.items
 
--- one of these is the way by the middle of the triangle with this number
+-- the way by the middle of the triangle with this number is among these
 abbrev pub HasRank : List Rank → ℕ → Type 0
 HasRank ranks i = (rank : Rank) × Contains ranks rank × (rank.triangle ≡ i)
 
--- all ways by the middles of the first triangles, so many, that may be the least somewhere are among these
+-- of the ways by the middles of the first triangles, so many, all that may be the least somewhere are among these
 abbrev pub AreRivals : NetworkValue → Task → List Rank → ℕ → Type 0
 AreRivals g task ranks count = (i : ℕ) → i < count → HasRank ranks i ⊎ IsNoRival g task (middle_at task i)
 

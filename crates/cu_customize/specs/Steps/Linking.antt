@@ -5,10 +5,10 @@ use Rattle.cu_arrival.specs.declared.runs.Run.{Run}
 use Rattle.cu_arrival.specs.Runs.{arrival_value}
 use Rattle.cu_arrival.specs.Steps.Stretches.{arrives}
 use Rattle.cu_model.proofs.Tiling.{IsTiled}
-use Rattle.cu_customize.specs.declared.linking.Place.{Place}
+use Rattle.cu_customize.specs.declared.linking.Reached.{Reached}
 
 -- the run of this index holds from `t` or an earlier second until the place's end
-pub record IsPlace (words : List Run) (place : Place) (t : ℕ) : Type 0 where
+pub record IsReached (words : List Run) (place : Reached) (t : ℕ) : Type 0 where
   pub whole : place.midnight % day ≡ 0
   pub begun : (run : Run) × (slice_get words place.index ≡ Some run)
       × (place.midnight + run.from ≤ t)

@@ -1,5 +1,5 @@
 -- Merging a candidate into the least so far, from second 0 on.
-use Rattle.std.specs.Prelude.{ℕ, List, [], ◌∷◌, ◌++◌, Some, ◌≡◌, ◌≤◌, ◌<◌, ◌+◌, ◌-◌, ◌^◌, ◌⊎◌, min, slice_get, length}
+use Rattle.std.specs.Prelude.{ℕ, List, [], ◌∷◌, ◌++◌, Some, ◌≡◌, ◌≤◌, ◌<◌, ◌+◌, ◌-◌, ◌⊎◌, min, slice_get, length}
 use Rattle.std.proofs.Common.{get_or}
 use Rattle.std.specs.List.{zip}
 use Rattle.cu_model.specs.Days.{day}
@@ -10,7 +10,7 @@ use Rattle.cu_customize.specs.declared.merging.Candidate.{Candidate}
 use Rattle.cu_customize.specs.declared.merging.Least.{Least}
 use Rattle.cu_customize.specs.declared.merging.Next.{Next}
 use Rattle.cu_customize.specs.declared.windows.Limits.{Limits}
-use Rattle.cu_customize.specs.declared.windows.TheConstants.{WINDOWS}
+use Rattle.cu_customize.specs.declared.windows.TheConstants.{NO_LIMIT, WINDOWS}
 use Rattle.cu_customize.specs.declared.windows.Windows.{Windows}
 use Rattle.cu_customize.specs.Windows.{IsIn, IsLate}
 use Rattle.cu_customize.specs.Words.{IsDayList, composed}
@@ -108,9 +108,9 @@ pub record IsStillAt (old new : List Held) (t : ℕ) : Type 0 where
   pub least : least_arrival new t ≡ least_arrival old t
   pub chosen : least_way new t ≡ least_way old t
 
--- a candidate takes longer at a second than some limit, which is less than the greatest number
+-- a candidate takes longer at a second than the limit of a window, where that has one
 abbrev pub IsAbove : List ℕ → (ℕ → ℕ) → ℕ → ℕ → Type 0
-IsAbove most f window t = (get_or most window 0 < 2 ^ 32 - 1) × (t + get_or most window 0 < f t)
+IsAbove most f window t = (get_or most window 0 < NO_LIMIT) × (t + get_or most window 0 < f t)
 
 -- at each second of the day a candidate is added, or it is left out and takes longer than the limit of the window
 abbrev pub IsAddedWithin : Windows → List ℕ → (ℕ → ℕ) → ℕ → List Held → List Held → Type 0

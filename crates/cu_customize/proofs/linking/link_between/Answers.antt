@@ -1,6 +1,6 @@
 use Rattle.std.proofs.Common.{arith, subst, ℕ, ◌<◌}
 use Rattle.cu_model.specs.Days.{day}
-use Rattle.cu_customize.specs.Steps.Linking.{IsPlace}
+use Rattle.cu_customize.specs.Steps.Linking.{IsReached}
 use Rattle.cu_customize.proofs.CompareLaws.{at_found}
 use Rattle.cu_customize.proofs.RangeLaws.{linking_closed, linking_more, linking_next, linking_none, linking_order, linking_place}
 use Rattle.cu_customize.proofs.linking.link_between.Goals as goal
@@ -11,7 +11,7 @@ stretch-init c =
     linking_none c.args.first.now c.args.second.now c.requires.first c.args.from c.args.until c.requires.some c.requires.in_day c.begin.new.linked.items c.place_at-place.result c.index_at-index.result
     c.index-first-index.result c.in_ok-begin.ensures
     (at_found c.args.first.now c.index_at-index.result c.args.from before c.index_at-index.ensures.begun c.index_at-index.ensures.lasts) c.index-first-index.is
-    (subst (λ (t : ℕ). IsPlace c.args.second.now c.place_at-place.result t) c.arrives.ensures c.place_at-place.ensures)
+    (subst (λ (t : ℕ). IsReached c.args.second.now c.place_at-place.result t) c.arrives.ensures c.place_at-place.ensures)
 
 pub bounds-first-index-in-stretch : goal.bounds-first-index-in-stretch
 bounds-first-index-in-stretch c =

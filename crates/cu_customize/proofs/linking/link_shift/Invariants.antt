@@ -1,13 +1,13 @@
 use Rattle.std.proofs.Common.{◌+◌, ◌-◌, ◌<◌, min}
 use Rattle.cu_arrival.specs.declared.runs.RunRule.TheVariants.{Shift}
 use Rattle.cu_arrival.specs.Steps.Stretches.{arrives}
-use Rattle.cu_customize.specs.Steps.Linking.{IsPlace}
+use Rattle.cu_customize.specs.Steps.Linking.{IsReached}
 use Rattle.cu_customize.proofs.LinkLaws.{Reaches}
 use Rattle.cu_customize.proofs.linking.link_shift.Given as goal
 
 abbrev pub invariant-places : goal.invariant-places
 invariant-places l = record {
-  place : IsPlace l.second l.place (l.until - 1 + l.seconds);
+  place : IsReached l.second l.place (l.until - 1 + l.seconds);
   later : l.from + l.seconds < l.place.end;
   said : Reaches l.second (arrives (Shift l.seconds)) l.from l.until l.fn.linked.items l.linked.items (min (l.place.end - l.seconds) l.until);
 }
