@@ -7,7 +7,7 @@ use Rattle.cu_io.specs.Lines.{lines_of, feeds, ended_lines_of, HasNoFeed, IsFirs
 use Rattle.cu_io.specs.LineReading.{ReaderState, TakesLine, Finds}
 use Rattle.cu_io.specs.Sources.{SourceState}
 use Rattle.cu_io.specs.declared.line_reader.Found.TheVariants as found
-use Rattle.cu_io.specs.steps.Cuts.{IsCut}
+use Rattle.cu_io.specs.Steps.Cuts.{IsCut}
 use Rattle.cu_io.proofs.LineLaws.{lines_of_plain, lines_of_ended, feeds-cons, feeds_none}
 
 feeds-append : (xs ys : List ℕ) → feeds (xs ++ ys) ≡ feeds xs + feeds ys

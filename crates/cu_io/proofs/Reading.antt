@@ -12,7 +12,7 @@ use Rattle.cu_io.specs.Sources.{SourceState}
 use Rattle.cu_io.specs.declared.line_reader.Found.{Found}
 use Rattle.cu_io.specs.declared.line_reader.Found.TheVariants as found
 use Rattle.cu_io.specs.declared.line_reader.More.TheVariants as more
-use Rattle.cu_io.specs.steps.LineSteps.{IsFeed, Holds, TakesMore, Steps}
+use Rattle.cu_io.specs.Steps.LineSteps.{IsFeed, Holds, TakesMore, Steps}
 use Rattle.cu_io.proofs.LineLaws.{cut_at, front_plain, position-None}
 use Rattle.cu_io.proofs.Taking.{takes_more, takes_nothing}
 

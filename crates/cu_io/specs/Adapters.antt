@@ -1,10 +1,11 @@
 -- What the adapters tell, and what stands behind them.
-use Rattle.std.specs.Prelude.{◌≡◌, ℕ, ◌<◌, ◌^◌, List, length, Option, None, IfSome}
+use Rattle.std.specs.Prelude.{◌≡◌, ℕ, ◌<◌, List, length, Option, None, IfSome}
 use Rattle.std.specs.Io.KnownBytes.{Appends}
 use Rattle.cu_io.specs.Shelves.{ShelfState}
 use Rattle.cu_io.specs.Sinks.{SinkState}
 use Rattle.cu_io.specs.Sources.{SourceState}
 use Rattle.cu_io.specs.declared.disk.DiskShelf.{DiskShelf}
+use Rattle.cu_io.specs.declared.disk.TheConstants.{LIMIT}
 use Rattle.cu_io.specs.declared.standard.StdSource.{StdSource}
 use Rattle.cu_io.specs.declared.standard.StdSink.{StdSink}
 
@@ -26,7 +27,7 @@ sink_contents contents sink = contents sink.writer
 
 -- the shelf of files tells no bytes, and all names share its counts
 abbrev pub disk_state : {R File Dir : Type 0} → DiskShelf R File Dir → ShelfState
-disk_state shelf = record { held = None; most = 2 ^ 32; load_faults = λ name. shelf.load_faults; store_faults = λ name. shelf.store_faults }
+disk_state shelf = record { held = None; most = LIMIT; load_faults = λ name. shelf.load_faults; store_faults = λ name. shelf.store_faults }
 
 -- these are the bytes that some file had left, where these are known
 pub record SomeGives {File : Type 0} (remaining : File → Option (List ℕ)) (bytes : List ℕ) : Type 0 where

@@ -10,4 +10,4 @@ pub mod LineReading
 pub mod Memory
 pub mod MemoryShelves
 pub mod Sure
-pub mod steps
+pub mod Steps

@@ -1,5 +1,5 @@
 //! A shelf of the files of a file system.
-ghost use Rattle.std.specs.Prelude.{◌≡◌, ℕ, ◌+◌, ◌^◌, ◌<◌, ◌≤◌, List, [], ◌++◌, length, is_some, Ok, IfOk, IfSome, OnOk, OnErr};
+ghost use Rattle.std.specs.Prelude.{◌≡◌, ℕ, ◌+◌, ◌<◌, ◌≤◌, List, [], ◌++◌, length, is_some, Ok, IfOk, IfSome, OnOk, OnErr};
 ghost use Rattle.std.specs.Io.KnownBytes.{Appends};
 ghost use Rattle.cu_io.specs.Adapters.{SomeGives, SomeGivesMore, SomeTakes, disk_state};
 ghost use Rattle.cu_io.specs.Counts.{Rose};
@@ -71,7 +71,7 @@ impl<R: Files + Drop> Shelf for DiskShelf<R> {
             (Rose ((disk_state self.old).load_faults name.now)
             ((disk_state self.new).load_faults name.now)) }
         ensures given { OnOk result (SomeGives R.File.remaining into.new.items) }
-        ensures over { OnTooLong result (SomeGivesMore R.File.remaining (2 ^ 32)) }
+        ensures over { OnTooLong result (SomeGivesMore R.File.remaining LIMIT) }
     {
         let loaded = load_file(&self.files, name, into);
         if loaded.is_err() {
@@ -120,9 +120,9 @@ impl<R: Files + Drop> Shelf for DiskShelf<R> {
 
 // Replaces `into` by the bytes of a file.
 fn load_file<R: Files>(files: &R, name: &str, into: &mut Vec<u8>) -> Result<(), LoadFailed>
-    ensures short { OnOk result (length into.new.items ≤ 2 ^ 32) }
+    ensures short { OnOk result (length into.new.items ≤ LIMIT) }
     ensures given { OnOk result (SomeGives R.File.remaining into.new.items) }
-    ensures over { OnTooLong result (SomeGivesMore R.File.remaining (2 ^ 32)) }
+    ensures over { OnTooLong result (SomeGivesMore R.File.remaining LIMIT) }
 {
     into.clear();
     let Ok(mut file) = fs::open(files, name) else {
@@ -133,12 +133,12 @@ fn load_file<R: Files>(files: &R, name: &str, into: &mut Vec<u8>) -> Result<(), 
 
 // Adds what the reader gives up to its end.
 fn read_whole<R: Read>(reader: &mut R, into: &mut Vec<u8>) -> Result<(), LoadFailed>
-    requires { length into.old.items ≤ 2 ^ 32 }
-    ensures short { OnOk result (length into.new.items ≤ 2 ^ 32) }
+    requires { length into.old.items ≤ LIMIT }
+    ensures short { OnOk result (length into.new.items ≤ LIMIT) }
     ensures whole { OnOk result (IfSome (R.remaining reader.old)
         (λ bytes. into.new.items ≡ into.old.items ++ bytes)) }
     ensures long { OnTooLong result (IfSome (R.remaining reader.old)
-        (λ bytes. 2 ^ 32 < length into.old.items + length bytes)) }
+        (λ bytes. LIMIT < length into.old.items + length bytes)) }
 {
     let mut part = [0; PART];
     for _ in 0..u64::MAX {
@@ -196,18 +196,18 @@ fn is_link<R: Files>(files: &R, name: &str) -> io::Result<bool> {
 
 // What stands under a name, as far as a store minds.
 #[derive(Drop)]
-enum Place {
+enum Standing {
     Nothing,
     File(Permissions),
     // A folder, a device or a pipe.
     Other,
 }
 
-fn place_of<R: Files>(files: &R, name: &str) -> io::Result<Place> {
+fn standing_of<R: Files>(files: &R, name: &str) -> io::Result<Standing> {
     match fs::metadata(files, name) {
-        Ok(metadata) if metadata.is_file() => Ok(Place::File(metadata.permissions())),
-        Ok(_) => Ok(Place::Other),
-        Err(error) if error.kind() == ErrorKind::NotFound => Ok(Place::Nothing),
+        Ok(metadata) if metadata.is_file() => Ok(Standing::File(metadata.permissions())),
+        Ok(_) => Ok(Standing::Other),
+        Err(error) if error.kind() == ErrorKind::NotFound => Ok(Standing::Nothing),
         Err(error) => Err(error),
     }
 }
@@ -216,10 +216,10 @@ fn place_of<R: Files>(files: &R, name: &str) -> io::Result<Place> {
 fn store_at<R: Files>(alloc: Global, files: &R, name: &str, bytes: &[u8]) -> Result<(), StoreFailed>
     ensures { OnOk result (SomeTakes R.File.contents bytes.now) }
 {
-    match stored(place_of(files, name))? {
-        Place::Nothing => replace(alloc, files, name, None, bytes),
-        Place::File(permissions) => replace(alloc, files, name, Some(permissions), bytes),
-        Place::Other => stored(write(files, name, bytes)),
+    match stored(standing_of(files, name))? {
+        Standing::Nothing => replace(alloc, files, name, None, bytes),
+        Standing::File(permissions) => replace(alloc, files, name, Some(permissions), bytes),
+        Standing::Other => stored(write(files, name, bytes)),
     }
 }
 

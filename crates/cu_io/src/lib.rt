@@ -19,7 +19,7 @@ mod sure;
 mod text;
 
 pub use disk::DiskShelf;
-pub use line_reader::{Line, LineReader};
+pub use line_reader::{Line, LineReader, MAX_LINE};
 pub use memory::{MemoryShelf, MemorySink, MemorySource};
 pub use shelf::{LoadFailed, Shelf, StoreFailed};
 pub use sink::{Sink, SinkFailed, put_all};

@@ -5,7 +5,7 @@ ghost use Rattle.std.specs.Io.BufRead.{Rests};
 ghost use Rattle.cu_io.specs.Counts.{Rose};
 ghost use Rattle.cu_io.specs.Lines.{HasNoFeed, without_return};
 ghost use Rattle.cu_io.specs.LineReading.{NextLine, Reads, is_last};
-ghost use Rattle.cu_io.specs.steps.LineSteps.{IsFeed, Steps, TakesMore, GivesChunk, holding_more};
+ghost use Rattle.cu_io.specs.Steps.LineSteps.{IsFeed, Steps, TakesMore, GivesChunk, holding_more};
 ghost use Rattle.cu_io.specs.declared.line_reader.Found.TheVariants as found;
 ghost use Rattle.cu_io.specs.contracts.line_reader.LineReader.{the_row};
 
@@ -47,6 +47,9 @@ pub(crate) enum More {
     Fault,
     Spent,
 }
+
+/// The most bytes that a reader's limit of a line may allow.
+pub const MAX_LINE: u32 = 4_194_304;
 
 // How many bytes are asked for in one read.
 const CHUNK: usize = 8192;
@@ -91,7 +94,7 @@ impl LineReader {
     /// A reader of lines with up to `line_limit` bytes, which takes up to `take_limit` bytes from its source. It reserves
     /// `line_limit + 1` bytes, which is all the memory that it takes.
     pub fn open(alloc: Global, line_limit: u32, take_limit: u64) -> Result<LineReader, NoMemory>
-        requires { line_limit ≤ 4194304 }
+        requires { line_limit ≤ MAX_LINE }
         ensures { IfOk result (λ reader. reader ≡ record {
           held = [];
           line = [];

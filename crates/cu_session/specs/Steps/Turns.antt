@@ -2,7 +2,7 @@
 use Rattle.std.specs.Prelude.{ℕ, List, [], ◌++◌, ◌+◌, ◌<◌, IfSome, ◌-◌, ◌≡◌, ◌≤◌, Bool, true, false, Option, Some, None, Result, Ok, Err, length}
 use Rattle.cu_io.specs.LineReading.{ReaderState}
 use Rattle.cu_io.specs.Lines.{lines_of}
-use Rattle.cu_io.specs.steps.Cuts.{IsCut}
+use Rattle.cu_io.specs.Steps.Cuts.{IsCut}
 use Rattle.cu_io.specs.Sinks.{SinkState, WroteLine}
 use Rattle.cu_io.specs.declared.sink.SinkFailed.{SinkFailed}
 use Rattle.cu_io.specs.Sources.{SourceState}

@@ -2,6 +2,7 @@
 use Rattle.std.proofs.Common.{◌≡◌, ◌∙◌, ◌+◌, ◌<◌, ◌++◌, ℕ, List, length, take, sym, ap, arith, length-append, length-take, rules}
 use Rattle.std.specs.Io.KnownBytes.{IsAtEnd}
 use Rattle.std.proofs.lemmas.List.{append-nil}
+use Rattle.cu_io.specs.declared.disk.TheConstants.{LIMIT}
 use Rattle.cu_io.proofs.Known.{consumes_all, consumes_more, consumes_some, if_some}
 use Rattle.cu_io.proofs.disk.read_whole.Goals as goal
 
@@ -27,6 +28,6 @@ returns-then-count-len-clause-long g c =
     let size : length c.loop.into.items ≡ length c.args.into.now.items + length read = ap (λ (t : List ℕ). length t) is ∙ length-append c.args.into.now.items read in
     let more : length (read ++ take c.in-Ok.count part) ≡ length read + c.in-Ok.count =
     length-append read (take c.in-Ok.count part) ∙ ap (λ (n : ℕ). length read + n) (omega (arith, length-take c.in-Ok.count part, c.in-Ok.ensures.within)) in
-    let over : 4294967296 < length c.loop.into.items + c.in-Ok.count = search (rules, arith) in
+    let over : LIMIT < length c.loop.into.items + c.in-Ok.count = search (rules, arith) in
     if_some _ _ (remaining c.args.reader.now) (λ bytes some. omega (arith, some, size, more, over))
     (consumes_some (remaining c.args.reader.now) (remaining c.read_some.new.reader) _ all)

@@ -2,7 +2,7 @@ use Rattle.std.proofs.Common.{◌≡◌, ◌∙◌, ◌-◌, length, take, drop,
 use Rattle.std.specs.Prelude.{Some}
 use Rattle.std.proofs.lemmas.List.{take_rest}
 use Rattle.cu_io.specs.Lines.{HasNoFeed}
-use Rattle.cu_io.specs.steps.LineSteps.{IsFeed}
+use Rattle.cu_io.specs.Steps.LineSteps.{IsFeed}
 use Rattle.cu_io.proofs.Reading.{feed_later, feed_later_none}
 use Rattle.cu_io.proofs.line_reader.LineReader.feed_from.Goals as goal
 

@@ -1,7 +1,7 @@
 -- Bytes were taken, and no line feed stands in what was searched of those held.
 use Rattle.std.proofs.Common.{◌≤◌, ◌-◌, ℕ, List, length, take}
 use Rattle.cu_io.specs.Lines.{HasNoFeed}
-use Rattle.cu_io.specs.steps.LineSteps.{Holds}
+use Rattle.cu_io.specs.Steps.LineSteps.{Holds}
 use Rattle.cu_io.proofs.line_reader.LineReader.find_line.Given as goal
 
 abbrev pub invariant-loop-at : goal.invariant-loop-at
