@@ -60,84 +60,85 @@ linked_back : (g : NetworkValue) (u v : ℕ) → AreLinked g u v → AreLinked g
 linked_back g u v (arc, inl road) = (arc, inr road)
 linked_back g u v (arc, inr road) = (arc, inl road)
 
--- a node of the part is on the left, on the right or in the separator
-sides : (g : NetworkValue) (places : List Place) (part : List ℕ) (v : ℕ) → Contains part v → Contains (left_of places part) v ⊎ (Contains (right_of g places part) v ⊎ Contains (separator_of g places part) v)
-sides g places part v c =
-    let left : List ℕ = left_of places part in
-    elim (cases_Bool (is_left places part v)) [
-      | inl first ↦ inl (is_kept (is_left places part) part v c first)
-      | inr other ↦
-          let rest : Contains (rest_of places part) v = is_kept (λ node. not (is_left places part node)) part v c (ap not other) in
-          elim (cases_Bool (touches g left v)) [
-            | inl beside ↦ inr (inr (is_kept (touches g left) (rest_of places part) v rest beside))
-            | inr off ↦ inr (inl (is_kept (λ node. not (touches g left node)) (rest_of places part) v rest (ap not off)))
-          ]
-    ]
-
-right_in_rest : (g : NetworkValue) (places : List Place) (part : List ℕ) (v : ℕ) → Contains (right_of g places part) v → Contains (rest_of places part) v
-right_in_rest g places part v c = kept_member (λ node. not (touches g (left_of places part) node)) (rest_of places part) v c
-
-right_in_part : (g : NetworkValue) (places : List Place) (part : List ℕ) (v : ℕ) → Contains (right_of g places part) v → Contains part v
-right_in_part g places part v c = kept_member (λ node. not (is_left places part node)) part v (right_in_rest g places part v c)
-
--- a node on the right has no road to or from the left
-pub right_untouched : (g : NetworkValue) (places : List Place) (part : List ℕ) (u v : ℕ) → Contains (left_of places part) u → Contains (right_of g places part) v → AreLinked g u v → ⊥
-right_untouched g places part u v c d linked =
-    let beside : touches g (left_of places part) v ≡ true = touched g (left_of places part) u v c linked in
-    let off : not (touches g (left_of places part) v) ≡ true = kept_passes (λ node. not (touches g (left_of places part) node)) (rest_of places part) v d in
-    let clash : not true ≡ true = subst (λ (b : Bool). not b ≡ true) beside off in
-    cc (clash)
-
-left_not_right : (g : NetworkValue) (places : List Place) (part : List ℕ) (v : ℕ) → Contains (left_of places part) v → Contains (right_of g places part) v → ⊥
-left_not_right g places part v c d =
-    let first : is_left places part v ≡ true = kept_passes (is_left places part) part v c in
-    let other : not (is_left places part v) ≡ true = kept_passes (λ node. not (is_left places part node)) part v (right_in_rest g places part v d) in
-    let clash : not true ≡ true = subst (λ (b : Bool). not b ≡ true) first other in
-    cc (clash)
-
--- roads that leave the left lead to the separator, or as those that leave the part
-left_leads : (g : NetworkValue) (places : List Place) (part back between : List ℕ) → LeadsBack g part back → LeadsBack g (left_of places part) (between ++ (separator_of g places part ++ back))
-left_leads g places part back between f u v c linked =
-    let separator : List ℕ = separator_of g places part in
-    elim (f u v (kept_member (is_left places part) part u c) linked) [
-      | inl within ↦ elim (sides g places part v within) [
-        | inl same ↦ inl same
-        | inr other ↦ elim other [
-          | inl right ↦ absurd (right_untouched g places part u v c right linked)
-          | inr bar ↦ inr (Contains-append_right between (separator ++ back) v (Contains-append_left separator back v bar))
-        ]
+module _ (g : NetworkValue) (places : List Place) (part : List ℕ) where
+  -- a node of the part is on the left, on the right or in the separator
+  sides : (v : ℕ) → Contains part v → Contains (left_of places part) v ⊎ (Contains (right_of g places part) v ⊎ Contains (separator_of g places part) v)
+  sides v c =
+      let left : List ℕ = left_of places part in
+      elim (cases_Bool (is_left places part v)) [
+        | inl first ↦ inl (is_kept (is_left places part) part v c first)
+        | inr other ↦
+            let rest : Contains (rest_of places part) v = is_kept (λ node. not (is_left places part node)) part v c (ap not other) in
+            elim (cases_Bool (touches g left v)) [
+              | inl beside ↦ inr (inr (is_kept (touches g left) (rest_of places part) v rest beside))
+              | inr off ↦ inr (inl (is_kept (λ node. not (touches g left node)) (rest_of places part) v rest (ap not off)))
+            ]
       ]
-      | inr outside ↦ inr (Contains-append_right between (separator ++ back) v (Contains-append_right separator back v outside))
-    ]
 
-right_leads : (g : NetworkValue) (places : List Place) (part back : List ℕ) → LeadsBack g part back → LeadsBack g (right_of g places part) (separator_of g places part ++ back)
-right_leads g places part back f u v c linked =
-    let separator : List ℕ = separator_of g places part in
-    elim (f u v (right_in_part g places part u c) linked) [
-      | inl within ↦ elim (sides g places part v within) [
-        | inl left ↦ absurd (right_untouched g places part v u left c (linked_back g u v linked))
-        | inr other ↦ elim other [
+  right_in_rest : (v : ℕ) → Contains (right_of g places part) v → Contains (rest_of places part) v
+  right_in_rest v c = kept_member (λ node. not (touches g (left_of places part) node)) (rest_of places part) v c
+
+  right_in_part : (v : ℕ) → Contains (right_of g places part) v → Contains part v
+  right_in_part v c = kept_member (λ node. not (is_left places part node)) part v (right_in_rest v c)
+
+  -- a node on the right has no road to or from the left
+  pub right_untouched : (u v : ℕ) → Contains (left_of places part) u → Contains (right_of g places part) v → AreLinked g u v → ⊥
+  right_untouched u v c d linked =
+      let beside : touches g (left_of places part) v ≡ true = touched g (left_of places part) u v c linked in
+      let off : not (touches g (left_of places part) v) ≡ true = kept_passes (λ node. not (touches g (left_of places part) node)) (rest_of places part) v d in
+      let clash : not true ≡ true = subst (λ (b : Bool). not b ≡ true) beside off in
+      cc (clash)
+
+  left_not_right : (v : ℕ) → Contains (left_of places part) v → Contains (right_of g places part) v → ⊥
+  left_not_right v c d =
+      let first : is_left places part v ≡ true = kept_passes (is_left places part) part v c in
+      let other : not (is_left places part v) ≡ true = kept_passes (λ node. not (is_left places part node)) part v (right_in_rest v d) in
+      let clash : not true ≡ true = subst (λ (b : Bool). not b ≡ true) first other in
+      cc (clash)
+
+  -- roads that leave the left lead to the separator, or as those that leave the part
+  left_leads : (back between : List ℕ) → LeadsBack g part back → LeadsBack g (left_of places part) (between ++ (separator_of g places part ++ back))
+  left_leads back between f u v c linked =
+      let separator : List ℕ = separator_of g places part in
+      elim (f u v (kept_member (is_left places part) part u c) linked) [
+        | inl within ↦ elim (sides v within) [
           | inl same ↦ inl same
-          | inr bar ↦ inr (Contains-append_left separator back v bar)
+          | inr other ↦ elim other [
+            | inl right ↦ absurd (right_untouched u v c right linked)
+            | inr bar ↦ inr (Contains-append_right between (separator ++ back) v (Contains-append_left separator back v bar))
+          ]
         ]
+        | inr outside ↦ inr (Contains-append_right between (separator ++ back) v (Contains-append_right separator back v outside))
       ]
-      | inr outside ↦ inr (Contains-append_right separator back v outside)
-    ]
 
--- the split of a part, where the order is the part's with this before and behind it
-split_barred : (g : NetworkValue) (places : List Place) (part order before left right back : List ℕ) → LeadsBack g part back → order ≡ ((before ++ left) ++ right) ++ (separator_of g places part ++ back)
-    → IsPermutation (left_of places part) left → IsPermutation (right_of g places part) right → IsBarred g order (split_of g places part)
-split_barred g places part order before left right back f whole left_moved right_moved = record {
-  front = (before ++ left) ++ right;
-  back = separator_of g places part ++ back;
-  whole = whole;
-  left_in = λ v c. Contains-append_left (before ++ left) right v (Contains-append_right before left v (Contains-permutation (left_of places part) left v left_moved c));
-  right_in = λ v c. Contains-append_right (before ++ left) right v (Contains-permutation (right_of g places part) right v right_moved c);
-  left_out = left_leads g places part back [] f;
-  right_out = right_leads g places part back f;
-  disjoint = left_not_right g places part;
-  apart = λ arc u v c d linked. right_untouched g places part u v c d (arc, linked);
-}
+  right_leads : (back : List ℕ) → LeadsBack g part back → LeadsBack g (right_of g places part) (separator_of g places part ++ back)
+  right_leads back f u v c linked =
+      let separator : List ℕ = separator_of g places part in
+      elim (f u v (right_in_part u c) linked) [
+        | inl within ↦ elim (sides v within) [
+          | inl left ↦ absurd (right_untouched v u left c (linked_back g u v linked))
+          | inr other ↦ elim other [
+            | inl same ↦ inl same
+            | inr bar ↦ inr (Contains-append_left separator back v bar)
+          ]
+        ]
+        | inr outside ↦ inr (Contains-append_right separator back v outside)
+      ]
+
+  -- the split of a part, where the order is the part's with this before and behind it
+  split_barred : (order before left right back : List ℕ) → LeadsBack g part back → order ≡ ((before ++ left) ++ right) ++ (separator_of g places part ++ back)
+      → IsPermutation (left_of places part) left → IsPermutation (right_of g places part) right → IsBarred g order (split_of g places part)
+  split_barred order before left right back f whole left_moved right_moved = record {
+    front = (before ++ left) ++ right;
+    back = separator_of g places part ++ back;
+    whole = whole;
+    left_in = λ v c. Contains-append_left (before ++ left) right v (Contains-append_right before left v (Contains-permutation (left_of places part) left v left_moved c));
+    right_in = λ v c. Contains-append_right (before ++ left) right v (Contains-permutation (right_of g places part) right v right_moved c);
+    left_out = left_leads back [] f;
+    right_out = right_leads back f;
+    disjoint = left_not_right;
+    apart = λ arc u v c d linked. right_untouched u v c d (arc, linked);
+  }
 
 cut_left : (before left right separator back : List ℕ) → (before ++ ((left ++ right) ++ separator)) ++ back ≡ (before ++ left) ++ (right ++ (separator ++ back))
 cut_left before left right separator back = simp append_assoc

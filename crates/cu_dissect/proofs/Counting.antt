@@ -63,37 +63,36 @@ count_front {X} p xs m fits pass fail =
     let both : count_by p (take m xs) + count_by p (drop m xs) ≡ count_by p xs = sum_by-take-drop (λ (x : X). cond (p x) 1 0) xs m in
     omega (arith, front, behind, both, length-take-le m xs fits)
 
-all_below : {X : Type 0} (lt : X → X → Bool) → IsStrictWeakOrder lt → (xs : List X) → IsSortedBy lt xs → (m : ℕ) (last y : X) → m ≤ length xs → ((d : X) → last ≡ get_or xs (m - 1) d)
-    → lt last y ≡ true → (i : ℕ) (d : X) → i < m → lt (get_or xs i d) y ≡ true
-all_below {X} lt o xs up m last y fits at above i d h =
-    let upto : lt last (get_or xs i d) ≡ false = subst (λ (x : X). lt x (get_or xs i d) ≡ false) (sym (at d)) (sorted_far lt o xs up i (m - 1) d (omega (arith, h)) (omega (arith, h, fits))) in
-    elim (cases_Bool (lt (get_or xs i d) y)) [
-      | inl less ↦ less
-      | inr other ↦ let off = o.chain last (get_or xs i d) y upto other in absurd (cc (above, off))
-    ]
+-- a sorted list, and an element beside the last of its first m
+module _ {X : Type 0} (lt : X → X → Bool) (o : IsStrictWeakOrder lt) (xs : List X) (up : IsSortedBy lt xs) (m : ℕ) (last y : X) where
+  all_below : m ≤ length xs → ((d : X) → last ≡ get_or xs (m - 1) d) → lt last y ≡ true → (i : ℕ) (d : X) → i < m → lt (get_or xs i d) y ≡ true
+  all_below fits at above i d h =
+      let upto : lt last (get_or xs i d) ≡ false = subst (λ (x : X). lt x (get_or xs i d) ≡ false) (sym (at d)) (sorted_far lt o xs up i (m - 1) d (omega (arith, h)) (omega (arith, h, fits))) in
+      elim (cases_Bool (lt (get_or xs i d) y)) [
+        | inl less ↦ less
+        | inr other ↦ let off = o.chain last (get_or xs i d) y upto other in absurd (cc (above, off))
+      ]
 
-none_below : {X : Type 0} (lt : X → X → Bool) → IsStrictWeakOrder lt → (xs : List X) → IsSortedBy lt xs → (m : ℕ) (last y : X) → ((d : X) → last ≡ get_or xs (m - 1) d)
-    → lt last y ≡ false → (i : ℕ) (d : X) → m - 1 ≤ i → i < length xs → lt (get_or xs i d) y ≡ false
-none_below {X} lt o xs up m last y at upto i d le h =
-    let from : lt (get_or xs i d) last ≡ false = subst (λ (x : X). lt (get_or xs i d) x ≡ false) (sym (at d)) (sorted_far lt o xs up (m - 1) i d le h) in
-    o.chain (get_or xs i d) last y from upto
+  none_below : ((d : X) → last ≡ get_or xs (m - 1) d) → lt last y ≡ false → (i : ℕ) (d : X) → m - 1 ≤ i → i < length xs → lt (get_or xs i d) y ≡ false
+  none_below at upto i d le h =
+      let from : lt (get_or xs i d) last ≡ false = subst (λ (x : X). lt (get_or xs i d) x ≡ false) (sym (at d)) (sorted_far lt o xs up (m - 1) i d le h) in
+      o.chain (get_or xs i d) last y from upto
 
--- in a sorted list, just what isn't above the last of the first m has fewer than m elements below it
-pub rank_tells : {X : Type 0} (lt : X → X → Bool) → IsStrictWeakOrder lt → (xs : List X) → IsSortedBy lt xs → (m : ℕ) (last y : X) → 0 < m → m ≤ length xs → ((d : X) → last ≡ get_or xs (m - 1) d)
-    → not (lt last y) ≡ nat_lt (count_by (λ x. lt x y) xs) m
-rank_tells {X} lt o xs up m last y some fits at =
-    let below : X → Bool = λ x. lt x y in
-    let both : count_by below (take m xs) + count_by below (drop m xs) ≡ count_by below xs = sum_by-take-drop (λ (x : X). cond (below x) 1 0) xs m in
-    let short : count_by below (take (m - 1) xs) + count_by below (drop (m - 1) xs) ≡ count_by below xs = sum_by-take-drop (λ (x : X). cond (below x) 1 0) xs (m - 1) in
-    elim (cases_Bool (lt last y)) [
-      | inl above ↦
-          let front = count_all below (take m xs) (all_front below xs m fits (λ i d h. all_below lt o xs up m last y fits at above i d h)) in
-          let many : m ≤ count_by below xs = omega (arith, front, both, length-take-le m xs fits) in
-          ap not above ∙ sym (le-ltb (count_by below xs) m many)
-      | inr upto ↦
-          let behind = count_none below (drop (m - 1) xs) (none_behind below xs (m - 1) (λ i d le h. none_below lt o xs up m last y at upto i d le h)) in
-          let most = count_by-le-length below (take (m - 1) xs) in
-          let long = length-take-le (m - 1) xs (omega (arith, fits)) in
-          let few : count_by below xs < m = omega (arith, behind, short, most, long, some) in
-          ap not upto ∙ sym (lt-ltb (count_by below xs) m few)
-    ]
+  -- just what isn't above the last of the first m has fewer than m elements below it
+  pub rank_tells : 0 < m → m ≤ length xs → ((d : X) → last ≡ get_or xs (m - 1) d) → not (lt last y) ≡ nat_lt (count_by (λ x. lt x y) xs) m
+  rank_tells some fits at =
+      let below : X → Bool = λ x. lt x y in
+      let both : count_by below (take m xs) + count_by below (drop m xs) ≡ count_by below xs = sum_by-take-drop (λ (x : X). cond (below x) 1 0) xs m in
+      let short : count_by below (take (m - 1) xs) + count_by below (drop (m - 1) xs) ≡ count_by below xs = sum_by-take-drop (λ (x : X). cond (below x) 1 0) xs (m - 1) in
+      elim (cases_Bool (lt last y)) [
+        | inl above ↦
+            let front = count_all below (take m xs) (all_front below xs m fits (λ i d h. all_below fits at above i d h)) in
+            let many : m ≤ count_by below xs = omega (arith, front, both, length-take-le m xs fits) in
+            ap not above ∙ sym (le-ltb (count_by below xs) m many)
+        | inr upto ↦
+            let behind = count_none below (drop (m - 1) xs) (none_behind below xs (m - 1) (λ i d le h. none_below at upto i d le h)) in
+            let most = count_by-le-length below (take (m - 1) xs) in
+            let long = length-take-le (m - 1) xs (omega (arith, fits)) in
+            let few : count_by below xs < m = omega (arith, behind, short, most, long, some) in
+            ap not upto ∙ sym (lt-ltb (count_by below xs) m few)
+      ]

@@ -13,6 +13,7 @@ use Rattle.std.proofs.lemmas.List.{get_or-map, length-map}
 use Rattle.std.proofs.lemmas.List.Sorted.{ranks_by, sorted_far, sum_by-IsPermutation, length_permutation, IsPermutation-map}
 use Rattle.std.proofs.lemmas.Map.Keys.{IsDistinct-IsPermutation}
 use Rattle.std.proofs.lemmas.Map.Made.{AllPairs-from_IsDistinct, IsDistinct-from_AllPairs}
+use Rattle.cu_chordal.proofs.Members.{flips}
 use Rattle.cu_roads.specs.declared.places.Place.{Place}
 use Rattle.cu_dissect.specs.declared.halving.SortKey.{SortKey}
 use Rattle.cu_dissect.specs.Dissection.{goes_before, goes_first, place_of}
@@ -61,9 +62,6 @@ node_of_key places false u = refl
 nodes_of_keys : (places : List Place) (wide : Bool) (part : List ℕ) → map (λ (k : SortKey). k.node) (map (key_of places wide) part) ≡ part
 nodes_of_keys places wide [] = refl
 nodes_of_keys places wide (u ∷ part) = ap (λ (v : ℕ). v ∷ map (λ (k : SortKey). k.node) (map (key_of places wide) part)) (node_of_key places wide u) ∙ ap (λ (vs : List ℕ). u ∷ vs) (nodes_of_keys places wide part)
-
-pub flips : (x y : ℕ) → eqb x y ≡ eqb y x
-flips x y = grind (arith, nat_tests)
 
 -- the sorted keys of a part have different nodes
 different_nodes : (places : List Place) (wide : Bool) (part : List ℕ) (sorted : List SortKey) → AllPairs (λ u v. u < v) part → IsPermutation (map (key_of places wide) part) sorted

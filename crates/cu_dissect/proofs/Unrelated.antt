@@ -12,6 +12,7 @@ use Rattle.cu_chordal.specs.Edges.{Adjacent, IsClosureOf, PathBelow}
 use Rattle.cu_chordal.specs.Graphs.{ChordalValue, HasEdge, parent_of, up_of}
 use Rattle.cu_elimtree.specs.SweepArcs.{ancestors_in, parents_in}
 use Rattle.cu_elimtree.specs.Trees.{climb, flat}
+use Rattle.cu_elimtree.proofs.Climbing.{parent_there}
 use Rattle.cu_model.specs.Networks.{NetworkValue}
 use Rattle.cu_model.specs.Orders.{IsOrder, OrderValue}
 use Rattle.cu_dissect.specs.Apart.{IsUnrelated}
@@ -93,10 +94,6 @@ up_stays g o side top x y f at up =
       | inr above ↦ inr (omega (arith, above, up.0))
     ]
 
-parent_there : (o : Option (Option ℕ)) (p : ℕ) → flat o ≡ Some p → o ≡ Some (Some p)
-parent_there None p e = absurd (cc (e))
-parent_there (Some o) p e = ap Some e
-
 -- the parent of a rank is the first of its higher neighbours
 parent_read : (graph : ChordalValue) (x y : ℕ) → flat (slice_get (parents_in graph) x) ≡ Some y → slice_get (up_of graph.edges x) 0 ≡ Some y
 parent_read graph x y parent =
@@ -106,41 +103,43 @@ parent_read graph x y parent =
     let below : x < graph.ranks = omega (arith, within, long) in
     sym (get_or-map-range_with_len (parent_of graph.edges) 0 graph.ranks x x (Some y) below (omega arith)) ∙ get_or_from_slice_get (parents_in graph) x (Some y) (Some y) there
 
-parent_up : (g : NetworkValue) (o : OrderValue) (graph : ChordalValue) (x y : ℕ) → IsClosureOf g o graph → flat (slice_get (parents_in graph) x) ≡ Some y → IsUp g o x y
-parent_up g o graph x y f parent =
-    let edge : HasEdge graph.edges x y = edge_from_up_of graph.edges x y (member_at (up_of graph.edges x) y 0 (parent_read graph x y parent)) in
-    let exact = (f.edges.exact x y).0 edge in
-    up_from_edge g o x y exact.0 exact.1
+module _ (g : NetworkValue) (o : OrderValue) (graph : ChordalValue) where
+  parent_up : (x y : ℕ) → IsClosureOf g o graph → flat (slice_get (parents_in graph) x) ≡ Some y → IsUp g o x y
+  parent_up x y f parent =
+      let edge : HasEdge graph.edges x y = edge_from_up_of graph.edges x y (member_at (up_of graph.edges x) y 0 (parent_read graph x y parent)) in
+      let exact = (f.edges.exact x y).0 edge in
+      up_from_edge g o x y exact.0 exact.1
 
-climb_stays : (g : NetworkValue) (o : OrderValue) (graph : ChordalValue) (side : List ℕ) (top fuel : ℕ) (at : Option ℕ) (y : ℕ) → IsClosureOf g o graph → IsSide g o side top → ((x : ℕ) → at ≡ Some x → IsOnOrAbove o side top x)
-    → Contains (climb fuel (parents_in graph) at) y → IsOnOrAbove o side top y
-climb_stays g o graph side top zero at y f s start c = absurd (none_in_nil y c)
-climb_stays g o graph side top (suc fuel) None y f s start c = absurd (none_in_nil y c)
-climb_stays g o graph side top (suc fuel) (Some x) y f s start c =
-    let parents = parents_in graph in
-    elim (member_cases x (climb fuel parents (flat (slice_get parents x))) y c) [
-      | inl same ↦ subst (IsOnOrAbove o side top) same (start x refl)
-      | inr higher ↦ climb_stays g o graph side top fuel (flat (slice_get parents x)) y f s (λ p e. up_stays g o side top x p s (start x refl) (parent_up g o graph x p f e)) higher
-    ]
+  climb_stays : (side : List ℕ) (top fuel : ℕ) (at : Option ℕ) (y : ℕ) → IsClosureOf g o graph → IsSide g o side top → ((x : ℕ) → at ≡ Some x → IsOnOrAbove o side top x)
+      → Contains (climb fuel (parents_in graph) at) y → IsOnOrAbove o side top y
+  climb_stays side top zero at y f s start c = absurd (none_in_nil y c)
+  climb_stays side top (suc fuel) None y f s start c = absurd (none_in_nil y c)
+  climb_stays side top (suc fuel) (Some x) y f s start c =
+      let parents = parents_in graph in
+      elim (member_cases x (climb fuel parents (flat (slice_get parents x))) y c) [
+        | inl same ↦ subst (IsOnOrAbove o side top) same (start x refl)
+        | inr higher ↦ climb_stays side top fuel (flat (slice_get parents x)) y f s (λ p e. up_stays g o side top x p s (start x refl) (parent_up x p f e)) higher
+      ]
 
-ancestor_stays : (g : NetworkValue) (o : OrderValue) (graph : ChordalValue) (side : List ℕ) (top x y : ℕ) → IsClosureOf g o graph → IsSide g o side top → IsRankIn o side x → Contains (ancestors_in graph x) y → IsOnOrAbove o side top y
-ancestor_stays g o graph side top x y f s r c = climb_stays g o graph side top (length (parents_in graph)) (Some x) y f s (λ z e. inl (subst (IsRankIn o side) (same_Some x z e) r)) c
+  ancestor_stays : (side : List ℕ) (top x y : ℕ) → IsClosureOf g o graph → IsSide g o side top → IsRankIn o side x → Contains (ancestors_in graph x) y → IsOnOrAbove o side top y
+  ancestor_stays side top x y f s r c = climb_stays side top (length (parents_in graph)) (Some x) y f s (λ z e. inl (subst (IsRankIn o side) (same_Some x z e) r)) c
 
--- an ancestor of a rank of one side is no rank of the other
-no_ancestor : (g : NetworkValue) (o : OrderValue) (graph : ChordalValue) (side other : List ℕ) (top u v x y : ℕ) → IsOrder o → IsClosureOf g o graph → IsSide g o side top → IsSide g o other top → ((w : ℕ) → Contains side w → Contains other w → ⊥)
-    → Contains side u → Contains other v → slice_get o.rank_of u ≡ Some x → slice_get o.rank_of v ≡ Some y → Contains (ancestors_in graph x) y → ⊥
-no_ancestor g o graph side other top u v x y order f s t disjoint c d at_u at_v ancestor =
-    elim (ancestor_stays g o graph side top x y f s (u, c, at_u) ancestor) [
-      | inl r ↦ disjoint v (subst (Contains side) (one_node o order r.0 v y r.2 at_v) r.1) d
-      | inr above ↦ let below = t.below y (v, d, at_v) in absurd (omega (arith, above, below))
-    ]
+  -- an ancestor of a rank of one side is no rank of the other
+  no_ancestor : (side other : List ℕ) (top u v x y : ℕ) → IsOrder o → IsClosureOf g o graph → IsSide g o side top → IsSide g o other top
+      → ((w : ℕ) → Contains side w → Contains other w → ⊥) → Contains side u → Contains other v → slice_get o.rank_of u ≡ Some x → slice_get o.rank_of v ≡ Some y
+      → Contains (ancestors_in graph x) y → ⊥
+  no_ancestor side other top u v x y order f s t disjoint c d at_u at_v ancestor =
+      elim (ancestor_stays side top x y f s (u, c, at_u) ancestor) [
+        | inl r ↦ disjoint v (subst (Contains side) (one_node o order r.0 v y r.2 at_v) r.1) d
+        | inr above ↦ let below = t.below y (v, d, at_v) in absurd (omega (arith, above, below))
+      ]
 
-pub barred_unrelated : (g : NetworkValue) (o : OrderValue) (graph : ChordalValue) (split : SplitValue) → IsOrder o → IsClosureOf g o graph → IsBarred g o.node_at split → IsUnrelated graph o split
-barred_unrelated g o graph split order f b u v x y c d at_u at_v related =
-    let top : ℕ = length b.front in
-    let left : IsSide g o split.left top = side_of g o order b.front b.back split.left b.whole b.left_in b.left_out in
-    let right : IsSide g o split.right top = side_of g o order b.front b.back split.right b.whole b.right_in b.right_out in
-    elim related [
-      | inl up ↦ no_ancestor g o graph split.left split.right top u v x y order f left right b.disjoint c d at_u at_v up
-      | inr up ↦ no_ancestor g o graph split.right split.left top v u y x order f right left (λ w e h. b.disjoint w h e) d c at_v at_u up
-    ]
+  pub barred_unrelated : (split : SplitValue) → IsOrder o → IsClosureOf g o graph → IsBarred g o.node_at split → IsUnrelated graph o split
+  barred_unrelated split order f b u v x y c d at_u at_v related =
+      let top : ℕ = length b.front in
+      let left : IsSide g o split.left top = side_of g o order b.front b.back split.left b.whole b.left_in b.left_out in
+      let right : IsSide g o split.right top = side_of g o order b.front b.back split.right b.whole b.right_in b.right_out in
+      elim related [
+        | inl up ↦ no_ancestor split.left split.right top u v x y order f left right b.disjoint c d at_u at_v up
+        | inr up ↦ no_ancestor split.right split.left top v u y x order f right left (λ w e h. b.disjoint w h e) d c at_v at_u up
+      ]
