@@ -12,11 +12,7 @@ use Rattle.cu_interval.proofs.BuiltWalks.{built_least}
 use Rattle.cu_interval.proofs.SimpleWalks.{built_short}
 use Rattle.cu_interval.proofs.Unpacked.{unpacked-low}
 use Rattle.cu_unpack.specs.Answers.{IsLowAnswer, IsLowWhereBuilt}
-use Rattle.cu_unpack.proofs.Edges.{ends_range}
-
-ends_apart : (ends : Ends) (dir : Dir) → ends.low < ends.high → start_of ends dir ≢ end_of ends dir
-ends_apart ends Up lt = λ same. absurd (omega (arith, lt, same))
-ends_apart ends Down lt = λ same. absurd (omega (arith, lt, same))
+use Rattle.cu_unpack.proofs.Edges.{ends_apart, ends_range}
 
 start_below : (ends : Ends) (dir : Dir) (n : ℕ) → ends.low < ends.high → ends.high < n → start_of ends dir < n
 start_below ends Up n a b = omega (arith, a, b)

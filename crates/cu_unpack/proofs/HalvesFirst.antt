@@ -1,16 +1,12 @@
 -- Shortcuts that wait for a half, each of a higher edge than the next.
-use Rattle.std.proofs.Common.{◌≡◌, ◌≤◌, ◌<◌, ◌+◌, ◌*◌, ◌∙◌, ℕ, suc, List, [], ◌∷◌, ◌++◌, Some, refl, sym, ap, subst, arith, inl, inr, length, get_or, length-append}
-use Rattle.std.specs.Prelude.{All, slice_get}
+use Rattle.std.proofs.Common.{◌≡◌, ◌<◌, ◌+◌, ◌*◌, ◌∙◌, ℕ, suc, List, [], ◌∷◌, ◌++◌, Some, refl, sym, ap, subst, arith, inl, inr, length, get_or, length-append}
+use Rattle.std.specs.Prelude.{All}
 use Rattle.std.specs.List.{AllPairs}
-use Rattle.std.proofs.lemmas.Bool.{cases_eq, cases_lt}
 use Rattle.std.proofs.lemmas.List.{get_or_append_left}
 use Rattle.std.proofs.Math.Nat.{suc-mul}
 use Rattle.std.proofs.Math.Seq.{get_or-append_seam}
 use Rattle.std.proofs.lemmas.List.Elements.{All-pop, All-push}
 use Rattle.std.proofs.lemmas.List.Quantifiers.{all_pairs_push}
-use Rattle.std.proofs.lemmas.Option.{get_or_from_slice_get, slice_get_within}
-use Rattle.cu_chordal.specs.declared.graph.Ends.{Ends}
-use Rattle.cu_chordal.specs.Graphs.{ComesBefore, IsRising}
 use Rattle.cu_unpack.specs.declared.shortcuts.Shortcut.{Shortcut}
 use Rattle.cu_unpack.specs.Steps.Rebuilding.{Takes}
 
@@ -128,27 +124,3 @@ pub one_smaller : (IsOpen : Shortcut → Type 0) (edges many few : ℕ) (before 
     → few * edges + next_edge waiting shortcut < many * edges + next_edge before shortcut
 one_smaller IsOpen edges many few before waiting shortcut next is within fewer lt =
     one_fewer many few edges (next_edge before shortcut) (next_edge waiting shortcut) fewer (next_within IsOpen edges waiting shortcut within is.behind.missing lt)
-
-low_order : (a b : Ends) → ComesBefore a b → a.low ≤ b.low
-low_order a b (inl lt) = omega (arith, lt)
-low_order a b (inr same) = let low = same.0 in omega (arith, low)
-
--- an edge with a lower lower end has a lower number
-pub lower_first : (edges : List Ends) → IsRising edges → (i j : ℕ) (a b : Ends) → slice_get edges i ≡ Some a → slice_get edges j ≡ Some b → a.low < b.low → i < j
-lower_first edges rising i j a b at_i at_j lt =
-    elim (cases_lt i j) [
-      | inl less ↦ less
-      | inr from ↦ elim (cases_eq i j) [
-        | inl same ↦
-            let both : a ≡ b = cc (sym at_i ∙ ap (λ (k : ℕ). slice_get edges k) same ∙ at_j) in
-            let low = ap (λ (e : Ends). e.low) both in
-            absurd (omega (arith, lt, low))
-        | inr apart ↦
-            let less : j < i = omega (arith, from, apart) in
-            let order = rising j i a less (slice_get_within edges i a at_i) in
-            let first = get_or_from_slice_get edges i a a at_i in
-            let second = get_or_from_slice_get edges j b a at_j in
-            let low = low_order b a (subst (λ (e : Ends). ComesBefore e a) second (subst (λ (e : Ends). ComesBefore (get_or edges j a) e) first order)) in
-            absurd (omega (arith, lt, low))
-      ]
-    ]

@@ -1,5 +1,5 @@
 -- Functions by the number of their list, as one more is kept.
-use Rattle.std.proofs.Common.{◌≡◌, ◌≢◌, ◌<◌, ◌+◌, ◌*◌, ◌∙◌, ℕ, List, Option, Some, None, refl, sym, ap, subst, arith, inl, inr, length, get_or}
+use Rattle.std.proofs.Common.{◌≡◌, ◌≢◌, ◌<◌, ◌+◌, ◌∙◌, ℕ, List, Option, Some, None, refl, sym, ap, subst, arith, inl, inr, length, get_or}
 use Rattle.std.specs.Prelude.{slice_get, slice_set, sum_by}
 use Rattle.std.proofs.lemmas.Bool.{cases_eq}
 use Rattle.std.proofs.lemmas.List.{length-set}
@@ -9,6 +9,7 @@ use Rattle.cu_arrival.specs.declared.runs.Run.{Run}
 use Rattle.cu_interval.specs.declared.ways.Dir.{Dir}
 use Rattle.cu_interval.specs.declared.ways.Dir.TheVariants.{Up, Down}
 use Rattle.cu_interval.specs.Hierarchies.{HierarchyValue, list_number}
+use Rattle.cu_customize.proofs.Keeping.{number_within}
 use Rattle.cu_unpack.specs.declared.shortcuts.Shortcut.{Shortcut}
 use Rattle.cu_unpack.specs.Rebuilds.{IsRebuiltFunction}
 use Rattle.cu_unpack.specs.Steps.Rebuilding.{AreKept, IsKept, IsMissing, KeepsOne, number_of}
@@ -22,15 +23,8 @@ list_number-same a b Up Down same = absurd (omega (arith, same))
 list_number-same a b Down Up same = absurd (omega (arith, same))
 
 -- a shortcut's list has a place among those of all edges
-pub number_within : (edges : ℕ) (shortcut : Shortcut) → shortcut.edge < edges → number_of shortcut < 2 * edges
-number_within edges shortcut lt = by_dir shortcut.dir
-  where
-    by_dir : (dir : Dir) → list_number shortcut.edge dir < 2 * edges
-    by_dir Up = omega (arith, lt)
-    by_dir Down = omega (arith, lt)
-
 pub number_there : (h : HierarchyValue) (kept : List (Option (List Run))) (shortcut : Shortcut) → AreKept h kept → shortcut.edge < length h.edges → number_of shortcut < length kept
-number_there h kept shortcut are lt = let within = number_within (length h.edges) shortcut lt in omega (arith, within, are.0)
+number_there h kept shortcut are lt = let within = number_within shortcut.edge (length h.edges) shortcut.dir lt in omega (arith, within, are.0)
 
 one_more : (h : HierarchyValue) (kept : List (Option (List Run))) (shortcut : Shortcut) (runs : List Run) → shortcut.edge < length h.edges → AreKept h kept
     → IsRebuiltFunction h shortcut.edge shortcut.dir (Some runs) → AreKept h (slice_set kept (number_of shortcut) (Some runs))

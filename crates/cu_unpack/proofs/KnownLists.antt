@@ -6,21 +6,22 @@ use Rattle.std.proofs.lemmas.List.{length-set}
 use Rattle.std.proofs.lemmas.List.Sums.{sum_by-set}
 use Rattle.std.proofs.lemmas.Option.{slice_get-get_or}
 use Rattle.cu_arrival.specs.declared.runs.Run.{Run}
+use Rattle.cu_customize.proofs.Keeping.{number_within}
 use Rattle.cu_interval.specs.declared.ways.Dir.{Dir}
 use Rattle.cu_interval.specs.Hierarchies.{HierarchyValue, list_number}
 use Rattle.cu_unpack.specs.declared.shortcuts.Shortcut.{Shortcut}
 use Rattle.cu_unpack.specs.RebuiltWords.{IsLearned, IsNeeded, IsSameList, IsSized, KeepsWords, Learns, WordsValue}
 use Rattle.cu_unpack.specs.Steps.Rebuilding.{HasWays, number_of}
 use Rattle.cu_unpack.specs.Steps.WordRebuilding.{HasWords, IsKnown, IsUnknown, LearnsOne}
-use Rattle.cu_unpack.proofs.KeptFunctions.{list_number-same, number_within}
+use Rattle.cu_unpack.proofs.KeptFunctions.{list_number-same}
 use Rattle.cu_unpack.proofs.Writes.{set_here, set_other}
 
 -- a shortcut's list has a place
 pub known_within : (edges : ℕ) (value : WordsValue) (shortcut : Shortcut) → IsSized edges value → shortcut.edge < edges → number_of shortcut < length value.known
-known_within edges value shortcut size lt = let within = number_within edges shortcut lt in omega (arith, within, size.known)
+known_within edges value shortcut size lt = let within = number_within shortcut.edge edges shortcut.dir lt in omega (arith, within, size.known)
 
 pub function_within : (edges : ℕ) (value : WordsValue) (shortcut : Shortcut) → IsSized edges value → shortcut.edge < edges → number_of shortcut < length value.functions
-function_within edges value shortcut size lt = let within = number_within edges shortcut lt in omega (arith, within, size.functions)
+function_within edges value shortcut size lt = let within = number_within shortcut.edge edges shortcut.dir lt in omega (arith, within, size.functions)
 
 -- a shortcut with a way that is known has a function
 pub known_words : (h : HierarchyValue) (asked : ℕ) (value : WordsValue) → IsSized (length h.edges) value → KeepsWords h (IsNeeded h.edges asked) value → (shortcut : Shortcut) → HasWays h shortcut

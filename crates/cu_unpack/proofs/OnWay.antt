@@ -1,20 +1,17 @@
 -- An unpacking under way: what was driven and what is left are the walk of the shortcut.
-use Rattle.std.proofs.Common.{◌≡◌, ◌≢◌, ◌≤◌, ◌<◌, ◌+◌, ◌*◌, ◌^◌, ◌∙◌, ◌⊎◌, ℕ, List, [], ◌∷◌, ◌++◌, Option, Some, None, true, false, ltb, refl, sym, ap, subst, arith, inl, inr, length, min, append_assoc, length-append}
+use Rattle.std.proofs.Common.{◌≡◌, ◌≢◌, ◌≤◌, ◌<◌, ◌+◌, ◌*◌, ◌^◌, ◌∙◌, ◌⊎◌, ℕ, List, [], ◌∷◌, ◌++◌, Option, Some, None, true, false, ltb, refl, sym, ap, subst, arith, inl, inr, length, append_assoc, length-append}
 use Rattle.std.proofs.lemmas.List.{append-nil, length_push}
 use Rattle.std.proofs.lemmas.Option.{slice_get-get_or}
 use Rattle.std.specs.Prelude.{slice_get}
 use Rattle.cu_model.specs.declared.limits.TheConstants.{MAX_UNTIL}
 use Rattle.cu_model.specs.Networks.{NetworkValue}
-use Rattle.cu_model.specs.Orders.{OrderValue}
 use Rattle.cu_model.specs.Roads.{arc_value, drive}
 use Rattle.cu_model.proofs.RoadLaws.{drive-append}
 use Rattle.cu_chordal.specs.declared.graph.Ends.{Ends}
 use Rattle.cu_interval.specs.declared.ways.Dir.{Dir}
-use Rattle.cu_interval.specs.declared.ways.Dir.TheVariants.{Up, Down}
 use Rattle.cu_interval.specs.declared.ways.Entry.{Entry}
 use Rattle.cu_interval.specs.declared.relaxing.Relaxed.{Relaxed}
 use Rattle.cu_interval.specs.declared.relaxing.Relaxed.TheVariants.{At, NoWay, Long}
-use Rattle.cu_interval.specs.Low.{IsLowWalk}
 use Rattle.cu_interval.specs.Hierarchies.{HierarchyValue, IsHierarchy, start_of, end_of, list_from}
 use Rattle.cu_interval.specs.Unpacking.{answer_by, relaxed, relaxed_ends, relaxed_from, unpacked_walk}
 use Rattle.cu_interval.proofs.Unpacked.{unpacked-low}
@@ -22,7 +19,7 @@ use Rattle.cu_unpack.specs.declared.unpacking.Driven.{Driven}
 use Rattle.cu_unpack.specs.declared.unpacking.Spot.{Spot}
 use Rattle.cu_unpack.specs.Answers.{IsArriving, walk_between, walk_over}
 use Rattle.cu_unpack.specs.Steps.Legs.{Leg, DrivesOn, HasWay, IsAt, IsLeft, IsLegOf, IsSomewhere, IsUnderWay, walk_on}
-use Rattle.cu_unpack.proofs.Edges.{ends_range}
+use Rattle.cu_unpack.proofs.Edges.{ends_apart, ends_range, low_some, min_ends}
 use Rattle.cu_unpack.proofs.Waiting.{waiting_count}
 
 -- so many roads less one of the walk of an edge were driven, and so many look-ups counted
@@ -48,10 +45,6 @@ walk_by h edge dir t leg (ends, at, from, to) =
     ap (λ (o : Option Ends). walk_between h o dir t) at
     ∙ ap (λ (u : ℕ). unpacked_walk h u (end_of ends dir) t) (sym from)
     ∙ ap (λ (v : ℕ). unpacked_walk h leg.from v t) (sym to)
-
-min_ends : (ends : Ends) (dir : Dir) → ends.low < ends.high → min (start_of ends dir) (end_of ends dir) ≡ ends.low
-min_ends ends Up lt = omega (arith, lt)
-min_ends ends Down lt = omega (arith, lt)
 
 pub edge_at : (xs : List Ends) (i : ℕ) → i < length xs → (ends : Ends) × (slice_get xs i ≡ Some ends)
 edge_at xs i lt = let e = slice_get-get_or xs i (record { low = 0; high = 0 }) lt in (_, e)
@@ -189,11 +182,12 @@ on_way_none {h} {k} {edge} {dir} {at} {pending} {spot} {before} {now} {after} {n
     let (empty, one) = subst (WillDrive h pending spot moved now after) none (drives_in pending moved spot now after o stays drives) w.leg w.legs w.place in
     none_by h edge dir at w.start w.leg w.legs w.done before now after w.first w.under.ways empty one w.steps
 
-answer_at : (h : HierarchyValue) (es : List Entry) (walk : List ℕ) (t : ℕ) → es ≢ [] → length walk < h.network.nodes → answer_by h es walk t ≡ At (drive h.network walk t)
+-- the answer of a list with a way, by how long the walk is
+pub answer_at : (h : HierarchyValue) (es : List Entry) (walk : List ℕ) (t : ℕ) → es ≢ [] → length walk < h.network.nodes → answer_by h es walk t ≡ At (drive h.network walk t)
 answer_at h [] walk t some lt = absurd (some refl)
 answer_at h (x ∷ es) walk t some lt = let short : ltb (length walk) h.network.nodes ≡ true = grind (arith, lt) in rw short refl
 
-answer_long : (h : HierarchyValue) (es : List Entry) (walk : List ℕ) (t : ℕ) → es ≢ [] → h.network.nodes ≤ length walk → answer_by h es walk t ≡ Long
+pub answer_long : (h : HierarchyValue) (es : List Entry) (walk : List ℕ) (t : ℕ) → es ≢ [] → h.network.nodes ≤ length walk → answer_by h es walk t ≡ Long
 answer_long h [] walk t some le = absurd (some refl)
 answer_long h (x ∷ es) walk t some le = let long : ltb (length walk) h.network.nodes ≡ false = grind (arith, le) in rw long refl
 
@@ -235,14 +229,6 @@ on_way_last {h} {k} {edge} {dir} {at} {pending} {spot} {before} {now} {after} {n
       near = omega (arith, e2, near, count, short, few);
       steps = omega (arith, steps, before_, same_, long);
     }
-
-low_some : (g : NetworkValue) (o : OrderValue) (u : ℕ) (walk : List ℕ) (v : ℕ) → IsLowWalk g o u walk v → 0 < length walk
-low_some g o u [] v l = absurd l.1
-low_some g o u (a ∷ walk) v l = omega arith
-
-ends_apart : (ends : Ends) (dir : Dir) → ends.low < ends.high → start_of ends dir ≢ end_of ends dir
-ends_apart ends Up lt = λ same. absurd (omega (arith, lt, same))
-ends_apart ends Down lt = λ same. absurd (omega (arith, lt, same))
 
 -- a leg with a way has a road
 leg_some : (h : HierarchyValue) → IsHierarchy h → (pending : List ℕ) (spot : Spot) (leg : Leg) (legs : List Leg) (t : ℕ)

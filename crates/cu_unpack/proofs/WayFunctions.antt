@@ -21,6 +21,7 @@ use Rattle.cu_interval.proofs.Rebuilding.{rebuilt-fuel}
 use Rattle.cu_unpack.specs.declared.shortcuts.Shortcut.{Shortcut}
 use Rattle.cu_unpack.specs.Rebuilds.{IsRebuiltFunction, Keeps}
 use Rattle.cu_unpack.specs.Steps.Rebuilding.{AreHalves, AreKept, HasValues, IsAmong, IsEarlier, IsLeastOf, IsWayFunction, IsWayOf, number_of, value_in, way_value, ways_of}
+use Rattle.cu_unpack.proofs.Edges.{same_ends}
 
 pub road_function : (h : HierarchyValue) (shortcut : Shortcut) (road : ℕ) (runs : List Run) → ((t : ℕ) → arrival_value runs t ≡ arc_value h.network road t)
     → IsWayFunction h shortcut (Road road) runs
@@ -51,9 +52,6 @@ kept_up : (h : HierarchyValue) (kept : List (Option (List Run))) → Keeps h (re
     → (t : ℕ) → rebuilt h m v t ≡ Some (arrival_value runs t)
 kept_up h kept keeps edge m v Up runs e up at = (keeps edge Up runs e).2 (record { low = m; high = v }) at
 kept_up h kept keeps edge m v Down runs e up at = absurd (cc up)
-
-pub same_ends : (edges : List Ends) (edge : ℕ) (a b : Ends) → slice_get edges edge ≡ Some a → slice_get edges edge ≡ Some b → a ≡ b
-same_ends edges edge a b p q = cc (p, q)
 
 -- the function of a way by a middle
 pub via_function : (h : HierarchyValue) → IsHierarchy h → (kept : List (Option (List Run))) → AreKept h kept → (whole first second : Shortcut) (m : ℕ)

@@ -1,5 +1,5 @@
 -- Ways as words: when they arrive, that words can say it, and what a merger holds of the first ways of a list.
-use Rattle.std.proofs.Common.{◌≡◌, ◌≢◌, ◌≤◌, ◌<◌, ◌+◌, ◌^◌, ◌∙◌, ℕ, zero, suc, List, [], ◌∷◌, ◌++◌, Option, Some, refl, sym, ap, subst, arith, length, min, take, get_or}
+use Rattle.std.proofs.Common.{◌≡◌, ◌≢◌, ◌≤◌, ◌<◌, ◌+◌, ◌^◌, ◌∙◌, ◌-◌, ℕ, zero, suc, List, [], ◌∷◌, ◌++◌, Option, Some, refl, sym, ap, subst, arith, length, min, take, get_or}
 use Rattle.std.specs.Prelude.{slice_get}
 use Rattle.std.proofs.lemmas.Option.{slice_get-get_or}
 use Rattle.cu_model.specs.Days.{day, IsOnward}
@@ -14,6 +14,7 @@ use Rattle.cu_arrival.specs.Runs.{arrival_value}
 use Rattle.cu_arrival.specs.Steps.Stretches.{arrives}
 use Rattle.cu_customize.specs.declared.words.TheConstants.{MAX_NUMBER}
 use Rattle.cu_customize.specs.Least.{Held, least_arrival}
+use Rattle.cu_customize.specs.Settling.{TakeLonger}
 use Rattle.cu_customize.specs.Travels.{TakesAtMost}
 use Rattle.cu_customize.specs.Words.{IsFunctionWords, composed}
 use Rattle.cu_customize.proofs.DayLists.{repeats}
@@ -23,16 +24,17 @@ use Rattle.cu_interval.specs.declared.ways.Dir.{Dir}
 use Rattle.cu_interval.specs.declared.ways.Dir.TheVariants.{Up, Down}
 use Rattle.cu_interval.specs.declared.ways.Entry.{Entry}
 use Rattle.cu_interval.specs.declared.ways.Way.TheVariants.{Road, Via}
-use Rattle.cu_interval.specs.Hierarchies.{HierarchyValue, IsHierarchy, IsWellFormed, start_of, end_of}
+use Rattle.cu_interval.specs.Hierarchies.{HierarchyValue, IsHierarchy, IsWellFormed, list_number, start_of, end_of}
 use Rattle.cu_interval.specs.Resettling.{least_in, lesser_of, rebuilt}
 use Rattle.cu_unpack.specs.declared.shortcuts.Shortcut.{Shortcut}
-use Rattle.cu_unpack.specs.RebuiltWords.{IsNeeded, IsRebuiltWords, IsSized, KeepsWords, WordsValue}
+use Rattle.cu_unpack.specs.RebuiltWords.{IsFarWay, IsKnownList, IsNeeded, IsRebuiltWords, IsSized, KeepsWords, WordsValue}
 use Rattle.cu_unpack.specs.Steps.Rebuilding.{AreHalves, HasHalves, HasValues, IsAmong, IsWayOf, number_of, way_value, ways_of}
 use Rattle.cu_unpack.specs.Steps.WordRebuilding.{Adds, AddsWay, HasWords, HoldsLeast, IsInTime, IsKnown, IsLeastWords, IsStay}
+use Rattle.cu_unpack.proofs.Edges.{same_ends}
 use Rattle.cu_unpack.proofs.HalfEdges.{halves_lower, halves_sides}
 use Rattle.cu_unpack.proofs.KnownLists.{known_words}
 use Rattle.cu_unpack.proofs.Learning.{needs_itself, needs_side}
-use Rattle.cu_unpack.proofs.WayFunctions.{least_in-again, least_in-more, lesser_of-none, same_ends, values_rebuilt, via_value}
+use Rattle.cu_unpack.proofs.WayFunctions.{least_in-again, least_in-more, lesser_of-none, values_rebuilt, via_value}
 
 -- a run that takes no time is that of staying
 pub stays : (rule : RunRule) (words : List Run) → rule ≡ Shift 0 → IsFunctionWords words → ((t : ℕ) → t < day → arrival_value words t ≡ arrives rule t) → IsStay words
@@ -120,55 +122,75 @@ module _ (h : HierarchyValue) (f : IsHierarchy h) (value : WordsValue) (size : I
         by ∙ ap Some small,
   )
 
--- one more way is held
-pub holds_more : (h : HierarchyValue) (shortcut : Shortcut) (entries : List Entry) (entry : Entry) (before now : List Held) → HoldsLeast h shortcut entries before
-    → AddsWay h shortcut entry.way before now → HoldsLeast h shortcut (entries ++ entry ∷ []) now
-holds_more h shortcut [] entry before now held (value, adds, is) = λ ends at t lt.
-    let (near, least) = adds t lt in
-    let none = held t lt in
-    let now_is : least_arrival now t ≡ value t = omega (arith, near.1, least, none) in (
-      lesser_of-none (way_value h (start_of ends shortcut.dir) (end_of ends shortcut.dir) t entry.way) ∙ is ends at t lt ∙ ap Some (sym now_is),
-      (omega (arith, near.0, now_is), omega (arith, near.1, now_is)),
-    )
-holds_more h shortcut (e ∷ entries) entry before now held (value, adds, is) = λ ends at t lt.
-    let (near, least) = adds t lt in
-    let (old, old_near) = held ends at t lt in
-    let ways = way_value h (start_of ends shortcut.dir) (end_of ends shortcut.dir) t in (
-      least_in-more ways (e ∷ entries) entry ∙ ap (λ (o : Option ℕ). lesser_of o (ways entry.way)) old ∙ ap (λ (o : Option ℕ). lesser_of (Some (least_arrival before t)) o) (is ends at t lt)
-          ∙ ap Some (sym least),
-      (omega (arith, near.0, old_near.0, least), omega (arith, near.1, least)),
-    )
+  -- where both take long it is a far way
+  pub far_via : (to on : List Run) → slice_get value.functions (number_of first) ≡ Some (Some to) → slice_get value.functions (number_of second) ≡ Some (Some on)
+      → TakeLonger (MAX_NUMBER - day) (Some (arrival_value to)) (Some (arrival_value on)) → IsFarWay h value whole.edge whole.dir (Via m)
+  far_via to on to_at on_at longer =
+      let first_at : slice_get value.functions (list_number first.edge Down) ≡ Some (Some to) = subst (λ (d : Dir). slice_get value.functions (list_number first.edge d) ≡ Some (Some to)) halves.down to_at in
+      let second_at : slice_get value.functions (list_number second.edge Up) ≡ Some (Some on) = subst (λ (d : Dir). slice_get value.functions (list_number second.edge d) ≡ Some (Some on)) halves.up on_at in
+      let both = known first second halves in
+      record {
+        ends = halves.ends;
+        at = halves.at;
+        first = first.edge;
+        to = halves.to;
+        first_known = subst (λ (d : Dir). IsKnownList value (list_number first.edge d)) halves.down both.0;
+        second = second.edge;
+        onward = halves.onward;
+        second_known = subst (λ (d : Dir). IsKnownList value (list_number second.edge d)) halves.up both.1;
+        longer = rw (first_at, second_at) longer;
+      }
 
-holds_once : (h : HierarchyValue) (shortcut : Shortcut) (entries : List Entry) (j : ℕ) (again : Entry) (held : List Held) → slice_get entries j ≡ Some again
-    → IsAmong entries j again.way → HoldsLeast h shortcut (take j entries) held → HoldsLeast h shortcut (take (suc j) entries) held
-holds_once h shortcut [] j again held later among is = absurd (cc later)
-holds_once h shortcut (e ∷ entries) zero again held later (i, first, lt, there, same) is = absurd (omega (arith, lt))
-holds_once h shortcut (e ∷ entries) (suc j) again held later (i, first, lt, there, same) is = λ ends at t within.
-    let (old, near) = is ends at t within in (
-      least_in-again (way_value h (start_of ends shortcut.dir) (end_of ends shortcut.dir) t) (e ∷ entries) i (suc j) first again lt there later same ∙ old,
-      near,
-    )
+module _ (h : HierarchyValue) (shortcut : Shortcut) where
+  -- one more way is held
+  pub holds_more : (entries : List Entry) (entry : Entry) (before now : List Held) → HoldsLeast h shortcut entries before
+      → AddsWay h shortcut entry.way before now → HoldsLeast h shortcut (entries ++ entry ∷ []) now
+  holds_more [] entry before now held (value, adds, is) = λ ends at t lt.
+      let (near, least) = adds t lt in
+      let none = held t lt in
+      let now_is : least_arrival now t ≡ value t = omega (arith, near.1, least, none) in (
+        lesser_of-none (way_value h (start_of ends shortcut.dir) (end_of ends shortcut.dir) t entry.way) ∙ is ends at t lt ∙ ap Some (sym now_is),
+        (omega (arith, near.0, now_is), omega (arith, near.1, now_is)),
+      )
+  holds_more (e ∷ entries) entry before now held (value, adds, is) = λ ends at t lt.
+      let (near, least) = adds t lt in
+      let (old, old_near) = held ends at t lt in
+      let ways = way_value h (start_of ends shortcut.dir) (end_of ends shortcut.dir) t in (
+        least_in-more ways (e ∷ entries) entry ∙ ap (λ (o : Option ℕ). lesser_of o (ways entry.way)) old ∙ ap (λ (o : Option ℕ). lesser_of (Some (least_arrival before t)) o) (is ends at t lt)
+            ∙ ap Some (sym least),
+        (omega (arith, near.0, old_near.0, least), omega (arith, near.1, least)),
+      )
 
--- and so is one that was there already
-pub holds_again : (h : HierarchyValue) (shortcut : Shortcut) (entries : List Entry) (j : ℕ) (again : Entry) (held : List Held) → slice_get entries j ≡ Some again
-    → IsAmong entries j again.way → HoldsLeast h shortcut (take j entries) held → HoldsLeast h shortcut (take (j + 1) entries) held
-holds_again h shortcut entries j again held later among is =
-    let next : suc j ≡ j + 1 = omega arith in
-    subst (λ (n : ℕ). HoldsLeast h shortcut (take n entries) held) next (holds_once h shortcut entries j again held later among is)
+  holds_once : (entries : List Entry) (j : ℕ) (again : Entry) (held : List Held) → slice_get entries j ≡ Some again
+      → IsAmong entries j again.way → HoldsLeast h shortcut (take j entries) held → HoldsLeast h shortcut (take (suc j) entries) held
+  holds_once [] j again held later among is = absurd (cc later)
+  holds_once (e ∷ entries) zero again held later (i, first, lt, there, same) is = absurd (omega (arith, lt))
+  holds_once (e ∷ entries) (suc j) again held later (i, first, lt, there, same) is = λ ends at t within.
+      let (old, near) = is ends at t within in (
+        least_in-again (way_value h (start_of ends shortcut.dir) (end_of ends shortcut.dir) t) (e ∷ entries) i (suc j) first again lt there later same ∙ old,
+        near,
+      )
 
--- what is held of some ways is in time
-pub held_in_time : (h : HierarchyValue) (shortcut : Shortcut) (entries : List Entry) (held : List Held) → shortcut.edge < length h.edges → entries ≢ [] → HoldsLeast h shortcut entries held
-    → (t : ℕ) → t < day → IsInTime t (least_arrival held t)
-held_in_time h shortcut [] held lt some is t within = absurd (some refl)
-held_in_time h shortcut (e ∷ entries) held lt some is t within =
-    let none : Ends = record { low = 0; high = 0 } in
-    (is (get_or h.edges shortcut.edge none) (slice_get-get_or h.edges shortcut.edge none lt) t within).1
+  -- and so is one that was there already
+  pub holds_again : (entries : List Entry) (j : ℕ) (again : Entry) (held : List Held) → slice_get entries j ≡ Some again
+      → IsAmong entries j again.way → HoldsLeast h shortcut (take j entries) held → HoldsLeast h shortcut (take (j + 1) entries) held
+  holds_again entries j again held later among is =
+      let next : suc j ≡ j + 1 = omega arith in
+      subst (λ (n : ℕ). HoldsLeast h shortcut (take n entries) held) next (holds_once entries j again held later among is)
 
-held_values : (h : HierarchyValue) (shortcut : Shortcut) (entries : List Entry) (held : List Held) (words : List Run) → entries ≢ [] → HoldsLeast h shortcut entries held
-    → ((t : ℕ) → t < day → arrival_value words t ≡ least_arrival held t) → (ends : Ends) → slice_get h.edges shortcut.edge ≡ Some ends
-    → HasValues words (λ t. least_in (way_value h (start_of ends shortcut.dir) (end_of ends shortcut.dir) t) entries)
-held_values h shortcut [] held words some is value ends at t lt = absurd (some refl)
-held_values h shortcut (e ∷ entries) held words some is value ends at t lt = (is ends at t lt).0 ∙ ap Some (sym (value t lt))
+  -- what is held of some ways is in time
+  pub held_in_time : (entries : List Entry) (held : List Held) → shortcut.edge < length h.edges → entries ≢ [] → HoldsLeast h shortcut entries held
+      → (t : ℕ) → t < day → IsInTime t (least_arrival held t)
+  held_in_time [] held lt some is t within = absurd (some refl)
+  held_in_time (e ∷ entries) held lt some is t within =
+      let none : Ends = record { low = 0; high = 0 } in
+      (is (get_or h.edges shortcut.edge none) (slice_get-get_or h.edges shortcut.edge none lt) t within).1
+
+  held_values : (entries : List Entry) (held : List Held) (words : List Run) → entries ≢ [] → HoldsLeast h shortcut entries held
+      → ((t : ℕ) → t < day → arrival_value words t ≡ least_arrival held t) → (ends : Ends) → slice_get h.edges shortcut.edge ≡ Some ends
+      → HasValues words (λ t. least_in (way_value h (start_of ends shortcut.dir) (end_of ends shortcut.dir) t) entries)
+  held_values [] held words some is value ends at t lt = absurd (some refl)
+  held_values (e ∷ entries) held words some is value ends at t lt = (is ends at t lt).0 ∙ ap Some (sym (value t lt))
 
 -- the least of all ways of a shortcut is its function
 pub held_rebuilt : (h : HierarchyValue) → IsHierarchy h → (shortcut : Shortcut) (held : List Held) (words : List Run) → ways_of h shortcut ≢ [] → HoldsLeast h shortcut (ways_of h shortcut) held

@@ -1,11 +1,19 @@
 -- Functions of lists as words: which lists are known, with which function, and what may be asked for on the way to one.
-use Rattle.std.specs.Prelude.{ℕ, List, [], ◌∷◌, Bool, true, Option, Some, None, ◌≡◌, ◌≢◌, ◌*◌, ◌⊎◌, length, slice_get, slice_set}
-use Rattle.cu_model.specs.Days.{IsOnward}
+use Rattle.std.specs.Prelude.{ℕ, List, [], ◌∷◌, Bool, true, Option, Some, None, ◌≡◌, ◌≢◌, ◌-◌, ◌*◌, ◌⊎◌, length, slice_get, slice_set}
+use Rattle.std.specs.List.{Contains}
+use Rattle.cu_model.specs.Days.{day, IsOnward}
 use Rattle.cu_arrival.specs.declared.runs.Run.{Run}
 use Rattle.cu_arrival.specs.Runs.{arrival_value}
 use Rattle.cu_chordal.specs.declared.graph.Ends.{Ends}
+use Rattle.cu_customize.specs.declared.words.TheConstants.{MAX_NUMBER}
+use Rattle.cu_customize.specs.Functions.{value_kept}
+use Rattle.cu_customize.specs.Settling.{TakeLonger}
 use Rattle.cu_customize.specs.Words.{IsFunctionWords}
 use Rattle.cu_interval.specs.declared.ways.Dir.{Dir}
+use Rattle.cu_interval.specs.declared.ways.Dir.TheVariants.{Up, Down}
+use Rattle.cu_interval.specs.declared.ways.Entry.{Entry}
+use Rattle.cu_interval.specs.declared.ways.Way.{Way}
+use Rattle.cu_interval.specs.declared.ways.Way.TheVariants.{Road, Via}
 use Rattle.cu_interval.specs.Hierarchies.{HierarchyValue, list_number, list_of, start_of, end_of}
 use Rattle.cu_interval.specs.Resettling.{rebuilt}
 
@@ -81,3 +89,32 @@ pub record IsLearned (h : HierarchyValue) (asked edge : ℕ) (dir : Dir) (before
 -- so it is with each list that isn't as it was
 abbrev pub Learns : HierarchyValue → ℕ → WordsValue → WordsValue → Type 0
 Learns h asked before now = (edge : ℕ) (dir : Dir) → IsSameList before now (list_number edge dir) ⊎ IsLearned h asked edge dir before now
+
+-- the function of the list of an edge in a direction, none where it has none
+abbrev pub function_at : WordsValue → ℕ → Dir → Option (ℕ → ℕ)
+function_at value edge dir = value_kept (slice_get value.functions (list_number edge dir))
+
+-- the halves of an edge in a direction at a middle are known, and take so long that, with a day more, words can't say it
+pub record HasFarHalves (h : HierarchyValue) (value : WordsValue) (edge : ℕ) (dir : Dir) (middle : ℕ) : Type 0 where
+  pub ends : Ends
+  pub at : slice_get h.edges edge ≡ Some ends
+  pub first : ℕ
+  pub to : slice_get h.edges first ≡ Some (record { low = middle; high = start_of ends dir })
+  pub first_known : IsKnownList value (list_number first Down)
+  pub second : ℕ
+  pub onward : slice_get h.edges second ≡ Some (record { low = middle; high = end_of ends dir })
+  pub second_known : IsKnownList value (list_number second Up)
+  pub longer : TakeLonger (MAX_NUMBER - day) (function_at value first Down) (function_at value second Up)
+
+-- a way is by such a middle
+abbrev pub IsFarWay : HierarchyValue → WordsValue → ℕ → Dir → Way → Type 0
+IsFarWay h value edge dir (Road a) = ⊥
+IsFarWay h value edge dir (Via middle) = HasFarHalves h value edge dir middle
+
+-- some way of the list of an edge in a direction is
+abbrev pub IsFarList : HierarchyValue → WordsValue → ℕ → Dir → Type 0
+IsFarList h value edge dir = (entry : Entry) × Contains (list_of h edge dir) entry × IsFarWay h value edge dir entry.way
+
+-- some way of some list that an edge needs is
+abbrev pub NeedsFarList : HierarchyValue → ℕ → WordsValue → Type 0
+NeedsFarList h asked value = (edge : ℕ) × (dir : Dir) × IsNeeded h.edges asked edge × IsFarList h value edge dir

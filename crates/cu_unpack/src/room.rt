@@ -1,11 +1,13 @@
 //! Merging the ways of one list after the other as words, in room that is used again.
 
-ghost use Rattle.std.specs.Prelude.{◌≡◌, ◌≤◌, ◌<◌, ◌↔◌, ℕ, IfOk, IsTrue, false, length, true};
+ghost use Rattle.std.specs.Prelude.{◌≡◌, ◌<◌, ◌-◌, ℕ, IfOk, IsTrue, Some, false, length, true};
 ghost use Rattle.cu_model.specs.Days.{day};
 ghost use Rattle.cu_model.specs.Roads.{arc_value, is_closed_arc};
+ghost use Rattle.cu_arrival.specs.Runs.{arrival_value};
 ghost use Rattle.cu_customize.specs.declared.merging.TheConstants.{MOST};
 ghost use Rattle.cu_customize.specs.declared.words.TheConstants.{MAX_NUMBER};
 ghost use Rattle.cu_customize.specs.Least.{least_arrival};
+ghost use Rattle.cu_customize.specs.Settling.{TakeLonger};
 ghost use Rattle.cu_customize.specs.Words.{composed};
 ghost use Rattle.cu_interval.specs.Hierarchies.{IsHierarchy};
 ghost use Rattle.cu_unpack.specs.Steps.WordRebuilding.{Adds, IsInTime, IsLeastWords};
@@ -69,11 +71,13 @@ impl Room {
         Ok(())
     }
 
-    /// Adds a way by a middle: along a first function and, from where it arrives, along a second. False where it takes longer
-    /// than words can say.
+    /// Adds a way by a middle: along a first function and, from where it arrives, along a second. False where they take so
+    /// long that, with a day more, words can't say it.
     pub fn add_both(&mut self, first: &DayFunction, second: &DayFunction) -> Result<bool, NoMemory>
-        ensures { IfOk result (λ is_near. is_near ≡ true →
+        ensures adds { IfOk result (λ is_near. is_near ≡ true →
             Adds (composed first.now second.now) self.old self.new) }
+        ensures far { IfOk result (λ is_near. is_near ≡ false → TakeLonger (MAX_NUMBER - day)
+            (Some (arrival_value first.now)) (Some (arrival_value second.now))) }
     {
         if !is_near(first, second) {
             return Ok(false);
@@ -94,7 +98,10 @@ impl Room {
 
 // Whether words can say how long both functions take, one after the other.
 fn is_near(first: &DayFunction, second: &DayFunction) -> bool
-    ensures { IsTrue result → (t : ℕ) → t < day → IsInTime t (composed first.now second.now t) }
+    ensures near { IsTrue result →
+        (t : ℕ) → t < day → IsInTime t (composed first.now second.now t) }
+    ensures far { result ≡ false → TakeLonger (MAX_NUMBER - day)
+        (Some (arrival_value first.now)) (Some (arrival_value second.now)) }
 {
     first.most().saturating_add(second.most()) <= MOST_TOGETHER
 }

@@ -4,7 +4,7 @@ ghost use Rattle.std.specs.Prelude.{◌≡◌, ◌<◌, ◌+◌, ◌≤◌, ◌�
 ghost use Rattle.cu_chordal.specs.declared.graph.TheConstants.{MAX_EDGES};
 ghost use Rattle.cu_interval.specs.declared.ways.Dir.TheVariants.{Up, Down};
 ghost use Rattle.cu_interval.specs.Hierarchies.{IsHierarchy, list_number};
-ghost use Rattle.cu_unpack.specs.RebuiltWords.{IsKnownList, IsNeeded, IsRebuiltWords, IsSized, KeepsWords, Learns};
+ghost use Rattle.cu_unpack.specs.RebuiltWords.{IsFarList, IsFarWay, IsKnownList, IsNeeded, IsRebuiltWords, IsSized, KeepsWords, Learns, NeedsFarList};
 ghost use Rattle.cu_unpack.specs.Steps.Rebuilding.{FindsHalf, FindsMissing, HasHalves, HasWays, IsWayOf, ways_of};
 ghost use Rattle.cu_unpack.specs.Steps.WordRebuilding.{AddsWay, HoldsLeast, IsKnown, LearnsIf};
 
@@ -82,8 +82,9 @@ impl WordFunctions {
     }
 
     /// Learns the list of an edge in a direction over these ways, and those that it needs: the least of its ways at each second
-    /// of the day, as in this hierarchy. False where a way takes longer than words can say. What was known is taken as it is,
-    /// and stays, after a refusal too; so does what the edge doesn't need. Refused only for want of memory.
+    /// of the day, as in this hierarchy. False only where the halves of a way that it needs take so long that, with a day more,
+    /// words can't say it. What was known is taken as it is, and stays, after a refusal too; so does what the edge doesn't need.
+    /// Refused only for want of memory.
     pub fn learn<W: Ways>(
         &mut self,
         alloc: Global,
@@ -97,6 +98,8 @@ impl WordFunctions {
             (IsNeeded (W.hierarchy ways.now).edges edge) self.old }
         ensures known { IfOk result
             (λ is_near. is_near ≡ true → IsKnownList self.new (list_number edge dir)) }
+        ensures far { IfOk result
+            (λ is_near. is_near ≡ false → NeedsFarList (W.hierarchy ways.now) edge self.new) }
         ensures size { IsSized (length (W.hierarchy ways.now).edges) self.new }
         ensures learns { Learns (W.hierarchy ways.now) edge self.old self.new }
     {
@@ -127,6 +130,8 @@ fn learn_all<W: Ways>(
     requires keeps { KeepsWords (W.hierarchy ways.now)
         (IsNeeded (W.hierarchy ways.now).edges shortcut.edge) table.old }
     ensures known { IfOk result (λ is_near. is_near ≡ true → IsKnown table.new shortcut) }
+    ensures far { IfOk result (λ is_near. is_near ≡ false →
+        NeedsFarList (W.hierarchy ways.now) shortcut.edge table.new) }
     ensures size { IsSized (length (W.hierarchy ways.now).edges) table.new }
     ensures learns { Learns (W.hierarchy ways.now) shortcut.edge table.old table.new }
 {
@@ -229,8 +234,10 @@ fn least_function<W: Ways>(
         (IsNeeded (W.hierarchy ways.now).edges shortcut.edge) table.now }
     requires halves { FindsMissing (W.hierarchy ways.now) (IsKnown table.now) shortcut
         (ways_of (W.hierarchy ways.now) shortcut) None }
-    ensures { IfOk result (λ found. IfSome found (λ function.
+    ensures rebuilt { IfOk result (λ found. IfSome found (λ function.
         IsRebuiltWords (W.hierarchy ways.now) shortcut.edge shortcut.dir (Some function))) }
+    ensures far { IfOk result (λ found. found ≡ None →
+        IsFarList (W.hierarchy ways.now) table.now shortcut.edge shortcut.dir) }
 {
     room.clear();
     for index in 0..ways.entries(shortcut.edge, shortcut.dir) {
@@ -260,8 +267,11 @@ fn add_entry<W: Ways>(
     requires index { index < length (ways_of (W.hierarchy ways.now) shortcut) }
     requires held { HoldsLeast (W.hierarchy ways.now) shortcut
         (take index (ways_of (W.hierarchy ways.now) shortcut)) room.old }
-    ensures { IfOk result (λ is_near. is_near ≡ true → HoldsLeast (W.hierarchy ways.now) shortcut
+    ensures held { IfOk result
+        (λ is_near. is_near ≡ true → HoldsLeast (W.hierarchy ways.now) shortcut
         (take (index + 1) (ways_of (W.hierarchy ways.now) shortcut)) room.new) }
+    ensures far { IfOk result (λ is_near. is_near ≡ false →
+        IsFarList (W.hierarchy ways.now) table.now shortcut.edge shortcut.dir) }
 {
     let entry = ways.entry(shortcut.edge, shortcut.dir, index);
     if is_among(ways, shortcut, index, entry.way) {
@@ -285,8 +295,10 @@ fn add_way<W: Ways>(
     requires keeps { KeepsWords (W.hierarchy ways.now)
         (IsNeeded (W.hierarchy ways.now).edges shortcut.edge) table.now }
     requires halves { HasHalves (W.hierarchy ways.now) (IsKnown table.now) shortcut way }
-    ensures { IfOk result (λ is_near. is_near ≡ true →
+    ensures adds { IfOk result (λ is_near. is_near ≡ true →
         AddsWay (W.hierarchy ways.now) shortcut way room.old room.new) }
+    ensures far { IfOk result (λ is_near. is_near ≡ false →
+        IsFarWay (W.hierarchy ways.now) table.now shortcut.edge shortcut.dir way) }
 {
     match way {
         Way::Road(road) => {

@@ -13,7 +13,7 @@ use Rattle.cu_interval.specs.declared.ways.Way.{Way}
 use Rattle.cu_interval.specs.Hierarchies.{HierarchyValue, start_of, end_of}
 use Rattle.cu_interval.specs.Resettling.{least_in}
 use Rattle.cu_unpack.specs.declared.shortcuts.Shortcut.{Shortcut}
-use Rattle.cu_unpack.specs.RebuiltWords.{IsKnownList, IsNeeded, IsRebuiltWords, WordsValue, with_list}
+use Rattle.cu_unpack.specs.RebuiltWords.{IsFarList, IsKnownList, IsNeeded, IsRebuiltWords, WordsValue, with_list}
 use Rattle.cu_unpack.specs.Steps.Rebuilding.{IsMissing, number_of, way_value}
 
 -- the list of a shortcut is known
@@ -36,7 +36,7 @@ LearnsOne h shortcut before now =
 -- so it is, or all is as it was, where a way takes longer than words can say
 abbrev pub LearnsIf : HierarchyValue → Shortcut → WordsValue → WordsValue → Bool → Type 0
 LearnsIf h shortcut before now true = LearnsOne h shortcut before now
-LearnsIf h shortcut before now false = now ≡ before
+LearnsIf h shortcut before now false = (now ≡ before) × IsFarList h before shortcut.edge shortcut.dir
 
 -- the function of staying
 pub record IsStay (words : List Run) : Type 0 where

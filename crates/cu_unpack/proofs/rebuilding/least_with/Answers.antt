@@ -1,10 +1,7 @@
-use Rattle.std.proofs.Common.{◌≡◌, ◌++◌, ◌∙◌, ◌+◌, List, [], ◌∷◌, Some, ap, rules, sym, subst, take}
-use Rattle.std.proofs.lemmas.List.{take_more}
-use Rattle.std.proofs.lemmas.Option.{get_or_from_slice_get, slice_get_within}
-use Rattle.cu_model.proofs.RoadLaws.{all_at}
+use Rattle.std.proofs.Common.{List, Some, rules, sym, subst, take}
 use Rattle.cu_interval.specs.declared.ways.Entry.{Entry}
-use Rattle.cu_unpack.specs.Steps.Rebuilding.{HasHalves, IsKept, IsAmong, IsLeastOf, ways_of}
-use Rattle.cu_unpack.proofs.HalfEdges.{entry_way}
+use Rattle.cu_unpack.specs.Steps.Rebuilding.{IsKept, IsAmong, IsLeastOf, ways_of}
+use Rattle.cu_unpack.proofs.HalfEdges.{entry_halves, entry_way, take_entry}
 use Rattle.cu_unpack.proofs.WayFunctions.{least_again, least_more}
 use Rattle.cu_unpack.proofs.rebuilding.least_with.Goals as goal
 
@@ -14,8 +11,7 @@ way_function-requires-clause-way g c =
 
 pub way_function-requires-clause-halves : goal.way_function-requires-clause-halves
 way_function-requires-clause-halves g c =
-    let h = g.W.Ways.hierarchy c.args.ways.now in
-    all_at (λ (e : Entry). HasHalves h (IsKept c.args.kept.now) c.args.shortcut e.way) (ways_of h c.args.shortcut) c.args.index c.entry-entry.result c.requires.halves c.entry-entry.ensures.there
+    entry_halves (g.W.Ways.hierarchy c.args.ways.now) (IsKept c.args.kept.now) c.args.shortcut c.args.index c.entry-entry.result c.entry-entry.ensures.there c.requires.halves
 
 pub returns-then-is_among : goal.returns-then-is_among
 returns-then-is_among g c =
@@ -29,10 +25,7 @@ returns g c =
     let entries = ways_of h c.args.shortcut in
     let index = c.args.index in
     let entry = c.entry-entry.result in
-    let there = c.entry-entry.ensures.there in
-    let more : take (index + 1) entries ≡ take index entries ++ entry ∷ [] =
-    take_more entries index entry (slice_get_within entries index entry there)
-    ∙ ap (λ (e : Entry). take index entries ++ e ∷ []) (get_or_from_slice_get entries index entry entry there) in
+    let more = take_entry entries index entry c.entry-entry.ensures.there in
     subst (λ (es : List Entry). IsLeastOf h c.args.shortcut es (Some c.in_ok-earlier.field-0)) (sym more)
     (least_more h c.args.shortcut (take index entries) entry c.args.least c.in_ok-function.function c.in_ok-earlier.field-0
     c.requires.least c.in_ok-function.ensures.function c.in_ok-earlier.ensures)

@@ -1,11 +1,6 @@
-use Rattle.std.proofs.Common.{◌≡◌, ◌≤◌, None, arith, length, rules, sym, subst}
-use Rattle.std.specs.Prelude.{All}
-use Rattle.std.proofs.lemmas.List.{take_all}
-use Rattle.std.proofs.lemmas.List.Elements.{All-more}
-use Rattle.std.proofs.lemmas.Option.{get_or_from_slice_get, slice_get_within}
-use Rattle.cu_interval.specs.declared.ways.Entry.{Entry}
-use Rattle.cu_unpack.specs.Steps.Rebuilding.{FindsHalf, HasHalves, IsKept, ways_of}
-use Rattle.cu_unpack.proofs.HalfEdges.{entry_way}
+use Rattle.std.proofs.Common.{◌≡◌, None, arith, rules}
+use Rattle.cu_unpack.specs.Steps.Rebuilding.{IsKept}
+use Rattle.cu_unpack.proofs.HalfEdges.{all_there, entry_way, more_there}
 use Rattle.cu_unpack.proofs.rebuilding.missing_half.Goals as goal
 
 pub missing_half_of-half-requires-clause-way : goal.missing_half_of-half-requires-clause-way
@@ -14,22 +9,12 @@ missing_half_of-half-requires-clause-way g c =
 
 pub loop-index-preserved : goal.loop-index-preserved
 loop-index-preserved g c =
-    let h = g.W.Ways.hierarchy c.args.ways.now in
-    let kept = c.args.kept.now in
-    let shortcut = c.args.shortcut in
-    let entry = c.entry-entry.result in
-    let there = c.entry-entry.ensures.there in
     let none : c.missing_half_of-half.result ≡ None = search rules in
-    let found : HasHalves h (IsKept kept) shortcut entry.way = subst (FindsHalf h (IsKept kept) shortcut entry.way) none c.missing_half_of-half.ensures.missing in
-    let same = get_or_from_slice_get (ways_of h shortcut) c.loop-index.index entry entry there in
-    All-more (λ (e : Entry). HasHalves h (IsKept kept) shortcut e.way) (ways_of h shortcut) c.loop-index.index entry (slice_get_within (ways_of h shortcut) c.loop-index.index entry there)
-    c.loop-index.invariant (subst (λ (e : Entry). HasHalves h (IsKept kept) shortcut e.way) (sym same) found)
+    more_there (g.W.Ways.hierarchy c.args.ways.now) (IsKept c.args.kept.now) c.args.shortcut c.loop-index.index c.entry-entry.result c.missing_half_of-half.result c.entry-entry.ensures.there none
+    c.missing_half_of-half.ensures.missing c.loop-index.invariant
 
 pub returns : goal.returns
-returns g c =
-    let h = g.W.Ways.hierarchy c.args.ways.now in
-    let entries = ways_of h c.args.shortcut in
-    let over : length entries ≤ c.loop-index.index = omega (arith, c.loop-index-test.false, c.entries-index-end.ensures.count) in
-    record {
-      missing = subst (All (λ (e : Entry). HasHalves h (IsKept c.args.kept.now) c.args.shortcut e.way)) (take_all c.loop-index.index entries over) c.loop-index.invariant;
-    }
+returns g c = record {
+  missing = all_there (g.W.Ways.hierarchy c.args.ways.now) (IsKept c.args.kept.now) c.args.shortcut c.loop-index.index
+      (omega (arith, c.loop-index-test.false, c.entries-index-end.ensures.count)) c.loop-index.invariant;
+}

@@ -1,11 +1,9 @@
-use Rattle.std.proofs.Common.{◌≡◌, ◌++◌, ◌∙◌, ◌+◌, List, [], ◌∷◌, ap, rules, sym, subst, take}
-use Rattle.std.proofs.lemmas.List.{take_more}
-use Rattle.std.proofs.lemmas.Option.{get_or_from_slice_get, slice_get_within}
-use Rattle.cu_model.proofs.RoadLaws.{all_at}
+use Rattle.std.proofs.Common.{List, rules, sym, subst, take}
+use Rattle.cu_chordal.proofs.Members.{member_at}
 use Rattle.cu_interval.specs.declared.ways.Entry.{Entry}
-use Rattle.cu_unpack.specs.Steps.Rebuilding.{HasHalves, IsAmong, ways_of}
+use Rattle.cu_unpack.specs.Steps.Rebuilding.{IsAmong, ways_of}
 use Rattle.cu_unpack.specs.Steps.WordRebuilding.{HoldsLeast, IsKnown}
-use Rattle.cu_unpack.proofs.HalfEdges.{entry_way}
+use Rattle.cu_unpack.proofs.HalfEdges.{entry_halves, entry_way, take_entry}
 use Rattle.cu_unpack.proofs.WordWays.{holds_again, holds_more}
 use Rattle.cu_unpack.proofs.words_rebuilding.add_entry.Goals as goal
 
@@ -15,24 +13,25 @@ add_way-requires-clause-way g c =
 
 pub add_way-requires-clause-halves : goal.add_way-requires-clause-halves
 add_way-requires-clause-halves g c =
-    let h = g.W.Ways.hierarchy c.args.ways.now in
-    all_at (λ (e : Entry). HasHalves h (IsKnown c.args.table.now) c.args.shortcut e.way) (ways_of h c.args.shortcut) c.args.index c.entry-entry.result c.requires.halves c.entry-entry.ensures.there
+    entry_halves (g.W.Ways.hierarchy c.args.ways.now) (IsKnown c.args.table.now) c.args.shortcut c.args.index c.entry-entry.result c.entry-entry.ensures.there c.requires.halves
 
-pub returns-then-is_among : goal.returns-then-is_among
-returns-then-is_among g c said =
+pub returns-then-is_among-clause-held : goal.returns-then-is_among-clause-held
+returns-then-is_among-clause-held g c said =
     let h = g.W.Ways.hierarchy c.args.ways.now in
     let among : IsAmong (ways_of h c.args.shortcut) c.args.index c.entry-entry.result.way = search rules in
     holds_again h c.args.shortcut (ways_of h c.args.shortcut) c.args.index c.entry-entry.result c.args.room.now c.entry-entry.ensures.there among c.requires.held
 
-pub returns : goal.returns
-returns g c said =
+pub returns-clause-held : goal.returns-clause-held
+returns-clause-held g c said =
     let h = g.W.Ways.hierarchy c.args.ways.now in
     let entries = ways_of h c.args.shortcut in
     let index = c.args.index in
     let entry = c.entry-entry.result in
-    let there = c.entry-entry.ensures.there in
-    let more : take (index + 1) entries ≡ take index entries ++ entry ∷ [] =
-    take_more entries index entry (slice_get_within entries index entry there)
-    ∙ ap (λ (e : Entry). take index entries ++ e ∷ []) (get_or_from_slice_get entries index entry entry there) in
+    let more = take_entry entries index entry c.entry-entry.ensures.there in
     subst (λ (es : List Entry). HoldsLeast h c.args.shortcut es c.add_way.new.room) (sym more)
-    (holds_more h c.args.shortcut (take index entries) entry c.args.room.now c.add_way.new.room c.requires.held (c.in_ok-is_near.ensures said))
+    (holds_more h c.args.shortcut (take index entries) entry c.args.room.now c.add_way.new.room c.requires.held (c.in_ok-is_near.ensures.adds said))
+
+pub returns-clause-far : goal.returns-clause-far
+returns-clause-far g c said =
+    let there = member_at (ways_of (g.W.Ways.hierarchy c.args.ways.now) c.args.shortcut) c.entry-entry.result c.args.index c.entry-entry.ensures.there in
+    (c.entry-entry.result, there, c.in_ok-is_near.ensures.far said)

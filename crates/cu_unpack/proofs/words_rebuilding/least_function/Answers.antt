@@ -14,8 +14,8 @@ least-requires g c =
     let held = subst (λ (es : List Entry). HoldsLeast h c.args.shortcut es c.loop-index.room) (take_all c.loop-index.index entries over) c.loop-index.invariant in
     held_in_time h c.args.shortcut entries c.loop-index.room c.requires.ways.0 c.requires.ways.1 held
 
-pub returns : goal.returns
-returns g c =
+pub returns-clause-rebuilt : goal.returns-clause-rebuilt
+returns-clause-rebuilt g c =
     let h = g.W.Ways.hierarchy c.args.ways.now in
     let entries = ways_of h c.args.shortcut in
     let over : length entries ≤ c.loop-index.index = omega (arith, c.loop-index-test.false, c.entries-index-end.ensures.count) in

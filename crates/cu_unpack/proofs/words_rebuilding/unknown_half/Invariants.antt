@@ -1,11 +1,9 @@
-use Rattle.std.proofs.Common.{take}
-use Rattle.std.specs.Prelude.{All}
-use Rattle.cu_interval.specs.declared.ways.Entry.{Entry}
-use Rattle.cu_unpack.specs.Steps.Rebuilding.{HasHalves, ways_of}
+use Rattle.std.proofs.Common.{None, take}
+use Rattle.cu_unpack.specs.Steps.Rebuilding.{FindsMissing, ways_of}
 use Rattle.cu_unpack.specs.Steps.WordRebuilding.{IsKnown}
 use Rattle.cu_unpack.proofs.words_rebuilding.unknown_half.Given as goal
 
 abbrev pub invariant-loop-index : goal.invariant-loop-index
 invariant-loop-index g l =
     let h = g.W.Ways.hierarchy l.ways in
-    All (λ (entry : Entry). HasHalves h (IsKnown l.table) l.shortcut entry.way) (take l.index (ways_of h l.shortcut))
+    FindsMissing h (IsKnown l.table) l.shortcut (take l.index (ways_of h l.shortcut)) None

@@ -1,7 +1,7 @@
 use Rattle.std.proofs.Common.{◌≡◌, true, false, length, sym, subst, rules}
 use Rattle.cu_unpack.specs.Steps.Rebuilding.{HasHalves, IsWayOf}
 use Rattle.cu_unpack.specs.Steps.WordRebuilding.{IsKnown}
-use Rattle.cu_unpack.proofs.HalfEdges.{halves_lower, halves_sides, halves_there}
+use Rattle.cu_unpack.proofs.HalfEdges.{first_missing, halves_lower, halves_there, second_missing}
 use Rattle.cu_unpack.proofs.KnownLists.{known_within}
 use Rattle.cu_unpack.proofs.words_rebuilding.unknown_half_of.Goals as goal
 
@@ -16,14 +16,10 @@ pub returns-then-not-is_known : goal.returns-then-not-is_known
 returns-then-not-is_known g c =
     let h = g.W.Ways.hierarchy c.args.ways.now in
     let way = subst (IsWayOf h c.args.shortcut) c.in-Via.is c.requires.way in
-    let lower = halves_lower h c.requires.sound c.args.shortcut c.halves.result.0 c.halves.result.1 c.in-Via.middle way c.halves.ensures in
     let no : c.is_known.result ≡ false = search rules in
     record {
-      missing = record {
-        missing = (lower.0.0, λ known. let said = c.is_known.ensures.1 known in absurd (cc (said, no)));
-        lower = lower.0.1;
-        side = (halves_sides h c.args.shortcut c.halves.result.0 c.halves.result.1 c.in-Via.middle c.halves.ensures).0;
-      };
+      missing = first_missing h c.requires.sound (IsKnown c.args.table.now) c.args.shortcut c.halves.result.0 c.halves.result.1 c.in-Via.middle way c.halves.ensures
+          (λ there. let yes = c.is_known.ensures.1 there in absurd (cc (yes, no)));
     }
 
 pub is_known-requires-2 : goal.is_known-requires-2
@@ -37,14 +33,10 @@ pub returns-then-not-is_known-2 : goal.returns-then-not-is_known-2
 returns-then-not-is_known-2 g c =
     let h = g.W.Ways.hierarchy c.args.ways.now in
     let way = subst (IsWayOf h c.args.shortcut) c.in-Via.is c.requires.way in
-    let lower = halves_lower h c.requires.sound c.args.shortcut c.halves.result.0 c.halves.result.1 c.in-Via.middle way c.halves.ensures in
     let no : c.is_known-2.result ≡ false = search rules in
     record {
-      missing = record {
-        missing = (lower.1.0, λ known. let said = c.is_known-2.ensures.1 known in absurd (cc (said, no)));
-        lower = lower.1.1;
-        side = (halves_sides h c.args.shortcut c.halves.result.0 c.halves.result.1 c.in-Via.middle c.halves.ensures).1;
-      };
+      missing = second_missing h c.requires.sound (IsKnown c.args.table.now) c.args.shortcut c.halves.result.0 c.halves.result.1 c.in-Via.middle way c.halves.ensures
+          (λ there. let yes = c.is_known-2.ensures.1 there in absurd (cc (yes, no)));
     }
 
 pub returns : goal.returns

@@ -4,11 +4,11 @@ use Rattle.cu_customize.specs.Least.{Held, least_arrival}
 use Rattle.cu_customize.specs.Words.{composed}
 use Rattle.cu_unpack.proofs.room.Room.add_both.Goals as goal
 
-pub returns : goal.returns
-returns c said t lt =
+pub returns-clause-adds : goal.returns-clause-adds
+returns-clause-adds c said t lt =
     let near : c.is_near.result ≡ true = search rules in
     let held = c.self.inside.merger in (
-      c.is_near.ensures near t lt,
+      c.is_near.ensures.near near t lt,
       c.in_ok-add.ensures.arrival t lt
           ∙ ap (λ (first : List Run). min (least_arrival held t) (composed first c.words-2.result.now t)) c.words.ensures.all
           ∙ ap (λ (second : List Run). min (least_arrival held t) (composed c.args.first.now second t)) c.words-2.ensures.all
