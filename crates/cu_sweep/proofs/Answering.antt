@@ -2,6 +2,7 @@
 use Rattle.std.proofs.Common.{◌≡◌, ◌<◌, ◌∙◌, ℕ, List, [], ◌∷◌, Option, Some, None, eqb, true, refl, sym, ap, subst, arith}
 use Rattle.std.specs.Prelude.{slice_get}
 use Rattle.std.proofs.lemmas.Option.{none-some, same_Some}
+use Rattle.cu_model.specs.Days.{day}
 use Rattle.cu_model.specs.Roads.{IsWalk, drive}
 use Rattle.cu_chordal.specs.declared.graph.Ends.{Ends}
 use Rattle.cu_interval.specs.declared.ways.Dir.{Dir}
@@ -26,7 +27,7 @@ use Rattle.cu_sweep.proofs.SweptLabels.{earlier_first, swept}
 
 -- each downward label is the arrival of a walk, the roads of its calls in their order
 pub label_real : (h : HierarchyValue) → IsHierarchy h → (from to second : ℕ)
-    → from < h.network.nodes → to < h.network.nodes → second < 86400
+    → from < h.network.nodes → to < h.network.nodes → second < day
     → (label : Label) → down_label h from second to ≡ Some label
     → IsReal h from to second label.calls (Arrive label.second)
 label_real h f from to second a b c label e u v start stop =
@@ -81,13 +82,13 @@ label_least h f q u v b walk w =
     sweeps_reach h.network h.order n _ _ _ _ (swept h f q (omega (arith, within))) q.from q.to q.second walk
     (own q.from b.from) (own q.to b.to) (start_reached h q.from q.second) between
 
-answer_by_label : (h : HierarchyValue) → IsBuilt h → (q : Question) (u v : ℕ) → IsBetween h q u v → q.second < 86400
+answer_by_label : (h : HierarchyValue) → IsBuilt h → (q : Question) (u v : ℕ) → IsBetween h q u v → q.second < day
     → (o : Option Label) → down_label h q.from q.second q.to ≡ o → IsAnswer h.network u v q.second (found_by None o)
-answer_by_label h f q u v b day None e = λ walk w.
+answer_by_label h f q u v b in_day None e = λ walk w.
     let (s, is, le) = label_least h f q u v b walk w in
     none-some s (sym (ap second_of e) ∙ is)
-answer_by_label h f q u v b day (Some label) e =
-    let real = label_real h f.sound q.from q.to q.second b.from b.to day label e u v b.start b.stop in
+answer_by_label h f q u v b in_day (Some label) e =
+    let real = label_real h f.sound q.from q.to q.second b.from b.to in_day label e u v b.start b.stop in
     record {
       reached = (roads_of h label.calls, real.0, real.1);
       least = λ walk w.
@@ -98,7 +99,7 @@ answer_by_label h f q u v b day (Some label) e =
 
 -- over a built hierarchy a query finds the least arrival, or that there is no walk
 pub found_least : (h : HierarchyValue) → IsHierarchy h → (from to second : ℕ)
-    → from < h.network.nodes → to < h.network.nodes → second < 86400
+    → from < h.network.nodes → to < h.network.nodes → second < day
     → IsLeastWhereBuilt h from to second (found h from to second)
 found_least h f from to second a b c built u v start stop =
     let q : Question = record { from = from; to = to; second = second } in

@@ -1,5 +1,6 @@
 -- The downward label of a rank after the calls from its higher neighbours.
-use Rattle.std.proofs.Common.{◌≡◌, ◌≢◌, ◌<◌, ◌+◌, ◌-◌, ◌^◌, ◌∙◌, ℕ, true, false, List, [], ◌∷◌, ◌++◌, Option, Some, None, refl, sym, ap, subst, arith, inl, inr, length, ltb, get_or-set_same, get_or-set_other}
+use Rattle.std.proofs.Common.{◌≡◌, ◌≢◌, ◌<◌, ◌+◌, ◌-◌, ◌^◌, ◌∙◌, ℕ, true, false, List, [], ◌∷◌, ◌++◌, Option, Some, None, refl, sym, ap, subst, arith, inl, inr, length, ltb, get_or-set_same}
+use Rattle.std.proofs.Common.{get_or-set_other}
 use Rattle.std.specs.Prelude.{slice_set}
 use Rattle.std.specs.List.{Contains}
 use Rattle.std.proofs.lemmas.Bool.{cases_eq}
@@ -17,7 +18,8 @@ use Rattle.cu_sweep.specs.Labels.{Label, earlier_of, label_over, down_label, up_
 use Rattle.cu_sweep.specs.Sweeps.{call_at, second_of}
 use Rattle.cu_sweep.specs.Desks.{AreArriving}
 use Rattle.cu_sweep.specs.Steps.Places.{calls_between, dir_between, second_at}
-use Rattle.cu_sweep.specs.Steps.Sweeping.{Holds, IfSecond, IsDownSwept, IsLinkedLabel, IsPassed, Question, answer_at, begun_links, down_after, down_into, final_label, links_after, long_by, seconds_after}
+use Rattle.cu_sweep.specs.Steps.Sweeping.{Holds, IfSecond, IsDownSwept, IsLinkedLabel, IsPassed, Question, answer_at, begun_links, down_after, down_into, final_label, links_after, long_by}
+use Rattle.cu_sweep.specs.Steps.Sweeping.{seconds_after}
 use Rattle.cu_sweep.proofs.Choosing.{after_more, earlier_none}
 use Rattle.cu_sweep.proofs.Holding.{holds_after, holds_other, holds_same}
 use Rattle.cu_sweep.proofs.LabelLaws.{down_label-whole}
@@ -35,7 +37,8 @@ no_dir n x lt =
     let second : ltb x n ≡ true = grind (arith, lt) in
     rw (first, second) refl
 
-begun_linked : (h : HierarchyValue) (q : Question) (links : List (Option (ℕ × ℕ))) (x : ℕ) (label : Option Label) (o : Option ℕ) → x < h.network.nodes → h.network.nodes + x < length links → final_label h q x ≡ label → o ≡ second_of label → IsPassed h q x
+begun_linked : (h : HierarchyValue) (q : Question) (links : List (Option (ℕ × ℕ))) (x : ℕ) (label : Option Label) (o : Option ℕ) → x < h.network.nodes → h.network.nodes + x < length links
+    → final_label h q x ≡ label → o ≡ second_of label → IsPassed h q x
     → IsLinkedLabel h q (begun_links links x (h.network.nodes + x) o) (h.network.nodes + x) label
 begun_linked h q links x None o lt li final e p = tt
 begun_linked h q links x (Some label) o lt li final e p =
@@ -78,7 +81,8 @@ down_begun h q done x labels links f p la li =
           holds_same h q labels labels2 links links2 y (up_label h q.from q.second y) (get_or-set_other labels (n + x) y o None ne) (begun_other links x (n + x) y o ne) (f.up y passed);
       down = λ y c other.
           let ne : n + y ≢ n + x = λ same. other (omega (arith, same)) in
-          holds_same h q labels labels2 links links2 (n + y) (down_label h q.from q.second y) (get_or-set_other labels (n + x) (n + y) o None ne) (begun_other links x (n + x) (n + y) o ne) (f.down y c);
+          holds_same h q labels labels2 links links2 (n + y) (down_label h q.from q.second y) (get_or-set_other labels (n + x) (n + y) o None ne) (begun_other links x (n + x) (n + y) o ne)
+          (f.down y c);
       here = subst (Holds h q labels2 links2 (n + x)) (sym (earlier_none label)) here;
     }
 
@@ -109,9 +113,12 @@ down_more h q done x y edge part labels links f la li number there_ source time 
     let n = h.network.nodes in
     let answer = answer_at h edge Down (second_at labels (n + y)) in
     let from = down_label h q.from q.second y in
-    let whole = holds_after h q labels links (n + y) edge (n + x) Down from (down_after h q part x) la li (final_down h q y) (along_down n x y) there_ (subst (λ (o : Option ℕ). IfSecond o (λ at. at < 2 ^ 61)) source time)
-    (λ s is. subst (λ (o : Option ℕ). long_by (answer_at h edge Down o) (call_at (Some edge) Down o) ≡ None) (source ∙ ap second_of is) long) (inr (x, y, refl, refl, edge_of_number h x y edge number)) f.here in
-    let back = subst (λ (o : Option ℕ). Holds h q (seconds_after labels (n + x) (answer_at h edge Down o)) (links_after labels links (n + y) edge (n + x) (answer_at h edge Down o)) (n + x) (earlier_of (down_after h q part x) (label_over h (Some edge) Down from))) (sym source) whole in
+    let whole = holds_after h q labels links (n + y) edge (n + x) Down from (down_after h q part x) la li (final_down h q y) (along_down n x y) there_
+    (subst (λ (o : Option ℕ). IfSecond o (λ at. at < 2 ^ 61)) source time)
+    (λ s is. subst (λ (o : Option ℕ). long_by (answer_at h edge Down o) (call_at (Some edge) Down o) ≡ None) (source ∙ ap second_of is) long)
+    (inr (x, y, refl, refl, edge_of_number h x y edge number)) f.here in
+    let back = subst (λ (o : Option ℕ). Holds h q (seconds_after labels (n + x) (answer_at h edge Down o)) (links_after labels links (n + y) edge (n + x) (answer_at h edge Down o)) (n + x)
+    (earlier_of (down_after h q part x) (label_over h (Some edge) Down from))) (sym source) whole in
     let step : earlier_of (down_after h q part x) (label_over h (Some edge) Down from) ≡ down_after h q (part ++ (y ∷ [])) x =
     ap (λ (m : Option ℕ). earlier_of (down_after h q part x) (label_over h m Down from)) (sym number) ∙ sym (after_more (up_label h q.from q.second x) (down_into h q x) part y) in
     record {
@@ -123,7 +130,8 @@ down_more h q done x y edge part labels links f la li number there_ source time 
     }
 
 -- after all calls to a rank
-pub down_done : (h : HierarchyValue) → IsHierarchy h → (q : Question) (done : List ℕ) (x : ℕ) (labels : List (Option ℕ)) (links : List (Option (ℕ × ℕ))) → IsPassed h q x → IsDownPart h q done x (up_of h.edges x) labels links → IsDownSwept h q (done ++ (x ∷ [])) labels links
+pub down_done : (h : HierarchyValue) → IsHierarchy h → (q : Question) (done : List ℕ) (x : ℕ) (labels : List (Option ℕ)) (links : List (Option (ℕ × ℕ))) → IsPassed h q x
+    → IsDownPart h q done x (up_of h.edges x) labels links → IsDownSwept h q (done ++ (x ∷ [])) labels links
 down_done h sound q done x labels links p f = record {
   up = f.up;
   down = λ y c.

@@ -1,5 +1,6 @@
 -- A place's label after one call more.
-use Rattle.std.proofs.Common.{◌≡◌, ◌≢◌, ◌<◌, ◌^◌, ◌∙◌, ℕ, Bool, true, false, List, [], ◌∷◌, ◌++◌, Option, Some, None, refl, sym, ap, subst, arith, inl, inr, length, get_or-set_same, get_or-set_other, ltb, if◌then◌else◌}
+use Rattle.std.proofs.Common.{◌≡◌, ◌≢◌, ◌<◌, ◌^◌, ◌∙◌, ℕ, Bool, true, false, List, [], ◌∷◌, ◌++◌, Option, Some, None, refl, sym, ap, subst, arith, inl, inr, length}
+use Rattle.std.proofs.Common.{get_or-set_same, get_or-set_other, ltb, if◌then◌else◌}
 use Rattle.std.specs.Prelude.{slice_set}
 use Rattle.std.proofs.lemmas.List.Elements.{All-cons}
 use Rattle.cu_links.specs.Chains.{link_at}
@@ -18,87 +19,109 @@ use Rattle.cu_sweep.specs.Steps.Sweeping.{Holds, IfSecond, IsLinkedLabel, IsSour
 use Rattle.cu_sweep.proofs.Choosing.{earlier_none}
 
 -- other places keep theirs
-linked_other : (h : HierarchyValue) (q : Question) (links more : List (Option (ℕ × ℕ))) (place : ℕ) (label : Option Label) → link_at more place ≡ link_at links place → IsLinkedLabel h q links place label → IsLinkedLabel h q more place label
+linked_other : (h : HierarchyValue) (q : Question) (links more : List (Option (ℕ × ℕ))) (place : ℕ) (label : Option Label) → link_at more place ≡ link_at links place
+    → IsLinkedLabel h q links place label → IsLinkedLabel h q more place label
 linked_other h q links more place None e k = tt
 linked_other h q links more place (Some label) e (inl k) = inl (e ∙ k.0, k.1)
-linked_other h q links more place (Some label) e (inr k) = inr (record { from = k.from; edge = k.edge; link = e ∙ k.link; source = k.source; before = k.before; final = k.final; calls = k.calls; arriving = k.arriving })
+linked_other h q links more place (Some label) e (inr k) = inr record {
+  from = k.from;
+  edge = k.edge;
+  link = e ∙ k.link;
+  source = k.source;
+  before = k.before;
+  final = k.final;
+  calls = k.calls;
+  arriving = k.arriving;
+}
 
-pub holds_same : (h : HierarchyValue) (q : Question) (labels labels2 : List (Option ℕ)) (links links2 : List (Option (ℕ × ℕ))) (place : ℕ) (label : Option Label) → second_at labels2 place ≡ second_at labels place → link_at links2 place ≡ link_at links place
+pub holds_same : (h : HierarchyValue) (q : Question) (labels labels2 : List (Option ℕ)) (links links2 : List (Option (ℕ × ℕ))) (place : ℕ) (label : Option Label)
+    → second_at labels2 place ≡ second_at labels place → link_at links2 place ≡ link_at links place
     → Holds h q labels links place label → Holds h q labels2 links2 place label
 holds_same h q labels labels2 links links2 place label a b k = record { second = a ∙ k.second; linked = linked_other h q links links2 place label b k.linked }
 
 if_other : (b : Bool) (labels : List (Option ℕ)) (links : List (Option (ℕ × ℕ))) (into place : ℕ) (second : Option ℕ) (link : Option (ℕ × ℕ)) → place ≢ into
-    → (second_at (if b then slice_set labels into second else labels) place ≡ second_at labels place) × (link_at (if b then slice_set links into link else links) place ≡ link_at links place)
+    → (second_at (if b then slice_set labels into second else labels) place ≡ second_at labels place)
+    × (link_at (if b then slice_set links into link else links) place ≡ link_at links place)
 if_other true labels links into place second link ne = (get_or-set_other labels into place second None ne, link_other links into place link (λ same. ne (sym same)))
 if_other false labels links into place second link ne = (refl, refl)
 
-pub holds_other : (h : HierarchyValue) (q : Question) (labels : List (Option ℕ)) (links : List (Option (ℕ × ℕ))) (from edge into place : ℕ) (r : Relaxed) (label : Option Label) → place ≢ into
-    → Holds h q labels links place label → Holds h q (seconds_after labels into r) (links_after labels links from edge into r) place label
-holds_other h q labels links from edge into place (At arrival) label ne k =
-    let b = is_earlier arrival (second_at labels into) in
-    let other = if_other b labels links into place (Some arrival) (Some (from, edge)) ne in
-    holds_same h q labels (seconds_after labels into (At arrival)) links (links_after labels links from edge into (At arrival)) place label other.0 other.1 k
-holds_other h q labels links from edge into place NoWay label ne k = k
-holds_other h q labels links from edge into place Long label ne k = k
-
-one_call : (h : HierarchyValue) (edge : ℕ) (dir : Dir) (second arrival : ℕ) → edge < length h.edges → second < 2 ^ 61 → relaxed h edge dir second ≡ At arrival → AreArriving h (call_from edge dir second ∷ [])
+one_call : (h : HierarchyValue) (edge : ℕ) (dir : Dir) (second arrival : ℕ) → edge < length h.edges → second < 2 ^ 61 → relaxed h edge dir second ≡ At arrival
+    → AreArriving h (call_from edge dir second ∷ [])
 one_call h edge dir second arrival lt time e =
     All-cons (IsArrivingCall h) (call_from edge dir second) [] (record { edge = lt; time = time; answers = (arrival, e) }) (λ k d none. absurd (omega (arith, none)))
 
--- the label that the call gives
-given : (h : HierarchyValue) (q : Question) (labels : List (Option ℕ)) (links : List (Option (ℕ × ℕ))) (from edge into : ℕ) (dir : Dir) (source : Label) (arrival : ℕ) → into < length labels → into < length links
-    → final_label h q from ≡ Some source → dir_between h.network.nodes from into ≡ Some dir → AreArriving h (call_from edge dir source.second ∷ []) → IsSource h q into from
-    → Holds h q (slice_set labels into (Some arrival)) (slice_set links into (Some (from, edge))) into (Some (record { second = arrival; calls = source.calls ++ (call_from edge dir source.second ∷ []) }))
-given h q labels links from edge into dir source arrival la li final along arriving comes =
-    let calls : calls_between (dir_between h.network.nodes from into) edge (Some source.second) ≡ call_from edge dir source.second ∷ [] = ap (λ (d : Option Dir). calls_between d edge (Some source.second)) along in
-    record {
-      second = get_or-set_same labels into (Some arrival) None la;
-      linked = inr (record {
-        from = from;
-        edge = edge;
-        link = link_here links into (Some (from, edge)) li;
-        source = comes;
-        before = source;
-        final = final;
-        calls = ap (λ (cs : List Call). source.calls ++ cs) (sym calls);
-        arriving = subst (AreArriving h) (sym calls) arriving;
-      });
-    }
+module _ (h : HierarchyValue) (q : Question) (labels : List (Option ℕ)) (links : List (Option (ℕ × ℕ))) (from edge into : ℕ) where
+  -- a place has a label after the answer of a call
+  abbrev pub HoldsAfter : Relaxed → ℕ → Option Label → Type 0
+  HoldsAfter r place label = Holds h q (seconds_after labels into r) (links_after labels links from edge into r) place label
 
-given_if : (h : HierarchyValue) (q : Question) (labels : List (Option ℕ)) (links : List (Option (ℕ × ℕ))) (from edge into arrival : ℕ) (new : Label) (old : Option Label) (b : Bool)
-    → Holds h q (slice_set labels into (Some arrival)) (slice_set links into (Some (from, edge))) into (Some new) → Holds h q labels links into old
-    → Holds h q (if b then slice_set labels into (Some arrival) else labels) (if b then slice_set links into (Some (from, edge)) else links) into (if b then Some new else old)
-given_if h q labels links from edge into arrival new old true k o = k
-given_if h q labels links from edge into arrival new old false k o = o
+  -- and where an arrival is written, or isn't
+  abbrev pub HoldsIf : Bool → ℕ → Option Label → Type 0
+  HoldsIf b arrival label =
+      Holds h q (if b then slice_set labels into (Some arrival) else labels) (if b then slice_set links into (Some (from, edge)) else links) into label
 
-chosen : (h : HierarchyValue) (q : Question) (labels : List (Option ℕ)) (links : List (Option (ℕ × ℕ))) (from edge into arrival : ℕ) (calls : List Call) (old : Option Label)
-    → Holds h q (slice_set labels into (Some arrival)) (slice_set links into (Some (from, edge))) into (Some (record { second = arrival; calls = calls })) → Holds h q labels links into old
-    → Holds h q (seconds_after labels into (At arrival)) (links_after labels links from edge into (At arrival)) into (earlier_of old (Some (record { second = arrival; calls = calls })))
-chosen h q labels links from edge into arrival calls None k o =
-    subst (λ (s : Option ℕ). Holds h q (if is_earlier arrival s then slice_set labels into (Some arrival) else labels) (if is_earlier arrival s then slice_set links into (Some (from, edge)) else links) into (Some (record { second = arrival; calls = calls }))) (sym o.second) k
-chosen h q labels links from edge into arrival calls (Some old) k o =
-    let new : Label = record { second = arrival; calls = calls } in
-    subst (λ (s : Option ℕ). Holds h q (if is_earlier arrival s then slice_set labels into (Some arrival) else labels) (if is_earlier arrival s then slice_set links into (Some (from, edge)) else links) into (if ltb arrival old.second then Some new else Some old)) (sym o.second)
-    (given_if h q labels links from edge into arrival new (Some old) (ltb arrival old.second) k o)
+  pub holds_other : (place : ℕ) (r : Relaxed) (label : Option Label) → place ≢ into → Holds h q labels links place label → HoldsAfter r place label
+  holds_other place (At arrival) label ne k =
+      let b = is_earlier arrival (second_at labels into) in
+      let other = if_other b labels links into place (Some arrival) (Some (from, edge)) ne in
+      holds_same h q labels (seconds_after labels into (At arrival)) links (links_after labels links from edge into (At arrival)) place label other.0 other.1 k
+  holds_other place NoWay label ne k = k
+  holds_other place Long label ne k = k
 
-by_answer : (h : HierarchyValue) (q : Question) (labels : List (Option ℕ)) (links : List (Option (ℕ × ℕ))) (from edge into : ℕ) (dir : Dir) (source : Label) (old : Option Label) (r : Relaxed) → into < length labels → into < length links
-    → final_label h q from ≡ Some source → dir_between h.network.nodes from into ≡ Some dir → edge < length h.edges → source.second < 2 ^ 61 → relaxed h edge dir source.second ≡ r
-    → long_by r (Some (call_from edge dir source.second)) ≡ None → IsSource h q into from → Holds h q labels links into old
-    → Holds h q (seconds_after labels into r) (links_after labels links from edge into r) into (earlier_of old (label_by r (source.calls ++ (call_from edge dir source.second ∷ []))))
-by_answer h q labels links from edge into dir source old (At arrival) la li final along lt time is long comes o =
-    chosen h q labels links from edge into arrival (source.calls ++ (call_from edge dir source.second ∷ [])) old
-    (given h q labels links from edge into dir source arrival la li final along (one_call h edge dir source.second arrival lt time is) comes) o
-by_answer h q labels links from edge into dir source old NoWay la li final along lt time is long comes o = subst (Holds h q labels links into) (sym (earlier_none old)) o
-by_answer h q labels links from edge into dir source old Long la li final along lt time is long comes o = absurd (cc long)
+  -- the label that the call gives
+  given : (dir : Dir) (source : Label) (arrival : ℕ) → into < length labels → into < length links → final_label h q from ≡ Some source
+      → dir_between h.network.nodes from into ≡ Some dir → AreArriving h (call_from edge dir source.second ∷ []) → IsSource h q into from
+      → HoldsIf true arrival (Some (record { second = arrival; calls = source.calls ++ (call_from edge dir source.second ∷ []) }))
+  given dir source arrival la li final along arriving comes =
+      let calls : calls_between (dir_between h.network.nodes from into) edge (Some source.second) ≡ call_from edge dir source.second ∷ [] =
+      ap (λ (d : Option Dir). calls_between d edge (Some source.second)) along in
+      record {
+        second = get_or-set_same labels into (Some arrival) None la;
+        linked = inr (record {
+          from = from;
+          edge = edge;
+          link = link_here links into (Some (from, edge)) li;
+          source = comes;
+          before = source;
+          final = final;
+          calls = ap (λ (cs : List Call). source.calls ++ cs) (sym calls);
+          arriving = subst (AreArriving h) (sym calls) arriving;
+        });
+      }
 
--- after a call that isn't answered by a walk that is too long
-pub holds_after : (h : HierarchyValue) (q : Question) (labels : List (Option ℕ)) (links : List (Option (ℕ × ℕ))) (from edge into : ℕ) (dir : Dir) (source old : Option Label) → into < length labels → into < length links
-    → final_label h q from ≡ source → dir_between h.network.nodes from into ≡ Some dir → edge < length h.edges → IfSecond (second_of source) (λ at. at < 2 ^ 61)
-    → ((s : Label) → source ≡ Some s → long_by (relaxed h edge dir s.second) (Some (call_from edge dir s.second)) ≡ None) → IsSource h q into from → Holds h q labels links into old
-    → Holds h q (seconds_after labels into (answer_at h edge dir (second_of source))) (links_after labels links from edge into (answer_at h edge dir (second_of source))) into (earlier_of old (label_over h (Some edge) dir source))
-holds_after h q labels links from edge into dir None old la li final along lt time long comes o = subst (Holds h q labels links into) (sym (earlier_none old)) o
-holds_after h q labels links from edge into dir (Some source) old la li final along lt time long comes o =
-    by_answer h q labels links from edge into dir source old (relaxed h edge dir source.second) la li final along lt time refl (long source refl) comes o
+  given_if : (arrival : ℕ) (new : Label) (old : Option Label) (b : Bool) → HoldsIf true arrival (Some new) → Holds h q labels links into old
+      → HoldsIf b arrival (if b then Some new else old)
+  given_if arrival new old true k o = k
+  given_if arrival new old false k o = o
+
+  chosen : (arrival : ℕ) (calls : List Call) (old : Option Label) → HoldsIf true arrival (Some (record { second = arrival; calls = calls })) → Holds h q labels links into old
+      → HoldsAfter (At arrival) into (earlier_of old (Some (record { second = arrival; calls = calls })))
+  chosen arrival calls None k o =
+      subst (λ (s : Option ℕ). HoldsIf (is_earlier arrival s) arrival (Some (record { second = arrival; calls = calls }))) (sym o.second) k
+  chosen arrival calls (Some old) k o =
+      let new : Label = record { second = arrival; calls = calls } in
+      subst (λ (s : Option ℕ). HoldsIf (is_earlier arrival s) arrival (if ltb arrival old.second then Some new else Some old)) (sym o.second)
+      (given_if arrival new (Some old) (ltb arrival old.second) k o)
+
+  by_answer : (dir : Dir) (source : Label) (old : Option Label) (r : Relaxed) → into < length labels → into < length links → final_label h q from ≡ Some source
+      → dir_between h.network.nodes from into ≡ Some dir → edge < length h.edges → source.second < 2 ^ 61 → relaxed h edge dir source.second ≡ r
+      → long_by r (Some (call_from edge dir source.second)) ≡ None → IsSource h q into from → Holds h q labels links into old
+      → HoldsAfter r into (earlier_of old (label_by r (source.calls ++ (call_from edge dir source.second ∷ []))))
+  by_answer dir source old (At arrival) la li final along lt time is long comes o =
+      chosen arrival (source.calls ++ (call_from edge dir source.second ∷ [])) old
+      (given dir source arrival la li final along (one_call h edge dir source.second arrival lt time is) comes) o
+  by_answer dir source old NoWay la li final along lt time is long comes o = subst (Holds h q labels links into) (sym (earlier_none old)) o
+  by_answer dir source old Long la li final along lt time is long comes o = absurd (cc long)
+
+  -- after a call that isn't answered by a walk that is too long
+  pub holds_after : (dir : Dir) (source old : Option Label) → into < length labels → into < length links → final_label h q from ≡ source
+      → dir_between h.network.nodes from into ≡ Some dir → edge < length h.edges → IfSecond (second_of source) (λ at. at < 2 ^ 61)
+      → ((s : Label) → source ≡ Some s → long_by (relaxed h edge dir s.second) (Some (call_from edge dir s.second)) ≡ None)
+      → IsSource h q into from → Holds h q labels links into old
+      → HoldsAfter (answer_at h edge dir (second_of source)) into (earlier_of old (label_over h (Some edge) dir source))
+  holds_after dir None old la li final along lt time long comes o = subst (Holds h q labels links into) (sym (earlier_none old)) o
+  holds_after dir (Some source) old la li final along lt time long comes o =
+      by_answer dir source old (relaxed h edge dir source.second) la li final along lt time refl (long source refl) comes o
 
 pub seconds_other : (labels : List (Option ℕ)) (into place : ℕ) (r : Relaxed) → place ≢ into → second_at (seconds_after labels into r) place ≡ second_at labels place
 seconds_other labels into place (At arrival) ne = (if_other (is_earlier arrival (second_at labels into)) labels [] into place (Some arrival) None ne).0

@@ -32,7 +32,8 @@ rising_behind [] x rest f z c =
 rising_behind (y ∷ before) x rest f z c = rising_behind before x rest (pairs_tail (λ a b. a < b) y (before ++ (x ∷ rest)) f) z c
 
 -- the calls from ranks that aren't below change nothing
-up_after_rest : (h : HierarchyValue) → IsHierarchy h → (q : Question) (before : List ℕ) (x : ℕ) (rest : List ℕ) → ((z : ℕ) → Contains rest z → x ≤ z) → up_after h q (before ++ rest) x ≡ up_after h q before x
+up_after_rest : (h : HierarchyValue) → IsHierarchy h → (q : Question) (before : List ℕ) (x : ℕ) (rest : List ℕ) → ((z : ℕ) → Contains rest z → x ≤ z)
+    → up_after h q (before ++ rest) x ≡ up_after h q before x
 up_after_rest h f q before x [] late = ap (λ (xs : List ℕ). up_after h q xs x) (append-nil before)
 up_after_rest h f q before x (z ∷ rest) late =
     let le = late z (here z rest) in
@@ -44,7 +45,8 @@ up_after_rest h f q before x (z ∷ rest) late =
     ∙ up_after_rest h f q (before ++ (z ∷ [])) x rest (λ w c. late w (there z rest w c)) ∙ up_after_none h q before z x none
 
 -- a label is final after the calls from the ancestors before it
-pub up_final : (h : HierarchyValue) → IsHierarchy h → (q : Question) (before : List ℕ) (x : ℕ) (rest : List ℕ) → ancestors_in (graph_of h) q.from ≡ before ++ (x ∷ rest) → AllPairs (λ a b. a < b) (before ++ (x ∷ rest))
+pub up_final : (h : HierarchyValue) → IsHierarchy h → (q : Question) (before : List ℕ) (x : ℕ) (rest : List ℕ) → ancestors_in (graph_of h) q.from ≡ before ++ (x ∷ rest)
+    → AllPairs (λ a b. a < b) (before ++ (x ∷ rest))
     → up_after h q before x ≡ up_label h q.from q.second x
 up_final h f q before x rest e rising =
     sym (up_label-whole h f q x ∙ ap (λ (xs : List ℕ). up_after h q xs x) e ∙ up_after_rest h f q before x (x ∷ rest) (rising_behind before x rest rising))
@@ -61,7 +63,8 @@ sweep_more h f before x a b c quiet told long row =
       subst (AddsAll a c) (sym more) (adds_then a b c (flat_map f before) (f x) told (subst (AddsAll b c) (until_none h (f x) (sym long)) row)),
     )
 
-pub sweep_ends : (h : HierarchyValue) (f : ℕ → List Call) (before : List ℕ) (x : ℕ) (rest all : List ℕ) (call : Call) (a b c : Option (List Call)) → all ≡ before ++ (x ∷ rest) → first_long h (flat_map f before) ≡ None → AddsAll a b (flat_map f before)
+pub sweep_ends : (h : HierarchyValue) (f : ℕ → List Call) (before : List ℕ) (x : ℕ) (rest all : List ℕ) (call : Call) (a b c : Option (List Call)) → all ≡ before ++ (x ∷ rest)
+    → first_long h (flat_map f before) ≡ None → AddsAll a b (flat_map f before)
     → first_long h (f x) ≡ Some call → AddsAll b c (until_long h (f x)) → (first_long h (flat_map f all) ≡ Some call) × AddsAll a c (until_long h (flat_map f all))
 sweep_ends h f before x rest all call a b c e quiet told long row =
     let parted : flat_map f all ≡ flat_map f before ++ (f x ++ flat_map f rest) = ap (flat_map f) e ∙ flat_map-append f before (x ∷ rest) in

@@ -1,10 +1,14 @@
 -- Labels and links that are ready for a sweep stay so: links rise along the sweeps, and seconds are near.
-use Rattle.std.proofs.Common.{◌≡◌, ◌≤◌, ◌<◌, ◌+◌, ◌*◌, ◌-◌, ◌^◌, ◌∙◌, ℕ, zero, suc, Bool, true, false, List, [], ◌∷◌, Option, Some, None, refl, sym, ap, subst, arith, inl, inr, length, get_or-set_same, get_or-set_other, ltb, if◌then◌else◌}
+use Rattle.std.proofs.Common.{◌≡◌, ◌≤◌, ◌<◌, ◌+◌, ◌*◌, ◌-◌, ◌^◌, ◌∙◌, ℕ, zero, suc, Bool, true, false, List, [], ◌∷◌, Option, Some, None, refl, sym, ap, subst, arith, inl, inr, length}
+use Rattle.std.proofs.Common.{get_or-set_same, get_or-set_other, ltb, if◌then◌else◌}
 use Rattle.std.specs.Prelude.{All, slice_set, is_some}
 use Rattle.cu_model.specs.declared.limits.TheConstants.{MAX_NODES}
+use Rattle.cu_model.specs.Days.{day}
 use Rattle.std.proofs.lemmas.Bool.{cases_eq}
+use Rattle.std.proofs.lemmas.Option.{same_Some}
 use Rattle.cu_links.specs.Chains.{ChainValue, IsChain, IsOnChainTo, link_at}
 use Rattle.cu_links.proofs.Links.{link_here, link_other, set_long}
+use Rattle.cu_chordal.specs.declared.graph.TheConstants.{MAX_EDGES}
 use Rattle.cu_interval.specs.declared.ways.Dir.{Dir}
 use Rattle.cu_interval.specs.declared.relaxing.Relaxed.{Relaxed}
 use Rattle.cu_interval.specs.declared.relaxing.Relaxed.TheVariants.{At, NoWay, Long}
@@ -15,7 +19,8 @@ use Rattle.cu_sweep.specs.Steps.Places.{AreNear, IsReady, Rises, second_at, turn
 use Rattle.cu_sweep.specs.Steps.Sweeping.{IfSecond, answer_at, begun_links, is_earlier, links_after, seconds_after}
 
 -- a chain has no more steps than turns lie between its ends
-pub chain_steps : (n : ℕ) (links : List (Option (ℕ × ℕ))) → Rises n links → (first : ℕ) (steps : List (ℕ × ℕ)) (last : ℕ) → IsChain links first steps last → turn_of n first + length steps ≤ turn_of n last
+pub chain_steps : (n : ℕ) (links : List (Option (ℕ × ℕ))) → Rises n links → (first : ℕ) (steps : List (ℕ × ℕ)) (last : ℕ) → IsChain links first steps last
+    → turn_of n first + length steps ≤ turn_of n last
 chain_steps n links f first [] last c = let same : turn_of n first ≡ turn_of n last = ap (turn_of n) c in omega (arith, same)
 chain_steps n links f first (step ∷ steps) last c =
     let here = (f step.0 first step.1 c.0).0 in
@@ -25,18 +30,16 @@ chain_steps n links f first (step ∷ steps) last c =
 pub apart : (n : ℕ) (links : List (Option (ℕ × ℕ))) (from into : ℕ) → Rises n links → turn_of n from < turn_of n into → IsOnChainTo links into from → ⊥
 apart n links from into f lt c = let le = chain_steps n links f into c.0 from c.1 in absurd (omega (arith, lt, le))
 
-some_same : (a b : ℕ) → Some a ≡ Some b → a ≡ b
-some_same a b e = cc e
-
-pub near_set : (n : ℕ) (labels : List (Option ℕ)) (into second : ℕ) → into < length labels → second ≤ 86399 + turn_of n into * 2 ^ 38 → AreNear n labels → AreNear n (slice_set labels into (Some second))
+pub near_set : (n : ℕ) (labels : List (Option ℕ)) (into second : ℕ) → into < length labels → second ≤ day - 1 + turn_of n into * 2 ^ 38 → AreNear n labels
+    → AreNear n (slice_set labels into (Some second))
 near_set n labels into second lt le f place t e =
     elim (cases_eq place into) [
       | inl same ↦
           let here : second_at (slice_set labels into (Some second)) into ≡ Some second = get_or-set_same labels into (Some second) None lt in
           let at : second_at (slice_set labels into (Some second)) into ≡ Some t = subst (λ (p : ℕ). second_at (slice_set labels into (Some second)) p ≡ Some t) same e in
-          let is : second ≡ t = some_same second t (sym here ∙ at) in
-          let bound : t ≤ 86399 + turn_of n into * 2 ^ 38 = subst (λ (s : ℕ). s ≤ 86399 + turn_of n into * 2 ^ 38) is le in
-          subst (λ (p : ℕ). t ≤ 86399 + turn_of n p * 2 ^ 38) (sym same) bound
+          let is : second ≡ t = same_Some second t (sym here ∙ at) in
+          let bound : t ≤ day - 1 + turn_of n into * 2 ^ 38 = subst (λ (s : ℕ). s ≤ day - 1 + turn_of n into * 2 ^ 38) is le in
+          subst (λ (p : ℕ). t ≤ day - 1 + turn_of n p * 2 ^ 38) (sym same) bound
       | inr other ↦ f place t (sym (get_or-set_other labels into place (Some second) None other) ∙ e)
     ]
 
@@ -50,25 +53,24 @@ near_unset n labels into lt f place t e =
       | inr other ↦ f place t (sym (get_or-set_other labels into place None None other) ∙ e)
     ]
 
-link_same : (a b : ℕ × ℕ) → Some a ≡ Some b → a ≡ b
-link_same a b e = cc e
-
-pub rises_set : (n : ℕ) (links : List (Option (ℕ × ℕ))) (from edge into : ℕ) → into < length links → turn_of n from < turn_of n into → from < 2 * n → edge < 2 ^ 32 → Rises n links → Rises n (slice_set links into (Some (from, edge)))
+pub rises_set : (n : ℕ) (links : List (Option (ℕ × ℕ))) (from edge into : ℕ) → into < length links → turn_of n from < turn_of n into → from < 2 * n → edge < MAX_EDGES → Rises n links
+    → Rises n (slice_set links into (Some (from, edge)))
 rises_set n links from edge into lt up within small f place p e is =
     elim (cases_eq place into) [
       | inl same ↦
           let here : link_at (slice_set links into (Some (from, edge))) into ≡ Some (from, edge) = link_here links into (Some (from, edge)) lt in
           let at : link_at (slice_set links into (Some (from, edge))) into ≡ Some (p, e) = subst (λ (q : ℕ). link_at (slice_set links into (Some (from, edge))) q ≡ Some (p, e)) same is in
-          let both : (from, edge) ≡ (p, e) = link_same (from, edge) (p, e) (sym here ∙ at) in
+          let both : (from, edge) ≡ (p, e) = same_Some (from, edge) (p, e) (sym here ∙ at) in
           let first : from ≡ p = ap (λ (l : ℕ × ℕ). l.0) both in
           let second : edge ≡ e = ap (λ (l : ℕ × ℕ). l.1) both in
-          let less : e < 2 ^ 32 = subst (λ (d : ℕ). d < 2 ^ 32) second small in
-          subst (λ (q : ℕ). (turn_of n p < turn_of n q) × (p < 2 * n) × (e < 2 ^ 32)) (sym same)
-          (subst (λ (q : ℕ). (turn_of n q < turn_of n into) × (q < 2 * n) × (e < 2 ^ 32)) first (up, within, less))
+          let less : e < MAX_EDGES = subst (λ (d : ℕ). d < MAX_EDGES) second small in
+          subst (λ (q : ℕ). (turn_of n p < turn_of n q) × (p < 2 * n) × (e < MAX_EDGES)) (sym same)
+          (subst (λ (q : ℕ). (turn_of n q < turn_of n into) × (q < 2 * n) × (e < MAX_EDGES)) first (up, within, less))
       | inr other ↦ f place p e (sym (link_other links into place (Some (from, edge)) (λ same. other (sym same))) ∙ is)
     ]
 
-pub ready_with : (n : ℕ) (labels more : List (Option ℕ)) (chain now : ChainValue) → IsReady n labels chain → length more ≡ length labels → length now.links ≡ length chain.links → AreNear n more → Rises n now.links → IsReady n more now
+pub ready_with : (n : ℕ) (labels more : List (Option ℕ)) (chain now : ChainValue) → IsReady n labels chain → length more ≡ length labels → length now.links ≡ length chain.links
+    → AreNear n more → Rises n now.links → IsReady n more now
 ready_with n labels more chain now f long places near rises = record {
   few = f.few;
   long = long ∙ f.long;
@@ -78,7 +80,8 @@ ready_with n labels more chain now f long places near rises = record {
 }
 
 -- after a label begins as another
-pub begun_ready : (n : ℕ) (labels : List (Option ℕ)) (chain now : ChainValue) (from into : ℕ) (o : Option ℕ) → IsReady n labels chain → chain.turned ≡ false → from < 2 * n → into < 2 * n → turn_of n from < turn_of n into
+pub begun_ready : (n : ℕ) (labels : List (Option ℕ)) (chain now : ChainValue) (from into : ℕ) (o : Option ℕ) → IsReady n labels chain → chain.turned ≡ false → from < 2 * n → into < 2 * n
+    → turn_of n from < turn_of n into
     → second_at labels from ≡ o → now.links ≡ begun_links chain.links from into o → IsReady n (slice_set labels into o) now
 begun_ready n labels chain now from into None f unturned lf li up e is =
     let lt : into < length labels = let long = f.long in omega (arith, li, long) in
@@ -87,25 +90,27 @@ begun_ready n labels chain now from into (Some s) f unturned lf li up e is =
     let lt : into < length labels = let long = f.long in omega (arith, li, long) in
     let lt2 : into < length chain.links = let long = f.places in omega (arith, li, long) in
     let near = f.near from s e in
-    let le : s ≤ 86399 + turn_of n into * 2 ^ 38 = omega (arith, near, up) in
+    let le : s ≤ day - 1 + turn_of n into * 2 ^ 38 = omega (arith, near, up) in
     ready_with n labels (slice_set labels into (Some s)) chain now f (set_long labels into (Some s)) (ap length is ∙ set_long chain.links into (Some (from, 0)))
     (near_set n labels into s lt le f.near) (subst (Rises n) (sym is) (rises_set n chain.links from 0 into lt2 up lf (omega arith) (f.rises unturned)))
 
 -- after a call
-relaxed_by : (n : ℕ) (labels : List (Option ℕ)) (chain now : ChainValue) (from edge into at arrival : ℕ) (b : Bool) → IsReady n labels chain → chain.turned ≡ false → from < 2 * n → into < 2 * n → edge < 2 ^ 32 → turn_of n from < turn_of n into
+relaxed_by : (n : ℕ) (labels : List (Option ℕ)) (chain now : ChainValue) (from edge into at arrival : ℕ) (b : Bool) → IsReady n labels chain → chain.turned ≡ false → from < 2 * n
+    → into < 2 * n → edge < MAX_EDGES → turn_of n from < turn_of n into
     → second_at labels from ≡ Some at → arrival ≤ at + 2 ^ 38 → now.links ≡ (if b then slice_set chain.links into (Some (from, edge)) else chain.links)
     → IsReady n (if b then slice_set labels into (Some arrival) else labels) now
 relaxed_by n labels chain now from edge into at arrival true f unturned lf li small up e near is =
     let lt : into < length labels = let long = f.long in omega (arith, li, long) in
     let lt2 : into < length chain.links = let long = f.places in omega (arith, li, long) in
     let before = f.near from at e in
-    let le : arrival ≤ 86399 + turn_of n into * 2 ^ 38 = omega (arith, before, up, near) in
+    let le : arrival ≤ day - 1 + turn_of n into * 2 ^ 38 = omega (arith, before, up, near) in
     ready_with n labels (slice_set labels into (Some arrival)) chain now f (set_long labels into (Some arrival)) (ap length is ∙ set_long chain.links into (Some (from, edge)))
     (near_set n labels into arrival lt le f.near) (subst (Rises n) (sym is) (rises_set n chain.links from edge into lt2 up lf small (f.rises unturned)))
 relaxed_by n labels chain now from edge into at arrival false f unturned lf li small up e near is =
     ready_with n labels labels chain now f refl (ap length is) f.near (subst (Rises n) (sym is) (f.rises unturned))
 
-pub relaxed_ready : (n : ℕ) (labels : List (Option ℕ)) (chain now : ChainValue) (from edge into : ℕ) (r : Relaxed) → IsReady n labels chain → chain.turned ≡ false → from < 2 * n → into < 2 * n → edge < 2 ^ 32 → turn_of n from < turn_of n into
+pub relaxed_ready : (n : ℕ) (labels : List (Option ℕ)) (chain now : ChainValue) (from edge into : ℕ) (r : Relaxed) → IsReady n labels chain → chain.turned ≡ false → from < 2 * n
+    → into < 2 * n → edge < MAX_EDGES → turn_of n from < turn_of n into
     → IfAt r (λ (arrival : ℕ). (at : ℕ) × (second_at labels from ≡ Some at) × (arrival ≤ at + 2 ^ 38))
     → now.links ≡ links_after labels chain.links from edge into r → IsReady n (seconds_after labels into r) now
 relaxed_ready n labels chain now from edge into (At arrival) f unturned lf li small up near is =
@@ -125,7 +130,7 @@ time_left n labels chain from None f lf e = tt
 time_left n labels chain from (Some at) f lf e =
     let near = f.near from at e in
     let turn = turn_by (ltb from n) n from lf in
-    let few : n ≤ 262144 = f.few in
+    let few : n ≤ MAX_NODES = f.few in
     omega (arith, near, turn, few)
 
 pub turn_up : (n x y : ℕ) → x < y → y < n → turn_of n x < turn_of n y
@@ -171,7 +176,8 @@ none_linked (x ∷ links) zero from edge all e = let none : x ≡ None = all 0 N
 none_linked (x ∷ links) (suc place) from edge all e = none_linked links place from edge (λ k d lt. all (suc k) d (omega (arith, lt))) e
 
 -- places that are new
-pub new_ready : (n : ℕ) (labels : List (Option ℕ)) (chain : ChainValue) → n ≤ MAX_NODES → length labels ≡ 2 * n + 1 → All (λ o. o ≡ None) labels → length chain.links ≡ 2 * n + 1 → All (λ link. link ≡ None) chain.links → IsReady n labels chain
+pub new_ready : (n : ℕ) (labels : List (Option ℕ)) (chain : ChainValue) → n ≤ MAX_NODES → length labels ≡ 2 * n + 1 → All (λ o. o ≡ None) labels → length chain.links ≡ 2 * n + 1
+    → All (λ link. link ≡ None) chain.links → IsReady n labels chain
 new_ready n labels chain few long is places none = record {
   few = few;
   long = long;

@@ -120,41 +120,42 @@ by_answer h from second v (At s) calls each label e =
 by_answer h from second v NoWay calls each label e = absurd (cc e)
 by_answer h from second v Long calls each label e = absurd (cc e)
 
--- the label that a call gives leads to where its edge leads
-over_leads : (h : HierarchyValue) → IsHierarchy h → (from second u v edge : ℕ) (dir : Dir) → IsEdgeFrom h edge dir u v
-    → (o : Option Label) → LeadsToIf h from second u o → LeadsToIf h from second v (label_over h (Some edge) dir o)
-over_leads h f from second u v edge dir j None b = λ label e. absurd (cc e)
-over_leads h f from second u v edge dir j (Some before) b =
-    by_answer h from second v (relaxed h edge dir before.second) (before.calls ++ (call_from edge dir before.second ∷ []))
-    (λ s is. called h from second u v edge dir before (b before refl) s (call_walk h f u v edge dir before.second s j is))
+module _ (h : HierarchyValue) (f : IsHierarchy h) where
+  -- the label that a call gives leads to where its edge leads
+  over_leads : (from second u v edge : ℕ) (dir : Dir) → IsEdgeFrom h edge dir u v
+      → (o : Option Label) → LeadsToIf h from second u o → LeadsToIf h from second v (label_over h (Some edge) dir o)
+  over_leads from second u v edge dir j None b = λ label e. absurd (cc e)
+  over_leads from second u v edge dir j (Some before) b =
+      by_answer h from second v (relaxed h edge dir before.second) (before.calls ++ (call_from edge dir before.second ∷ []))
+      (λ s is. called h from second u v edge dir before (b before refl) s (call_walk h f u v edge dir before.second s j is))
 
-up_leads : (h : HierarchyValue) → IsHierarchy h → (from second x y : ℕ) (o : Option Label) → LeadsToIf h from second x o
-    → (n : Option ℕ) → number_from 0 h.edges x y ≡ n → LeadsToIf h from second y (label_over h n Up o)
-up_leads h f from second x y o b None e = λ label is. absurd (cc is)
-up_leads h f from second x y o b (Some edge) e =
-    let lt = number_below h f x y edge e in
-    let joins : IsEdgeFrom h edge Up x y = record {
-      apart = λ same. absurd (omega (arith, lt, same));
-      ends = record { low = x; high = y };
-      at = edge_numbered h x y edge e;
-      start = refl;
-      stop = refl;
-    } in
-    over_leads h f from second x y edge Up joins o b
+  up_leads : (from second x y : ℕ) (o : Option Label) → LeadsToIf h from second x o
+      → (n : Option ℕ) → number_from 0 h.edges x y ≡ n → LeadsToIf h from second y (label_over h n Up o)
+  up_leads from second x y o b None e = λ label is. absurd (cc is)
+  up_leads from second x y o b (Some edge) e =
+      let lt = number_below h f x y edge e in
+      let joins : IsEdgeFrom h edge Up x y = record {
+        apart = λ same. absurd (omega (arith, lt, same));
+        ends = record { low = x; high = y };
+        at = edge_numbered h x y edge e;
+        start = refl;
+        stop = refl;
+      } in
+      over_leads from second x y edge Up joins o b
 
-down_leads : (h : HierarchyValue) → IsHierarchy h → (from second x y : ℕ) (o : Option Label) → LeadsToIf h from second y o
-    → (n : Option ℕ) → number_from 0 h.edges x y ≡ n → LeadsToIf h from second x (label_over h n Down o)
-down_leads h f from second x y o b None e = λ label is. absurd (cc is)
-down_leads h f from second x y o b (Some edge) e =
-    let lt = number_below h f x y edge e in
-    let joins : IsEdgeFrom h edge Down y x = record {
-      apart = λ same. absurd (omega (arith, lt, same));
-      ends = record { low = x; high = y };
-      at = edge_numbered h x y edge e;
-      start = refl;
-      stop = refl;
-    } in
-    over_leads h f from second y x edge Down joins o b
+  down_leads : (from second x y : ℕ) (o : Option Label) → LeadsToIf h from second y o
+      → (n : Option ℕ) → number_from 0 h.edges x y ≡ n → LeadsToIf h from second x (label_over h n Down o)
+  down_leads from second x y o b None e = λ label is. absurd (cc is)
+  down_leads from second x y o b (Some edge) e =
+      let lt = number_below h f x y edge e in
+      let joins : IsEdgeFrom h edge Down y x = record {
+        apart = λ same. absurd (omega (arith, lt, same));
+        ends = record { low = x; high = y };
+        at = edge_numbered h x y edge e;
+        start = refl;
+        stop = refl;
+      } in
+      over_leads from second y x edge Down joins o b
 
 start_leads_if : (h : HierarchyValue) (from second y : ℕ) (b : Bool) → (b ≡ true → from ≡ y)
     → LeadsToIf h from second y (if b then Some (record { second = second; calls = [] }) else None)
@@ -194,30 +195,31 @@ after_leads h from second rank first f xs start each label e =
       | inr later ↦ earliest_leads h from second rank f xs each label later
     ]
 
-up_label-leads_by : (h : HierarchyValue) → IsHierarchy h → (from second fuel y : ℕ)
-    → LeadsToIf h from second y (up_label_by h from second fuel y)
-up_label-leads_by h f from second zero y = λ label e. absurd (cc e)
-up_label-leads_by h f from second (suc fuel) y =
-    let before : ℕ → Option Label = up_label_by h from second fuel in
-    after_leads h from second y (start_label from second y) (λ x. label_over h (number_from 0 h.edges x y) Up (before x))
-    (ancestors_in (graph_of h) from) (start_leads h from second y)
-    (λ x. up_leads h f from second x y (before x) (up_label-leads_by h f from second fuel x) (number_from 0 h.edges x y) refl)
+module _ (h : HierarchyValue) (f : IsHierarchy h) where
+  up_label-leads_by : (from second fuel y : ℕ)
+      → LeadsToIf h from second y (up_label_by h from second fuel y)
+  up_label-leads_by from second zero y = λ label e. absurd (cc e)
+  up_label-leads_by from second (suc fuel) y =
+      let before : ℕ → Option Label = up_label_by h from second fuel in
+      after_leads h from second y (start_label from second y) (λ x. label_over h (number_from 0 h.edges x y) Up (before x))
+      (ancestors_in (graph_of h) from) (start_leads h from second y)
+      (λ x. up_leads h f from second x y (before x) (up_label-leads_by from second fuel x) (number_from 0 h.edges x y) refl)
 
--- an upward label leads to its rank
-pub up_label-leads : (h : HierarchyValue) → IsHierarchy h → (from second y : ℕ)
-    → LeadsToIf h from second y (up_label h from second y)
-up_label-leads h f from second y = up_label-leads_by h f from second (suc y) y
+  -- an upward label leads to its rank
+  pub up_label-leads : (from second y : ℕ)
+      → LeadsToIf h from second y (up_label h from second y)
+  up_label-leads from second y = up_label-leads_by from second (suc y) y
 
-down_label-leads_by : (h : HierarchyValue) → IsHierarchy h → (from second fuel x : ℕ)
-    → LeadsToIf h from second x (down_label_by h from second fuel x)
-down_label-leads_by h f from second zero x = λ label e. absurd (cc e)
-down_label-leads_by h f from second (suc fuel) x =
-    let before : ℕ → Option Label = down_label_by h from second fuel in
-    after_leads h from second x (up_label h from second x) (λ y. label_over h (number_from 0 h.edges x y) Down (before y))
-    (up_of h.edges x) (up_label-leads h f from second x)
-    (λ y. down_leads h f from second x y (before y) (down_label-leads_by h f from second fuel y) (number_from 0 h.edges x y) refl)
+  down_label-leads_by : (from second fuel x : ℕ)
+      → LeadsToIf h from second x (down_label_by h from second fuel x)
+  down_label-leads_by from second zero x = λ label e. absurd (cc e)
+  down_label-leads_by from second (suc fuel) x =
+      let before : ℕ → Option Label = down_label_by h from second fuel in
+      after_leads h from second x (up_label h from second x) (λ y. label_over h (number_from 0 h.edges x y) Down (before y))
+      (up_of h.edges x) (up_label-leads from second x)
+      (λ y. down_leads h f from second x y (before y) (down_label-leads_by from second fuel y) (number_from 0 h.edges x y) refl)
 
--- and so does a downward label
-pub down_label-leads : (h : HierarchyValue) → IsHierarchy h → (from second x : ℕ)
-    → LeadsToIf h from second x (down_label h from second x)
-down_label-leads h f from second x = down_label-leads_by h f from second h.network.nodes x
+  -- and so does a downward label
+  pub down_label-leads : (from second x : ℕ)
+      → LeadsToIf h from second x (down_label h from second x)
+  down_label-leads from second x = down_label-leads_by from second h.network.nodes x

@@ -46,37 +46,40 @@ long_call NoWay call = refl
 long_call Long call = refl
 
 -- what a single call's answer says
-pub long_one : (h : HierarchyValue) (edge : ℕ) (dir : Dir) (second : Option ℕ) → first_long h (calls_of_some (call_at (Some edge) dir second)) ≡ long_by (answer_at h edge dir second) (call_at (Some edge) dir second)
+pub long_one : (h : HierarchyValue) (edge : ℕ) (dir : Dir) (second : Option ℕ)
+    → first_long h (calls_of_some (call_at (Some edge) dir second)) ≡ long_by (answer_at h edge dir second) (call_at (Some edge) dir second)
 long_one h edge dir None = refl
 long_one h edge dir (Some at) = long_call (relaxed h edge dir at) (call_from edge dir at)
 
-pub row_none : (h : HierarchyValue) (f : ℕ → Option Call) (calls : Option (List Call)) → IsRow h f [] calls calls
-row_none h f calls = record { short = refl; told = adds_none calls }
+module _ (h : HierarchyValue) (f : ℕ → Option Call) where
+  pub row_none : (calls : Option (List Call)) → IsRow h f [] calls calls
+  row_none calls = record { short = refl; told = adds_none calls }
 
-pub row_more : (h : HierarchyValue) (f : ℕ → Option Call) (part : List ℕ) (before now after : Option (List Call)) (y : ℕ) (o : Option Call) → IsRow h f part before now → f y ≡ o
-    → AddsAll now after (calls_of_some o) → first_long h (calls_of_some o) ≡ None → IsRow h f (part ++ (y ∷ [])) before after
-row_more h f part before now after y o row e told short =
-    let same = one_more f part y o e in
-    record {
-      short = ap (first_long h) same ∙ first_before h (filter_map f part) (calls_of_some o) row.short ∙ short;
-      told = subst (AddsAll before after) (sym same) (adds_then before now after (filter_map f part) (calls_of_some o) row.told told);
-    }
+  pub row_more : (part : List ℕ) (before now after : Option (List Call)) (y : ℕ) (o : Option Call) → IsRow h f part before now → f y ≡ o
+      → AddsAll now after (calls_of_some o) → first_long h (calls_of_some o) ≡ None → IsRow h f (part ++ (y ∷ [])) before after
+  row_more part before now after y o row e told short =
+      let same = one_more f part y o e in
+      record {
+        short = ap (first_long h) same ∙ first_before h (filter_map f part) (calls_of_some o) row.short ∙ short;
+        told = subst (AddsAll before after) (sym same) (adds_then before now after (filter_map f part) (calls_of_some o) row.told told);
+      }
 
-pub row_ends : (h : HierarchyValue) (f : ℕ → Option Call) (part : List ℕ) (before now after : Option (List Call)) (y : ℕ) (o : Option Call) (call : Call) (rest all : List ℕ) → IsRow h f part before now → f y ≡ o
-    → AddsAll now after (calls_of_some o) → first_long h (calls_of_some o) ≡ Some call → all ≡ (part ++ (y ∷ [])) ++ rest
-    → (first_long h (filter_map f all) ≡ Some call) × AddsAll before after (until_long h (filter_map f all))
-row_ends h f part before now after y o call rest all row e told long whole =
-    let same = one_more f part y o e in
-    let parted : filter_map f all ≡ (filter_map f part ++ calls_of_some o) ++ filter_map f rest =
-    ap (filter_map f) whole ∙ filter_map-append f (part ++ (y ∷ [])) rest ∙ ap (λ (calls : List Call). calls ++ filter_map f rest) same in
-    let first : first_long h (filter_map f part ++ calls_of_some o) ≡ Some call = first_before h (filter_map f part) (calls_of_some o) row.short ∙ long in
-    let ends = long_ends h (filter_map f part ++ calls_of_some o) (filter_map f rest) call first in
-    let until : until_long h (filter_map f all) ≡ filter_map f part ++ calls_of_some o =
-    ap (until_long h) parted ∙ ends.1 ∙ until_before h (filter_map f part) (calls_of_some o) row.short ∙ ap (λ (calls : List Call). filter_map f part ++ calls) (until_one h o) in
-    (ap (first_long h) parted ∙ ends.0, subst (AddsAll before after) (sym until) (adds_then before now after (filter_map f part) (calls_of_some o) row.told told))
+  pub row_ends : (part : List ℕ) (before now after : Option (List Call)) (y : ℕ) (o : Option Call) (call : Call) (rest all : List ℕ)
+      → IsRow h f part before now → f y ≡ o
+      → AddsAll now after (calls_of_some o) → first_long h (calls_of_some o) ≡ Some call → all ≡ (part ++ (y ∷ [])) ++ rest
+      → (first_long h (filter_map f all) ≡ Some call) × AddsAll before after (until_long h (filter_map f all))
+  row_ends part before now after y o call rest all row e told long whole =
+      let same = one_more f part y o e in
+      let parted : filter_map f all ≡ (filter_map f part ++ calls_of_some o) ++ filter_map f rest =
+      ap (filter_map f) whole ∙ filter_map-append f (part ++ (y ∷ [])) rest ∙ ap (λ (calls : List Call). calls ++ filter_map f rest) same in
+      let first : first_long h (filter_map f part ++ calls_of_some o) ≡ Some call = first_before h (filter_map f part) (calls_of_some o) row.short ∙ long in
+      let ends = long_ends h (filter_map f part ++ calls_of_some o) (filter_map f rest) call first in
+      let until : until_long h (filter_map f all) ≡ filter_map f part ++ calls_of_some o =
+      ap (until_long h) parted ∙ ends.1 ∙ until_before h (filter_map f part) (calls_of_some o) row.short ∙ ap (λ (calls : List Call). filter_map f part ++ calls) (until_one h o) in
+      (ap (first_long h) parted ∙ ends.0, subst (AddsAll before after) (sym until) (adds_then before now after (filter_map f part) (calls_of_some o) row.told told))
 
-pub row_whole : (h : HierarchyValue) (f : ℕ → Option Call) (part : List ℕ) (before now : Option (List Call)) → IsRow h f part before now → AddsAll before now (until_long h (filter_map f part))
-row_whole h f part before now row = subst (AddsAll before now) (sym (until_none h (filter_map f part) row.short)) row.told
+  pub row_whole : (part : List ℕ) (before now : Option (List Call)) → IsRow h f part before now → AddsAll before now (until_long h (filter_map f part))
+  row_whole part before now row = subst (AddsAll before now) (sym (until_none h (filter_map f part) row.short)) row.told
 
 -- the edge to a higher neighbour
 pub row_edge : (h : HierarchyValue) → IsHierarchy h → (x i y : ℕ) → slice_get (up_of h.edges x) i ≡ Some y

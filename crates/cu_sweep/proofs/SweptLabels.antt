@@ -84,32 +84,33 @@ record IsUnder (h : HierarchyValue) (x y u : ℕ) (walk : List ℕ) (v : ℕ) : 
   low : IsLowWalk h.network h.order u walk v
   has : HasEdge h.edges x y
 
-under_by : (h : HierarchyValue) → IsHierarchy h → (x y : ℕ) → x < y → JoinedBelow h.network h.order x x y → HasEdge h.edges x y
-under_by h f x y lt joined =
-    let least : min x y ≡ x = min-eq_left (omega (arith, lt)) in
-    let low = subst (λ (m : ℕ). JoinedBelow h.network h.order m x y) (sym least) joined in
-    (f.edges.exact x y).1 (lt, ((λ same. absurd (omega (arith, lt, same))), low))
+module _ (h : HierarchyValue) (f : IsHierarchy h) where
+  under_by : (x y : ℕ) → x < y → JoinedBelow h.network h.order x x y → HasEdge h.edges x y
+  under_by x y lt joined =
+      let least : min x y ≡ x = min-eq_left (omega (arith, lt)) in
+      let low = subst (λ (m : ℕ). JoinedBelow h.network h.order m x y) (sym least) joined in
+      (f.edges.exact x y).1 (lt, ((λ same. absurd (omega (arith, lt, same))), low))
 
-up_under : (h : HierarchyValue) → IsHierarchy h → (x y : ℕ) (walk : List ℕ)
-    → x < y → WalkBelow h.network h.order x x walk y → IsUnder h x y x walk y
-up_under h f x y walk lt w =
-    let least : min x y ≡ x = min-eq_left (omega (arith, lt)) in
-    let low = subst (λ (m : ℕ). WalkBelow h.network h.order m x walk y) (sym least) w in
-    record {
-      low = ((λ same. absurd (omega (arith, lt, same))), low);
-      has = under_by h f x y lt (walk_path h.network h.order x x walk y w);
-    }
+  up_under : (x y : ℕ) (walk : List ℕ)
+      → x < y → WalkBelow h.network h.order x x walk y → IsUnder h x y x walk y
+  up_under x y walk lt w =
+      let least : min x y ≡ x = min-eq_left (omega (arith, lt)) in
+      let low = subst (λ (m : ℕ). WalkBelow h.network h.order m x walk y) (sym least) w in
+      record {
+        low = ((λ same. absurd (omega (arith, lt, same))), low);
+        has = under_by x y lt (walk_path h.network h.order x x walk y w);
+      }
 
-down_under : (h : HierarchyValue) → IsHierarchy h → (x y : ℕ) (walk : List ℕ)
-    → x < y → WalkBelow h.network h.order x y walk x → IsUnder h x y y walk x
-down_under h f x y walk lt w =
-    let least : min y x ≡ x = min-eq_right (omega (arith, lt)) in
-    let low = subst (λ (m : ℕ). WalkBelow h.network h.order m y walk x) (sym least) w in
-    let path = walk_path h.network h.order x y walk x w in
-    record {
-      low = ((λ same. absurd (omega (arith, lt, same))), low);
-      has = under_by h f x y lt (joined_back h.network h.order x y path.0 x path.1);
-    }
+  down_under : (x y : ℕ) (walk : List ℕ)
+      → x < y → WalkBelow h.network h.order x y walk x → IsUnder h x y y walk x
+  down_under x y walk lt w =
+      let least : min y x ≡ x = min-eq_right (omega (arith, lt)) in
+      let low = subst (λ (m : ℕ). WalkBelow h.network h.order m y walk x) (sym least) w in
+      let path = walk_path h.network h.order x y walk x w in
+      record {
+        low = ((λ same. absurd (omega (arith, lt, same))), low);
+        has = under_by x y lt (joined_back h.network h.order x y path.0 x path.1);
+      }
 
 -- where a low walk leads, the answer is no later
 answer_reaches : (h : HierarchyValue) (u v t : ℕ) (walk : List ℕ) (r : Relaxed) (calls : List Call)

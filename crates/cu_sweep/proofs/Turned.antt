@@ -1,5 +1,5 @@
 -- The calls of a chain that was turned, from its first place on, and the text of their roads.
-use Rattle.std.proofs.Common.{◌≡◌, ◌≢◌, ◌≤◌, ◌<◌, ◌+◌, ◌*◌, ◌-◌, ◌^◌, ◌∙◌, ℕ, zero, suc}
+use Rattle.std.proofs.Common.{◌≡◌, ◌≢◌, ◌≤◌, ◌<◌, ◌+◌, ◌*◌, ◌-◌, ◌∙◌, ℕ, zero, suc}
 use Rattle.std.proofs.Common.{Bool, true, false, List, [], ◌∷◌, ◌++◌, Option, Some, None, refl, sym, ap, subst, arith, inl, inr, ltb, length, append_assoc}
 use Rattle.std.specs.Prelude.{All, IsErr, Result, Ok, Err}
 use Rattle.std.specs.List.{flat_map}
@@ -9,9 +9,8 @@ use Rattle.std.proofs.lemmas.List.{append-nil}
 use Rattle.cu_links.specs.Chains.{AreFollowed, IsChain, IsTurned, link_at}
 use Rattle.cu_io.specs.Sinks.{SinkState, Wrote, WroteAll}
 use Rattle.cu_io.proofs.Appending.{wrote_nothing, wrote_ok, wrote_same, wrote_stops, wrote_then}
+use Rattle.cu_chordal.specs.declared.graph.TheConstants.{MAX_EDGES}
 use Rattle.cu_chordal.specs.declared.graph.Ends.{Ends}
-use Rattle.cu_interval.specs.declared.ways.Dir.{Dir}
-use Rattle.cu_interval.specs.declared.ways.Dir.TheVariants.{Up, Down}
 use Rattle.cu_interval.specs.declared.ways.Entry.{Entry}
 use Rattle.cu_interval.specs.declared.relaxing.Call.{Call}
 use Rattle.cu_interval.specs.declared.relaxing.Relaxed.TheVariants.{At}
@@ -21,7 +20,7 @@ use Rattle.cu_interval.specs.Unpacking.{answer_by, relaxed_ends, relaxed_from, u
 use Rattle.cu_interval.proofs.Unpacked.{unpacked-low}
 use Rattle.cu_unpack.specs.Answers.{walk_between, walk_over}
 use Rattle.cu_unpack.specs.Texts.{road_text, walk_text}
-use Rattle.cu_unpack.proofs.Edges.{ends_range}
+use Rattle.cu_unpack.proofs.Edges.{ends_apart, ends_range}
 use Rattle.cu_unpack.proofs.OnWay.{edge_at}
 use Rattle.cu_unpack.proofs.Texts.{first_after}
 use Rattle.cu_sweep.specs.Desks.{AreArriving, IsArrivingCall, roads_of}
@@ -130,7 +129,7 @@ all_last P (x ∷ xs) ys all = all_last P xs ys (λ j e less. all (suc j) e (ome
 
 -- what is known of the next link
 pub record IsNextLink (h : HierarchyValue) (n : ℕ) (labels : List (Option ℕ)) (place next edge end : ℕ) : Type 0 where
-  pub small : edge < 2 ^ 32
+  pub small : edge < MAX_EDGES
   pub from : place < 2 * n
   pub up : turn_of n place < turn_of n next
   pub few : turn_of n next ≤ 2 * n
@@ -245,10 +244,6 @@ route_over h n labels before after end place first a b w e =
 list_there : (h : HierarchyValue) (entries : List Entry) (walk : List ℕ) (t arrival : ℕ) → answer_by h entries walk t ≡ At arrival → entries ≢ []
 list_there h [] walk t arrival e none = absurd (cc e)
 list_there h (entry ∷ entries) walk t arrival e none = absurd (cc none)
-
-ends_apart : (ends : Ends) (dir : Dir) → ends.low < ends.high → start_of ends dir ≢ end_of ends dir
-ends_apart ends Up lt same = absurd (omega (arith, lt, same))
-ends_apart ends Down lt same = absurd (omega (arith, lt, same))
 
 road_there : (h : HierarchyValue) (u : ℕ) (walk : List ℕ) (v : ℕ) → IsLowWalk h.network h.order u walk v → walk ≢ []
 road_there h u [] v low none = low.1

@@ -20,22 +20,25 @@ abbrev pub IsUpPart : HierarchyValue → Question → List ℕ → ℕ → List 
 IsUpPart h q done x part labels links = (y : ℕ) → IsPassed h q y
     → (Contains part y → Holds h q labels links y (up_after h q (done ++ (x ∷ [])) y)) × ((Contains part y → ⊥) → Holds h q labels links y (up_after h q done y))
 
-pub up_begun : (h : HierarchyValue) (q : Question) (done : List ℕ) (x : ℕ) (labels : List (Option ℕ)) (links : List (Option (ℕ × ℕ))) → IsUpSwept h q done labels links → IsUpPart h q done x [] labels links
-up_begun h q done x labels links f y p = (λ c. absurd (none_in_nil y c), λ c. f y p)
+module _ (h : HierarchyValue) (q : Question) where
+  pub up_begun : (done : List ℕ) (x : ℕ) (labels : List (Option ℕ)) (links : List (Option (ℕ × ℕ))) → IsUpSwept h q done labels links
+      → IsUpPart h q done x [] labels links
+  up_begun done x labels links f y p = (λ c. absurd (none_in_nil y c), λ c. f y p)
 
--- the label after a call to a rank
-up_after_call : (h : HierarchyValue) (q : Question) (done : List ℕ) (x y edge : ℕ) → number_from 0 h.edges x y ≡ Some edge
-    → earlier_of (up_after h q done y) (label_over h (Some edge) Up (up_label h q.from q.second x)) ≡ up_after h q (done ++ (x ∷ [])) y
-up_after_call h q done x y edge e =
-    ap (λ (n : Option ℕ). earlier_of (up_after h q done y) (label_over h n Up (up_label h q.from q.second x))) (sym e) ∙ sym (after_more (start_label q.from q.second y) (up_into h q y) done x)
+  -- the label after a call to a rank
+  up_after_call : (done : List ℕ) (x y edge : ℕ) → number_from 0 h.edges x y ≡ Some edge
+      → earlier_of (up_after h q done y) (label_over h (Some edge) Up (up_label h q.from q.second x)) ≡ up_after h q (done ++ (x ∷ [])) y
+  up_after_call done x y edge e =
+      ap (λ (n : Option ℕ). earlier_of (up_after h q done y) (label_over h n Up (up_label h q.from q.second x))) (sym e) ∙ sym (after_more (start_label q.from q.second y) (up_into h q y) done x)
 
--- and where there is none
-pub up_after_none : (h : HierarchyValue) (q : Question) (done : List ℕ) (x y : ℕ) → number_from 0 h.edges x y ≡ None → up_after h q (done ++ (x ∷ [])) y ≡ up_after h q done y
-up_after_none h q done x y e =
-    after_more (start_label q.from q.second y) (up_into h q y) done x ∙ ap (λ (n : Option ℕ). earlier_of (up_after h q done y) (label_over h n Up (up_label h q.from q.second x))) e ∙ earlier_none (up_after h q done y)
+  -- and where there is none
+  pub up_after_none : (done : List ℕ) (x y : ℕ) → number_from 0 h.edges x y ≡ None → up_after h q (done ++ (x ∷ [])) y ≡ up_after h q done y
+  up_after_none done x y e =
+      after_more (start_label q.from q.second y) (up_into h q y) done x ∙ ap (λ (n : Option ℕ). earlier_of (up_after h q done y) (label_over h n Up (up_label h q.from q.second x))) e
+      ∙ earlier_none (up_after h q done y)
 
-pub final_up : (h : HierarchyValue) (q : Question) (x : ℕ) → x < h.network.nodes → final_label h q x ≡ up_label h q.from q.second x
-final_up h q x lt = let first : ltb x h.network.nodes ≡ true = grind (arith, lt) in rw first refl
+  pub final_up : (x : ℕ) → x < h.network.nodes → final_label h q x ≡ up_label h q.from q.second x
+  final_up x lt = let first : ltb x h.network.nodes ≡ true = grind (arith, lt) in rw first refl
 
 along_up : (n x y : ℕ) → y < n → dir_between n x y ≡ Some Up
 along_up n x y lt = let first : ltb y n ≡ true = grind (arith, lt) in rw first refl
@@ -82,9 +85,11 @@ up_more h q done x y edge part labels links f new lt within la li number there_ 
           let old : Holds h q labels links y (up_after h q done y) = (f y passed).1 new in
           let from = up_label h q.from q.second x in
           let xs : x < h.network.nodes = omega (arith, lt, within) in
-          let whole = holds_after h q labels links x edge y Up from (up_after h q done y) la li (final_up h q x xs) (along_up h.network.nodes x y within) there_ (subst (λ (o : Option ℕ). IfSecond o (λ at. at < 2 ^ 61)) source time)
+          let whole = holds_after h q labels links x edge y Up from (up_after h q done y) la li (final_up h q x xs) (along_up h.network.nodes x y within) there_
+          (subst (λ (o : Option ℕ). IfSecond o (λ at. at < 2 ^ 61)) source time)
           (λ s is. subst (λ (o : Option ℕ). long_by (answer_at h edge Up o) (call_at (Some edge) Up o) ≡ None) (source ∙ ap second_of is) long) (inl start) old in
-          let back = subst (λ (o : Option ℕ). Holds h q (seconds_after labels y (answer_at h edge Up o)) (links_after labels links x edge y (answer_at h edge Up o)) y (earlier_of (up_after h q done y) (label_over h (Some edge) Up from))) (sym source) whole in
+          let back = subst (λ (o : Option ℕ). Holds h q (seconds_after labels y (answer_at h edge Up o)) (links_after labels links x edge y (answer_at h edge Up o)) y
+          (earlier_of (up_after h q done y) (label_over h (Some edge) Up from))) (sym source) whole in
           let at_y = subst (Holds h q (seconds_after labels y answer) (links_after labels links x edge y answer) y) (up_after_call h q done x y edge number) back in (
             λ c. subst (λ (w : ℕ). Holds h q (seconds_after labels y answer) (links_after labels links x edge y answer) w (up_after h q (done ++ (x ∷ [])) w)) (sym same) at_y,
             λ c. absurd (c (subst (Contains (part ++ (y ∷ []))) (sym same) (member_last part y))),
@@ -96,7 +101,8 @@ number_either None = inl refl
 number_either (Some k) = inr (k, refl)
 
 -- after all calls from a rank
-pub up_done : (h : HierarchyValue) → IsHierarchy h → (q : Question) (done : List ℕ) (x : ℕ) (labels : List (Option ℕ)) (links : List (Option (ℕ × ℕ))) → IsUpPart h q done x (up_of h.edges x) labels links → IsUpSwept h q (done ++ (x ∷ [])) labels links
+pub up_done : (h : HierarchyValue) → IsHierarchy h → (q : Question) (done : List ℕ) (x : ℕ) (labels : List (Option ℕ)) (links : List (Option (ℕ × ℕ)))
+    → IsUpPart h q done x (up_of h.edges x) labels links → IsUpSwept h q (done ++ (x ∷ [])) labels links
 up_done h sound q done x labels links f y p =
     elim (number_either (number_from 0 h.edges x y)) [
       | inr k ↦

@@ -1,7 +1,8 @@
 //! Routes: the roads of the walk that a query found.
 
-ghost use Rattle.std.specs.Prelude.{◌≡◌, ◌≢◌, ◌≤◌, ◌<◌, ◌*◌, ◌^◌, [], true, false, IfOk, length};
+ghost use Rattle.std.specs.Prelude.{◌≡◌, ◌≢◌, ◌≤◌, ◌<◌, ◌*◌, [], true, false, IfOk, length};
 ghost use Rattle.cu_io.specs.Sinks.{Wrote};
+ghost use Rattle.cu_chordal.specs.declared.graph.TheConstants.{MAX_EDGES};
 ghost use Rattle.cu_unpack.specs.Answers.{walk_over};
 ghost use Rattle.cu_unpack.specs.Texts.{walk_text};
 ghost use Rattle.cu_unpack.proofs.Texts.{first_after};
@@ -75,7 +76,7 @@ fn write_chain<W: Ways, K: Sink>(
 // The call of a link between two places, at the second of the place that it comes from.
 fn call_of(nodes: u32, labels: &[Option<u64>], from: u32, place: u32, edge: u64) -> Option<Call>
     requires from { from < length labels.now }
-    requires edge { edge < 2 ^ 32 }
+    requires edge { edge < MAX_EDGES }
     ensures { calls_of_some result ≡ calls_over nodes labels.now from place edge }
 {
     let dir = direction(nodes, from, place)?;

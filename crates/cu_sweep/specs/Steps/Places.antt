@@ -1,7 +1,9 @@
 -- Places of labels and links: place x is rank x in the upward sweep, place nodes + x is rank x in the downward one.
 use Rattle.std.specs.Prelude.{ℕ, zero, suc, false, List, [], ◌∷◌, ◌++◌, Option, Some, None, ◌≡◌, ◌≤◌, ◌<◌, ◌+◌, ◌-◌, ◌*◌, ◌^◌, nat_lt, if◌then◌else◌, length, slice_index_or}
 use Rattle.cu_model.specs.declared.limits.TheConstants.{MAX_NODES}
+use Rattle.cu_model.specs.Days.{day}
 use Rattle.cu_links.specs.Chains.{ChainValue, link_at}
+use Rattle.cu_chordal.specs.declared.graph.TheConstants.{MAX_EDGES}
 use Rattle.cu_interval.specs.declared.ways.Dir.{Dir}
 use Rattle.cu_interval.specs.declared.ways.Dir.TheVariants.{Up, Down}
 use Rattle.cu_interval.specs.declared.relaxing.Call.{Call}
@@ -53,11 +55,11 @@ turn_of nodes place = if nat_lt place nodes then place else 3 * nodes - place
 -- each link comes from a place that the sweeps pass before, and its label is the number of an edge
 abbrev pub Rises : ℕ → List (Option (ℕ × ℕ)) → Type 0
 Rises nodes links = (place from edge : ℕ) → link_at links place ≡ Some (from, edge)
-    → (turn_of nodes from < turn_of nodes place) × (from < 2 * nodes) × (edge < 2 ^ 32)
+    → (turn_of nodes from < turn_of nodes place) × (from < 2 * nodes) × (edge < MAX_EDGES)
 
 -- seconds rise by at most 2^38 from place to place
 abbrev pub AreNear : ℕ → List (Option ℕ) → Type 0
-AreNear nodes labels = (place second : ℕ) → second_at labels place ≡ Some second → second ≤ 86399 + turn_of nodes place * 2 ^ 38
+AreNear nodes labels = (place second : ℕ) → second_at labels place ≡ Some second → second ≤ day - 1 + turn_of nodes place * 2 ^ 38
 
 -- labels and links between sweeps: one place more than the sweeps use, where the desk's end lies before there was a query
 pub record IsReady (nodes : ℕ) (labels : List (Option ℕ)) (chain : ChainValue) : Type 0 where

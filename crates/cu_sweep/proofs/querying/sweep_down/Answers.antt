@@ -30,7 +30,8 @@ ranks-init g c =
       unturned = c.requires.unturned;
       stays = refl;
       swept = λ q same sw.
-          subst (λ (xs : List ℕ). IsDownSwept h q xs c.args.labels.now c.args.chain.now.links × (first_long h (down_calls_of h q xs) ≡ None) × AddsAll a a (down_calls_of h q xs)) none (sw, refl, adds_none a);
+          subst (λ (xs : List ℕ). IsDownSwept h q xs c.args.labels.now c.args.chain.now.links × (first_long h (down_calls_of h q xs) ≡ None) × AddsAll a a (down_calls_of h q xs)) none
+          (sw, refl, adds_none a);
     }
 
 pub ranks-preserved : goal.ranks-preserved
@@ -53,8 +54,10 @@ ranks-preserved g c =
     let d = g.R.Relaxer.calls row.new.relaxer in
     let labels = c.ranks.labels in
     let here_calls = calls_down h x (λ y. second_at labels (c.args.graph.now.ranks + y)) in
-    let long_eq : row.result ≡ first_long h here_calls = subst (λ (v : HierarchyValue). row.result ≡ first_long v (calls_down v x (λ y. second_at labels (c.args.graph.now.ranks + y)))) i.stays row.ensures.long in
-    let told : AddsAll b d (until_long h here_calls) = subst (λ (v : HierarchyValue). AddsAll b d (until_long v (calls_down v x (λ y. second_at labels (c.args.graph.now.ranks + y))))) i.stays row.ensures.told in
+    let long_eq : row.result ≡ first_long h here_calls =
+    subst (λ (v : HierarchyValue). row.result ≡ first_long v (calls_down v x (λ y. second_at labels (c.args.graph.now.ranks + y)))) i.stays row.ensures.long in
+    let told : AddsAll b d (until_long h here_calls) =
+    subst (λ (v : HierarchyValue). AddsAll b d (until_long v (calls_down v x (λ y. second_at labels (c.args.graph.now.ranks + y))))) i.stays row.ensures.told in
     let higher : (y : ℕ) → HasEdge c.args.graph.now.edges x y → Contains done y = λ y e.
     let less = (edge_range h c.requires.graph.1 x y (subst (λ (es : List Ends). HasEdge es x y) edges e)).0 in
     turned_member (drop (suc k) path) y (member_behind path k y c.requires.rising lt (c.requires.upwards x y (member_here path k lt) e) less) in
@@ -70,14 +73,20 @@ ranks-preserved g c =
           let swept : IsDownSwept h q done labels c.ranks.chain.links = subst (λ (n : ℕ). IsDownSwept h q (reverse (drop n path)) labels c.ranks.chain.links) next swept0 in
           let quiet : first_long h (down_calls_of h q done) ≡ None = subst (λ (n : ℕ). first_long h (down_calls_of h q (reverse (drop n path))) ≡ None) next quiet0 in
           let before_told : AddsAll a b (down_calls_of h q done) = subst (λ (n : ℕ). AddsAll a b (down_calls_of h q (reverse (drop n path)))) next told0 in
-          let passed : IsPassed h q x = (within, inr (subst (λ (v : ChordalValue). Contains (ancestors_in v q.to) x) c.requires.graph.0 (subst (λ (xs : List ℕ). Contains xs x) same (member_here path k lt)))) in
+          let passed : IsPassed h q x =
+          (within, inr (subst (λ (v : ChordalValue). Contains (ancestors_in v q.to) x) c.requires.graph.0 (subst (λ (xs : List ℕ). Contains xs x) same (member_here path k lt)))) in
           let f = λ (z : ℕ). calls_down h z (λ y. second_of (down_label h q.from q.second y)) in
-          let same_row : here_calls ≡ f x = filter_same (λ y. call_at (number_from 0 h.edges x y) Down (second_at labels (c.args.graph.now.ranks + y))) (λ y. call_at (number_from 0 h.edges x y) Down (second_of (down_label h q.from q.second y))) (up_of h.edges x)
-          (λ y e. ap (call_at (number_from 0 h.edges x y) Down) (ap (λ (n : ℕ). second_at labels (n + y)) ranks ∙ (swept.down y (higher y (subst (λ (es : List Ends). HasEdge es x y) (sym edges) (edge_from_up_of h.edges x y e)))).second)) in
+          let same_row : here_calls ≡ f x =
+          filter_same (λ y. call_at (number_from 0 h.edges x y) Down (second_at labels (c.args.graph.now.ranks + y)))
+          (λ y. call_at (number_from 0 h.edges x y) Down (second_of (down_label h q.from q.second y))) (up_of h.edges x)
+          (λ y e. ap (call_at (number_from 0 h.edges x y) Down)
+          (ap (λ (n : ℕ). second_at labels (n + y)) ranks ∙ (swept.down y (higher y (subst (λ (es : List Ends). HasEdge es x y) (sym edges) (edge_from_up_of h.edges x y e)))).second)) in
           let told_row = subst (λ (cs : List Call). AddsAll b d (until_long h cs)) same_row told in
           let more = sweep_more h f done x a b d quiet before_told (sym none ∙ long_eq ∙ ap (first_long h) same_row) told_row in
-          let kept = subst (λ (v : HierarchyValue). (p : Question) (ds : List ℕ) → IsDownSwept v p ds labels c.ranks.chain.links → IsPassed v p x → ((y : ℕ) → HasEdge c.args.graph.now.edges x y → Contains ds y) → row.result ≡ None → IsDownSwept v p (ds ++ (x ∷ [])) row.new.labels row.new.chain.links) i.stays row.ensures.swept in
-          subst (λ (xs : List ℕ). IsDownSwept h q xs row.new.labels row.new.chain.links × (first_long h (down_calls_of h q xs) ≡ None) × AddsAll a d (down_calls_of h q xs)) (sym turned) (kept q done swept passed higher none, more.0, more.1);
+          let kept = subst (λ (v : HierarchyValue). (p : Question) (ds : List ℕ) → IsDownSwept v p ds labels c.ranks.chain.links → IsPassed v p x
+          → ((y : ℕ) → HasEdge c.args.graph.now.edges x y → Contains ds y) → row.result ≡ None → IsDownSwept v p (ds ++ (x ∷ [])) row.new.labels row.new.chain.links) i.stays row.ensures.swept in
+          subst (λ (xs : List ℕ). IsDownSwept h q xs row.new.labels row.new.chain.links × (first_long h (down_calls_of h q xs) ≡ None) × AddsAll a d (down_calls_of h q xs)) (sym turned)
+          (kept q done swept passed higher none, more.0, more.1);
     }
 
 pub returns-then-is_some-clause-over : goal.returns-then-is_some-clause-over
@@ -100,8 +109,10 @@ returns-then-is_some-clause-over g c =
     let d = g.R.Relaxer.calls row.new.relaxer in
     let labels = c.ranks.labels in
     let here_calls = calls_down h x (λ y. second_at labels (c.args.graph.now.ranks + y)) in
-    let long_eq : row.result ≡ first_long h here_calls = subst (λ (v : HierarchyValue). row.result ≡ first_long v (calls_down v x (λ y. second_at labels (c.args.graph.now.ranks + y)))) i.stays row.ensures.long in
-    let told : AddsAll b d (until_long h here_calls) = subst (λ (v : HierarchyValue). AddsAll b d (until_long v (calls_down v x (λ y. second_at labels (c.args.graph.now.ranks + y))))) i.stays row.ensures.told in
+    let long_eq : row.result ≡ first_long h here_calls =
+    subst (λ (v : HierarchyValue). row.result ≡ first_long v (calls_down v x (λ y. second_at labels (c.args.graph.now.ranks + y)))) i.stays row.ensures.long in
+    let told : AddsAll b d (until_long h here_calls) =
+    subst (λ (v : HierarchyValue). AddsAll b d (until_long v (calls_down v x (λ y. second_at labels (c.args.graph.now.ranks + y))))) i.stays row.ensures.told in
     let higher : (y : ℕ) → HasEdge c.args.graph.now.edges x y → Contains done y = λ y e.
     let less = (edge_range h c.requires.graph.1 x y (subst (λ (es : List Ends). HasEdge es x y) edges e)).0 in
     turned_member (drop (suc k) path) y (member_behind path k y c.requires.rising lt (c.requires.upwards x y (member_here path k lt) e) less) in
@@ -112,10 +123,14 @@ returns-then-is_some-clause-over g c =
     let swept : IsDownSwept h q done labels c.ranks.chain.links = subst (λ (n : ℕ). IsDownSwept h q (reverse (drop n path)) labels c.ranks.chain.links) next swept0 in
     let quiet : first_long h (down_calls_of h q done) ≡ None = subst (λ (n : ℕ). first_long h (down_calls_of h q (reverse (drop n path))) ≡ None) next quiet0 in
     let before_told : AddsAll a b (down_calls_of h q done) = subst (λ (n : ℕ). AddsAll a b (down_calls_of h q (reverse (drop n path)))) next told0 in
-    let passed : IsPassed h q x = (within, inr (subst (λ (v : ChordalValue). Contains (ancestors_in v q.to) x) c.requires.graph.0 (subst (λ (xs : List ℕ). Contains xs x) same (member_here path k lt)))) in
+    let passed : IsPassed h q x =
+    (within, inr (subst (λ (v : ChordalValue). Contains (ancestors_in v q.to) x) c.requires.graph.0 (subst (λ (xs : List ℕ). Contains xs x) same (member_here path k lt)))) in
     let f = λ (z : ℕ). calls_down h z (λ y. second_of (down_label h q.from q.second y)) in
-    let same_row : here_calls ≡ f x = filter_same (λ y. call_at (number_from 0 h.edges x y) Down (second_at labels (c.args.graph.now.ranks + y))) (λ y. call_at (number_from 0 h.edges x y) Down (second_of (down_label h q.from q.second y))) (up_of h.edges x)
-    (λ y e. ap (call_at (number_from 0 h.edges x y) Down) (ap (λ (n : ℕ). second_at labels (n + y)) ranks ∙ (swept.down y (higher y (subst (λ (es : List Ends). HasEdge es x y) (sym edges) (edge_from_up_of h.edges x y e)))).second)) in
+    let same_row : here_calls ≡ f x =
+    filter_same (λ y. call_at (number_from 0 h.edges x y) Down (second_at labels (c.args.graph.now.ranks + y)))
+    (λ y. call_at (number_from 0 h.edges x y) Down (second_of (down_label h q.from q.second y))) (up_of h.edges x)
+    (λ y e. ap (call_at (number_from 0 h.edges x y) Down) (ap (λ (n : ℕ). second_at labels (n + y)) ranks
+    ∙ (swept.down y (higher y (subst (λ (es : List Ends). HasEdge es x y) (sym edges) (edge_from_up_of h.edges x y e)))).second)) in
     let told_row = subst (λ (cs : List Call). AddsAll b d (until_long h cs)) same_row told in
     let ends = sweep_ends h f done x rest (reverse path) call a b d cut quiet before_told (ap (first_long h) (sym same_row) ∙ sym long_eq ∙ is) told_row in
     record { ended = is ∙ sym ends.0; told = ends.1; swept = λ none. absurd (cc (none, is)) }

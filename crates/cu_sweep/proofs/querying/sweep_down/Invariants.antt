@@ -16,7 +16,8 @@ invariant-ranks g l =
       unturned : l.chain.turned ≡ false;
       stays : g.R.Relaxer.hierarchy l.relaxer ≡ h;
       swept : (q : Question) → l.path ≡ ancestors_in l.fn.graph q.to → IsDownSwept h q [] l.fn.labels l.fn.chain.links
-          → IsDownSwept h q done l.labels l.chain.links × (first_long h (down_calls_of h q done) ≡ None) × AddsAll (g.R.Relaxer.calls l.fn.relaxer) (g.R.Relaxer.calls l.relaxer) (down_calls_of h q done);
+          → IsDownSwept h q done l.labels l.chain.links × (first_long h (down_calls_of h q done) ≡ None)
+          × AddsAll (g.R.Relaxer.calls l.fn.relaxer) (g.R.Relaxer.calls l.relaxer) (down_calls_of h q done);
     }
 
 abbrev pub decreases-ranks : goal.decreases-ranks

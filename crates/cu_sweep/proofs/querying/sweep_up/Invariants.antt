@@ -13,5 +13,6 @@ invariant-ranks g l =
       unturned : l.chain.turned ≡ false;
       stays : g.R.Relaxer.hierarchy l.relaxer ≡ h;
       swept : (q : Question) → q.from ≡ l.fn.from → IsUpSwept h q [] l.fn.labels l.fn.chain.links
-          → IsUpSwept h q l.yielded l.labels l.chain.links × (first_long h (up_calls_of h q l.yielded) ≡ None) × AddsAll (g.R.Relaxer.calls l.fn.relaxer) (g.R.Relaxer.calls l.relaxer) (up_calls_of h q l.yielded);
+          → IsUpSwept h q l.yielded l.labels l.chain.links × (first_long h (up_calls_of h q l.yielded) ≡ None)
+          × AddsAll (g.R.Relaxer.calls l.fn.relaxer) (g.R.Relaxer.calls l.relaxer) (up_calls_of h q l.yielded);
     }

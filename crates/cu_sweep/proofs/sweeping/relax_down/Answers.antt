@@ -3,6 +3,8 @@ use Rattle.std.specs.Prelude.{slice_get, slice_set}
 use Rattle.std.specs.List.{Contains}
 use Rattle.std.proofs.lemmas.List.{take_more}
 use Rattle.std.proofs.lemmas.Option.{slice_get-get_or}
+use Rattle.cu_model.specs.declared.limits.TheConstants.{MAX_NODES}
+use Rattle.cu_chordal.specs.declared.graph.TheConstants.{MAX_EDGES}
 use Rattle.cu_chordal.specs.declared.graph.Ends.{Ends}
 use Rattle.cu_chordal.specs.Graphs.{ChordalValue, HasEdge, first_edge_of, up_of}
 use Rattle.cu_chordal.proofs.Members.{member_at}
@@ -33,7 +35,8 @@ edges-init g c =
     let links = c.args.chain.now.links in
     let begun = c.begin_down in
     let labels_eq : begun.new.labels ≡ slice_set labels (m + x) (second_at labels x) = subst (λ (n : ℕ). begun.new.labels ≡ slice_set labels (n + x) (second_at labels x)) nodes begun.ensures.labels in
-    let links_eq : begun.new.chain.links ≡ begun_links links x (m + x) (second_at labels x) = subst (λ (n : ℕ). begun.new.chain.links ≡ begun_links links x (n + x) (second_at labels x)) nodes begun.ensures.links in
+    let links_eq : begun.new.chain.links ≡ begun_links links x (m + x) (second_at labels x) =
+    subst (λ (n : ℕ). begun.new.chain.links ≡ begun_links links x (n + x) (second_at labels x)) nodes begun.ensures.links in
     let rank = c.requires.rank in
     let long = c.requires.ready.long in
     let places = c.requires.ready.places in
@@ -73,7 +76,7 @@ overflow_add-nodes g c =
     let edge = c.edges.edge in
     let number : number_from 0 h.edges x y ≡ Some edge = facts.0 ∙ ap (λ (j : ℕ). Some j) (sym i.edge) in
     let there_ : edge < length h.edges = subst (λ (j : ℕ). j < length h.edges) (sym i.edge) facts.1 in
-    let few : m ≤ 262144 = i.ready.few in
+    let few : m ≤ MAX_NODES = i.ready.few in
     omega (arith, few, within, nodes)
 
 pub relax_into-long-requires-clause-edge : goal.relax_into-long-requires-clause-edge
@@ -174,28 +177,36 @@ edges-preserved g c =
     let o = call_at (Some edge) Down s in
     let told : AddsAll (g.R.Relaxer.calls c.edges.relaxer) (g.R.Relaxer.calls call.new.relaxer) (calls_of_some o) =
     subst (λ (t : Option ℕ). AddsAll (g.R.Relaxer.calls c.edges.relaxer) (g.R.Relaxer.calls call.new.relaxer) (calls_of_some (call_at (Some edge) Down t))) (i.source y ne)
-    (subst (λ (n : ℕ). AddsAll (g.R.Relaxer.calls c.edges.relaxer) (g.R.Relaxer.calls call.new.relaxer) (calls_of_some (call_at (Some edge) Down (second_at labels (n + y))))) nodes call.ensures.told) in
+    (subst (λ (n : ℕ). AddsAll (g.R.Relaxer.calls c.edges.relaxer) (g.R.Relaxer.calls call.new.relaxer)
+    (calls_of_some (call_at (Some edge) Down (second_at labels (n + y))))) nodes call.ensures.told) in
     let long_here : call.result ≡ long_by (answer_at h edge Down (second_at labels (m + y))) (call_at (Some edge) Down (second_at labels (m + y))) =
     subst (λ (n : ℕ). call.result ≡ long_by (answer_at h edge Down (second_at labels (n + y))) (call_at (Some edge) Down (second_at labels (n + y)))) nodes
-    (subst (λ (v : HierarchyValue). call.result ≡ long_by (answer_at v edge Down (second_at labels (c.ranks-nodes.result + y))) (call_at (Some edge) Down (second_at labels (c.ranks-nodes.result + y)))) i.stays call.ensures.long) in
-    let long_eq : call.result ≡ long_by (answer_at h edge Down s) o = subst (λ (t : Option ℕ). call.result ≡ long_by (answer_at h edge Down t) (call_at (Some edge) Down t)) (i.source y ne) long_here in
+    (subst (λ (v : HierarchyValue). call.result ≡ long_by (answer_at v edge Down (second_at labels (c.ranks-nodes.result + y)))
+    (call_at (Some edge) Down (second_at labels (c.ranks-nodes.result + y)))) i.stays call.ensures.long) in
+    let long_eq : call.result ≡ long_by (answer_at h edge Down s) o =
+    subst (λ (t : Option ℕ). call.result ≡ long_by (answer_at h edge Down t) (call_at (Some edge) Down t)) (i.source y ne) long_here in
     let answer = answer_at h edge Down (second_at labels (m + y)) in
     let labels_eq : call.new.labels ≡ seconds_after labels (m + x) answer =
     subst (λ (n : ℕ). call.new.labels ≡ seconds_after labels (n + x) (answer_at h edge Down (second_at labels (n + y)))) nodes
-    (subst (λ (v : HierarchyValue). call.new.labels ≡ seconds_after labels (c.ranks-nodes.result + x) (answer_at v edge Down (second_at labels (c.ranks-nodes.result + y)))) i.stays call.ensures.labels) in
+    (subst (λ (v : HierarchyValue). call.new.labels ≡ seconds_after labels (c.ranks-nodes.result + x)
+    (answer_at v edge Down (second_at labels (c.ranks-nodes.result + y)))) i.stays call.ensures.labels) in
     let links_eq : call.new.chain.links ≡ links_after labels links (m + y) edge (m + x) answer =
     subst (λ (n : ℕ). call.new.chain.links ≡ links_after labels links (n + y) edge (n + x) (answer_at h edge Down (second_at labels (n + y)))) nodes
-    (subst (λ (v : HierarchyValue). call.new.chain.links ≡ links_after labels links (c.ranks-nodes.result + y) edge (c.ranks-nodes.result + x) (answer_at v edge Down (second_at labels (c.ranks-nodes.result + y)))) i.stays call.ensures.links) in
+    (subst (λ (v : HierarchyValue). call.new.chain.links ≡ links_after labels links (c.ranks-nodes.result + y) edge (c.ranks-nodes.result + x)
+    (answer_at v edge Down (second_at labels (c.ranks-nodes.result + y)))) i.stays call.ensures.links) in
     let none : call.result ≡ None = no_call call.result (search rules) in
     let near = subst (λ (n : ℕ). IfSecond (second_at labels (n + y)) (λ at. IfAt (answer_at h edge Down (Some at)) (λ (arrival : ℕ). arrival ≤ at + 2 ^ 38))) nodes
-    (subst (λ (v : HierarchyValue). IfSecond (second_at labels (c.ranks-nodes.result + y)) (λ at. IfAt (answer_at v edge Down (Some at)) (λ (arrival : ℕ). arrival ≤ at + 2 ^ 38))) i.stays call.ensures.near) in
+    (subst (λ (v : HierarchyValue). IfSecond (second_at labels (c.ranks-nodes.result + y))
+    (λ at. IfAt (answer_at v edge Down (Some at)) (λ (arrival : ℕ). arrival ≤ at + 2 ^ 38))) i.stays call.ensures.near) in
     let from_m : m + y < 2 * m = omega (arith, within) in
     let into_m : m + x < 2 * m = omega (arith, up, within) in
-    let few : length h.edges ≤ 16777216 = c.requires.graph.1.graph.few_edges in
-    let small : edge < 2 ^ 32 = omega (arith, few, there_) in
-    let ready = relaxed_ready m labels c.edges.chain call.new.chain (m + y) edge (m + x) answer i.ready i.unturned from_m into_m small (turn_down m x y up within) (near_at h edge Down (second_at labels (m + y)) near) links_eq in
+    let few : length h.edges ≤ MAX_EDGES = c.requires.graph.1.graph.few_edges in
+    let small : edge < MAX_EDGES = omega (arith, few, there_) in
+    let ready = relaxed_ready m labels c.edges.chain call.new.chain (m + y) edge (m + x) answer i.ready i.unturned from_m into_m small (turn_down m x y up within)
+    (near_at h edge Down (second_at labels (m + y)) near) links_eq in
     let quiet : first_long h (calls_of_some o) ≡ None = long_one h edge Down s ∙ sym long_eq ∙ none in
-    let row = row_more h f (take k highers) (g.R.Relaxer.calls c.args.relaxer.now) (g.R.Relaxer.calls c.edges.relaxer) (g.R.Relaxer.calls call.new.relaxer) y o i.row (ap (λ (j : Option ℕ). call_at j Down s) number) told quiet in
+    let row = row_more h f (take k highers) (g.R.Relaxer.calls c.args.relaxer.now) (g.R.Relaxer.calls c.edges.relaxer) (g.R.Relaxer.calls call.new.relaxer) y o i.row
+    (ap (λ (j : Option ℕ). call_at j Down s) number) told quiet in
     let more : take (k + 1) highers ≡ take k highers ++ (y ∷ []) = take_more highers k 0 lt in
     let long_labels = i.ready.long in
     let long_links = i.ready.places in
@@ -242,17 +253,21 @@ returns-then-is_some-clause-ready g c =
     let answer = answer_at h edge Down (second_at labels (m + y)) in
     let labels_eq : call.new.labels ≡ seconds_after labels (m + x) answer =
     subst (λ (n : ℕ). call.new.labels ≡ seconds_after labels (n + x) (answer_at h edge Down (second_at labels (n + y)))) nodes
-    (subst (λ (v : HierarchyValue). call.new.labels ≡ seconds_after labels (c.ranks-nodes.result + x) (answer_at v edge Down (second_at labels (c.ranks-nodes.result + y)))) i.stays call.ensures.labels) in
+    (subst (λ (v : HierarchyValue). call.new.labels ≡ seconds_after labels (c.ranks-nodes.result + x)
+    (answer_at v edge Down (second_at labels (c.ranks-nodes.result + y)))) i.stays call.ensures.labels) in
     let links_eq : call.new.chain.links ≡ links_after labels links (m + y) edge (m + x) answer =
     subst (λ (n : ℕ). call.new.chain.links ≡ links_after labels links (n + y) edge (n + x) (answer_at h edge Down (second_at labels (n + y)))) nodes
-    (subst (λ (v : HierarchyValue). call.new.chain.links ≡ links_after labels links (c.ranks-nodes.result + y) edge (c.ranks-nodes.result + x) (answer_at v edge Down (second_at labels (c.ranks-nodes.result + y)))) i.stays call.ensures.links) in
+    (subst (λ (v : HierarchyValue). call.new.chain.links ≡ links_after labels links (c.ranks-nodes.result + y) edge (c.ranks-nodes.result + x)
+    (answer_at v edge Down (second_at labels (c.ranks-nodes.result + y)))) i.stays call.ensures.links) in
     let near = subst (λ (n : ℕ). IfSecond (second_at labels (n + y)) (λ at. IfAt (answer_at h edge Down (Some at)) (λ (arrival : ℕ). arrival ≤ at + 2 ^ 38))) nodes
-    (subst (λ (v : HierarchyValue). IfSecond (second_at labels (c.ranks-nodes.result + y)) (λ at. IfAt (answer_at v edge Down (Some at)) (λ (arrival : ℕ). arrival ≤ at + 2 ^ 38))) i.stays call.ensures.near) in
+    (subst (λ (v : HierarchyValue). IfSecond (second_at labels (c.ranks-nodes.result + y))
+    (λ at. IfAt (answer_at v edge Down (Some at)) (λ (arrival : ℕ). arrival ≤ at + 2 ^ 38))) i.stays call.ensures.near) in
     let from_m : m + y < 2 * m = omega (arith, within) in
     let into_m : m + x < 2 * m = omega (arith, up, within) in
-    let few : length h.edges ≤ 16777216 = c.requires.graph.1.graph.few_edges in
-    let small : edge < 2 ^ 32 = omega (arith, few, there_) in
-    let ready = relaxed_ready m labels c.edges.chain call.new.chain (m + y) edge (m + x) answer i.ready i.unturned from_m into_m small (turn_down m x y up within) (near_at h edge Down (second_at labels (m + y)) near) links_eq in
+    let few : length h.edges ≤ MAX_EDGES = c.requires.graph.1.graph.few_edges in
+    let small : edge < MAX_EDGES = omega (arith, few, there_) in
+    let ready = relaxed_ready m labels c.edges.chain call.new.chain (m + y) edge (m + x) answer i.ready i.unturned from_m into_m small (turn_down m x y up within)
+    (near_at h edge Down (second_at labels (m + y)) near) links_eq in
     subst (λ (n : ℕ). IsReady n call.new.labels call.new.chain) (sym ranks) (subst (λ (ls : List (Option ℕ)). IsReady m ls call.new.chain) (sym labels_eq) ready)
 
 pub returns-then-is_some-clause-long : goal.returns-then-is_some-clause-long
@@ -283,15 +298,19 @@ returns-then-is_some-clause-long g c =
     let o = call_at (Some edge) Down s in
     let told : AddsAll (g.R.Relaxer.calls c.edges.relaxer) (g.R.Relaxer.calls call.new.relaxer) (calls_of_some o) =
     subst (λ (t : Option ℕ). AddsAll (g.R.Relaxer.calls c.edges.relaxer) (g.R.Relaxer.calls call.new.relaxer) (calls_of_some (call_at (Some edge) Down t))) (i.source y ne)
-    (subst (λ (n : ℕ). AddsAll (g.R.Relaxer.calls c.edges.relaxer) (g.R.Relaxer.calls call.new.relaxer) (calls_of_some (call_at (Some edge) Down (second_at labels (n + y))))) nodes call.ensures.told) in
+    (subst (λ (n : ℕ). AddsAll (g.R.Relaxer.calls c.edges.relaxer) (g.R.Relaxer.calls call.new.relaxer)
+    (calls_of_some (call_at (Some edge) Down (second_at labels (n + y))))) nodes call.ensures.told) in
     let long_here : call.result ≡ long_by (answer_at h edge Down (second_at labels (m + y))) (call_at (Some edge) Down (second_at labels (m + y))) =
     subst (λ (n : ℕ). call.result ≡ long_by (answer_at h edge Down (second_at labels (n + y))) (call_at (Some edge) Down (second_at labels (n + y)))) nodes
-    (subst (λ (v : HierarchyValue). call.result ≡ long_by (answer_at v edge Down (second_at labels (c.ranks-nodes.result + y))) (call_at (Some edge) Down (second_at labels (c.ranks-nodes.result + y)))) i.stays call.ensures.long) in
-    let long_eq : call.result ≡ long_by (answer_at h edge Down s) o = subst (λ (t : Option ℕ). call.result ≡ long_by (answer_at h edge Down t) (call_at (Some edge) Down t)) (i.source y ne) long_here in
+    (subst (λ (v : HierarchyValue). call.result ≡ long_by (answer_at v edge Down (second_at labels (c.ranks-nodes.result + y)))
+    (call_at (Some edge) Down (second_at labels (c.ranks-nodes.result + y)))) i.stays call.ensures.long) in
+    let long_eq : call.result ≡ long_by (answer_at h edge Down s) o =
+    subst (λ (t : Option ℕ). call.result ≡ long_by (answer_at h edge Down t) (call_at (Some edge) Down t)) (i.source y ne) long_here in
     let (long, is) = some_call call.result (search rules) in
     let first : first_long h (calls_of_some o) ≡ Some long = long_one h edge Down s ∙ sym long_eq ∙ is in
     let (rest, whole) = cut_at highers k lt in
-    let ends = row_ends h f (take k highers) (g.R.Relaxer.calls c.args.relaxer.now) (g.R.Relaxer.calls c.edges.relaxer) (g.R.Relaxer.calls call.new.relaxer) y o long rest (up_of h.edges x) i.row (ap (λ (j : Option ℕ). call_at j Down s) number) told first (sym i.highers ∙ whole) in
+    let ends = row_ends h f (take k highers) (g.R.Relaxer.calls c.args.relaxer.now) (g.R.Relaxer.calls c.edges.relaxer) (g.R.Relaxer.calls call.new.relaxer) y o long rest (up_of h.edges x) i.row
+    (ap (λ (j : Option ℕ). call_at j Down s) number) told first (sym i.highers ∙ whole) in
     subst (λ (n : ℕ). call.result ≡ first_long h (calls_down h x (λ z. second_at c.args.labels.now (n + z)))) (sym ranks) (is ∙ sym ends.0)
 
 pub returns-then-is_some-clause-told : goal.returns-then-is_some-clause-told
@@ -322,15 +341,19 @@ returns-then-is_some-clause-told g c =
     let o = call_at (Some edge) Down s in
     let told : AddsAll (g.R.Relaxer.calls c.edges.relaxer) (g.R.Relaxer.calls call.new.relaxer) (calls_of_some o) =
     subst (λ (t : Option ℕ). AddsAll (g.R.Relaxer.calls c.edges.relaxer) (g.R.Relaxer.calls call.new.relaxer) (calls_of_some (call_at (Some edge) Down t))) (i.source y ne)
-    (subst (λ (n : ℕ). AddsAll (g.R.Relaxer.calls c.edges.relaxer) (g.R.Relaxer.calls call.new.relaxer) (calls_of_some (call_at (Some edge) Down (second_at labels (n + y))))) nodes call.ensures.told) in
+    (subst (λ (n : ℕ). AddsAll (g.R.Relaxer.calls c.edges.relaxer) (g.R.Relaxer.calls call.new.relaxer)
+    (calls_of_some (call_at (Some edge) Down (second_at labels (n + y))))) nodes call.ensures.told) in
     let long_here : call.result ≡ long_by (answer_at h edge Down (second_at labels (m + y))) (call_at (Some edge) Down (second_at labels (m + y))) =
     subst (λ (n : ℕ). call.result ≡ long_by (answer_at h edge Down (second_at labels (n + y))) (call_at (Some edge) Down (second_at labels (n + y)))) nodes
-    (subst (λ (v : HierarchyValue). call.result ≡ long_by (answer_at v edge Down (second_at labels (c.ranks-nodes.result + y))) (call_at (Some edge) Down (second_at labels (c.ranks-nodes.result + y)))) i.stays call.ensures.long) in
-    let long_eq : call.result ≡ long_by (answer_at h edge Down s) o = subst (λ (t : Option ℕ). call.result ≡ long_by (answer_at h edge Down t) (call_at (Some edge) Down t)) (i.source y ne) long_here in
+    (subst (λ (v : HierarchyValue). call.result ≡ long_by (answer_at v edge Down (second_at labels (c.ranks-nodes.result + y)))
+    (call_at (Some edge) Down (second_at labels (c.ranks-nodes.result + y)))) i.stays call.ensures.long) in
+    let long_eq : call.result ≡ long_by (answer_at h edge Down s) o =
+    subst (λ (t : Option ℕ). call.result ≡ long_by (answer_at h edge Down t) (call_at (Some edge) Down t)) (i.source y ne) long_here in
     let (long, is) = some_call call.result (search rules) in
     let first : first_long h (calls_of_some o) ≡ Some long = long_one h edge Down s ∙ sym long_eq ∙ is in
     let (rest, whole) = cut_at highers k lt in
-    let ends = row_ends h f (take k highers) (g.R.Relaxer.calls c.args.relaxer.now) (g.R.Relaxer.calls c.edges.relaxer) (g.R.Relaxer.calls call.new.relaxer) y o long rest (up_of h.edges x) i.row (ap (λ (j : Option ℕ). call_at j Down s) number) told first (sym i.highers ∙ whole) in
+    let ends = row_ends h f (take k highers) (g.R.Relaxer.calls c.args.relaxer.now) (g.R.Relaxer.calls c.edges.relaxer) (g.R.Relaxer.calls call.new.relaxer) y o long rest (up_of h.edges x) i.row
+    (ap (λ (j : Option ℕ). call_at j Down s) number) told first (sym i.highers ∙ whole) in
     subst (λ (n : ℕ). AddsAll (g.R.Relaxer.calls c.args.relaxer.now) (g.R.Relaxer.calls call.new.relaxer) (until_long h (calls_down h x (λ z. second_at c.args.labels.now (n + z))))) (sym ranks) ends.1
 
 pub returns-clause-told : goal.returns-clause-told

@@ -23,7 +23,8 @@ invariant-edges g l =
       edge : l.edge ≡ first_edge_of h.edges l.fn.rank + l.higher-index;
       nodes : l.nodes ≡ n;
       source : (y : ℕ) → y ≢ l.fn.rank → second_at l.labels (n + y) ≡ second_at l.fn.labels (n + y);
-      row : IsRow h (λ y. call_at (number_from 0 h.edges l.fn.rank y) Down (second_at l.fn.labels (n + y))) (take l.higher-index l.highers) (g.R.Relaxer.calls l.fn.relaxer) (g.R.Relaxer.calls l.relaxer);
+      row : IsRow h (λ y. call_at (number_from 0 h.edges l.fn.rank y) Down (second_at l.fn.labels (n + y))) (take l.higher-index l.highers) (g.R.Relaxer.calls l.fn.relaxer)
+          (g.R.Relaxer.calls l.relaxer);
       swept : (q : Question) (done : List ℕ) → IsDownSwept h q done l.fn.labels l.fn.chain.links → IsPassed h q l.fn.rank → ((y : ℕ) → HasEdge h.edges l.fn.rank y → Contains done y)
           → IsDownPart h q done l.fn.rank (take l.higher-index l.highers) l.labels l.chain.links;
     }

@@ -25,7 +25,8 @@ returns-clause-labels g c =
 pub returns-clause-links : goal.returns-clause-links
 returns-clause-links g c =
     let h = g.R.Relaxer.hierarchy c.args.relaxer.now in
-    c.give.ensures.links ∙ ap (links_after c.args.labels.now c.args.chain.now.links c.args.from c.args.edge c.args.into) (c.relax-answer.ensures.answer ∙ ap (answer_at h c.args.edge c.args.dir) (sym c.in-Some.is))
+    c.give.ensures.links ∙ ap (links_after c.args.labels.now c.args.chain.now.links c.args.from c.args.edge c.args.into)
+    (c.relax-answer.ensures.answer ∙ ap (answer_at h c.args.edge c.args.dir) (sym c.in-Some.is))
 
 pub returns-clause-long : goal.returns-clause-long
 returns-clause-long g c =

@@ -3,6 +3,7 @@ use Rattle.std.specs.Prelude.{slice_get}
 use Rattle.std.specs.List.{AllPairs}
 use Rattle.std.proofs.lemmas.List.{take_more}
 use Rattle.std.proofs.lemmas.Option.{slice_get-get_or}
+use Rattle.cu_chordal.specs.declared.graph.TheConstants.{MAX_EDGES}
 use Rattle.cu_chordal.specs.Graphs.{ChordalValue, first_edge_of, up_of}
 use Rattle.cu_chordal.proofs.Tables.{up_rising}
 use Rattle.cu_interval.specs.declared.ways.Dir.TheVariants.{Up}
@@ -72,22 +73,28 @@ edges-preserved g c =
     let there_ : edge < length h.edges = subst (λ (m : ℕ). m < length h.edges) (sym i.edge) facts.1 in
     let call = c.relax_into-long in
     let answer = answer_at h edge Up (second_at labels x) in
-    let labels_eq : call.new.labels ≡ seconds_after labels y answer = subst (λ (v : HierarchyValue). call.new.labels ≡ seconds_after labels y (answer_at v edge Up (second_at labels x))) i.stays call.ensures.labels in
-    let links_eq : call.new.chain.links ≡ links_after labels links x edge y answer = subst (λ (v : HierarchyValue). call.new.chain.links ≡ links_after labels links x edge y (answer_at v edge Up (second_at labels x))) i.stays call.ensures.links in
-    let long_eq : call.result ≡ long_by answer (call_at (Some edge) Up (second_at labels x)) = subst (λ (v : HierarchyValue). call.result ≡ long_by (answer_at v edge Up (second_at labels x)) (call_at (Some edge) Up (second_at labels x))) i.stays call.ensures.long in
+    let labels_eq : call.new.labels ≡ seconds_after labels y answer =
+    subst (λ (v : HierarchyValue). call.new.labels ≡ seconds_after labels y (answer_at v edge Up (second_at labels x))) i.stays call.ensures.labels in
+    let links_eq : call.new.chain.links ≡ links_after labels links x edge y answer =
+    subst (λ (v : HierarchyValue). call.new.chain.links ≡ links_after labels links x edge y (answer_at v edge Up (second_at labels x))) i.stays call.ensures.links in
+    let long_eq : call.result ≡ long_by answer (call_at (Some edge) Up (second_at labels x)) =
+    subst (λ (v : HierarchyValue). call.result ≡ long_by (answer_at v edge Up (second_at labels x)) (call_at (Some edge) Up (second_at labels x))) i.stays call.ensures.long in
     let none : call.result ≡ None = no_call call.result (search rules) in
     let near = subst (λ (v : HierarchyValue). IfSecond (second_at labels x) (λ at. IfAt (answer_at v edge Up (Some at)) (λ (arrival : ℕ). arrival ≤ at + 2 ^ 38))) i.stays call.ensures.near in
-    let few : length h.edges ≤ 16777216 = c.requires.graph.1.graph.few_edges in
-    let small : edge < 2 ^ 32 = omega (arith, few, there_) in
-    let ready = relaxed_ready n labels c.edges.chain call.new.chain x edge y answer i.ready i.unturned x_n (omega (arith, within_n)) small (turn_up n x y up within_n) (near_at h edge Up (second_at labels x) near) links_eq in
+    let few : length h.edges ≤ MAX_EDGES = c.requires.graph.1.graph.few_edges in
+    let small : edge < MAX_EDGES = omega (arith, few, there_) in
+    let ready = relaxed_ready n labels c.edges.chain call.new.chain x edge y answer i.ready i.unturned x_n (omega (arith, within_n)) small (turn_up n x y up within_n)
+    (near_at h edge Up (second_at labels x) near) links_eq in
     let apart_ : x ≢ y = λ same. absurd (omega (arith, same, up)) in
     let s = second_at c.args.labels.now x in
     let f = λ (z : ℕ). call_at (number_from 0 h.edges x z) Up s in
     let o = call_at (Some edge) Up s in
     let told : AddsAll (g.R.Relaxer.calls c.edges.relaxer) (g.R.Relaxer.calls call.new.relaxer) (calls_of_some o) =
     subst (λ (t : Option ℕ). AddsAll (g.R.Relaxer.calls c.edges.relaxer) (g.R.Relaxer.calls call.new.relaxer) (calls_of_some (call_at (Some edge) Up t))) i.source call.ensures.told in
-    let quiet : first_long h (calls_of_some o) ≡ None = long_one h edge Up s ∙ sym (subst (λ (t : Option ℕ). call.result ≡ long_by (answer_at h edge Up t) (call_at (Some edge) Up t)) i.source long_eq) ∙ none in
-    let row = row_more h f (take k highers) (g.R.Relaxer.calls c.args.relaxer.now) (g.R.Relaxer.calls c.edges.relaxer) (g.R.Relaxer.calls call.new.relaxer) y o i.row (ap (λ (m : Option ℕ). call_at m Up s) number) told quiet in
+    let quiet : first_long h (calls_of_some o) ≡ None =
+    long_one h edge Up s ∙ sym (subst (λ (t : Option ℕ). call.result ≡ long_by (answer_at h edge Up t) (call_at (Some edge) Up t)) i.source long_eq) ∙ none in
+    let row = row_more h f (take k highers) (g.R.Relaxer.calls c.args.relaxer.now) (g.R.Relaxer.calls c.edges.relaxer) (g.R.Relaxer.calls call.new.relaxer) y o i.row
+    (ap (λ (m : Option ℕ). call_at m Up s) number) told quiet in
     let more : take (k + 1) highers ≡ take k highers ++ (y ∷ []) = take_more highers k 0 lt in
     let new = not_yet highers k (subst (AllPairs (λ a b. a < b)) (sym i.highers) (up_rising h.edges x c.requires.graph.1.graph.rising)) lt in
     let long_labels = i.ready.long in
@@ -101,7 +108,8 @@ edges-preserved g c =
       source = ap (λ (ls : List (Option ℕ)). second_at ls x) labels_eq ∙ seconds_other labels y x answer apart_ ∙ i.source;
       row = subst (λ (part : List ℕ). IsRow h f part (g.R.Relaxer.calls c.args.relaxer.now) (g.R.Relaxer.calls call.new.relaxer)) (sym more) row;
       swept = λ q done sw p fin.
-          let part = up_more h q done x y edge (take k highers) labels links (i.swept q done sw p fin) new up within (omega (arith, within_n, long_labels)) (omega (arith, within_n, long_links)) number there_
+          let part = up_more h q done x y edge (take k highers) labels links (i.swept q done sw p fin) new up within (omega (arith, within_n, long_labels))
+          (omega (arith, within_n, long_links)) number there_
           (i.source ∙ (sw x p).second ∙ ap second_of fin) (time_left n labels c.edges.chain x (second_at labels x) i.ready x_n refl) (sym long_eq ∙ none) p in
           subst (λ (xs : List ℕ). IsUpPart h q done x xs call.new.labels call.new.chain.links) (sym more)
           (subst (λ (ls : List (Option ℕ)). IsUpPart h q done x (take k highers ++ (y ∷ [])) ls call.new.chain.links) (sym labels_eq)
@@ -123,7 +131,8 @@ returns-clause-swept g c =
     let i = c.edges.invariant in
     let all : take c.edges.higher-index c.up-highers.result.now ≡ up_of h.edges c.args.rank = take_full c.up-highers.result.now c.edges.higher-index (omega arith) ∙ i.highers in
     λ q done sw p fin none.
-    up_done h c.requires.graph.1 q done c.args.rank c.edges.labels c.edges.chain.links (subst (λ (part : List ℕ). IsUpPart h q done c.args.rank part c.edges.labels c.edges.chain.links) all (i.swept q done sw p fin))
+    up_done h c.requires.graph.1 q done c.args.rank c.edges.labels c.edges.chain.links
+    (subst (λ (part : List ℕ). IsUpPart h q done c.args.rank part c.edges.labels c.edges.chain.links) all (i.swept q done sw p fin))
 
 pub returns-then-is_some-clause-long : goal.returns-then-is_some-clause-long
 returns-then-is_some-clause-long g c =
@@ -146,10 +155,12 @@ returns-then-is_some-clause-long g c =
     let told : AddsAll (g.R.Relaxer.calls c.edges.relaxer) (g.R.Relaxer.calls call.new.relaxer) (calls_of_some o) =
     subst (λ (t : Option ℕ). AddsAll (g.R.Relaxer.calls c.edges.relaxer) (g.R.Relaxer.calls call.new.relaxer) (calls_of_some (call_at (Some edge) Up t))) i.source call.ensures.told in
     let long_eq : call.result ≡ long_by (answer_at h edge Up s) o =
-    subst (λ (t : Option ℕ). call.result ≡ long_by (answer_at h edge Up t) (call_at (Some edge) Up t)) i.source (subst (λ (v : HierarchyValue). call.result ≡ long_by (answer_at v edge Up (second_at c.edges.labels x)) (call_at (Some edge) Up (second_at c.edges.labels x))) i.stays call.ensures.long) in
+    subst (λ (t : Option ℕ). call.result ≡ long_by (answer_at h edge Up t) (call_at (Some edge) Up t)) i.source
+    (subst (λ (v : HierarchyValue). call.result ≡ long_by (answer_at v edge Up (second_at c.edges.labels x)) (call_at (Some edge) Up (second_at c.edges.labels x))) i.stays call.ensures.long) in
     let first : first_long h (calls_of_some o) ≡ Some long = long_one h edge Up s ∙ sym long_eq ∙ is in
     let (rest, whole) = cut_at highers k lt in
-    let ends = row_ends h f (take k highers) (g.R.Relaxer.calls c.args.relaxer.now) (g.R.Relaxer.calls c.edges.relaxer) (g.R.Relaxer.calls call.new.relaxer) y o long rest (up_of h.edges x) i.row (ap (λ (m : Option ℕ). call_at m Up s) number) told first (sym i.highers ∙ whole) in
+    let ends = row_ends h f (take k highers) (g.R.Relaxer.calls c.args.relaxer.now) (g.R.Relaxer.calls c.edges.relaxer) (g.R.Relaxer.calls call.new.relaxer) y o long rest (up_of h.edges x) i.row
+    (ap (λ (m : Option ℕ). call_at m Up s) number) told first (sym i.highers ∙ whole) in
     is ∙ sym ends.0
 
 pub returns-then-is_some-clause-told : goal.returns-then-is_some-clause-told
@@ -173,8 +184,10 @@ returns-then-is_some-clause-told g c =
     let told : AddsAll (g.R.Relaxer.calls c.edges.relaxer) (g.R.Relaxer.calls call.new.relaxer) (calls_of_some o) =
     subst (λ (t : Option ℕ). AddsAll (g.R.Relaxer.calls c.edges.relaxer) (g.R.Relaxer.calls call.new.relaxer) (calls_of_some (call_at (Some edge) Up t))) i.source call.ensures.told in
     let long_eq : call.result ≡ long_by (answer_at h edge Up s) o =
-    subst (λ (t : Option ℕ). call.result ≡ long_by (answer_at h edge Up t) (call_at (Some edge) Up t)) i.source (subst (λ (v : HierarchyValue). call.result ≡ long_by (answer_at v edge Up (second_at c.edges.labels x)) (call_at (Some edge) Up (second_at c.edges.labels x))) i.stays call.ensures.long) in
+    subst (λ (t : Option ℕ). call.result ≡ long_by (answer_at h edge Up t) (call_at (Some edge) Up t)) i.source
+    (subst (λ (v : HierarchyValue). call.result ≡ long_by (answer_at v edge Up (second_at c.edges.labels x)) (call_at (Some edge) Up (second_at c.edges.labels x))) i.stays call.ensures.long) in
     let first : first_long h (calls_of_some o) ≡ Some long = long_one h edge Up s ∙ sym long_eq ∙ is in
     let (rest, whole) = cut_at highers k lt in
-    let ends = row_ends h f (take k highers) (g.R.Relaxer.calls c.args.relaxer.now) (g.R.Relaxer.calls c.edges.relaxer) (g.R.Relaxer.calls call.new.relaxer) y o long rest (up_of h.edges x) i.row (ap (λ (m : Option ℕ). call_at m Up s) number) told first (sym i.highers ∙ whole) in
+    let ends = row_ends h f (take k highers) (g.R.Relaxer.calls c.args.relaxer.now) (g.R.Relaxer.calls c.edges.relaxer) (g.R.Relaxer.calls call.new.relaxer) y o long rest (up_of h.edges x) i.row
+    (ap (λ (m : Option ℕ). call_at m Up s) number) told first (sym i.highers ∙ whole) in
     ends.1

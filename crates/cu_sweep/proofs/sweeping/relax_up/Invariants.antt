@@ -21,7 +21,8 @@ invariant-edges g l =
       highers : l.highers ≡ up_of h.edges l.fn.rank;
       edge : l.edge ≡ first_edge_of h.edges l.fn.rank + l.higher-index;
       source : second_at l.labels l.fn.rank ≡ second_at l.fn.labels l.fn.rank;
-      row : IsRow h (λ y. call_at (number_from 0 h.edges l.fn.rank y) Up (second_at l.fn.labels l.fn.rank)) (take l.higher-index l.highers) (g.R.Relaxer.calls l.fn.relaxer) (g.R.Relaxer.calls l.relaxer);
+      row : IsRow h (λ y. call_at (number_from 0 h.edges l.fn.rank y) Up (second_at l.fn.labels l.fn.rank)) (take l.higher-index l.highers) (g.R.Relaxer.calls l.fn.relaxer)
+          (g.R.Relaxer.calls l.relaxer);
       swept : (q : Question) (done : List ℕ) → IsUpSwept h q done l.fn.labels l.fn.chain.links → IsPassed h q l.fn.rank → up_after h q done l.fn.rank ≡ up_label h q.from q.second l.fn.rank
           → IsUpPart h q done l.fn.rank (take l.higher-index l.highers) l.labels l.chain.links;
     }
