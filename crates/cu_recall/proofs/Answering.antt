@@ -1,20 +1,18 @@
 -- From what driving a list takes to the answer of a relaxation.
-use Rattle.std.proofs.Common.{◌≡◌, ◌≢◌, ◌≤◌, ◌<◌, ◌+◌, ◌*◌, ◌%◌, ◌∙◌, ℕ, List, [], ◌∷◌, Option, None, Some, true, false, ltb, refl, sym, ap, arith, length, min}
+use Rattle.std.proofs.Common.{◌≡◌, ◌≢◌, ◌≤◌, ◌<◌, ◌+◌, ◌*◌, ◌%◌, ◌∙◌, ℕ, List, [], ◌∷◌, Option, None, Some, refl, sym, ap, arith, length, min}
 use Rattle.std.specs.Prelude.{slice_get}
 use Rattle.cu_model.specs.declared.limits.TheConstants.{MAX_UNTIL}
 use Rattle.cu_model.specs.Days.{day}
-use Rattle.cu_model.specs.Networks.{NetworkValue}
-use Rattle.cu_model.specs.Orders.{OrderValue}
-use Rattle.cu_model.specs.Roads.{drive}
 use Rattle.cu_chordal.specs.declared.graph.Ends.{Ends}
 use Rattle.cu_interval.specs.declared.ways.Dir.{Dir}
 use Rattle.cu_interval.specs.declared.ways.Entry.{Entry}
 use Rattle.cu_interval.specs.declared.relaxing.Relaxed.TheVariants.{At, Long, NoWay}
-use Rattle.cu_interval.specs.Low.{IsLowWalk}
 use Rattle.cu_interval.specs.Hierarchies.{HierarchyValue, IsHierarchy, start_of, end_of, list_from, list_number, list_of}
 use Rattle.cu_interval.specs.Unpacking.{answer_by, relaxed, relaxed_ends, relaxed_from, unpacked_walk}
 use Rattle.cu_interval.proofs.Near.{below-near}
 use Rattle.cu_interval.proofs.Unpacked.{unpacked-low}
+use Rattle.cu_unpack.proofs.Edges.{low_some}
+use Rattle.cu_unpack.proofs.OnWay.{answer_at, answer_long}
 use Rattle.cu_recall.specs.declared.spans.Driven.{Driven}
 use Rattle.cu_recall.specs.Spans.{IsListFrom, WalkTakes}
 use Rattle.cu_recall.specs.Windows.{HoldsDriven}
@@ -22,10 +20,6 @@ use Rattle.cu_recall.specs.Steps.InWork.{Unpacks}
 use Rattle.cu_recall.specs.Steps.Looks.{IsAsked, edge_asked}
 use Rattle.cu_recall.proofs.DayWalks.{takes_on, walk_on}
 use Rattle.cu_recall.proofs.ListEnds.{edge_entries, edge_list, list_apart, number_dir, number_edge}
-
-low_some : (g : NetworkValue) (o : OrderValue) (u : ℕ) (walk : List ℕ) (v : ℕ) → IsLowWalk g o u walk v → 0 < length walk
-low_some g o u [] v l = absurd l.1
-low_some g o u (a ∷ walk) v l = omega arith
 
 -- a walk has a road, and takes no more than eight days for each
 pub takes_near : (h : HierarchyValue) → IsHierarchy h → (u v t travel roads : ℕ) → u ≢ v → WalkTakes h u v t travel roads → (0 < roads) × (travel ≤ MAX_UNTIL * roads)
@@ -35,14 +29,6 @@ takes_near h f u v t travel roads apart (some, long, arrives) =
     let near = below-near h.network h.order f.network (min u v) u (unpacked_walk h u v t) v t low.1 in
     let count : MAX_UNTIL * length (unpacked_walk h u v t) ≡ MAX_UNTIL * roads = ap (λ (n : ℕ). MAX_UNTIL * n) long in
     (omega (arith, one, long), omega (arith, near, arrives, count))
-
-answer_at : (h : HierarchyValue) (es : List Entry) (walk : List ℕ) (t : ℕ) → es ≢ [] → length walk < h.network.nodes → answer_by h es walk t ≡ At (drive h.network walk t)
-answer_at h [] walk t some lt = absurd (some refl)
-answer_at h (x ∷ es) walk t some lt = let short : ltb (length walk) h.network.nodes ≡ true = grind (arith, lt) in rw short refl
-
-answer_long : (h : HierarchyValue) (es : List Entry) (walk : List ℕ) (t : ℕ) → es ≢ [] → h.network.nodes ≤ length walk → answer_by h es walk t ≡ Long
-answer_long h [] walk t some le = absurd (some refl)
-answer_long h (x ∷ es) walk t some le = let long : ltb (length walk) h.network.nodes ≡ false = grind (arith, le) in rw long refl
 
 answer_none : (h : HierarchyValue) (es : List Entry) (walk : List ℕ) (t : ℕ) → length es ≡ 0 → answer_by h es walk t ≡ NoWay
 answer_none h [] walk t none = refl

@@ -15,6 +15,7 @@ use Rattle.cu_model.proofs.RoadLaws.{leads_within}
 use Rattle.cu_pack.specs.declared.way_slices.in_force.WayInForce.{WayInForce}
 use Rattle.cu_pack.specs.InForce.{FindsWayInForce}
 use Rattle.cu_unpack.specs.Steps.Legs.{IsMiddle}
+use Rattle.cu_unpack.proofs.Edges.{same_ends}
 use Rattle.cu_recall.specs.declared.pending.Asked.{Asked}
 use Rattle.cu_recall.specs.declared.spans.Driven.{Driven}
 use Rattle.cu_recall.specs.declared.spans.Met.{Met}
@@ -31,30 +32,31 @@ use Rattle.cu_recall.proofs.ListEnds.{list_entries, list_inside, list_of_edge}
 pub asked_inside : (h : HierarchyValue) (asked : Asked) → IsAsked h asked → asked.list < 2 * length h.edges
 asked_inside h asked (u, v, is, some, lt) = list_inside h asked.list u v is
 
--- the way that the list's entry in force has is that between its ranks
-pub way_over : (h : HierarchyValue) → IsHierarchy h → (asked : Asked) (dir : Dir) (entries : List Entry) (found : WayInForce) (taken : Way)
-    → entries ≡ list_of h (asked.list / 2) dir → dir ≡ dir_of asked.list → FindsWayInForce entries asked.second (Some found) → found.way ≡ taken
-    → (u v : ℕ) → IsListFrom h asked.list u v → HasWayOver h u v found.from found.until taken
-way_over h f asked dir entries found taken e d force same u v is t low high =
-    let lists : list_from h u v ≡ entries = list_entries h f asked.list u v is ∙ ap (list_of h (asked.list / 2)) (sym d) ∙ sym e in
-    ap (λ (es : List Entry). way_at es t) lists ∙ force.1 t low high ∙ ap Some same
+module _ (h : HierarchyValue) (f : IsHierarchy h) where
+  -- the way that the list's entry in force has is that between its ranks
+  pub way_over : (asked : Asked) (dir : Dir) (entries : List Entry) (found : WayInForce) (taken : Way)
+      → entries ≡ list_of h (asked.list / 2) dir → dir ≡ dir_of asked.list → FindsWayInForce entries asked.second (Some found) → found.way ≡ taken
+      → (u v : ℕ) → IsListFrom h asked.list u v → HasWayOver h u v found.from found.until taken
+  way_over asked dir entries found taken e d force same u v is t low high =
+      let lists : list_from h u v ≡ entries = list_entries h f asked.list u v is ∙ ap (list_of h (asked.list / 2)) (sym d) ∙ sym e in
+      ap (λ (es : List Entry). way_at es t) lists ∙ force.1 t low high ∙ ap Some same
 
--- a list that is asked has entries
-pub asked_some : (h : HierarchyValue) → IsHierarchy h → (asked : Asked) (dir : Dir) (entries : List Entry) → IsAsked h asked → entries ≡ list_of h (asked.list / 2) dir → dir ≡ dir_of asked.list
-    → entries ≡ [] → ⊥
-asked_some h f asked dir entries (u, v, is, some, lt) e d none = some (list_entries h f asked.list u v is ∙ ap (list_of h (asked.list / 2)) (sym d) ∙ sym e ∙ none)
+  -- a list that is asked has entries
+  pub asked_some : (asked : Asked) (dir : Dir) (entries : List Entry) → IsAsked h asked → entries ≡ list_of h (asked.list / 2) dir → dir ≡ dir_of asked.list
+      → entries ≡ [] → ⊥
+  asked_some asked dir entries (u, v, is, some, lt) e d none = some (list_entries h f asked.list u v is ∙ ap (list_of h (asked.list / 2)) (sym d) ∙ sym e ∙ none)
 
--- its middle is joined to both ranks
-pub middle_there : (h : HierarchyValue) → IsHierarchy h → (asked : Asked) (dir : Dir) (m t : ℕ) → IsAsked h asked → dir ≡ dir_of asked.list
-    → ((u v : ℕ) → IsListFrom h asked.list u v → way_from h u v t ≡ Some (way.Via m)) → IsMiddle h (asked.list / 2) dir m
-middle_there h f asked dir m t (u, v, is, some, lt) d taken =
-    let (ends, at, from, to) = is in
-    let w = well_formed h f u v t (way.Via m) (taken u v is) in (
-      ends,
-      at,
-      subst (λ (x : ℕ). HasEdge h.edges m x) (from ∙ ap (start_of ends) (sym d)) w.2,
-      subst (λ (x : ℕ). HasEdge h.edges m x) (to ∙ ap (end_of ends) (sym d)) w.3,
-    )
+  -- its middle is joined to both ranks
+  pub middle_there : (asked : Asked) (dir : Dir) (m t : ℕ) → IsAsked h asked → dir ≡ dir_of asked.list
+      → ((u v : ℕ) → IsListFrom h asked.list u v → way_from h u v t ≡ Some (way.Via m)) → IsMiddle h (asked.list / 2) dir m
+  middle_there asked dir m t (u, v, is, some, lt) d taken =
+      let (ends, at, from, to) = is in
+      let w = well_formed h f u v t (way.Via m) (taken u v is) in (
+        ends,
+        at,
+        subst (λ (x : ℕ). HasEdge h.edges m x) (from ∙ ap (start_of ends) (sym d)) w.2,
+        subst (λ (x : ℕ). HasEdge h.edges m x) (to ∙ ap (end_of ends) (sym d)) w.3,
+      )
 
 pub parts_over : (h : HierarchyValue) (list : ℕ) (dir : Dir) (m : ℕ) (parts : Parts) (u v from until : ℕ) → HoldsPartsOf h (list / 2) dir m parts → dir ≡ dir_of list
     → IsListFrom h list u v → HasWayOver h u v from until (way.Via m) → HoldsParts h u v from until parts
@@ -64,9 +66,6 @@ parts_over h list dir m (part.Halves first second) u v from until parts d (ends,
     let u_is : start_of ends dir ≡ u = ap (start_of ends) d ∙ sym start in
     let v_is : end_of ends dir ≡ v = ap (end_of ends) d ∙ sym stop in
     (m, subst (λ (y : ℕ). AreHalvesAt h u y first second m) v_is (subst (λ (x : ℕ). AreHalvesAt h x (end_of ends dir) first second m) u_is both), taken)
-
-same_ends : (xs : List Ends) (i : ℕ) (a b : Ends) → slice_get xs i ≡ Some a → slice_get xs i ≡ Some b → a ≡ b
-same_ends xs i a b p q = cc (p, q)
 
 pub halves_at : (h : HierarchyValue) (edge m first second from to : ℕ) (dir : Dir) (ends : Ends) → slice_get h.edges edge ≡ Some ends → from ≡ start_of ends dir → to ≡ end_of ends dir
     → slice_get h.edges first ≡ Some (record { low = m; high = from }) → slice_get h.edges second ≡ Some (record { low = m; high = to })

@@ -1,16 +1,15 @@
 -- Lists by their numbers, and the ranks from and to which they lead.
-use Rattle.std.proofs.Common.{◌≡◌, ◌≢◌, ◌<◌, ◌+◌, ◌*◌, ◌/◌, ◌%◌, ◌∙◌, ℕ, List, [], ◌∷◌, Bool, true, false, Some, eqb, get_or, sym, ap, arith, length, min, if◌then◌else◌}
+use Rattle.std.proofs.Common.{◌≡◌, ◌≢◌, ◌<◌, ◌+◌, ◌*◌, ◌/◌, ◌%◌, ◌∙◌, ℕ, [], Bool, true, false, Some, eqb, get_or, sym, ap, arith, length, min, if◌then◌else◌}
 use Rattle.std.specs.Prelude.{slice_get}
 use Rattle.std.proofs.lemmas.Option.{slice_get-get_or, slice_get_within}
 use Rattle.cu_chordal.specs.declared.graph.Ends.{Ends}
 use Rattle.cu_interval.specs.declared.ways.Dir.{Dir}
 use Rattle.cu_interval.specs.declared.ways.Dir.TheVariants.{Up, Down}
 use Rattle.cu_interval.specs.declared.ways.Way.{Way}
-use Rattle.cu_interval.specs.declared.ways.Entry.{Entry}
-use Rattle.cu_interval.specs.WayLists.{way_at}
 use Rattle.cu_interval.specs.Hierarchies.{HierarchyValue, IsHierarchy, start_of, end_of, list_from, list_number, list_of, way_from}
 use Rattle.cu_interval.proofs.Lookups.{list_from-edge}
-use Rattle.cu_unpack.proofs.Edges.{ends_range}
+use Rattle.cu_unpack.proofs.Down.{some_list}
+use Rattle.cu_unpack.proofs.Edges.{ends_apart, ends_range, min_ends}
 use Rattle.cu_recall.specs.Spans.{IsListFrom, dir_of, low_of, low_of_list}
 
 pub number_edge : (edge : ℕ) (dir : Dir) → list_number edge dir / 2 ≡ edge
@@ -33,10 +32,6 @@ edge_list h edge dir lt =
     let ends : Ends = get_or h.edges edge (record { low = 0; high = 0 }) in
     (start_of ends dir, end_of ends dir, list_of_edge h edge dir ends (slice_get-get_or h.edges edge (record { low = 0; high = 0 }) lt))
 
-ends_apart : (ends : Ends) (dir : Dir) → ends.low < ends.high → start_of ends dir ≢ end_of ends dir
-ends_apart ends Up lt = λ same. absurd (omega (arith, lt, same))
-ends_apart ends Down lt = λ same. absurd (omega (arith, lt, same))
-
 -- no list leads from a rank to itself
 pub list_apart : (h : HierarchyValue) → IsHierarchy h → (list u v : ℕ) → IsListFrom h list u v → u ≢ v
 list_apart h f list u v (ends, at, from, to) =
@@ -46,10 +41,6 @@ list_apart h f list u v (ends, at, from, to) =
 -- there are two lists an edge
 pub list_inside : (h : HierarchyValue) (list u v : ℕ) → IsListFrom h list u v → list < 2 * length h.edges
 list_inside h list u v (ends, at, from, to) = let within = slice_get_within h.edges (list / 2) ends at in omega (arith, within)
-
-min_ends : (ends : Ends) (dir : Dir) → ends.low < ends.high → min (start_of ends dir) (end_of ends dir) ≡ ends.low
-min_ends ends Up lt = omega (arith, lt)
-min_ends ends Down lt = omega (arith, lt)
 
 -- the lower of both ranks is below all but one
 pub list_room : (h : HierarchyValue) → IsHierarchy h → (list u v : ℕ) → IsListFrom h list u v → min u v + 2 < h.network.nodes + 1
@@ -79,10 +70,6 @@ list_entries h f list u v (ends, at, from, to) =
 pub edge_entries : (h : HierarchyValue) → IsHierarchy h → (edge : ℕ) (dir : Dir) (u v : ℕ) → IsListFrom h (list_number edge dir) u v → list_from h u v ≡ list_of h edge dir
 edge_entries h f edge dir u v is =
     list_entries h f (list_number edge dir) u v is ∙ ap (λ (e : ℕ). list_of h e (dir_of (list_number edge dir))) (number_edge edge dir) ∙ ap (list_of h edge) (number_dir edge dir)
-
-some_list : (es : List Entry) (t : ℕ) (taken : Way) → way_at es t ≡ Some taken → es ≢ []
-some_list [] t taken e = absurd (cc e)
-some_list (x ∷ es) t taken e = λ same. absurd (cc same)
 
 -- where a way is in force there is one
 pub way_some : (h : HierarchyValue) (u v t : ℕ) (taken : Way) → way_from h u v t ≡ Some taken → list_from h u v ≢ []
