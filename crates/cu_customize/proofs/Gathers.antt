@@ -6,7 +6,7 @@ use Rattle.std.proofs.lemmas.Bool.{cases_lt}
 use Rattle.std.proofs.lemmas.List.Elements.{All-contains, Contains-append_left}
 use Rattle.std.proofs.lemmas.Option.{slice_get_within}
 use Rattle.cu_model.specs.Days.{day, IsOnward}
-use Rattle.cu_model.specs.Networks.{NetworkValue}
+use Rattle.cu_model.specs.Networks.{NetworkValue, IsNetwork}
 use Rattle.cu_model.specs.Roads.{arc_value, is_closed_arc}
 use Rattle.cu_model.proofs.RoadLaws.{arc_value-near, arc_value-onward}
 use Rattle.cu_arrival.specs.declared.runs.Run.{Run}
@@ -245,7 +245,7 @@ gathers_closed g task a held closed t lt =
     let none : road_function g a ≡ None = ap (λ (b : Bool). road_if b g a) closed in
     gathers_none g task (Road a) held held t record { least = refl; chosen = refl } (λ free. let no : IsSome {T = ℕ → ℕ} None = subst (λ (o : Option (ℕ → ℕ)). IsSome o) none free in absurd (cc no))
 
-module _ (g : NetworkValue) (task : Task) (is : IsTask g task) (a : ℕ) (held : Contains task.arcs.now a) (opened : is_closed_arc g a ≡ false) (words : List Run)
+module _ (g : NetworkValue) (network : IsNetwork g) (task : Task) (is : IsTask g task) (a : ℕ) (held : Contains task.arcs.now a) (opened : is_closed_arc g a ≡ false) (words : List Run)
     (value : (t : ℕ) → t < day → arrival_value words t ≡ arc_value g a t) where
   road_some : road_function g a ≡ Some (arc_value g a)
   road_some = ap (λ (b : Bool). road_if b g a) opened
@@ -258,7 +258,7 @@ module _ (g : NetworkValue) (task : Task) (is : IsTask g task) (a : ℕ) (held :
 
   -- the road never arrives before it leaves
   pub road_onward : IsOnward (arrival_value words)
-  road_onward t lt = let on = arc_value-onward g is.network a (road_inside g task is a held) t in let says = value t lt in omega (arith, on, says)
+  road_onward t lt = let on = arc_value-onward g network a (road_inside g task is a held) t in let says = value t lt in omega (arith, on, says)
 
   -- one that isn't closed arrives as these words say, where nobody goes anywhere else first
   pub gathers_road : (number : ℕ) (old new : List Held) → slice_get (ways_of task) number ≡ Some (Road a) → IsFunctionWords words → ((t : ℕ) → t < day → least_arrival new t ≡ min (least_arrival old t) (composed task.stay.now words t))
@@ -266,8 +266,8 @@ module _ (g : NetworkValue) (task : Task) (is : IsTask g task) (a : ℕ) (held :
   gathers_road number old new there function least_is way_is =
       let inside = road_inside g task is a held in
       let near : IsNear g task (Road a) = λ t arrival lt e.
-      let far = arc_value-near g is.network a inside t in
-      let on = arc_value-onward g is.network a inside t in
+      let far = arc_value-near g network a inside t in
+      let on = arc_value-onward g network a inside t in
       let same : arc_value g a t ≡ arrival = at_once g task t (Road a) (arc_value g a t) arrival (road_says t) e in
       (omega (arith, on, same), omega (arith, far, same, lt)) in
       let arrives : (t : ℕ) → t < day → ArrivesIn g task t (Road a) (composed task.stay.now words t) = λ t lt.

@@ -44,16 +44,15 @@ use Rattle.cu_customize.proofs.Lows.{IsDailyValueOf}
 -- there are fewer candidates than numbers
 pub few_ways : (g : NetworkValue) (task : Task) → IsTask g task → (length task.arcs.now + length task.triangles.now < NOBODY) × (length (ways_of task) ≡ length task.arcs.now + length task.triangles.now)
 few_ways g task is =
-    let arcs = few_rising task.arcs.now (length g.arcs) is.arcs_rise is.arcs in
+    let few = is.arcs_few in
     let middles = few_rising (middles_in task.triangles.now) task.leg.from is.middles_rise (λ k d h. (is.below k d h).0) in
     let size = length-map task.triangles.now (λ (t : Triangle). t.middle) in
-    let few = is.network.few_arcs in
     let ranks = is.chordal.few_ranks in
     let from = is.ranks.0 in
     let one = length-map task.arcs.now Road in
     let two = length-map (middles_in task.triangles.now) Via in
     let both = length-append (map Road task.arcs.now) (map Via (middles_in task.triangles.now)) in
-    (omega (arith, arcs, middles, size, few, ranks, from), omega (arith, one, two, size, both))
+    (omega (arith, few, middles, size, ranks, from), omega (arith, one, two, size, both))
 
 through_near : (g : NetworkValue) (o : OrderValue) → IsNetwork g → IsOrder o → (u m v t a : ℕ) (first second : Option (ℕ → ℕ)) → IsLowFunction g o u m first → IsLowFunction g o m v second → t < day
     → through first second t ≡ Some a → IsInTime t a
@@ -169,16 +168,19 @@ module _ (g : NetworkValue) (task : Task) (o : OrderValue) (lists : List (List �
       ) in
       rw (same, from, to) here
 
+  next_arcs : All (λ (a : ℕ). a < length g.arcs) task.arcs.now
+  next_arcs = all_at (λ (xs : List ℕ). All (λ (a : ℕ). a < length g.arcs) xs) lists (list_number edge dir) task.arcs.now (arcs_in g o task.graph.now.edges lists are) listed
+
   -- it may be settled
   pub next_task : IsStrictlyIncreasing task.arcs.now → IsFunctionWords task.stay.now → ((t : ℕ) → t < day → arrival_value task.stay.now t ≡ t) → IsTask g task
   next_task arcs_rise stays stay = record {
-    network = n;
     chordal = chordal;
     ranks = ((leads task edge dir ends chordal at found from to).start_in, (leads task edge dir ends chordal at found from to).end_in);
     stays = stays;
     stay = stay;
     arcs_rise = arcs_rise;
-    arcs = all_at (λ (xs : List ℕ). All (λ (a : ℕ). a < length g.arcs) xs) lists (list_number edge dir) task.arcs.now (arcs_in g o task.graph.now.edges lists are) listed;
+    arcs_few = let few = few_rising task.arcs.now (length g.arcs) arcs_rise next_arcs in let arcs = n.few_arcs in omega (arith, few, arcs);
+    arcs = next_arcs;
     triangles = triangles_between task edge dir ends chordal at found from to;
     middles_rise = found.rising;
     below = all_below task edge dir ends chordal at found from to;

@@ -1,5 +1,5 @@
 -- Settling one list by words.
-use Rattle.std.proofs.Common.{◌≡◌, ◌<◌, ◌+◌, ◌*◌, ◌∙◌, ◌++◌, ◌∷◌, ℕ, List, [], Option, Some, ap, subst, arith, inl, inr, get_or, length, ltb, take, true}
+use Rattle.std.proofs.Common.{◌≡◌, ◌≤◌, ◌<◌, ◌+◌, ◌*◌, ◌∙◌, ◌++◌, ◌∷◌, ℕ, List, [], Option, Some, ap, subst, arith, inl, inr, get_or, length, ltb, take, true}
 use Rattle.std.specs.Prelude.{All, slice_get}
 use Rattle.std.specs.List.{Contains}
 use Rattle.std.specs.List.Sorted.{IsStrictlyIncreasing}
@@ -7,7 +7,8 @@ use Rattle.std.proofs.lemmas.List.{map-append, take_more}
 use Rattle.std.proofs.lemmas.List.Elements.{Contains-append_cases}
 use Rattle.std.proofs.lemmas.Option.{slice_get_within}
 use Rattle.cu_model.specs.Days.{day}
-use Rattle.cu_model.specs.Networks.{NetworkValue, IsNetwork}
+use Rattle.cu_model.specs.declared.limits.TheConstants.{MAX_ARCS}
+use Rattle.cu_model.specs.Networks.{NetworkValue}
 use Rattle.cu_arrival.specs.declared.runs.Run.{Run}
 use Rattle.cu_arrival.specs.Runs.{arrival_value}
 use Rattle.cu_chordal.specs.declared.graph.Ends.{Ends}
@@ -75,7 +76,7 @@ all_known g edges functions u v long m mu mv one two =
 pub far_between : (edges : List Ends) (f : FunctionsState) (u v x y : ℕ) → u ≡ x → v ≡ y → HasFarWay edges f u v → HasFarWay edges f x y
 far_between edges f u v x y from to far = rw (← from, ← to) far
 
-module _ (g : NetworkValue) (task : Task) (edge : ℕ) (dir : Dir) (ends : Ends) (n : IsNetwork g) (chordal : IsChordal task.graph.now) (at : slice_get task.graph.now.edges edge ≡ Some ends)
+module _ (g : NetworkValue) (task : Task) (edge : ℕ) (dir : Dir) (ends : Ends) (chordal : IsChordal task.graph.now) (at : slice_get task.graph.now.edges edge ≡ Some ends)
     (found : AreTriangles task.graph.now.edges ends.low ends.high task.triangles.now) (from : task.leg.from ≡ start_of ends dir) (to : task.leg.to ≡ end_of ends dir)
     (long : length task.functions.now ≡ 2 * length task.graph.now.edges) where
   pub edge_triangles : HasTriangles g task
@@ -95,17 +96,17 @@ module _ (g : NetworkValue) (task : Task) (edge : ℕ) (dir : Dir) (ends : Ends)
       near middle
       (common_found task edge dir ends chordal at found from to middle (down_edge edges f task.leg.from middle mu some.0) (up_edge edges f middle task.leg.to mv some.1)) t arrival lt by
 
-  pub edge_task : IsStrictlyIncreasing task.arcs.now → All (λ (a : ℕ). a < length g.arcs) task.arcs.now → IsFunctionWords task.stay.now
+  pub edge_task : IsStrictlyIncreasing task.arcs.now → length task.arcs.now ≤ MAX_ARCS → All (λ (a : ℕ). a < length g.arcs) task.arcs.now → IsFunctionWords task.stay.now
       → ((t : ℕ) → t < day → arrival_value task.stay.now t ≡ t) → AreNear g task task.triangles.now → IsTask g task
-  edge_task arcs_rise arcs stays stay near =
+  edge_task arcs_rise arcs_few arcs stays stay near =
       let over = leads task edge dir ends chordal at found from to in
       record {
-        network = n;
         chordal = chordal;
         ranks = (over.start_in, over.end_in);
         stays = stays;
         stay = stay;
         arcs_rise = arcs_rise;
+        arcs_few = arcs_few;
         arcs = arcs;
         triangles = edge_triangles.triangles;
         middles_rise = found.rising;

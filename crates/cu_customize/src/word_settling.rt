@@ -78,7 +78,6 @@ impl WordSettling {
             (kept_state (R.network roads.now) functions.now)
             (start_of ends dir) (end_of ends dir)) }
     {
-        let _nodes = roads.nodes();
         let ends = graph.ends(edge);
         find_triangles(graph, ends, &mut self.triangles)?;
         let stay = staying();

@@ -3,7 +3,8 @@ use Rattle.std.specs.Prelude.{ℕ, List, [], ◌∷◌, ◌++◌, Option, Some, 
 use Rattle.std.proofs.Common.{get_or}
 use Rattle.std.specs.List.{Contains}
 use Rattle.std.specs.List.Sorted.{IsStrictlyIncreasing}
-use Rattle.cu_model.specs.Networks.{NetworkValue, IsNetwork}
+use Rattle.cu_model.specs.declared.limits.TheConstants.{MAX_ARCS}
+use Rattle.cu_model.specs.Networks.{NetworkValue}
 use Rattle.cu_model.specs.Days.{day}
 use Rattle.cu_arrival.specs.declared.runs.Run.{Run}
 use Rattle.cu_arrival.specs.Runs.{arrival_value}
@@ -81,15 +82,15 @@ IsRival g task ways t way = IsOpenIn g task ways way × (IsBeaten g task t way �
 abbrev pub IsOrdered : NetworkValue → Task → Way → Type 0
 IsOrdered g task way = (f : ℕ → ℕ) × KeepsDayOrder f × ((t : ℕ) → t < day → ArrivesIn g task t way (f t))
 
--- a list may be settled: its candidates are in range and in order, the halves of each middle are among the functions, and no
--- way by a middle is later than numbers go
+-- a list may be settled: its candidates are in range, in order and no more than there are numbers for, the halves of each
+-- middle are among the functions, and no way by a middle is later than numbers go
 pub record IsTask (g : NetworkValue) (task : Task) : Type 0 where
-  pub network : IsNetwork g
   pub chordal : IsChordal task.graph.now
   pub ranks : (task.leg.from < task.graph.now.ranks) × (task.leg.to < task.graph.now.ranks)
   pub stays : IsFunctionWords task.stay.now
   pub stay : (t : ℕ) → t < day → arrival_value task.stay.now t ≡ t
   pub arcs_rise : IsStrictlyIncreasing task.arcs.now
+  pub arcs_few : length task.arcs.now ≤ MAX_ARCS
   pub arcs : All (λ arc. arc < length g.arcs) task.arcs.now
   pub triangles : All (IsTriangle task.graph.now.edges (min task.leg.from task.leg.to) (max task.leg.from task.leg.to)) task.triangles.now
   pub middles_rise : IsStrictlyIncreasing (middles_in task.triangles.now)
