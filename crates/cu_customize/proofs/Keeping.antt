@@ -23,6 +23,7 @@ use Rattle.cu_interval.specs.EdgeArcs.{AreEdgeArcs}
 use Rattle.cu_interval.specs.FirstWays.{IsBuiltList}
 use Rattle.cu_interval.specs.Hierarchies.{end_of, list_number, number_from, start_of}
 use Rattle.cu_interval.proofs.Lookups.{number_found}
+use Rattle.cu_interval.proofs.EndsLaws.{below_low}
 use Rattle.cu_customize.specs.Functions.{AreFunctionsOf, IsLowFunction, IsRoadFunction, kept_state, road_if, value_kept}
 use Rattle.cu_customize.specs.Settling.{IsSettledList, KnowsHalves}
 use Rattle.cu_customize.specs.Steps.Kept.{IsBuiltTo}
@@ -71,17 +72,13 @@ number_in edge j Up Down lt = omega (arith, lt)
 number_in edge j Down Up lt = omega (arith, lt)
 number_in edge j Down Down lt = omega (arith, lt)
 
-low_below : (ends : Ends) (dir : Dir) (m : ℕ) → m < start_of ends dir → m < end_of ends dir → m < ends.low
-low_below ends Up m a b = a
-low_below ends Down m a b = b
-
 -- both halves of each lower triangle are kept
 pub kept_halves : (g : NetworkValue) (graph : ChordalValue) → IsChordal graph → (functions : List (Option (List Run))) (edge : ℕ) (dir : Dir) (ends : Ends) → slice_get graph.edges edge ≡ Some ends
     → length functions ≡ list_number edge dir → KnowsHalves graph.edges (kept_state g functions) (start_of ends dir) (end_of ends dir)
 kept_halves g graph is functions edge dir ends at long m mu mv one two =
     let known : (other : Dir) (y e : ℕ) → number_from 0 graph.edges m y ≡ Some e → ltb (list_number e other) (length functions) ≡ true = λ other y e found.
     let (j, same, there) = number_found 0 graph.edges m y e found in
-    let before = number_below graph.edges is.rising j edge (record { low = m; high = y }) ends there at (low_below ends dir m mu mv) in
+    let before = number_below graph.edges is.rising j edge (record { low = m; high = y }) ends there at (below_low ends dir m mu mv) in
     let number = number_in edge e dir other (omega (arith, before, same)) in
     let inside : list_number e other < length functions = omega (arith, number, long) in
     grind (arith, inside) in

@@ -1,11 +1,11 @@
 -- The edges up from one rank after the other.
 use Rattle.std.proofs.Common.{◌≡◌, ◌<◌, ◌+◌, ℕ, Bool, true, false, List, [], ◌∷◌, Some, refl, subst, arith, cond, length, get_or}
-use Rattle.std.specs.Prelude.{nat_lt, slice_get, ◌==◌}
-use Rattle.std.proofs.lemmas.Bool.Decides.{nat_tests}
+use Rattle.std.specs.Prelude.{slice_get, ◌==◌}
 use Rattle.std.proofs.lemmas.Option.{slice_get-get_or, slice_get_within}
 use Rattle.cu_chordal.specs.declared.graph.Ends.{Ends}
 use Rattle.cu_chordal.specs.Graphs.{ChordalValue, IsChordal, NumbersEdges, first_edge_of, one_if, up_of}
 use Rattle.cu_chordal.proofs.Tables.{first_all}
+use Rattle.cu_chordal.proofs.Grouping.{below_step, zero_step}
 use Rattle.cu_customize.specs.declared.triangles.Triangle.{Triangle}
 use Rattle.cu_customize.specs.Steps.Triangles.{AreTriangles, AreTrianglesOf, HoldsTriangles}
 
@@ -13,23 +13,17 @@ length_if : (b : Bool) (y : ℕ) (ys : List ℕ) → length (cond b (y ∷ ys) y
 length_if true y ys = omega arith
 length_if false y ys = omega arith
 
-next_step : (x k a b c : ℕ) → a ≡ b + c → one_if (nat_lt x (k + 1)) + a ≡ (one_if (nat_lt x k) + b) + (one_if (x == k) + c)
-next_step x k a b c h = grind (arith, nat_tests)
-
 -- the edges below the next rank are those below a rank and those up from it
 pub first_next : (edges : List Ends) (rank : ℕ) → first_edge_of edges (rank + 1) ≡ first_edge_of edges rank + length (up_of edges rank)
 first_next [] rank = refl
 first_next (e ∷ es) rank =
     let more = length_if (e.low == rank) e.high (up_of es rank) in
-    let rest = next_step e.low rank (first_edge_of es (rank + 1)) (first_edge_of es rank) (length (up_of es rank)) (first_next es rank) in
+    let rest = below_step e.low rank (first_edge_of es (rank + 1)) (first_edge_of es rank) (length (up_of es rank)) (first_next es rank) in
     omega (arith, more, rest)
-
-none_below : (x m : ℕ) → m ≡ 0 → one_if (nat_lt x 0) + m ≡ 0
-none_below x m h = grind (arith, nat_tests)
 
 pub first_zero : (edges : List Ends) → first_edge_of edges 0 ≡ 0
 first_zero [] = refl
-first_zero (e ∷ es) = none_below e.low (first_edge_of es 0) (first_zero es)
+first_zero (e ∷ es) = zero_step e.low (first_edge_of es 0) (first_zero es)
 
 pub first_last : (graph : ChordalValue) → IsChordal graph → first_edge_of graph.edges graph.ranks ≡ length graph.edges
 first_last graph is = first_all graph.edges graph.ranks (λ k d h. let range = is.in_range k d h in let low = range.0 in let high = range.1 in omega (arith, low, high))

@@ -11,7 +11,7 @@ use Rattle.cu_interval.specs.Hierarchies.{HierarchyValue, IsHierarchy, start_of,
 use Rattle.cu_interval.specs.Unpacking.{answer_by, relaxed, relaxed_ends, relaxed_from, unpacked_walk}
 use Rattle.cu_interval.proofs.Near.{below-near}
 use Rattle.cu_interval.proofs.Unpacked.{unpacked-low}
-use Rattle.cu_unpack.proofs.Edges.{low_some}
+use Rattle.cu_interval.proofs.Walks.{low_some}
 use Rattle.cu_unpack.proofs.OnWay.{answer_at, answer_long}
 use Rattle.cu_recall.specs.declared.spans.Driven.{Driven}
 use Rattle.cu_recall.specs.Spans.{IsListFrom, WalkTakes}

@@ -8,8 +8,8 @@ use Rattle.cu_interval.specs.declared.ways.Dir.TheVariants.{Up, Down}
 use Rattle.cu_interval.specs.declared.ways.Way.{Way}
 use Rattle.cu_interval.specs.Hierarchies.{HierarchyValue, IsHierarchy, start_of, end_of, list_from, list_number, list_of, way_from}
 use Rattle.cu_interval.proofs.Lookups.{list_from-edge}
+use Rattle.cu_interval.proofs.EndsLaws.{ends_apart, ends_range, min_ends}
 use Rattle.cu_unpack.proofs.Down.{some_list}
-use Rattle.cu_unpack.proofs.Edges.{ends_apart, ends_range, min_ends}
 use Rattle.cu_recall.specs.Spans.{IsListFrom, dir_of, low_of, low_of_list}
 
 pub number_edge : (edge : ℕ) (dir : Dir) → list_number edge dir / 2 ≡ edge

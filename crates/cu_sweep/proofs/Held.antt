@@ -1,9 +1,10 @@
 -- When both sweeps are over, the links that lead to a place give the calls of its label.
-use Rattle.std.proofs.Common.{◌≡◌, ◌<◌, ◌+◌, ◌∙◌, ℕ, zero, suc, Bool, true, false, List, [], ◌∷◌, ◌++◌, Option, Some, None, refl, sym, ap, subst, arith, inl, inr, ◌⊎◌, if◌then◌else◌, reverse}
+use Rattle.std.proofs.Common.{◌≡◌, ◌<◌, ◌+◌, ◌∙◌, ℕ, zero, suc, Bool, true, false, List, [], ◌++◌, Option, Some, None, refl, sym, ap, subst, arith, inl, inr, ◌⊎◌, if◌then◌else◌, reverse}
 use Rattle.std.specs.Prelude.{◌==◌, All}
 use Rattle.std.specs.List.{Contains}
 use Rattle.std.proofs.lemmas.List.Elements.{All-append}
 use Rattle.cu_links.specs.Chains.{link_at}
+use Rattle.cu_links.proofs.Setting.{none_at}
 use Rattle.cu_chordal.proofs.Members.{none_in_nil}
 use Rattle.cu_elimtree.specs.SweepArcs.{ancestors_in, parents_in}
 use Rattle.cu_elimtree.specs.Trees.{ancestors_of}
@@ -20,11 +21,6 @@ use Rattle.cu_sweep.proofs.Choosing.{earlier_none}
 use Rattle.cu_sweep.proofs.DownRows.{final_down}
 use Rattle.cu_sweep.proofs.LabelLaws.{up_label-whole}
 use Rattle.cu_sweep.proofs.UpRows.{final_up}
-
-none_at : (links : List (Option (ℕ × ℕ))) (place : ℕ) → All (λ link. link ≡ None) links → link_at links place ≡ None
-none_at [] place all = refl
-none_at (x ∷ links) zero all = all 0 None (omega arith)
-none_at (x ∷ links) (suc place) all = none_at links place (λ k d lt. all (suc k) d (omega (arith, lt)))
 
 start_second : (b : Bool) (second : ℕ) → (if b then Some second else None) ≡ second_of (if b then Some (record { second = second; calls = [] }) else None)
 start_second true second = refl

@@ -12,7 +12,7 @@ use Rattle.cu_interval.specs.declared.relaxing.Relaxed.TheVariants.{At, NoWay, L
 use Rattle.cu_interval.specs.Hierarchies.{HierarchyValue, IsHierarchy, number_from}
 use Rattle.cu_interval.specs.Unpacking.{relaxed}
 use Rattle.cu_interval.proofs.Lookups.{number_finds}
-use Rattle.cu_unpack.proofs.Edges.{ends_range}
+use Rattle.cu_interval.proofs.EndsLaws.{ends_range}
 use Rattle.cu_sweep.specs.Labels.{call_from}
 use Rattle.cu_sweep.specs.Sweeps.{AddsAll, answered, call_at, ended_by, first_long, long_or, until_long}
 use Rattle.cu_sweep.specs.Steps.Places.{calls_of_some}

@@ -18,9 +18,9 @@ use Rattle.cu_interval.specs.Hierarchies.{HierarchyValue, IsHierarchy, end_of, l
 use Rattle.cu_interval.specs.Low.{IsLowWalk}
 use Rattle.cu_interval.specs.Unpacking.{answer_by, relaxed_ends, relaxed_from, unpacked_walk}
 use Rattle.cu_interval.proofs.Unpacked.{unpacked-low}
+use Rattle.cu_interval.proofs.EndsLaws.{ends_apart, ends_range}
 use Rattle.cu_unpack.specs.Answers.{walk_between, walk_over}
 use Rattle.cu_unpack.specs.Texts.{road_text, walk_text}
-use Rattle.cu_unpack.proofs.Edges.{ends_apart, ends_range}
 use Rattle.cu_unpack.proofs.OnWay.{edge_at}
 use Rattle.cu_unpack.proofs.Texts.{first_after}
 use Rattle.cu_sweep.specs.Desks.{AreArriving, IsArrivingCall, roads_of}

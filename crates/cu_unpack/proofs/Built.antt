@@ -11,8 +11,8 @@ use Rattle.cu_interval.specs.Unpacking.{answer_by, relaxed, relaxed_ends, relaxe
 use Rattle.cu_interval.proofs.BuiltWalks.{built_least}
 use Rattle.cu_interval.proofs.SimpleWalks.{built_short}
 use Rattle.cu_interval.proofs.Unpacked.{unpacked-low}
+use Rattle.cu_interval.proofs.EndsLaws.{ends_apart, ends_range}
 use Rattle.cu_unpack.specs.Answers.{IsLowAnswer, IsLowWhereBuilt}
-use Rattle.cu_unpack.proofs.Edges.{ends_apart, ends_range}
 
 start_below : (ends : Ends) (dir : Dir) (n : ℕ) → ends.low < ends.high → ends.high < n → start_of ends dir < n
 start_below ends Up n a b = omega (arith, a, b)

@@ -16,9 +16,10 @@ use Rattle.cu_interval.specs.Hierarchies.{HierarchyValue, IsHierarchy, start_of,
 use Rattle.cu_interval.specs.Unpacking.{followed, unpacked_walk}
 use Rattle.cu_interval.proofs.Fuel.{unpacked-via}
 use Rattle.cu_interval.proofs.Lookups.{middles_fall, well_formed}
+use Rattle.cu_interval.proofs.EndsLaws.{below_low, ends_range}
 use Rattle.cu_unpack.specs.declared.unpacking.Spot.{Spot}
 use Rattle.cu_unpack.specs.Steps.Legs.{Leg, AreWaiting, FindsRoad, HasWay, IsAt, IsLegOf, IsMiddle, IsSomewhere, Parts, low_of, walk_on}
-use Rattle.cu_unpack.proofs.Edges.{below_low, ends_range, leg_way, no_way, same_ends}
+use Rattle.cu_unpack.proofs.Edges.{leg_way, no_way, same_ends}
 use Rattle.cu_unpack.proofs.Waiting.{waiting_kept}
 use Rattle.cu_unpack.proofs.Writes.{set_here}
 

@@ -1,17 +1,12 @@
 -- Edges and lists of a hierarchy, as an unpacking looks them up.
-use Rattle.std.proofs.Common.{◌≡◌, ◌≢◌, ◌<◌, ◌∙◌, ℕ, List, [], ◌∷◌, Some, None, refl, ap, subst, arith, length, min}
+use Rattle.std.proofs.Common.{◌≡◌, ◌<◌, ◌∙◌, ℕ, List, [], ◌∷◌, Some, None, refl, ap, subst}
 use Rattle.std.specs.Prelude.{slice_get}
-use Rattle.cu_model.specs.Networks.{NetworkValue}
-use Rattle.cu_model.specs.Orders.{OrderValue}
-use Rattle.cu_model.proofs.RoadLaws.{all_at}
 use Rattle.cu_chordal.specs.declared.graph.Ends.{Ends}
 use Rattle.cu_chordal.specs.Graphs.{HasEdge}
 use Rattle.cu_interval.specs.declared.ways.Dir.{Dir}
-use Rattle.cu_interval.specs.declared.ways.Dir.TheVariants.{Up, Down}
 use Rattle.cu_interval.specs.declared.ways.Entry.{Entry}
 use Rattle.cu_interval.specs.WayLists.{IsWayList, way_at, way_in}
-use Rattle.cu_interval.specs.Hierarchies.{HierarchyValue, IsHierarchy, end_of, start_of, list_from, list_of, way_from}
-use Rattle.cu_interval.specs.Low.{IsLowWalk}
+use Rattle.cu_interval.specs.Hierarchies.{HierarchyValue, IsHierarchy, start_of, list_from, list_of, way_from}
 use Rattle.cu_interval.proofs.Lookups.{list_from-edge}
 use Rattle.cu_interval.proofs.Unpacked.{list_from_spelled, way_there}
 use Rattle.cu_unpack.specs.Steps.Legs.{Leg, IsLegOf}
@@ -19,9 +14,6 @@ use Rattle.cu_unpack.specs.Steps.Legs.{Leg, IsLegOf}
 module _ (h : HierarchyValue) (f : IsHierarchy h) where
   pub edge_range : (x y : ℕ) → HasEdge h.edges x y → (x < y) × (y < h.network.nodes)
   edge_range x y c = subst (λ (e : Ends). (e.low < e.high) × (e.high < h.network.nodes)) c.2 (f.graph.in_range c.0 (record { low = x; high = y }) c.1)
-
-  pub ends_range : (edge : ℕ) (ends : Ends) → slice_get h.edges edge ≡ Some ends → (ends.low < ends.high) × (ends.high < h.network.nodes)
-  ends_range edge ends e = all_at (λ (x : Ends). (x.low < x.high) × (x.high < h.network.nodes)) h.edges edge ends f.graph.in_range e
 
   -- the leg's list is the edge's
   pub leg_list : (edge : ℕ) (dir : Dir) (leg : Leg) → IsLegOf h edge dir leg → list_from h leg.from leg.to ≡ list_of h edge dir
@@ -43,23 +35,3 @@ no_way h f u v t e = empty_without_way (list_from h u v) (list_from_spelled h f 
 -- the ends of an edge are those of its number
 pub same_ends : (edges : List Ends) (edge : ℕ) (a b : Ends) → slice_get edges edge ≡ Some a → slice_get edges edge ≡ Some b → a ≡ b
 same_ends edges edge a b p q = cc (p, q)
-
--- they differ, in either direction
-pub ends_apart : (ends : Ends) (dir : Dir) → ends.low < ends.high → start_of ends dir ≢ end_of ends dir
-ends_apart ends Up lt = λ same. absurd (omega (arith, lt, same))
-ends_apart ends Down lt = λ same. absurd (omega (arith, lt, same))
-
--- the lesser of both is the lower one
-pub min_ends : (ends : Ends) (dir : Dir) → ends.low < ends.high → min (start_of ends dir) (end_of ends dir) ≡ ends.low
-min_ends ends Up lt = omega (arith, lt)
-min_ends ends Down lt = omega (arith, lt)
-
--- and what is below both is below it
-pub below_low : (ends : Ends) (dir : Dir) (m : ℕ) → m < start_of ends dir → m < end_of ends dir → m < ends.low
-below_low ends Up m start end = start
-below_low ends Down m start end = end
-
--- a low walk has a road
-pub low_some : (g : NetworkValue) (o : OrderValue) (u : ℕ) (walk : List ℕ) (v : ℕ) → IsLowWalk g o u walk v → 0 < length walk
-low_some g o u [] v l = absurd l.1
-low_some g o u (a ∷ walk) v l = omega arith

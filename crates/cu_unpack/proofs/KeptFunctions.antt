@@ -7,20 +7,13 @@ use Rattle.std.proofs.lemmas.List.Sums.{sum_by-set}
 use Rattle.std.proofs.lemmas.Option.{slice_get-get_or}
 use Rattle.cu_arrival.specs.declared.runs.Run.{Run}
 use Rattle.cu_interval.specs.declared.ways.Dir.{Dir}
-use Rattle.cu_interval.specs.declared.ways.Dir.TheVariants.{Up, Down}
 use Rattle.cu_interval.specs.Hierarchies.{HierarchyValue, list_number}
+use Rattle.cu_interval.proofs.EndsLaws.{number_parts}
 use Rattle.cu_customize.proofs.Keeping.{number_within}
 use Rattle.cu_unpack.specs.declared.shortcuts.Shortcut.{Shortcut}
 use Rattle.cu_unpack.specs.Rebuilds.{IsRebuiltFunction}
 use Rattle.cu_unpack.specs.Steps.Rebuilding.{AreKept, IsKept, IsMissing, KeepsOne, number_of}
 use Rattle.cu_unpack.proofs.Writes.{set_here, set_other}
-
--- lists of different edges or directions have different numbers
-pub list_number-same : (a b : ℕ) (d e : Dir) → list_number a d ≡ list_number b e → (a ≡ b) × (d ≡ e)
-list_number-same a b Up Up same = (omega (arith, same), refl)
-list_number-same a b Down Down same = (omega (arith, same), refl)
-list_number-same a b Up Down same = absurd (omega (arith, same))
-list_number-same a b Down Up same = absurd (omega (arith, same))
 
 -- a shortcut's list has a place among those of all edges
 pub number_there : (h : HierarchyValue) (kept : List (Option (List Run))) (shortcut : Shortcut) → AreKept h kept → shortcut.edge < length h.edges → number_of shortcut < length kept
@@ -33,7 +26,7 @@ one_more h kept shortcut runs lt are is = (
   λ edge dir other at.
       elim (cases_eq (list_number edge dir) (number_of shortcut)) [
         | inl same ↦
-            let (edges, dirs) = list_number-same edge shortcut.edge dir shortcut.dir same in
+            let (edges, dirs) = number_parts edge shortcut.edge dir shortcut.dir same in
             let here = set_here kept (number_of shortcut) (Some runs) (number_there h kept shortcut are lt) in
             let at_number : slice_get (slice_set kept (number_of shortcut) (Some runs)) (number_of shortcut) ≡ Some (Some other) =
             subst (λ (n : ℕ). slice_get (slice_set kept (number_of shortcut) (Some runs)) n ≡ Some (Some other)) same at in
@@ -55,7 +48,7 @@ pub still_missing : (h : HierarchyValue) (shortcut other : Shortcut) (before now
 still_missing h shortcut other before now lt (runs, is, function) (ways, missing) = (
   ways,
   λ kept.
-      let apart : number_of other ≢ number_of shortcut = λ same. let edges = (list_number-same other.edge shortcut.edge other.dir shortcut.dir same).0 in omega (arith, lt, edges) in
+      let apart : number_of other ≢ number_of shortcut = λ same. let edges = (number_parts other.edge shortcut.edge other.dir shortcut.dir same).0 in omega (arith, lt, edges) in
       let here : slice_get (slice_set before (number_of shortcut) (Some runs)) (number_of other) ≡ Some (Some kept.0) =
       subst (λ (xs : List (Option (List Run))). slice_get xs (number_of other) ≡ Some (Some kept.0)) is kept.1 in
       missing (kept.0, sym (set_other before (number_of shortcut) (number_of other) (Some runs) apart) ∙ here),

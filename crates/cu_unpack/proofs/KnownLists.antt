@@ -9,11 +9,11 @@ use Rattle.cu_arrival.specs.declared.runs.Run.{Run}
 use Rattle.cu_customize.proofs.Keeping.{number_within}
 use Rattle.cu_interval.specs.declared.ways.Dir.{Dir}
 use Rattle.cu_interval.specs.Hierarchies.{HierarchyValue, list_number}
+use Rattle.cu_interval.proofs.EndsLaws.{number_parts}
 use Rattle.cu_unpack.specs.declared.shortcuts.Shortcut.{Shortcut}
 use Rattle.cu_unpack.specs.RebuiltWords.{IsLearned, IsNeeded, IsSameList, IsSized, KeepsWords, Learns, WordsValue}
 use Rattle.cu_unpack.specs.Steps.Rebuilding.{HasWays, number_of}
 use Rattle.cu_unpack.specs.Steps.WordRebuilding.{HasWords, IsKnown, IsUnknown, LearnsOne}
-use Rattle.cu_unpack.proofs.KeptFunctions.{list_number-same}
 use Rattle.cu_unpack.proofs.Writes.{set_here, set_other}
 
 -- a shortcut's list has a place
@@ -69,7 +69,7 @@ module _ (h : HierarchyValue) (shortcut : Shortcut) (before now : WordsValue) (s
       elim (cases_eq (list_number edge dir) (number_of shortcut)) [
         | inr apart ↦ inl (one_others (list_number edge dir) apart)
         | inl same ↦
-            let (edges, dirs) = list_number-same edge shortcut.edge dir shortcut.dir same in
+            let (edges, dirs) = number_parts edge shortcut.edge dir shortcut.dir same in
             inr (subst (λ (e : ℕ). IsLearned h asked e dir before now) (sym edges) (subst (λ (d : Dir). IsLearned h asked shortcut.edge d before now) (sym dirs) here))
       ]
     where
@@ -79,7 +79,7 @@ module _ (h : HierarchyValue) (shortcut : Shortcut) (before now : WordsValue) (s
   -- what was unknown of higher edges still is
   pub still_unknown : (asked : ℕ) (other : Shortcut) → shortcut.edge < other.edge → IsUnknown h asked before other → IsUnknown h asked now other
   still_unknown asked other above ((ways, unknown), needed) =
-      let apart : number_of other ≢ number_of shortcut = λ same. let edges = (list_number-same other.edge shortcut.edge other.dir shortcut.dir same).0 in omega (arith, above, edges) in
+      let apart : number_of other ≢ number_of shortcut = λ same. let edges = (number_parts other.edge shortcut.edge other.dir shortcut.dir same).0 in omega (arith, above, edges) in
       ((ways, λ known. unknown (sym (one_others (number_of other) apart).0 ∙ known)), needed)
 
 -- how many lists aren't known
