@@ -1,5 +1,5 @@
 -- How long a function takes in each window of the day, and where a candidate is late.
-use Rattle.std.proofs.Common.{◌≡◌, ◌≢◌, ◌≤◌, ◌<◌, ◌+◌, ◌-◌, ◌*◌, ◌%◌, ◌^◌, ℕ, zero, suc, List, Some, refl, true, false, ltb, sym, ap, subst, arith, inl, inr, length, get_or, min, max}
+use Rattle.std.proofs.Common.{◌≡◌, ◌≢◌, ◌≤◌, ◌<◌, ◌+◌, ◌-◌, ◌*◌, ◌%◌, ◌^◌, ◌∙◌, ℕ, zero, suc, List, Some, refl, true, false, ltb, sym, ap, subst, arith, inl, inr, length, get_or, min, max}
 use Rattle.std.specs.Prelude.{slice_get}
 use Rattle.std.proofs.lemmas.Bool.{cases_lt}
 use Rattle.std.proofs.lemmas.Bool.Decides.{nat_tests}
@@ -14,7 +14,7 @@ use Rattle.cu_customize.specs.declared.windows.TheConstants.{WINDOWS}
 use Rattle.cu_customize.specs.declared.windows.Window.{Window}
 use Rattle.cu_customize.specs.declared.windows.Windows.{Windows}
 use Rattle.cu_customize.specs.Steps.Bounded.{IsAt, IsReach, IsUpper, IsWindow, IsWithinReach}
-use Rattle.cu_customize.specs.Windows.{AreLowered, IsLowered, Reaches, TakesBetween, TakesUpToBetween, reach_end, reach_span, reach_start, window_start}
+use Rattle.cu_customize.specs.Windows.{AreLowered, AreStarts, IsIn, IsLowered, Reaches, TakesBetween, TakesUpToBetween, reach_end, reach_span, reach_start, window_start}
 use Rattle.cu_customize.specs.Words.{IsDayList, IsFunctionWords, composed}
 use Rattle.cu_customize.proofs.CompareLaws.{at_next, at_stepped, at_value}
 use Rattle.cu_customize.proofs.MergeLaws.{read_there}
@@ -105,21 +105,31 @@ module _ (windows : Windows) where
     | inr ge ↦ let test : ltb i 31 ≡ false = grind (arith, nat_tests) in rw test (omega arith)
   ]
 
-  start_narrow : (i : ℕ) → i < 31 → window_start windows (suc i) ≡ min day (windows.begin + i * windows.width)
+  start_narrow : (i : ℕ) → i < 31 → window_start windows (suc i) ≡ min day (window_start windows i + get_or windows.widths i 0)
   start_narrow i lt = let test : ltb i 31 ≡ true = grind (arith, nat_tests) in rw test refl
 
-  start_last : (i : ℕ) → 31 ≤ i → window_start windows (suc i) ≡ day
+  pub start_next : (i : ℕ) → i < 31 → window_start windows (i + 1) ≡ min day (window_start windows i + get_or windows.widths i 0)
+  start_next i lt =
+      let same : suc i ≡ i + 1 = omega arith in
+      subst (λ (n : ℕ). window_start windows n ≡ min day (window_start windows i + get_or windows.widths i 0)) same (start_narrow i lt)
+
+  pub start_last : (i : ℕ) → 31 ≤ i → window_start windows (suc i) ≡ day
   start_last i ge = let test : ltb i 31 ≡ false = grind (arith, nat_tests) in rw test refl
 
   start_step : (i : ℕ) → window_start windows i ≤ window_start windows (suc i)
-  start_step zero = omega arith
-  start_step (suc i) = elim (cases_lt (suc i) 31) [
-    | inl lt ↦
-        let here = start_narrow i (omega (arith, lt)) in
-        let next = start_narrow (suc i) lt in
-        let more : suc i * windows.width ≡ windows.width + i * windows.width = grind arith in
-        omega (arith, here, next, more)
-    | inr ge ↦ let in_day = starts_in_day (suc i) in let next = start_last (suc i) ge in omega (arith, in_day, next)
+  start_step i = elim (cases_lt i 31) [
+    | inl lt ↦ let in_day = starts_in_day i in let next = start_narrow i lt in omega (arith, in_day, next)
+    | inr ge ↦ let in_day = starts_in_day i in let next = start_last i ge in omega (arith, in_day, next)
+  ]
+
+  -- behind the last window the day ends
+  pub start_behind : (i : ℕ) → window_start windows (min i WINDOWS) ≡ window_start windows i
+  start_behind i = elim (cases_lt i WINDOWS) [
+    | inl lt ↦ let same : min i WINDOWS ≡ i = omega (arith, lt) in ap (window_start windows) same
+    | inr ge ↦
+        let capped : min i WINDOWS ≡ suc 31 = omega (arith, ge) in
+        let next : suc (i - 1) ≡ i = omega (arith, ge) in
+        ap (window_start windows) capped ∙ sym (start_last (i - 1) (omega (arith, ge))) ∙ ap (window_start windows) next
   ]
 
   pub starts_rise : (i : ℕ) → window_start windows i ≤ window_start windows (i + 1)
@@ -134,6 +144,23 @@ module _ (windows : Windows) where
     | inr ge ↦
         let same : suc j ≡ i = omega (arith, order, ge) in
         subst (λ (n : ℕ). window_start windows n ≤ window_start windows (suc j)) same (omega arith)
+  ]
+
+  -- what stands in the table of starts
+  pub start_there : (starts : List ℕ) → AreStarts windows starts → (i : ℕ) → get_or starts (min i WINDOWS) 0 ≡ window_start windows i
+  start_there starts are i = are (min i WINDOWS) (omega arith) ∙ start_behind i
+
+  -- a second of the day is in no window behind the last one
+  pub in_last : (i t : ℕ) → IsIn windows i t → IsIn windows (min i 31) t
+  in_last i t inside = elim (cases_lt i 32) [
+    | inl lt ↦ let same : i ≡ min i 31 = omega (arith, lt) in subst (λ (n : ℕ). IsIn windows n t) same inside
+    | inr ge ↦
+        let next : suc (i - 1) ≡ i = omega (arith, ge) in
+        let last : window_start windows i ≡ day = subst (λ (n : ℕ). window_start windows n ≡ day) next (start_last (i - 1) (omega (arith, ge))) in
+        let in_day = starts_in_day (i + 1) in
+        let late = inside.0 in
+        let early = inside.1 in
+        absurd (omega (arith, last, in_day, late, early))
   ]
 
 -- between which seconds the reaches lie

@@ -8,7 +8,7 @@ use Rattle.cu_customize.specs.declared.windows.Windows.{Windows}
 -- the second at which a window begins, and the end of the day behind the last one
 abbrev pub window_start : Windows → ℕ → ℕ
 window_start windows zero = 0
-window_start windows (suc before) = if nat_lt before 31 then min day (windows.begin + before * windows.width) else day
+window_start windows (suc before) = if nat_lt before 31 then min day (window_start windows before + get_or windows.widths before 0) else day
 
 -- a second in a window
 abbrev pub IsIn : Windows → ℕ → ℕ → Type 0
@@ -41,6 +41,10 @@ Reaches windows f from until reach =
 -- each of the first numbers, so many, is one for its place
 abbrev pub AreEach : (ℕ → ℕ → Type 0) → List ℕ → ℕ → Type 0
 AreEach IsOne items count = (i : ℕ) → i < count → IsOne i (get_or items i 0)
+
+-- the second at which each window begins, and the end of the day behind the last one
+abbrev pub AreStarts : Windows → List ℕ → Type 0
+AreStarts windows starts = AreEach (λ window start. start ≡ window_start windows window) starts (WINDOWS + 1)
 
 -- each of these numbers is one from the second until another between which its reach lies
 abbrev pub AreReaches : Windows → (ℕ → ℕ → ℕ → Type 0) → List ℕ → Type 0

@@ -7,6 +7,7 @@ ghost use Rattle.cu_model.specs.Profiles.{IsProfile};
 ghost use Rattle.cu_interval.specs.EdgeArcs.{AreEdgeArcs};
 
 use super::*;
+use crate::windows::{WINDOWS, Windows};
 use cu_chordal::{Chordal, close};
 use cu_interval::{Dir, EdgeArcs, Entry, Hierarchy, Way, WayList, Ways};
 use cu_model::{Network, Order, Piece, Profile, RoadArc, Roads, Rule};
@@ -196,6 +197,22 @@ fn takes_the_first_road_of_a_tie(rt: HostRuntime) -> Result<(), Fail> {
         (0, Dir::Up, 2_011, Way::Road(2)),
     ];
     assert!(rt; are_all(&hierarchy, &wanted));
+    Ok(())
+}
+
+// A road is slow from 8:00 and closed just before 10:00. The narrow windows begin 3,000 seconds
+// before 8:00, thirty times the 100 seconds that the road takes until then; the last window begins two minutes behind 10:00.
+#[test]
+fn windows_are_narrow_where_profiles_change(rt: HostRuntime) -> Result<(), Fail> {
+    let alloc = rt.alloc();
+    let profiles = three_profiles(alloc, Rule::Travel(250))?;
+    let network = network(alloc, 3, profiles, &[(0, 1, 0), (1, 2, 1), (0, 2, 2)])?;
+    let starts = Windows::of(&network).starts();
+    assert_eq!(rt; (starts[0], starts[1]), (0, 25_800));
+    assert_eq!(rt; (starts[31], starts[32]), (36_120, 86_400));
+    for window in 0..WINDOWS {
+        assert!(rt; starts[window] <= starts[window + 1]);
+    }
     Ok(())
 }
 

@@ -24,6 +24,7 @@
 
 mod by_middles;
 mod choosing;
+mod choosing_windows;
 mod customizing;
 mod day_function;
 mod dropping;

@@ -9,13 +9,13 @@ ghost use Rattle.cu_arrival.specs.Runs.{arrival_value};
 ghost use Rattle.cu_arrival.specs.Steps.Stretches.{arrives};
 ghost use Rattle.cu_model.specs.Growing.{IsPushed, last_says};
 ghost use Rattle.cu_customize.specs.declared.windows.TheConstants.{NO_LIMIT, WINDOWS};
-ghost use Rattle.cu_customize.specs.Windows.{AreLowered, IsLate, TakesInWindows, window_start};
+ghost use Rattle.cu_customize.specs.Windows.{AreLowered, AreStarts, IsLate, TakesInWindows, window_start};
 ghost use Rattle.cu_customize.specs.Words.{IsCompactDay, IsDayList, IsFunctionWords, composed, end_run, is_fixed};
 ghost use Rattle.cu_customize.specs.Least.{KeepsDayOrder, IsWayRuns, least_arrival, least_way, tie_with, way_with};
 ghost use Rattle.cu_customize.specs.Steps.Merging.{IsAddedWithin, IsHeld, IsNext, IsMerging, IsSeen, IsMerged, IsBefore, CopiesBehind, Merges, Puts, least_held, next_held};
 
 use crate::linking::link_between;
-use crate::windows::{Limits, WINDOWS, Windows, lower_limits};
+use crate::windows::{Limits, STARTS, WINDOWS, Windows, lower_limits, start_in};
 use crate::words::{MAX_NUMBER, Word, index_at, stepped};
 use cu_model::{DAY, NoMemory};
 use std::alloc::Global;
@@ -423,6 +423,7 @@ fn compare_windows_from(
     least: &Least,
     candidate: Candidate<'_>,
     limits: Limits<'_>,
+    starts: &[u32; STARTS],
     window: usize,
     linked: &mut Vec<Word>,
     next: &mut Next,
@@ -431,6 +432,7 @@ fn compare_windows_from(
     requires first { IsFunctionWords candidate.first.now }
     requires second { IsFunctionWords candidate.second.now }
     requires next { IsNext least.now next.old }
+    requires starts { AreStarts limits.windows starts.now }
     requires window { window < WINDOWS }
     requires order { next.old.done ≤ window_start limits.windows window }
     ensures next { IfOk result (λ _. IsNext least.now next.new) }
@@ -448,8 +450,8 @@ fn compare_windows_from(
         return Ok(window + 1);
     }
     let end = late_from(limits, window + 1);
-    let from = limits.windows.start(window);
-    let until = limits.windows.start(end);
+    let from = start_in(starts, window);
+    let until = start_in(starts, end);
     if from >= until {
         return Ok(end);
     }
@@ -476,9 +478,10 @@ fn compare_windows(
         (arrival : ℕ → ℕ) → IsSeen limits.entry candidate.entry least.now arrival
         → IsMerging least.now arrival candidate.entry.way next.new DAY) }
 {
+    let starts = limits.windows.starts();
     let mut window = 0;
     'windows: while window < WINDOWS {
-        window = compare_windows_from(least, candidate, limits, window, linked, next)?;
+        window = compare_windows_from(least, candidate, limits, &starts, window, linked, next)?;
     }
     Ok(())
 }

@@ -1,7 +1,7 @@
 //! How long functions take in each window of the day. These bounds tell where a candidate can't be the least, and so
 //! needs no linking.
 
-ghost use Rattle.std.specs.Prelude.{◌≡◌, ◌≤◌, ◌<◌, ◌+◌, ◌*◌, ◌↔◌, ℕ, List, IsTrue, length, min};
+ghost use Rattle.std.specs.Prelude.{◌≡◌, ◌≤◌, ◌<◌, ◌+◌, ◌*◌, ◌↔◌, ℕ, List, IsTrue, min};
 ghost use Rattle.std.proofs.Common.{get_or};
 ghost use Rattle.cu_model.specs.declared.limits.TheConstants.{DAY};
 ghost use Rattle.cu_model.specs.Days.{IsOnward};
@@ -12,6 +12,7 @@ ghost use Rattle.cu_customize.specs.Windows.{
   AreEach,
   AreLowered,
   AreReaches,
+  AreStarts,
   TakesBetween,
   TakesInWindows,
   TakesUpToBetween,
@@ -28,11 +29,18 @@ ghost use Rattle.cu_customize.specs.Steps.Bounded.{
 };
 ghost use Rattle.cu_customize.specs.Travels.{TakesAtLeast, TakesAtMost};
 
+use crate::choosing_windows::widths_for;
 use crate::words::{Word, stepped};
 use cu_model::{DAY, Roads};
 
 /// How many windows a day has.
 pub const WINDOWS: usize = 32;
+
+/// How many of them have a width: all but the last one, which ends with the day.
+pub const WIDTHS: usize = WINDOWS - 1;
+
+/// How many seconds there are at which a window begins or the day ends.
+pub const STARTS: usize = WINDOWS + 1;
 
 // The reach that is the whole day, behind those of two windows and of four.
 const WHOLE: usize = 2 * WINDOWS;
@@ -49,21 +57,11 @@ pub const UNKNOWN: u16 = 65_535;
 // The seconds of a day, as a word has them.
 const END: u64 = DAY as u64;
 
-// How long before the first second at which a profile changes the windows begin to be narrow, and how long behind the
-// last one they end: those who leave then may meet the change on their way.
-const BEFORE: u32 = 7_200;
-
-const BEHIND: u32 = 60;
-
-// The narrow windows: all but the first and the last.
-const NARROW: u32 = 30;
-
-/// The windows of a day: the first one until the second `begin`, then narrow ones, of `width` seconds each, and the
-/// last one to the end of the day. Some may be empty.
+/// The windows of a day: how many seconds each begins behind the one before, none of them behind the end of the day.
+/// The last one ends with the day. Some may be empty.
 #[derive(Clone, Copy, Debug, PartialEq, Eq)]
 pub struct Windows {
-    pub begin: u32,
-    pub width: u32,
+    pub widths: [u16; WIDTHS],
 }
 
 /// How long a function takes in each of some windows, and over each reach: at least, and at most where that is below
@@ -108,94 +106,79 @@ struct Travels {
 }
 
 impl Windows {
-    /// Windows that are narrow where profiles of a network change.
+    /// Windows that are narrow where much changes in the profiles of a network.
     pub fn of<R: Roads>(roads: &R) -> Windows {
-        let changes = changes_of(roads);
-        let begin = changes.first.saturating_sub(BEFORE);
-        let end = changes.last.saturating_add(BEHIND).min(DAY);
         Windows {
-            begin,
-            width: end.saturating_sub(begin) / NARROW,
+            widths: widths_for(roads),
         }
     }
 
-    /// The second at which a window begins, and the end of the day behind the last one.
-    #[inline(always)]
-    pub fn start(self, window: usize) -> u64
-        ensures { result ≡ window_start self window }
+    /// The second at which each window begins, and behind the last one the end of the day.
+    pub fn starts(&self) -> [u32; STARTS]
+        ensures { AreStarts self.now result }
     {
-        if window == 0 {
-            return 0;
+        let mut starts = [0; STARTS];
+        'windows: for window in 0..WIDTHS {
+            starts[window + 1] = DAY.min(starts[window] + u32::from(self.widths[window]));
         }
-        if window >= WINDOWS {
-            return END;
-        }
-        END.min(u64::from(self.begin) + (window as u64 - 1) * u64::from(self.width))
-    }
-
-    // The window that has a second of the day, or one before it.
-    #[inline(always)]
-    fn window_at(self, second: u64) -> usize
-        ensures { result < WINDOWS }
-    {
-        let begin = u64::from(self.begin);
-        if second < begin {
-            return 0;
-        }
-        let narrow = (second - begin) / u64::from(self.width).max(1);
-        narrow.min(u64::from(NARROW)) as usize + 1
-    }
-
-    // A reach that has all seconds from one to another on one day, or that of the whole day.
-    #[inline(always)]
-    fn reach(self, first: u64, last: u64) -> usize
-        ensures { IsReach self first last result }
-    {
-        let second = first % END;
-        let midnight = first - second;
-        let window = self.window_at(second);
-        if self.start(window) > second {
-            return WHOLE;
-        }
-        if last < midnight.saturating_add(self.start(window + 2)) {
-            return window;
-        }
-        if last < midnight.saturating_add(self.start(window + 4)) {
-            return WINDOWS + window;
-        }
-        WHOLE
+        starts[WINDOWS] = DAY;
+        starts
     }
 }
 
-// The first and the last second of the day at which a profile changes, where one does.
-#[derive(Clone, Copy)]
-struct Changes {
-    first: u32,
-    last: u32,
-}
-
-fn changes_of<R: Roads>(roads: &R) -> Changes {
-    let mut changes = Changes {
-        first: DAY,
-        last: 0,
-    };
-    for profile in 0..roads.profiles() {
-        changes = with_changes(roads, profile, changes);
-    }
-    changes
-}
-
-// With those of one profile more.
-fn with_changes<R: Roads>(roads: &R, profile: u32, before: Changes) -> Changes
-    requires { profile < length (R.network roads.now).profiles }
+/// The second at which a window begins, and the end of the day behind the last one.
+#[inline(always)]
+pub fn start_in(starts: &[u32; STARTS], window: usize) -> u64
+    ensures { (windows : Windows) → AreStarts windows starts.now
+        → result ≡ window_start windows window }
 {
-    let mut changes = before;
-    for index in 1..roads.pieces(profile) {
-        let from = roads.piece(profile, index).from;
-        changes.first = changes.first.min(from);
-        changes.last = changes.last.max(from);
+    u64::from(starts[window.min(WINDOWS)])
+}
+
+// The window that has a second of the day. Each step halves those in question.
+#[inline(always)]
+fn window_at(starts: &[u32; STARTS], second: u64) -> usize
+    ensures { result < WINDOWS }
+{
+    let window = narrowed(starts, second, 0, 16);
+    let window = narrowed(starts, second, window, 8);
+    let window = narrowed(starts, second, window, 4);
+    let window = narrowed(starts, second, window, 2);
+    narrowed(starts, second, window, 1)
+}
+
+// The window so many behind this one, where that has begun by a second, or else this one.
+#[inline(always)]
+fn narrowed(starts: &[u32; STARTS], second: u64, window: usize, step: usize) -> usize
+    requires { window + step < WINDOWS }
+    ensures { result ≤ window + step }
+{
+    if start_in(starts, window + step) <= second {
+        return window + step;
     }
-    changes
+    window
+}
+
+// A reach that has all seconds from one to another on one day, or that of the whole day.
+#[inline(always)]
+fn reach(starts: &[u32; STARTS], first: u64, last: u64) -> usize
+    ensures few { result ≤ 2 * WINDOWS }
+    ensures reach { (windows : Windows) → AreStarts windows starts.now
+        → IsReach windows first last result }
+{
+    let second = first % END;
+    let midnight = first - second;
+    let window = window_at(starts, second);
+    if start_in(starts, window) > second {
+        return WHOLE;
+    }
+    if last < midnight.saturating_add(start_in(starts, window + 2)) {
+        return window;
+    }
+    if last < midnight.saturating_add(start_in(starts, window + 4)) {
+        return WINDOWS + window;
+    }
+    WHOLE
 }
 
 impl Bounds {
@@ -216,12 +199,13 @@ impl Bounds {
             least_over: [0; REACHES],
             most_over: [0; REACHES],
         };
+        let starts = windows.starts();
         let mut index = 0;
         'windows: for window in 0..WINDOWS {
-            let from = windows.start(window);
-            let until = windows.start(window + 1);
+            let from = start_in(&starts, window);
+            let until = start_in(&starts, window + 1);
             let travels = travels_between(words, index, from, until);
-            let known = window_of(windows, from, until, travels);
+            let known = window_of(&starts, from, until, travels);
             bounds.least[window] = known.least;
             bounds.most[window] = known.most;
             bounds.reach[window] = known.reach;
@@ -325,12 +309,14 @@ fn most_of_two(most: &[u16; WINDOWS], window: usize) -> u16
 
 // How long a function takes in a window, by its travel times from one second until another.
 #[inline(always)]
-fn window_of(windows: Windows, from: u64, until: u64, travels: Travels) -> Window
-    ensures { (f : ℕ → ℕ) → (window : ℕ) → from ≡ window_start windows window
+fn window_of(starts: &[u32; STARTS], from: u64, until: u64, travels: Travels) -> Window
+    ensures { (windows : Windows) → AreStarts windows starts.now
+        → (f : ℕ → ℕ) → (window : ℕ) → from ≡ window_start windows window
         → until ≡ window_start windows (window + 1) → TakesBetween f from until travels.least
         → TakesUpToBetween f from until travels.most → IsWindow windows f window result }
 {
-    let reach = windows.reach(
+    let reach = reach(
+        starts,
         from.saturating_add(travels.least),
         until.saturating_add(travels.most),
     );
@@ -354,10 +340,12 @@ pub fn lower_limits(words: &[Word], windows: Windows, limits: &mut [u32; WINDOWS
     requires { IsDayList words.now }
     ensures { AreLowered windows (arrival_value words.now) limits.old limits.new }
 {
+    let starts = windows.starts();
     let mut index = 0;
     'windows: for window in 0..WINDOWS {
-        let from = windows.start(window);
-        let travels = travels_between(words, index, from, windows.start(window + 1));
+        let from = start_in(&starts, window);
+        let until = start_in(&starts, window + 1);
+        let travels = travels_between(words, index, from, until);
         limits[window] = lesser(limits[window], travels.most);
         index = travels.index;
     }

@@ -23,20 +23,20 @@ pub returns-then-from-until-clause-merged : goal.returns-then-from-until-clause-
 returns-then-from-until-clause-merged c arrival sees is =
     let windows = c.args.limits.windows in
     let rise = starts_between windows c.args.window c.late_from-end.result (omega (arith, c.late_from-end.ensures.from)) in
-    let from = c.start-from.ensures in
-    let until = c.start-until.ensures in
+    let from = c.start_in-from.ensures c.args.limits.windows c.requires.starts in
+    let until = c.start_in-until.ensures c.args.limits.windows c.requires.starts in
     let late = c.if-from-until.true in
     let same : window_start windows c.args.window ≡ window_start windows c.late_from-end.result = omega (arith, rise, from, until, late) in
     subst (λ (t : ℕ). IsMerging c.args.least.now arrival c.args.candidate.way c.args.next.now t) same is
 
 pub link_and_compare-requires-clause-order : goal.link_and_compare-requires-clause-order
-link_and_compare-requires-clause-order c = let from = c.start-from.ensures in let order = c.requires.order in omega (arith, from, order)
+link_and_compare-requires-clause-order c = let from = c.start_in-from.ensures c.args.limits.windows c.requires.starts in let order = c.requires.order in omega (arith, from, order)
 
 pub link_and_compare-requires-clause-in_day : goal.link_and_compare-requires-clause-in_day
-link_and_compare-requires-clause-in_day c = let until = c.start-until.ensures in let in_day = starts_in_day c.args.limits.windows c.late_from-end.result in omega (arith, until, in_day)
+link_and_compare-requires-clause-in_day c = let until = c.start_in-until.ensures c.args.limits.windows c.requires.starts in let in_day = starts_in_day c.args.limits.windows c.late_from-end.result in omega (arith, until, in_day)
 
 pub returns-clause-order : goal.returns-clause-order
-returns-clause-order c = let until = c.start-until.ensures in let order = c.in_ok-link_and_compare.ensures.order in omega (arith, until, order)
+returns-clause-order c = let until = c.start_in-until.ensures c.args.limits.windows c.requires.starts in let order = c.in_ok-link_and_compare.ensures.order in omega (arith, until, order)
 
 pub returns-clause-merged : goal.returns-clause-merged
 returns-clause-merged c arrival sees is =
@@ -50,9 +50,9 @@ returns-clause-merged c arrival sees is =
       | inl lt ↦ c.late_from-end.ensures.before w (omega (arith, lt)) before
       | inr ge ↦ let same : window ≡ w = omega (arith, after, ge) in subst (λ (n : ℕ). IsLate limits.lower.now limits.most.now n → ⊥) same here
     ] in
-    let begun = subst (λ (t : ℕ). IsMerging l arrival c.args.candidate.way c.args.next.now t) (sym c.start-from.ensures) is in
-    let start = c.start-from.ensures in
-    let stop = c.start-until.ensures in
-    subst (λ (t : ℕ). IsMerging l arrival c.args.candidate.way c.link_and_compare.new.next t) c.start-until.ensures
+    let begun = subst (λ (t : ℕ). IsMerging l arrival c.args.candidate.way c.args.next.now t) (sym (c.start_in-from.ensures c.args.limits.windows c.requires.starts)) is in
+    let start = c.start_in-from.ensures c.args.limits.windows c.requires.starts in
+    let stop = c.start_in-until.ensures c.args.limits.windows c.requires.starts in
+    subst (λ (t : ℕ). IsMerging l arrival c.args.candidate.way c.link_and_compare.new.next t) (c.start_in-until.ensures c.args.limits.windows c.requires.starts)
     (c.in_ok-link_and_compare.ensures.merged arrival
     (λ s late before. linked_between limits c.args.candidate l arrival sees window end s (omega (arith, from)) c.late_from-end.ensures.within early (omega (arith, late, start)) (omega (arith, before, stop))) begun)

@@ -5,7 +5,7 @@ use Rattle.cu_customize.specs.Steps.Bounded.{IsUpper}
 use Rattle.cu_customize.specs.Windows.{AreEach, IsLowered, TakesBetween, window_start}
 use Rattle.cu_customize.specs.Words.{composed}
 use Rattle.cu_customize.proofs.BoundLaws.{ahead_set, each_set}
-use Rattle.cu_customize.proofs.WindowLaws.{lowered_one}
+use Rattle.cu_customize.proofs.WindowLaws.{lowered_one, starts_in_day}
 use Rattle.cu_customize.proofs.day_function.DayFunction.bound_with.Goals as goal
 
 pub windows-preserved : goal.windows-preserved
@@ -44,3 +44,10 @@ returns-clause-lower c =
     let f = composed c.args.self.now c.args.second.now in
     let windows = c.args.windows in
     subst (λ (n : ℕ). AreEach (λ window bound. TakesBetween f (window_start windows window) (window_start windows (window + 1)) bound) c.windows.lower n) all c.windows.invariant.lower
+
+pub returns-in_default-clause-lower : goal.returns-in_default-clause-lower
+returns-in_default-clause-lower c window inside t late early =
+    let same = c.fill.ensures window inside in
+    let in_day = starts_in_day c.args.windows (window + 1) in
+    let takes = c.day_least_with.ensures t (omega arith) (omega (arith, early, in_day)) in
+    omega (arith, same, takes)

@@ -1,11 +1,25 @@
-use Rattle.std.proofs.Common.{◌≡◌, ◌<◌, ◌∙◌, ℕ, arith, length, length-set, subst, sym}
+use Rattle.std.proofs.Common.{◌≡◌, ◌<◌, ◌+◌, ◌∙◌, ℕ, arith, length, length-set, subst, sym}
 use Rattle.cu_arrival.specs.Runs.{arrival_value}
 use Rattle.cu_customize.specs.declared.windows.TheConstants.{WINDOWS}
 use Rattle.cu_customize.specs.declared.windows.Windows.{Windows}
 use Rattle.cu_customize.specs.Steps.Bounded.{AreWindows, IsAt, TakesIfKnown}
 use Rattle.cu_customize.specs.Windows.{AreReaches, TakesBetween}
 use Rattle.cu_customize.proofs.BoundLaws.{windows_set}
+use Rattle.cu_customize.proofs.WindowLaws.{starts_in_day, starts_rise}
 use Rattle.cu_customize.proofs.windows.Bounds.of.Goals as goal
+
+pub travels_between-travels-requires-clause-order : goal.travels_between-travels-requires-clause-order
+travels_between-travels-requires-clause-order c =
+    let from = c.start_in-from.ensures c.args.windows c.starts-starts.ensures in
+    let until = c.start_in-until.ensures c.args.windows c.starts-starts.ensures in
+    let rise = starts_rise c.args.windows c.windows.window in
+    omega (arith, from, until, rise)
+
+pub travels_between-travels-requires-clause-in_day : goal.travels_between-travels-requires-clause-in_day
+travels_between-travels-requires-clause-in_day c =
+    let until = c.start_in-until.ensures c.args.windows c.starts-starts.ensures in
+    let in_day = starts_in_day c.args.windows (c.windows.window + 1) in
+    omega (arith, until, in_day)
 
 pub windows-preserved : goal.windows-preserved
 windows-preserved c =
@@ -19,10 +33,12 @@ windows-preserved c =
     let one : window < length bounds.least = omega (arith, least_long) in
     let two : window < length bounds.most = omega (arith, most_long) in
     let three : window < length bounds.reach = omega (arith, reach_long) in
+    let from = c.start_in-from.ensures c.args.windows c.starts-starts.ensures in
+    let until = c.start_in-until.ensures c.args.windows c.starts-starts.ensures in
     record {
-      held = subst (λ (t : ℕ). IsAt words travels.result.index t) c.start-until.ensures travels.ensures.index;
+      held = subst (λ (t : ℕ). IsAt words travels.result.index t) until travels.ensures.index;
       known = windows_set c.args.windows (arrival_value words) bounds window c.window_of-known.result one two three c.windows.invariant.known
-          (c.window_of-known.ensures (arrival_value words) window c.start-from.ensures c.start-until.ensures (travels.ensures.least c.requires.onward) travels.ensures.most);
+          (c.window_of-known.ensures c.args.windows c.starts-starts.ensures (arrival_value words) window from until (travels.ensures.least c.requires.onward) travels.ensures.most);
       least_long = length-set bounds.least window c.window_of-known.result.least ∙ least_long;
       most_long = length-set bounds.most window c.window_of-known.result.most ∙ most_long;
       reach_long = length-set bounds.reach window c.window_of-known.result.reach ∙ reach_long;
