@@ -1,5 +1,5 @@
 -- The starts of lists, counted one by one.
-use Rattle.std.proofs.Common.{◌≡◌, ◌≤◌, ◌<◌, ◌+◌, ◌-◌, ◌*◌, ◌∙◌, ℕ, zero, suc, List, [], ◌∷◌, ◌++◌, Some, length, take, drop, map, set, get_or, flat_map, refl, ap, sym, arith}
+use Rattle.std.proofs.Common.{◌≡◌, ◌≤◌, ◌<◌, ◌+◌, ◌-◌, ◌∙◌, ℕ, zero, suc, List, ◌∷◌, ◌++◌, Some, length, take, drop, map, set, get_or, flat_map, refl, ap, sym, arith}
 use Rattle.std.specs.Prelude.{slice_get, slice_range}
 use Rattle.std.specs.List.{range_with_len}
 use Rattle.std.proofs.Math.Seq.{take-set-lt}

@@ -1,5 +1,5 @@
 -- What an edit leaves of a hierarchy's file.
-use Rattle.std.proofs.Common.{◌≡◌, ◌≤◌, ◌∙◌, ℕ, suc, List, [], ◌++◌, Option, Some, None, length, map, set, flat_map, refl, ap}
+use Rattle.std.proofs.Common.{◌≡◌, ℕ, suc, List, ◌++◌, Option, Some, None, length, map, set, flat_map, refl, ap}
 use Rattle.std.specs.Prelude.{slice_get}
 use Rattle.std.specs.List.{range_with_len}
 use Rattle.cu_model.specs.declared.roads.Edit.{Edit}

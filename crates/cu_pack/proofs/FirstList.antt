@@ -5,18 +5,12 @@ use Rattle.cu_chordal.proofs.Tables.{first_all, first_none}
 use Rattle.cu_interval.specs.declared.ways.Dir.{Dir}
 use Rattle.cu_interval.specs.declared.ways.Dir.TheVariants.{Up, Down}
 use Rattle.cu_interval.specs.Hierarchies.{list_number}
+use Rattle.cu_interval.proofs.EndsLaws.{number_parts}
 use Rattle.cu_pack.specs.Checks.{AreEntriesWrong, FindsFirst, IsGraph, IsWrongList}
 use Rattle.cu_pack.specs.Reading.{counts_in, decoded, edge_start, way_start}
 use Rattle.cu_pack.specs.Steps.Ways.{AreBothRight, IsFirstDir, IsWrongWay}
 use Rattle.cu_pack.proofs.EdgesRead.{known}
 use Rattle.cu_pack.proofs.ListNumbers.{list_inside}
-
--- the edge of a list number
-same_list : (e k : ℕ) (d b : Dir) → list_number e d ≡ list_number k b → (e ≡ k) × (d ≡ b)
-same_list e k Up Up same = (omega (arith, same), refl)
-same_list e k Up Down same = absurd (omega (arith, same))
-same_list e k Down Up same = absurd (omega (arith, same))
-same_list e k Down Down same = (omega (arith, same), refl)
 
 twice_most : (e : ℕ) (d : Dir) → 2 * e ≤ list_number e d
 twice_most e Up = omega arith
@@ -37,7 +31,7 @@ module _ (bytes : List ℕ) (first : way_start bytes 0 ≡ 0) where
   right_way : (edge : ℕ) (dir : Dir) → edge < (counts_in bytes).edges → (IsWrongWay bytes edge dir → ⊥) → IsWrongList bytes (list_number edge dir) → ⊥
   right_way edge dir inside right (inl (zero, other)) = other first
   right_way edge dir inside right (inr (inl (e, d, within, number, wrong))) =
-      let same = same_list edge e dir d number in
+      let same = number_parts edge e dir d number in
       right (subst (λ (b : Dir). IsWrongWay bytes edge b) (sym same.1) (subst (λ (k : ℕ). IsWrongWay bytes k d) (sym same.0) (subst (λ k. AreEntriesWrong bytes k e d) number wrong)))
   right_way edge Up inside right (inr (inr (last, other))) = absurd (omega (arith, last, inside))
   right_way edge Down inside right (inr (inr (last, other))) = absurd (omega (arith, last, inside))

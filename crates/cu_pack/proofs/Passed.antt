@@ -1,24 +1,23 @@
 -- What bytes that pass every check say is a hierarchy.
-use Rattle.std.proofs.Common.{◌≡◌, ◌<◌, ◌*◌, ◌∙◌, ℕ, suc, List, [], Some, get_or, map, refl, sym, ap, subst, arith, inl, inr}
+use Rattle.std.proofs.Common.{◌<◌, ◌*◌, ℕ, suc, List, get_or, map, refl, sym, subst, arith, inl, inr}
 use Rattle.std.specs.Prelude.{All}
 use Rattle.std.specs.List.{range_with_len}
 use Rattle.std.proofs.lemmas.List.{get_or_default}
 use Rattle.std.proofs.lemmas.List.FromFn.{get_or-map-range_with_len, length-map-range_with_len}
-use Rattle.std.proofs.lemmas.Option.{slice_get-get_or, slice_get_within}
+use Rattle.std.proofs.lemmas.Option.{slice_get_within}
 use Rattle.cu_model.specs.declared.roads.RoadArc.{RoadArc}
 use Rattle.cu_model.specs.Networks.{IsArcInRange, IsNetwork}
 use Rattle.cu_model.specs.Profiles.{IsProfile}
-use Rattle.cu_interval.specs.declared.ways.Dir.{Dir}
 use Rattle.cu_interval.specs.declared.ways.Entry.{Entry}
-use Rattle.cu_interval.specs.Hierarchies.{EachList, IsHierarchy, IsWellFormed, end_of, entries_or_none, list_number, list_of, start_of}
+use Rattle.cu_interval.specs.Hierarchies.{EachList, IsHierarchy, IsWellFormed, end_of, list_number, start_of}
 use Rattle.cu_interval.specs.WayLists.{IsWayList}
 use Rattle.cu_pack.specs.Checks.{HasRoads, IsGraph, IsWrongArc, IsWrongList, NoneWrong}
 use Rattle.cu_pack.specs.Reading.{arc_in, counts_in, decoded, list_in, network_in, order_in, profile_in}
 use Rattle.cu_pack.proofs.Adopted.{AreEdges, edges_known}
-use Rattle.cu_pack.proofs.ListNumbers.{list_inside}
 use Rattle.cu_pack.proofs.Laid.{list_spelled, profile_valid, right_entries}
 use Rattle.cu_pack.proofs.Ordered.{ordered, words_count}
 use Rattle.cu_pack.proofs.Unrefuted.{less_else, well_formed_unrefuted}
+use Rattle.cu_pack.proofs.WayEntries.{list_read}
 
 -- a fact of what is made of each number
 all_counted : {X : Type 0} (P : X → Type 0) (made : ℕ → X) (count : ℕ) → ((k : ℕ) → k < count → P (made k)) → All P (map made (range_with_len 0 count))
@@ -64,16 +63,6 @@ module _ (bytes : List ℕ) (f : IsGraph bytes) (none : NoneWrong (IsWrongList b
   unfolding decoded
   edges_right = edges_known bytes f
 
-  list_there : (edge : ℕ) (dir : Dir) → edge < (counts_in bytes).edges → list_of (decoded bytes) edge dir ≡ list_in bytes (list_number edge dir)
-  unfolding decoded
-  list_there edge dir inside =
-      let count : ℕ = 2 * (counts_in bytes).edges in
-      let number : ℕ = list_number edge dir in
-      let within : number < count = list_inside edge (counts_in bytes).edges dir inside in
-      let long = length-map-range_with_len (list_in bytes) 0 count in
-      let lists : List (List Entry) = map (list_in bytes) (range_with_len 0 count) in
-      ap entries_or_none (slice_get-get_or lists number [] (omega (arith, long, within)) ∙ ap Some (get_or-map-range_with_len (list_in bytes) 0 count number number [] within (omega arith)))
-
   ways_formed : EachList (decoded bytes) (λ u v entries. All (λ (entry : Entry). IsWellFormed (decoded bytes) u v entry.way) entries)
   ways_formed edge dir ends at =
       let number : ℕ = list_number edge dir in
@@ -81,7 +70,7 @@ module _ (bytes : List ℕ) (f : IsGraph bytes) (none : NoneWrong (IsWrongList b
       let v : ℕ = end_of ends dir in
       let entries : List Entry = list_in bytes number in
       let inside : edge < (counts_in bytes).edges = omega (arith, slice_get_within (decoded bytes).edges edge ends at, edges_right.count) in
-      subst (All (λ (entry : Entry). IsWellFormed (decoded bytes) u v entry.way)) (sym (list_there edge dir inside)) (λ k d h.
+      subst (All (λ (entry : Entry). IsWellFormed (decoded bytes) u v entry.way)) (sym (list_read bytes edge dir inside)) (λ k d h.
       let entry : Entry = get_or entries k d in
       well_formed_unrefuted (decoded bytes) u v entry.way (λ off.
       right_entries bytes none number edge dir inside refl (inr (inr (inr (inr (ends, at, (entry, (k, h, get_or_default entries k entry d h), off))))))))

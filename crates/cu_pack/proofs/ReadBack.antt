@@ -1,5 +1,5 @@
 -- Each number of a packed file, read where the layout says that it stands.
-use Rattle.std.proofs.Common.{◌≡◌, ◌≤◌, ◌<◌, ◌+◌, ◌*◌, ◌^◌, ◌∙◌, Bool, true, false, ℕ, suc, List, [], ◌∷◌, Some, length, get_or, take, drop, map, refl, ap, sym, subst, arith}
+use Rattle.std.proofs.Common.{◌≡◌, ◌≤◌, ◌<◌, ◌+◌, ◌*◌, ◌^◌, ◌∙◌, true, ℕ, suc, List, [], ◌∷◌, Some, length, get_or, take, drop, map, refl, ap, sym, subst, arith}
 use Rattle.std.specs.Prelude.{codes, nat_lt, slice_get}
 use Rattle.std.specs.Option.{option_map}
 use Rattle.std.proofs.lemmas.Bool.{and_parts, leb-true, eqb-true}
@@ -16,7 +16,8 @@ use Rattle.cu_model.specs.Profiles.{IsProfile, is_in_limit, is_rule_in_limit}
 use Rattle.cu_model.proofs.FaultLaws.{piece_begins}
 use Rattle.cu_model.proofs.RoadLaws.{all_at}
 use Rattle.cu_chordal.specs.declared.graph.Ends.{Ends}
-use Rattle.cu_chordal.specs.Graphs.{first_edge_of, one_if}
+use Rattle.cu_chordal.specs.Graphs.{first_edge_of}
+use Rattle.cu_chordal.proofs.Grouping.{one_step}
 use Rattle.cu_interval.specs.declared.ways.Dir.{Dir}
 use Rattle.cu_interval.specs.declared.ways.Dir.TheVariants.{Up, Down}
 use Rattle.cu_interval.specs.declared.ways.Entry.{Entry}
@@ -34,13 +35,9 @@ use Rattle.cu_pack.proofs.Standing.{long_read, row_read, stands_inside, stands_i
 use Rattle.cu_pack.proofs.Totals.{entries_in_limit, in_limits, list_there, pieces_in_limit}
 
 -- no more edges are before a rank than there are
-one_at_most : (counted : Bool) (before edges : ℕ) → before ≤ edges → one_if counted + before ≤ suc edges
-one_at_most true before edges h = omega (arith, h)
-one_at_most false before edges h = omega (arith, h)
-
 pub first_edge_within : (edges : List Ends) (rank : ℕ) → first_edge_of edges rank ≤ length edges
 first_edge_within [] rank = omega arith
-first_edge_within (e ∷ es) rank = one_at_most (nat_lt e.low rank) (first_edge_of es rank) (length es) (first_edge_within es rank)
+first_edge_within (e ∷ es) rank = one_step (nat_lt e.low rank) (first_edge_of es rank) (length es) (first_edge_within es rank)
 
 start_below : (nodes : ℕ) (ends : Ends) (dir : Dir) → ends.low < ends.high → ends.high < nodes → start_of ends dir < nodes
 start_below nodes ends Up low high = omega (arith, low, high)

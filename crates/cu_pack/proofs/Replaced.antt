@@ -11,7 +11,6 @@ use Rattle.cu_model.proofs.RoadLaws.{all_at}
 use Rattle.cu_interval.specs.declared.ways.Entry.{Entry}
 use Rattle.cu_interval.specs.declared.ways.TouchedEdge.{TouchedEdge}
 use Rattle.cu_interval.specs.Replacing.{replaced, replaced_by}
-use Rattle.cu_pack.specs.Spelling.{total}
 
 -- a list with an item set: that item, and the others
 pub set_there : {X : Type 0} (xs : List X) (i : ℕ) (x : X) → i < length xs → slice_get (set xs i x) i ≡ Some x

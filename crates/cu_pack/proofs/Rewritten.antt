@@ -1,5 +1,5 @@
 -- The section of way lists put edge by edge, where the lists of some edges are replaced.
-use Rattle.std.proofs.Common.{◌≡◌, ◌≤◌, ◌<◌, ◌+◌, ◌-◌, ◌*◌, ◌∙◌, ℕ, suc, List, ◌++◌, Some, length, take, map, flat_map, refl, ap, sym, arith}
+use Rattle.std.proofs.Common.{◌≡◌, ◌≤◌, ◌<◌, ◌+◌, ◌*◌, ◌∙◌, ℕ, suc, List, ◌++◌, Some, length, take, map, flat_map, refl, ap, sym, arith}
 use Rattle.std.specs.Prelude.{All, slice_get, slice_range}
 use Rattle.std.specs.List.{range_with_len}
 use Rattle.std.proofs.lemmas.List.{append_assoc, take_all}
@@ -10,7 +10,7 @@ use Rattle.cu_pack.specs.Spelling.{entry_bytes, long, starts_from, total}
 use Rattle.cu_pack.specs.Steps.Starts.{starts_between}
 use Rattle.cu_pack.proofs.CountedStarts.{before_list, put_starts_on, starts_counted, starts_moved}
 use Rattle.cu_pack.proofs.Putting.{put_more, put_next}
-use Rattle.cu_pack.proofs.Replaced.{AreRising, IsUpTo, edge_inside, gap_before, gap_last, own_there, replaced_long}
+use Rattle.cu_pack.proofs.Replaced.{AreRising, IsUpTo, gap_before, gap_last, own_there, replaced_long}
 use Rattle.cu_pack.proofs.Stretches.{put_stretch, total_on}
 use Rattle.cu_pack.proofs.Totals.{total_more}
 

@@ -1,5 +1,5 @@
 -- What is not refuted holds, of facts that can be decided.
-use Rattle.std.proofs.Common.{◌≡◌, ◌≤◌, ◌<◌, ◌+◌, ℕ, List, [], ◌∷◌, Bool, true, false, Option, Some, None, get_or, refl, sym, ◌∙◌, ap, arith, inl, inr, ◌⊎◌}
+use Rattle.std.proofs.Common.{◌≡◌, ◌≤◌, ◌<◌, ◌+◌, ℕ, List, [], ◌∷◌, Bool, true, false, Option, Some, None, get_or, refl, sym, ◌∙◌, ap, arith, inl, inr}
 use Rattle.std.specs.Prelude.{slice_get, ◌==◌, ◌&&◌}
 use Rattle.std.specs.List.{list_any}
 use Rattle.std.proofs.lemmas.Bool.{and_from, and_parts, cases_Bool, cases_eq, cases_lt, eq-eqb, eqb-true}
@@ -12,6 +12,7 @@ use Rattle.cu_model.specs.Networks.{NetworkValue}
 use Rattle.cu_model.specs.Orders.{OrderValue}
 use Rattle.cu_model.specs.Profiles.{IsProfile, is_closed_piece, is_in_limit, profile_value}
 use Rattle.cu_model.specs.Roads.{is_closed_arc}
+use Rattle.cu_model.proofs.OptionLaws.{some_cases, none_is_some}
 use Rattle.cu_chordal.specs.declared.graph.Ends.{Ends}
 use Rattle.cu_chordal.specs.Graphs.{HasEdge}
 use Rattle.cu_interval.specs.declared.ways.Entry.{Entry}
@@ -96,13 +97,6 @@ leads_from g o a u v arc at (x, y, ((road, there, tail, head), driven), low, hig
       ap (λ (r : RoadArc). slice_get o.rank_of r.tail) same ∙ ap (slice_get o.rank_of) tail ∙ low,
       ap (λ (r : RoadArc). slice_get o.rank_of r.head) same ∙ ap (slice_get o.rank_of) head ∙ high,
     )
-
-some_cases : {X : Type 0} (o : Option X) → (o ≡ None) ⊎ ((x : X) × (o ≡ Some x))
-some_cases None = inl refl
-some_cases (Some x) = inr (x, refl)
-
-none_is_some : {X : Type 0} (o : Option X) (x : X) → o ≡ None → o ≡ Some x → ⊥
-none_is_some o x e f = cc
 
 leads_unrefuted : (g : NetworkValue) (o : OrderValue) (a u v : ℕ) → Unrefuted (LeadsRanks g o a u v) → LeadsRanks g o a u v
 leads_unrefuted g o a u v f =

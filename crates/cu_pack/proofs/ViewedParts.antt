@@ -1,12 +1,11 @@
 -- Parts of bytes that are the packed file of a hierarchy.
-use Rattle.std.proofs.Common.{◌≡◌, ◌≤◌, ◌+◌, ◌*◌, ◌∙◌, ℕ, suc, List, ◌++◌, length, take, map, flat_map, refl, sym, ap, subst, arith}
+use Rattle.std.proofs.Common.{◌≡◌, ◌≤◌, ◌+◌, ◌*◌, ◌∙◌, ℕ, suc, List, length, take, map, flat_map, refl, sym, ap, subst, arith}
 use Rattle.std.specs.Prelude.{slice_range}
 use Rattle.cu_chordal.specs.declared.graph.Ends.{Ends}
 use Rattle.cu_interval.specs.Hierarchies.{HierarchyValue}
 use Rattle.cu_pack.specs.declared.layout.Counts.{Counts}
 use Rattle.cu_pack.specs.Checks.{Spells}
-use Rattle.cu_pack.specs.Layouts.{arcs_at, digest_at, edge_starts_at, entries_at, file_length, pieces_at, profile_starts_at, rank_of_at, uppers_at, way_starts_at}
-use Rattle.cu_pack.specs.Places.{StandsAt}
+use Rattle.cu_pack.specs.Layouts.{arcs_at, edge_starts_at, entries_at, pieces_at, profile_starts_at, rank_of_at, uppers_at, way_starts_at}
 use Rattle.cu_pack.specs.Reading.{counts_in, profile_start, way_start}
 use Rattle.cu_pack.specs.Spelling.{arc_bytes, counts_of, edge_starts, edges_section, entry_bytes, long, order_section, piece_bytes, profiles_section, spelling, starts_from, total, word}
 use Rattle.cu_pack.proofs.Again.{profile_start_said, way_start_said}

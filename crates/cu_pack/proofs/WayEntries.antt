@@ -100,13 +100,13 @@ module _ (bytes : List ℕ) where
       let within = links_within (network_in bytes) arc leads.0 leads.1 leads.2.0 in
       omega (arith, within, arcs_long bytes)
 
-  module _ (f : IsGraph bytes) where
-    list_read : (edge : ℕ) (dir : Dir) → edge < (counts_in bytes).edges → list_of (decoded bytes) edge dir ≡ list_in bytes (list_number edge dir)
-    unfolding decoded
-    list_read edge dir inside =
-        ap entries_or_none (made_there (list_in bytes) 0 (2 * (counts_in bytes).edges) (list_number edge dir) (list_inside edge (counts_in bytes).edges dir inside)
-        ∙ ap (λ (k : ℕ). Some (list_in bytes k)) (omega arith))
+  pub list_read : (edge : ℕ) (dir : Dir) → edge < (counts_in bytes).edges → list_of (decoded bytes) edge dir ≡ list_in bytes (list_number edge dir)
+  unfolding decoded
+  list_read edge dir inside =
+      ap entries_or_none (made_there (list_in bytes) 0 (2 * (counts_in bytes).edges) (list_number edge dir) (list_inside edge (counts_in bytes).edges dir inside)
+      ∙ ap (λ (k : ℕ). Some (list_in bytes k)) (omega arith))
 
+  module _ (f : IsGraph bytes) where
     pub number_inside : (edge : ℕ) (ends : Ends) → slice_get (decoded bytes).edges edge ≡ Some ends → edge < (counts_in bytes).edges
     number_inside edge ends there = let within = slice_get_within (decoded bytes).edges edge ends there in omega (arith, within, (known bytes f).count)
 

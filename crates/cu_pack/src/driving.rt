@@ -1,14 +1,13 @@
 //! The roads of a file whose roads and profiles passed their checks.
 
-ghost use Rattle.std.specs.Prelude.{◌≡◌, ◌≤◌, ◌<◌, ◌^◌, ◌/◌, ◌%◌, ℕ, Some, false, true, length, slice_get};
+ghost use Rattle.std.specs.Prelude.{◌≡◌, ◌≤◌, ◌<◌, ◌^◌, ◌%◌, Some, length, slice_get};
 ghost use Rattle.cu_model.specs.Networks.{IsNetwork};
-ghost use Rattle.cu_model.specs.Profiles.{is_closed_rule, is_rule_in_limit, rule_value};
 ghost use Rattle.cu_model.specs.Roads.{arc_value, is_closed_arc};
 ghost use Rattle.cu_pack.specs.Checks.{HasRoads};
 ghost use Rattle.cu_pack.specs.Reading.{counts_in, network_in, profile_in};
 
 use crate::cutting::Sections;
-use cu_model::{DAY, Piece, Rule};
+use cu_model::{DAY, Piece};
 
 impl<'a> Sections<'a> {
     /// How many pieces a profile has, 1 to 86,400.
@@ -40,7 +39,7 @@ impl<'a> Sections<'a> {
     {
         let profile = self.arc(arc).profile;
         let first = self.profile_start(profile);
-        closes(self.piece(first).rule)
+        self.piece(first).rule.is_closed()
     }
 
     /// When a road that isn't closed arrives, leaving at an absolute second.
@@ -53,26 +52,6 @@ impl<'a> Sections<'a> {
     {
         let profile = self.arc(arc).profile;
         let time = (second % u64::from(DAY)) as u32;
-        arrival(self.piece_begun(profile, time).rule, second)
-    }
-}
-
-// Whether a rule lets nobody through.
-fn closes(rule: Rule) -> bool
-    ensures { result ≡ is_closed_rule rule }
-{
-    matches!(rule, Rule::Closed(_))
-}
-
-// When a rule arrives, leaving at an absolute second. A closed one is asked by nobody.
-fn arrival(rule: Rule, second: u64) -> u64
-    requires in_limit { is_rule_in_limit rule ≡ true }
-    requires time { second ≤ 2 ^ 62 }
-    ensures { result ≡ rule_value rule (second / DAY) (second % DAY) }
-{
-    match rule {
-        Rule::Travel(seconds) => second + u64::from(seconds),
-        Rule::Until(arrival) => second - second % u64::from(DAY) + u64::from(arrival),
-        Rule::Closed(_) => second,
+        self.piece_begun(profile, time).rule.arrival(second)
     }
 }

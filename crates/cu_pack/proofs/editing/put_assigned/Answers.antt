@@ -1,5 +1,4 @@
 use Rattle.std.proofs.Common.{◌++◌, ◌∙◌, List, ℕ, ap, flat_map, sym}
-use Rattle.std.proofs.lemmas.Option.{slice_get_within}
 use Rattle.cu_model.specs.declared.roads.RoadArc.{RoadArc}
 use Rattle.cu_pack.specs.Spelling.{arc_bytes}
 use Rattle.cu_pack.proofs.Edited.{arcs_assigned}

@@ -1,4 +1,4 @@
-use Rattle.std.proofs.Common.{◌≡◌, ◌≤◌, ◌<◌, ◌+◌, ◌++◌, ◌∙◌, List, [], ℕ, ap, length, arith}
+use Rattle.std.proofs.Common.{◌≤◌, ◌++◌, ◌∙◌, List, [], ℕ, ap, length, arith}
 use Rattle.std.proofs.lemmas.List.Sums.{sum_by-take-le}
 use Rattle.cu_model.specs.Roads.{pieces_of}
 use Rattle.cu_pack.proofs.CountedStarts.{set_behind}

@@ -1,4 +1,4 @@
-use Rattle.std.proofs.Common.{◌≡◌, ◌∙◌, subst, sym}
+use Rattle.std.proofs.Common.{◌∙◌, subst, sym}
 use Rattle.cu_interval.specs.Replacing.{hierarchy_with}
 use Rattle.cu_pack.specs.Layouts.{AreInLimits}
 use Rattle.cu_pack.specs.Spelling.{counts_of}

@@ -29,4 +29,4 @@ returns c =
     let same = c.profile_start-first.ensures.start ∙ ap (λ (road : RoadArc). profile_start bytes road.profile) c.arc-profile.ensures.road in
     let read = c.piece.ensures.piece ∙ ap (λ (n : ℕ). piece_from bytes (piece_place bytes n)) same in
     let closed = closed_same bytes c.args.arc c.requires.arc ∙ ap is_closed (pieces_same bytes profile there) ∙ closed_first bytes c.requires.roads profile there c.piece.result read in
-    record { closed = c.closes.ensures ∙ sym closed }
+    record { closed = c.is_closed.ensures ∙ sym closed }

@@ -1,5 +1,4 @@
 use Rattle.std.proofs.Common.{◌≡◌, ◌+◌, ◌-◌, ◌∙◌, ℕ, suc, ap, arith}
-use Rattle.cu_model.specs.Days.{day}
 use Rattle.cu_pack.specs.declared.layout.Layout.{Layout}
 use Rattle.cu_pack.specs.Layouts.{pieces_at}
 use Rattle.cu_pack.specs.Reading.{counts_in, piece_from, piece_place, profile_start}
