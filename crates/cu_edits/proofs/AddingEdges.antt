@@ -1,5 +1,5 @@
 -- Edges added to buckets, some after others.
-use Rattle.std.proofs.Common.{◌≡◌, ◌<◌, ◌+◌, ◌∙◌, ◌⊎◌, ℕ, get_or, List, Option, Some, refl, ap, sym, subst, arith, inl, inr, length}
+use Rattle.std.proofs.Common.{◌≡◌, ◌<◌, ◌+◌, ◌∙◌, ◌⊎◌, ℕ, get_or, List, Some, refl, ap, sym, subst, arith, inl, inr, length}
 use Rattle.std.specs.Prelude.{Bool, IsTrue, ◌↔◌, false, true, max, min, slice_get, slice_set}
 use Rattle.std.specs.List.{Contains}
 use Rattle.std.proofs.lemmas.Bool.{cases_eq}
@@ -10,10 +10,10 @@ use Rattle.cu_model.specs.declared.roads.RoadArc.{RoadArc}
 use Rattle.cu_chordal.specs.declared.graph.Ends.{Ends}
 use Rattle.cu_chordal.specs.Graphs.{ChordalValue, HasEdge, IsChordal, IsRising}
 use Rattle.cu_chordal.proofs.Members.{member_at}
-use Rattle.cu_links.specs.declared.buckets.EdgeState.{EdgeState}
 use Rattle.cu_links.specs.declared.buckets.EdgeState.TheVariants.{Free, Held}
 use Rattle.cu_links.specs.Buckets.{BucketsValue, IsDone, IsFree}
 use Rattle.cu_links.proofs.Links.{get_here, get_other, set_long}
+use Rattle.cu_links.proofs.Held.{same_rank}
 use Rattle.cu_interval.specs.Hierarchies.{HierarchyValue}
 use Rattle.cu_interval.proofs.Lookups.{number_at}
 use Rattle.cu_edits.specs.Steps.Spreading.{Adds, AreBucketsOf, IsAbove, IsAdded, IsBetween, IsLowEnd, IsOfProfile, IsOfRoad}
@@ -35,27 +35,25 @@ adds_as edges IsNew IsNamed old new same adds = record {
   all = λ e named. adds.all e ((same e).1 named);
 }
 
--- an edge that is free, held or done after edges were added
-pub free_before : (edges : List Ends) (IsNew : ℕ → Type 0) (old new : BucketsValue) → Adds edges IsNew old new → (e : ℕ) → IsFree new e → IsFree old e
-free_before edges IsNew old new adds e free = elim (adds.each e) [
-  | inl kept ↦ sym kept ∙ free
-  | inr a ↦ a.free
-]
+module _ (edges : List Ends) (IsNew : ℕ → Type 0) (old new : BucketsValue) (adds : Adds edges IsNew old new) where
+  -- an edge that is free, held or done after edges were added
+  pub free_before : (e : ℕ) → IsFree new e → IsFree old e
+  free_before e free = elim (adds.each e) [
+    | inl kept ↦ sym kept ∙ free
+    | inr a ↦ a.free
+  ]
 
-pub done_before : (edges : List Ends) (IsNew : ℕ → Type 0) (old new : BucketsValue) → Adds edges IsNew old new → (e : ℕ) → IsDone new e → IsDone old e
-done_before edges IsNew old new adds e done = elim (adds.each e) [
-  | inl kept ↦ sym kept ∙ done
-  | inr a ↦ absurd (cc (done, a.held))
-]
+  pub done_before : (e : ℕ) → IsDone new e → IsDone old e
+  done_before e done = elim (adds.each e) [
+    | inl kept ↦ sym kept ∙ done
+    | inr a ↦ absurd (cc (done, a.held))
+  ]
 
-pub done_after : (edges : List Ends) (IsNew : ℕ → Type 0) (old new : BucketsValue) → Adds edges IsNew old new → (e : ℕ) → IsDone old e → IsDone new e
-done_after edges IsNew old new adds e done = elim (adds.each e) [
-  | inl kept ↦ kept ∙ done
-  | inr a ↦ absurd (cc (done, a.free))
-]
-
-same_rank : (a b : ℕ) (o : Option EdgeState) → o ≡ Some (Held a) → o ≡ Some (Held b) → a ≡ b
-same_rank a b o p q = cc (p, q)
+  pub done_after : (e : ℕ) → IsDone old e → IsDone new e
+  done_after e done = elim (adds.each e) [
+    | inl kept ↦ kept ∙ done
+    | inr a ↦ absurd (cc (done, a.free))
+  ]
 
 pub buckets_of_added : (graph : ChordalValue) (IsNew : ℕ → Type 0) (old new : BucketsValue) → AreBucketsOf graph old → Adds graph.edges IsNew old new → AreBucketsOf graph new
 buckets_of_added graph IsNew old new fit adds = record {

@@ -11,7 +11,6 @@ use Rattle.cu_arrival.specs.Runs.{arrival_value}
 use Rattle.cu_chordal.specs.declared.graph.Ends.{Ends}
 use Rattle.cu_chordal.specs.Edges.{LinksRanks}
 use Rattle.cu_chordal.specs.Graphs.{HasEdge}
-use Rattle.cu_chordal.proofs.Members.{member_at}
 use Rattle.cu_interval.specs.declared.ways.Dir.{Dir}
 use Rattle.cu_interval.specs.declared.ways.Dir.TheVariants.{Up, Down}
 use Rattle.cu_interval.specs.declared.ways.Way.{Way}
@@ -20,27 +19,29 @@ use Rattle.cu_interval.specs.declared.ways.Entry.{Entry}
 use Rattle.cu_interval.specs.EdgeArcs.{AreArcsFrom}
 use Rattle.cu_interval.specs.Hierarchies.{HierarchyValue, IsHierarchy, end_of, list_from, list_of, number_from, start_of}
 use Rattle.cu_interval.specs.Resettling.{ArrivesIn, IsCandidateIn, rebuilt, then_at}
-use Rattle.cu_interval.proofs.Lookups.{number_finds, number_found}
+use Rattle.cu_interval.proofs.Lookups.{number_finds}
+use Rattle.cu_interval.proofs.EndsLaws.{ends_rise}
 use Rattle.cu_customize.specs.Functions.{FunctionsState}
-use Rattle.cu_customize.specs.Settling.{ArrivesBy, IsCandidateBy, function_from, shortcut_of, through, value_at}
+use Rattle.cu_customize.specs.Settling.{ArrivesBy, IsCandidateBy, function_from, through, value_at}
+use Rattle.cu_customize.proofs.LowFunctions.{down_edge, up_edge}
 use Rattle.cu_unpack.specs.Rebuilds.{IsRebuiltFunction}
 use Rattle.cu_edits.specs.declared.known.EdgeFunctions.{EdgeFunctions}
 use Rattle.cu_edits.specs.Settling.{SettlingValue, settled_so_far}
 use Rattle.cu_edits.specs.Steps.Known.{AreRebuilt, function_in, functions_of, known_function, road_in, values_of}
 use Rattle.cu_edits.proofs.Frames.{ChoosesAlike}
-use Rattle.cu_edits.proofs.Sides.{LeadsOver, edge_down, edge_up, ends_rising, list_at}
+use Rattle.cu_edits.proofs.Sides.{LeadsOver, edge_down, edge_up, list_at}
 use Rattle.cu_edits.proofs.Unchanged.{joins_leads, leads_joins, ranks_edited, ranks_kept}
 
 -- the function that is asked for between the ends of an edge is the edge's
 function_at_ends : (h : HierarchyValue) → IsHierarchy h → (f : FunctionsState) (edge : ℕ) (dir : Dir) (ends : Ends) → slice_get h.edges edge ≡ Some ends
     → function_from h.edges f (start_of ends dir) (end_of ends dir) ≡ f.shortcut edge dir
 function_at_ends h sound f edge Up ends e =
-    let less = ends_rising h sound edge ends e in
+    let less = ends_rise h sound edge ends e in
     let lt : ltb ends.low ends.high ≡ true = grind (arith, less) in
     let at : number_from 0 h.edges ends.low ends.high ≡ Some edge = number_finds h.edges sound.graph.rising ends.low ends.high (Some edge) e in
     rw (lt, at) refl
 function_at_ends h sound f edge Down ends e =
-    let less = ends_rising h sound edge ends e in
+    let less = ends_rise h sound edge ends e in
     let ge : ltb ends.high ends.low ≡ false = grind (arith, less) in
     let at : number_from 0 h.edges ends.low ends.high ≡ Some edge = number_finds h.edges sound.graph.rising ends.low ends.high (Some edge) e in
     rw (ge, at) refl
@@ -50,25 +51,6 @@ pub function_at : (h : HierarchyValue) → IsHierarchy h → (f : FunctionsState
 function_at h sound f edge dir u v leads =
     subst (λ (x : ℕ). function_from h.edges f x v ≡ f.shortcut edge dir) leads.from
     (subst (λ (y : ℕ). function_from h.edges f (start_of leads.ends dir) y ≡ f.shortcut edge dir) leads.to (function_at_ends h sound f edge dir leads.ends leads.at))
-
--- where there is a function there is an edge
-shortcut_edge : (edges : List Ends) (f : FunctionsState) (low high : ℕ) (dir : Dir) (found : Option ℕ) → number_from 0 edges low high ≡ found → IsSome (shortcut_of f found dir) → HasEdge edges low high
-shortcut_edge edges f low high dir None e some = absurd (cc some)
-shortcut_edge edges f low high dir (Some edge) e some =
-    let (j, is, at) = number_found 0 edges low high edge e in
-    member_at edges (record { low = low; high = high }) j at
-
-function_up : (edges : List Ends) (f : FunctionsState) (m v : ℕ) → m < v → IsSome (function_from edges f m v) → HasEdge edges m v
-function_up edges f m v less some =
-    let lt : ltb m v ≡ true = grind (arith, less) in
-    shortcut_edge edges f m v Up (number_from 0 edges m v) refl
-    (subst (λ (b : Bool). IsSome (if b then shortcut_of f (number_from 0 edges m v) Up else shortcut_of f (number_from 0 edges v m) Down)) lt some)
-
-function_down : (edges : List Ends) (f : FunctionsState) (u m : ℕ) → m < u → IsSome (function_from edges f u m) → HasEdge edges m u
-function_down edges f u m less some =
-    let ge : ltb u m ≡ false = grind (arith, less) in
-    shortcut_edge edges f m u Down (number_from 0 edges m u) refl
-    (subst (λ (b : Bool). IsSome (if b then shortcut_of f (number_from 0 edges u m) Up else shortcut_of f (number_from 0 edges m u) Down)) ge some)
 
 -- a function between two ranks has the rebuilt values; none where the list is empty
 abbrev pub HasRebuilt : HierarchyValue → ℕ → ℕ → Option (List Run) → Type 0
@@ -155,7 +137,7 @@ settled_alike before edit h network order roads f u v are knows = record { there
         (subst (λ (g : NetworkValue). LinksRanks g h.order a u v) (sym network) (subst (λ (o : OrderValue). LinksRanks (edited before.network edit) o a u v) (sym order)
         (ranks_edited before.network before.order edit a u v ((are.exact a).0 c)))) (is_open a some)
     there (Via m) (to, on, first, second) =
-        let halves = knows.halves m to on (function_down h.edges f u m to first) (function_up h.edges f m v on second) in (
+        let halves = knows.halves m to on (down_edge h.edges f u m to first) (up_edge h.edges f m v on second) in (
           to,
           on,
           some_list h u m halves.0.function (function_from h.edges f u m) halves.0.is halves.0.rebuilds first,
@@ -182,7 +164,7 @@ settled_alike before edit h network order roads f u v are knows = record { there
 
     middle_value : (m t : ℕ) → IsCandidateBy h.edges roads f u v (Via m) → then_at (rebuilt h u m t) (rebuilt h m v) ≡ through (function_from h.edges f u m) (function_from h.edges f m v) t
     middle_value m t (to, on, first, second) =
-        let halves = knows.halves m to on (function_down h.edges f u m to first) (function_up h.edges f m v on second) in
+        let halves = knows.halves m to on (down_edge h.edges f u m to first) (up_edge h.edges f m v on second) in
         via_value h u m v t halves.0.function halves.1.function (function_from h.edges f u m) (function_from h.edges f m v) halves.0.is halves.1.is halves.0.rebuilds halves.1.rebuilds
         (some_list h u m halves.0.function (function_from h.edges f u m) halves.0.is halves.0.rebuilds first)
         (some_list h m v halves.1.function (function_from h.edges f m v) halves.1.is halves.1.rebuilds second)

@@ -1,5 +1,5 @@
 -- Functions that are learnt one edge after the other.
-use Rattle.std.proofs.Common.{◌≡◌, ◌<◌, ◌+◌, ◌∙◌, ℕ, List, Option, Some, None, refl, ap, sym, subst, arith, inl, inr, length, get_or}
+use Rattle.std.proofs.Common.{◌≡◌, ◌<◌, ◌+◌, ◌∙◌, ℕ, List, Option, Some, None, ap, sym, subst, arith, inl, inr, length, get_or}
 use Rattle.std.specs.Prelude.{Err, Ok, OnOk, Result, slice_get, slice_set}
 use Rattle.std.specs.List.{Contains}
 use Rattle.std.proofs.lemmas.Bool.{cases_eq}
@@ -13,9 +13,6 @@ use Rattle.cu_interval.proofs.Lookups.{number_finds}
 use Rattle.cu_links.proofs.Links.{get_here, get_other, set_long}
 use Rattle.cu_edits.specs.declared.known.EdgeFunctions.{EdgeFunctions}
 use Rattle.cu_edits.specs.Steps.Known.{AreRebuilt, HasFunctions, IsSide, IsSideOver, Learns}
-
-pub learns_none : (h : HierarchyValue) (IsAsked : ℕ → Type 0) (known : List (Option EdgeFunctions)) → Learns h IsAsked known known
-learns_none h IsAsked known = record { long = refl; each = λ e. inl refl }
 
 none_or_some : (o : Option (Option EdgeFunctions)) (f : EdgeFunctions) → o ≡ Some None → o ≡ Some (Some f) → ⊥
 none_or_some o f p q = absurd (cc (p, q))
@@ -63,34 +60,29 @@ pub record IsLearning (h : HierarchyValue) (edges : List Ends) (ends : Ends) (ra
   pub learns : Learns h (IsSide edges ends) old new
   pub sides : (k side : ℕ) → k < count → IsSideOver edges ends (get_or ranks k 0) side → HasFunctions new side
 
-pub learning_none : (h : HierarchyValue) (edges : List Ends) (ends : Ends) (ranks : List ℕ) (known : List (Option EdgeFunctions)) → IsLearning h edges ends ranks 0 known known
-learning_none h edges ends ranks known = record { learns = learns_none h (IsSide edges ends) known; sides = λ k side lt. absurd (omega (arith, lt)) }
+module _ (h : HierarchyValue) (edges : List Ends) (ends : Ends) (ranks : List ℕ) where
+  -- what was learnt over one more rank, also where not all was
+  pub learning_part : (count rank : ℕ) (old mid new : List (Option EdgeFunctions)) → IsLearning h edges ends ranks count old mid
+      → Learns h (IsSideOver edges ends rank) mid new → Learns h (IsSide edges ends) old new
+  learning_part count rank old mid new so_far more =
+      learns_then h (IsSide edges ends) (IsSideOver edges ends rank) (IsSide edges ends) old mid new (λ e s. s) (λ e s. (rank, s)) so_far.learns more
 
--- what was learnt over one more rank, also where not all was
-pub learning_part : (h : HierarchyValue) (edges : List Ends) (ends : Ends) (ranks : List ℕ) (count rank : ℕ) (old mid new : List (Option EdgeFunctions)) → IsLearning h edges ends ranks count old mid
-    → Learns h (IsSideOver edges ends rank) mid new → Learns h (IsSide edges ends) old new
-learning_part h edges ends ranks count rank old mid new so_far more =
-    learns_then h (IsSide edges ends) (IsSideOver edges ends rank) (IsSide edges ends) old mid new (λ e s. s) (λ e s. (rank, s)) so_far.learns more
+  pub learning_more : (count rank : ℕ) (old mid new : List (Option EdgeFunctions)) → IsLearning h edges ends ranks count old mid
+      → rank ≡ get_or ranks count 0 → Learns h (IsSideOver edges ends rank) mid new → ((side : ℕ) → IsSideOver edges ends rank side → HasFunctions new side)
+      → IsLearning h edges ends ranks (count + 1) old new
+  learning_more count rank old mid new so_far same more known = record {
+    learns = learning_part count rank old mid new so_far more;
+    sides = λ k side lt over. elim (cases_eq k count) [
+      | inl last ↦ known side (subst (λ (r : ℕ). IsSideOver edges ends r side) (ap (λ (i : ℕ). get_or ranks i 0) last ∙ sym same) over)
+      | inr other ↦ known_still h (IsSideOver edges ends rank) mid new side more (so_far.sides k side (omega (arith, lt, other)) over)
+    ];
+  }
 
-pub learning_more : (h : HierarchyValue) (edges : List Ends) (ends : Ends) (ranks : List ℕ) (count rank : ℕ) (old mid new : List (Option EdgeFunctions)) → IsLearning h edges ends ranks count old mid
-    → rank ≡ get_or ranks count 0 → Learns h (IsSideOver edges ends rank) mid new → ((side : ℕ) → IsSideOver edges ends rank side → HasFunctions new side)
-    → IsLearning h edges ends ranks (count + 1) old new
-learning_more h edges ends ranks count rank old mid new so_far same more known = record {
-  learns = learning_part h edges ends ranks count rank old mid new so_far more;
-  sides = λ k side lt over. elim (cases_eq k count) [
-    | inl last ↦ known side (subst (λ (r : ℕ). IsSideOver edges ends r side) (ap (λ (i : ℕ). get_or ranks i 0) last ∙ sym same) over)
-    | inr other ↦ known_still h (IsSideOver edges ends rank) mid new side more (so_far.sides k side (omega (arith, lt, other)) over)
-  ];
-}
-
-pub learning_all : (h : HierarchyValue) (edges : List Ends) (ends : Ends) (ranks : List ℕ) (count : ℕ) (old new : List (Option EdgeFunctions)) → IsLearning h edges ends ranks count old new
-    → count ≡ length ranks → ((x : ℕ) → HasEdge edges x ends.low → Contains ranks x) → (side : ℕ) → IsSide edges ends side → HasFunctions new side
-learning_all h edges ends ranks count old new so_far all members side (rank, over) =
-    let (k, inside, at) = members rank over.0 in
-    so_far.sides k side (omega (arith, inside, all)) (subst (λ (r : ℕ). IsSideOver edges ends r side) (sym at ∙ default_same k inside) over)
-  where
-    default_same : (k : ℕ) → k < length ranks → get_or ranks k rank ≡ get_or ranks k 0
-    default_same k inside = get_or_default ranks k rank 0 inside
+  pub learning_all : (count : ℕ) (old new : List (Option EdgeFunctions)) → IsLearning h edges ends ranks count old new
+      → count ≡ length ranks → ((x : ℕ) → HasEdge edges x ends.low → Contains ranks x) → (side : ℕ) → IsSide edges ends side → HasFunctions new side
+  learning_all count old new so_far all members side (rank, over) =
+      let (k, inside, at) = members rank over.0 in
+      so_far.sides k side (omega (arith, inside, all)) (subst (λ (r : ℕ). IsSideOver edges ends r side) (sym at ∙ get_or_default ranks k rank 0 inside) over)
 
 pub on_ok : {T E : Type 0} {P Q : Type 0} (r : Result T E) → (P → Q) → OnOk r P → OnOk r Q
 on_ok (Ok x) f p = f p

@@ -11,7 +11,7 @@ use Rattle.cu_chordal.proofs.Members.{member_at}
 use Rattle.cu_interval.specs.declared.ways.Dir.{Dir}
 use Rattle.cu_interval.specs.declared.ways.Dir.TheVariants.{Up, Down}
 use Rattle.cu_interval.specs.Hierarchies.{HierarchyValue, IsHierarchy, list_number}
-use Rattle.cu_unpack.specs.RebuiltWords.{IsClosedUnder, IsKnownList, IsSized, KeepsWords, Learns, WordsValue}
+use Rattle.cu_unpack.specs.RebuiltWords.{IsClosedUnder, IsSized, KeepsWords, Learns, WordsValue}
 use Rattle.cu_unpack.specs.RebuiltWords as words
 use Rattle.cu_unpack.proofs.Learning.{keeps_needed, learned_keeps, learned_others, learned_still}
 use Rattle.cu_edits.specs.Settling.{IsLowerSide}
@@ -40,23 +40,24 @@ lower_side edges edge side of =
       ],
     )
 
-pub untouched_closed : (h : HierarchyValue) → IsHierarchy h → (edit : Edit) → IsClosedUnder h.edges (IsUntouched h edit)
-untouched_closed h sound edit edge side untouched of = λ touched. untouched (side_touched h sound edit edge side (lower_side h.edges edge side of) touched)
+module _ (h : HierarchyValue) (sound : IsHierarchy h) (edit : Edit) where
+  pub untouched_closed : IsClosedUnder h.edges (IsUntouched h edit)
+  untouched_closed edge side untouched of = λ touched. untouched (side_touched h sound edit edge side (lower_side h.edges edge side of) touched)
 
--- what is asked for one list of such an edge
-pub asks_for : (h : HierarchyValue) → IsHierarchy h → (edit : Edit) (edge : ℕ) (value : WordsValue) → IsUntouched h edit edge → KeepsWords h (IsUntouched h edit) value
-    → KeepsWords h (words.IsNeeded h.edges edge) value
-asks_for h sound edit edge value untouched keeps = keeps_needed h (IsUntouched h edit) value (untouched_closed h sound edit) edge untouched keeps
+  -- what is asked for one list of such an edge
+  pub asks_for : (edge : ℕ) (value : WordsValue) → IsUntouched h edit edge → KeepsWords h (IsUntouched h edit) value
+      → KeepsWords h (words.IsNeeded h.edges edge) value
+  asks_for edge value untouched keeps = keeps_needed h (IsUntouched h edit) value untouched_closed edge untouched keeps
 
--- one list was, and those that it needs
-pub learns_list : (h : HierarchyValue) → IsHierarchy h → (edit : Edit) (edge : ℕ) (before now : WordsValue) → IsUntouched h edit edge → KeepsWords h (IsUntouched h edit) before
-    → IsSized (length h.edges) now → Learns h edge before now → LearnsWords h edit before now
-learns_list h sound edit edge before now untouched keeps size learns = record {
-  size = size;
-  keeps = learned_keeps h (IsUntouched h edit) edge before now learns keeps;
-  still = λ e d known. (learned_still h edge before now learns e d known).0;
-  others = λ e d touched. learned_others h (IsUntouched h edit) (untouched_closed h sound edit) edge untouched before now learns e d (λ other. other touched);
-}
+  -- one list was, and those that it needs
+  pub learns_list : (edge : ℕ) (before now : WordsValue) → IsUntouched h edit edge → KeepsWords h (IsUntouched h edit) before
+      → IsSized (length h.edges) now → Learns h edge before now → LearnsWords h edit before now
+  learns_list edge before now untouched keeps size learns = record {
+    size = size;
+    keeps = learned_keeps h (IsUntouched h edit) edge before now learns keeps;
+    still = λ e d known. (learned_still h edge before now learns e d known).0;
+    others = λ e d touched. learned_others h (IsUntouched h edit) untouched_closed edge untouched before now learns e d (λ other. other touched);
+  }
 
 -- one after the other
 pub learns_then : (h : HierarchyValue) (edit : Edit) (before mid now : WordsValue) → LearnsWords h edit before mid → LearnsWords h edit mid now → LearnsWords h edit before now
@@ -97,7 +98,4 @@ pub learning_all : (h : HierarchyValue) (edit : Edit) (edges : List Ends) (ends 
     → IsLearningWords h edit edges ends ranks count before now → count ≡ length ranks → ((x : ℕ) → HasEdge edges x ends.low → Contains ranks x) → AreKnown (IsSide edges ends) now
 learning_all h edit edges ends ranks count before now so_far all members side dir (rank, over) =
     let (k, inside, at) = members rank over.0 in
-    so_far.sides k (omega (arith, inside, all)) side dir (subst (λ (r : ℕ). IsSideOver edges ends r side) (sym at ∙ default_same k inside) over)
-  where
-    default_same : (k : ℕ) → k < length ranks → get_or ranks k rank ≡ get_or ranks k 0
-    default_same k inside = get_or_default ranks k rank 0 inside
+    so_far.sides k (omega (arith, inside, all)) side dir (subst (λ (r : ℕ). IsSideOver edges ends r side) (sym at ∙ get_or_default ranks k rank 0 inside) over)

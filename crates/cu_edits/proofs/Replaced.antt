@@ -90,21 +90,19 @@ replaced_here (x ∷ edges) lists t d apart c lt = elim (member_cases x edges t 
     head_apart : (other : TouchedEdge) → Contains edges other → x.edge ≢ other.edge
     head_apart other c = All-contains (λ (y : TouchedEdge). x.edge ≢ y.edge) edges other (pairs_head (λ (first second : TouchedEdge). first.edge ≢ second.edge) x edges apart) c
 
--- the list of an edge that wasn't replaced, and of one that was
-pub list_kept : (h : HierarchyValue) (edit : Edit) (edges : List TouchedEdge) (e : ℕ) (d : Dir) → (Contains (numbers_of edges) e → ⊥)
-    → list_of (hierarchy_with h edit edges) e d ≡ list_of h e d
-list_kept h edit edges e d not_in = ap entries_or_none (replaced_other edges h.lists e d not_in)
+module _ (h : HierarchyValue) (edit : Edit) (edges : List TouchedEdge) where
+  -- the list of an edge that wasn't replaced, and of one that was
+  pub list_kept : (e : ℕ) (d : Dir) → (Contains (numbers_of edges) e → ⊥) → list_of (hierarchy_with h edit edges) e d ≡ list_of h e d
+  list_kept e d not_in = ap entries_or_none (replaced_other edges h.lists e d not_in)
 
-pub list_replaced : (h : HierarchyValue) (edit : Edit) (edges : List TouchedEdge) (t : TouchedEdge) (d : Dir) → AreApart edges → Contains edges t → 2 * t.edge + 1 < length h.lists
-    → list_of (hierarchy_with h edit edges) t.edge d ≡ list_in t d
-list_replaced h edit edges t d apart c lt = ap entries_or_none (replaced_here edges h.lists t d apart c lt)
+  pub list_replaced : (t : TouchedEdge) (d : Dir) → AreApart edges → Contains edges t → 2 * t.edge + 1 < length h.lists → list_of (hierarchy_with h edit edges) t.edge d ≡ list_in t d
+  list_replaced t d apart c lt = ap entries_or_none (replaced_here edges h.lists t d apart c lt)
 
--- one more edge
-pub list_pushed : (h : HierarchyValue) (edit : Edit) (edges : List TouchedEdge) (t : TouchedEdge) (e : ℕ) (d : Dir) → t.edge ≢ e
-    → list_of (hierarchy_with h edit (edges ++ (t ∷ []))) e d ≡ list_of (hierarchy_with h edit edges) e d
-list_pushed h edit edges t e d ne =
-    ap (λ (lists : List (List Entry)). entries_or_none (slice_get lists (list_number e d))) (replaced_push edges h.lists t)
-    ∙ ap entries_or_none (replaced_by_other (replaced h.lists edges) t e d ne)
+  -- one more edge
+  pub list_pushed : (t : TouchedEdge) (e : ℕ) (d : Dir) → t.edge ≢ e → list_of (hierarchy_with h edit (edges ++ (t ∷ []))) e d ≡ list_of (hierarchy_with h edit edges) e d
+  list_pushed t e d ne =
+      ap (λ (lists : List (List Entry)). entries_or_none (slice_get lists (list_number e d))) (replaced_push edges h.lists t)
+      ∙ ap entries_or_none (replaced_by_other (replaced h.lists edges) t e d ne)
 
 -- every list has the number of some edge and direction
 pub number_parts : (n : ℕ) → (e : ℕ) × (d : Dir) × (list_number e d ≡ n)

@@ -24,6 +24,7 @@ use Rattle.cu_interval.specs.Touching.{IsTouched}
 use Rattle.cu_interval.specs.Unpacking.{unpacked_walk}
 use Rattle.cu_interval.proofs.BuiltWalks.{built_least}
 use Rattle.cu_interval.proofs.Lookups.{list_from-edge}
+use Rattle.cu_interval.proofs.EndsLaws.{ends_apart}
 use Rattle.cu_customize.proofs.LowFunctions.{low_edge, low_edge_back}
 use Rattle.cu_customize.proofs.Lows.{HasLeastBelow}
 use Rattle.cu_edits.proofs.ResettledDecided.{touched_decided}
@@ -32,10 +33,6 @@ use Rattle.cu_edits.proofs.ResettledPairs.{IsTouchedPair, edge_of_pair, pair_of_
 use Rattle.cu_edits.proofs.ResettledRoads.{same_back, unchanged_same}
 use Rattle.cu_edits.proofs.ResettledValues.{IsRebuilt, built_rebuilt, has_least_below, resettled_list_built}
 use Rattle.cu_edits.proofs.Unmoved.{links_kept}
-
-ends_apart : (ends : Ends) (dir : Dir) → ends.low < ends.high → start_of ends dir ≢ end_of ends dir
-ends_apart ends Up lt same = omega (arith, lt, same)
-ends_apart ends Down lt same = omega (arith, lt, same)
 
 -- the edge under a low walk
 walk_edge : (g : NetworkValue) (o : OrderValue) (edges : List Ends) → ListsEdges g o edges → (u v : ℕ) → HasLowWalk g o u v

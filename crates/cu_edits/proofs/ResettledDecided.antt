@@ -2,28 +2,15 @@
 use Rattle.std.proofs.Common.{◌≡◌, ◌<◌, ◌∙◌, ◌⊎◌, ℕ, zero, suc, List, Option, Some, None, length, refl, ap, subst, arith, inl, inr}
 use Rattle.std.specs.Prelude.{slice_get}
 use Rattle.std.proofs.lemmas.Bool.{cases_eq, cases_lt}
-use Rattle.std.proofs.lemmas.Option.{same_Some, slice_get_within}
+use Rattle.std.proofs.lemmas.Option.{same_Some}
 use Rattle.cu_model.specs.declared.roads.RoadArc.{RoadArc}
 use Rattle.cu_model.specs.declared.roads.Edit.{Edit}
 use Rattle.cu_model.specs.declared.roads.Edit.TheVariants.{Set, Assign}
 use Rattle.cu_model.specs.Networks.{NetworkValue}
 use Rattle.cu_model.specs.Orders.{OrderValue}
 use Rattle.cu_chordal.specs.Edges.{IsEdge, LinksRanks}
-use Rattle.cu_chordal.proofs.Decided.{Decided, edge_decided}
+use Rattle.cu_chordal.proofs.Decided.{Decided, between_within, both_decided, edge_decided, either_decided, some_decided}
 use Rattle.cu_interval.specs.Touching.{IsChanged, IsTouched, by_first, by_road, by_second}
-
-both_decided : (P Q : Type 0) → Decided P → Decided Q → Decided (P × Q)
-both_decided P Q (inl p) (inl q) = inl (p, q)
-both_decided P Q (inl p) (inr off) = inr (λ both. off both.1)
-both_decided P Q (inr off) q = inr (λ both. off both.0)
-
-either_decided : (P Q : Type 0) → Decided P → Decided Q → Decided (P ⊎ Q)
-either_decided P Q (inl p) q = inl (inl p)
-either_decided P Q (inr off) (inl q) = inl (inr q)
-either_decided P Q (inr off) (inr none) = inr (λ either. elim either [
-  | inl p ↦ off p
-  | inr q ↦ none q
-])
 
 some_below : (P : ℕ → Type 0) (n : ℕ) → ((k : ℕ) → k < n → Decided (P k)) → Decided ((k : ℕ) × (k < n) × P k)
 some_below P zero each = inr (λ c. omega (arith, c.1))
@@ -39,14 +26,6 @@ some_below P (suc n) each =
       ]
     ]
 
-rank_decided : (o : Option ℕ) (x : ℕ) → Decided (o ≡ Some x)
-rank_decided None x = inr (λ e. absurd (cc e))
-rank_decided (Some z) x =
-    elim (cases_eq z x) [
-      | inl same ↦ inl (ap (λ (k : ℕ). Some k) same)
-      | inr other ↦ inr (λ e. other (same_Some z x e))
-    ]
-
 -- a road from rank x to rank y
 abbrev JoinsRanks : Option RoadArc → List ℕ → ℕ → ℕ → Type 0
 JoinsRanks o ranks x y = (u v : ℕ) × ((arc : RoadArc) × (o ≡ Some arc) × (arc.tail ≡ u) × (arc.head ≡ v))
@@ -55,7 +34,7 @@ JoinsRanks o ranks x y = (u v : ℕ) × ((arc : RoadArc) × (o ≡ Some arc) × 
 joins_decided : (o : Option RoadArc) (ranks : List ℕ) (x y : ℕ) → Decided (JoinsRanks o ranks x y)
 joins_decided None ranks x y = inr (λ p. absurd (cc p.2.1))
 joins_decided (Some arc) ranks x y =
-    elim (both_decided _ _ (rank_decided (slice_get ranks arc.tail) x) (rank_decided (slice_get ranks arc.head) y)) [
+    elim (both_decided _ _ (some_decided (slice_get ranks arc.tail) x) (some_decided (slice_get ranks arc.head) y)) [
       | inl both ↦ inl (arc.tail, arc.head, (arc, refl, refl, refl), both.0, both.1)
       | inr off ↦ inr (λ p. off (
           let (u, v, (road, there, tail, head), low, high) = p in
@@ -89,54 +68,51 @@ between_decided g o edit x y a =
     both_decided _ _ (changed_decided g edit a)
     (either_decided _ _ (joins_decided (slice_get g.arcs a) o.rank_of x y) (joins_decided (slice_get g.arcs a) o.rank_of y x))
 
-between_within : (g : NetworkValue) (o : OrderValue) (x y a : ℕ) → LinksRanks g o a x y ⊎ LinksRanks g o a y x → a < length g.arcs
-between_within g o x y a (inl p) = slice_get_within g.arcs a p.2.0 p.2.1
-between_within g o x y a (inr p) = slice_get_within g.arcs a p.2.0 p.2.1
-
 -- the two ranks lie over a lower triangle from m with a touched side
 abbrev IsOverTouched : NetworkValue → OrderValue → Edit → ℕ → ℕ → ℕ → Type 0
 IsOverTouched g o edit x y m = (IsEdge g o m x × IsEdge g o m y) × (IsTouched g o edit m x ⊎ IsTouched g o edit m y)
 
-pub touched_rises : (g : NetworkValue) (o : OrderValue) (edit : Edit) (x y : ℕ) → IsTouched g o edit x y → x < y
-touched_rises g o edit _ _ (by_road a x y changed links lt) = lt
-touched_rises g o edit _ _ (by_first m x y touched low lt first second) = lt
-touched_rises g o edit _ _ (by_second m x y touched low lt first second) = lt
+module _ (g : NetworkValue) (o : OrderValue) (edit : Edit) where
+  pub touched_rises : (x y : ℕ) → IsTouched g o edit x y → x < y
+  touched_rises _ _ (by_road a x y changed links lt) = lt
+  touched_rises _ _ (by_first m x y touched low lt first second) = lt
+  touched_rises _ _ (by_second m x y touched low lt first second) = lt
 
--- the three rules read back
-touched_cases : (g : NetworkValue) (o : OrderValue) (edit : Edit) (x y : ℕ) → IsTouched g o edit x y
-    → ((a : ℕ) × (a < length g.arcs) × IsChangedBetween g o edit x y a) ⊎ ((m : ℕ) × (m < x) × IsOverTouched g o edit x y m)
-touched_cases g o edit _ _ (by_road a x y changed links lt) = inl (a, between_within g o x y a links, (changed, links))
-touched_cases g o edit _ _ (by_first m x y touched low lt first second) = inr (m, low, ((first, second), inl touched))
-touched_cases g o edit _ _ (by_second m x y touched low lt first second) = inr (m, low, ((first, second), inr touched))
+  -- the three rules read back
+  touched_cases : (x y : ℕ) → IsTouched g o edit x y
+      → ((a : ℕ) × (a < length g.arcs) × IsChangedBetween g o edit x y a) ⊎ ((m : ℕ) × (m < x) × IsOverTouched g o edit x y m)
+  touched_cases _ _ (by_road a x y changed links lt) = inl (a, between_within g o x y a links, (changed, links))
+  touched_cases _ _ (by_first m x y touched low lt first second) = inr (m, low, ((first, second), inl touched))
+  touched_cases _ _ (by_second m x y touched low lt first second) = inr (m, low, ((first, second), inr touched))
 
-over_touched : (g : NetworkValue) (o : OrderValue) (edit : Edit) (x y m : ℕ) → m < x → x < y → IsOverTouched g o edit x y m → IsTouched g o edit x y
-over_touched g o edit x y m low lt (edges, inl touched) = by_first m x y touched low lt edges.0 edges.1
-over_touched g o edit x y m low lt (edges, inr touched) = by_second m x y touched low lt edges.0 edges.1
+  over_touched : (x y m : ℕ) → m < x → x < y → IsOverTouched g o edit x y m → IsTouched g o edit x y
+  over_touched x y m low lt (edges, inl touched) = by_first m x y touched low lt edges.0 edges.1
+  over_touched x y m low lt (edges, inr touched) = by_second m x y touched low lt edges.0 edges.1
 
--- by the middles, once it is decided of all lower edges
-over_decided : (g : NetworkValue) (o : OrderValue) (edit : Edit) (x y : ℕ) → x < y → ((a : ℕ) × (a < length g.arcs) × IsChangedBetween g o edit x y a → ⊥)
-    → ((m z : ℕ) → m < x → Decided (IsTouched g o edit m z)) → Decided (IsTouched g o edit x y)
-over_decided g o edit x y lt no_road lower =
-    elim (some_below (IsOverTouched g o edit x y) x (λ m low.
-    both_decided _ _ (both_decided _ _ (edge_decided g o m x) (edge_decided g o m y)) (either_decided _ _ (lower m x low) (lower m y low)))) [
-      | inl found ↦ inl (over_touched g o edit x y found.0 found.1 lt found.2)
-      | inr none ↦ inr (λ touched. elim (touched_cases g o edit x y touched) [
-        | inl road ↦ no_road road
-        | inr over ↦ none over
-      ])
-    ]
-
-decided_below : (g : NetworkValue) (o : OrderValue) (edit : Edit) (n x y : ℕ) → x < n → Decided (IsTouched g o edit x y)
-decided_below g o edit zero x y less = absurd (omega (arith, less))
-decided_below g o edit (suc n) x y less =
-    elim (cases_lt x y) [
-      | inl lt ↦ elim (some_below (IsChangedBetween g o edit x y) (length g.arcs) (λ a inside. between_decided g o edit x y a)) [
-        | inl road ↦ inl (by_road road.0 x y road.2.0 road.2.1 lt)
-        | inr none ↦ over_decided g o edit x y lt none (λ m z low. decided_below g o edit n m z (omega (arith, low, less)))
+  -- by the middles, once it is decided of all lower edges
+  over_decided : (x y : ℕ) → x < y → ((a : ℕ) × (a < length g.arcs) × IsChangedBetween g o edit x y a → ⊥)
+      → ((m z : ℕ) → m < x → Decided (IsTouched g o edit m z)) → Decided (IsTouched g o edit x y)
+  over_decided x y lt no_road lower =
+      elim (some_below (IsOverTouched g o edit x y) x (λ m low.
+      both_decided _ _ (both_decided _ _ (edge_decided g o m x) (edge_decided g o m y)) (either_decided _ _ (lower m x low) (lower m y low)))) [
+        | inl found ↦ inl (over_touched x y found.0 found.1 lt found.2)
+        | inr none ↦ inr (λ touched. elim (touched_cases x y touched) [
+          | inl road ↦ no_road road
+          | inr over ↦ none over
+        ])
       ]
-      | inr ge ↦ inr (λ touched. let lt = touched_rises g o edit x y touched in omega (arith, ge, lt))
-    ]
 
--- two ranks are touched, or they are not
-pub touched_decided : (g : NetworkValue) (o : OrderValue) (edit : Edit) (x y : ℕ) → Decided (IsTouched g o edit x y)
-touched_decided g o edit x y = decided_below g o edit (suc x) x y (omega arith)
+  decided_below : (n x y : ℕ) → x < n → Decided (IsTouched g o edit x y)
+  decided_below zero x y less = absurd (omega (arith, less))
+  decided_below (suc n) x y less =
+      elim (cases_lt x y) [
+        | inl lt ↦ elim (some_below (IsChangedBetween g o edit x y) (length g.arcs) (λ a inside. between_decided g o edit x y a)) [
+          | inl road ↦ inl (by_road road.0 x y road.2.0 road.2.1 lt)
+          | inr none ↦ over_decided x y lt none (λ m z low. decided_below n m z (omega (arith, low, less)))
+        ]
+        | inr ge ↦ inr (λ touched. let lt = touched_rises x y touched in omega (arith, ge, lt))
+      ]
+
+  -- two ranks are touched, or they are not
+  pub touched_decided : (x y : ℕ) → Decided (IsTouched g o edit x y)
+  touched_decided x y = decided_below (suc x) x y (omega arith)

@@ -1,24 +1,20 @@
 -- Where no road between two ranks is changed, nor a half of a way between them, the same lists are built in both networks.
-use Rattle.std.proofs.Common.{◌≡◌, ◌≢◌, ◌<◌, ◌+◌, ◌*◌, ◌/◌, ◌%◌, ◌∙◌, ℕ, List, [], ◌∷◌, ◌++◌, sym, ap, subst, arith, min}
-use Rattle.std.proofs.Math.Nat.{min-eq_left, min-eq_right}
+use Rattle.std.proofs.Common.{◌≡◌, ◌≢◌, ◌<◌, ◌+◌, ◌*◌, ◌/◌, ◌%◌, ◌∙◌, ℕ, List, [], sym, subst, arith, min}
 use Rattle.std.proofs.lemmas.Nat.{div-add-mod', mod_below}
 use Rattle.cu_model.specs.Days.{day}
 use Rattle.cu_model.specs.Networks.{NetworkValue, IsNetwork}
 use Rattle.cu_model.specs.Orders.{OrderValue}
-use Rattle.cu_model.specs.Roads.{drive}
-use Rattle.cu_model.proofs.RoadLaws.{drive-append}
 use Rattle.cu_interval.specs.declared.ways.Way.{Way}
 use Rattle.cu_interval.specs.declared.ways.Way.TheVariants.{Road, Via}
 use Rattle.cu_interval.specs.declared.ways.Entry.{Entry}
 use Rattle.cu_interval.specs.FirstWays.{Arrives, IsBuiltList, IsCandidate, IsFirstWay}
-use Rattle.cu_interval.specs.Low.{HasLowWalk, IsLeastLowDrive, IsLowWalk, LeadsRanks, WalkBelow}
+use Rattle.cu_interval.specs.Low.{HasLowWalk, IsLeastLowDrive, LeadsRanks}
 use Rattle.cu_interval.proofs.BuiltWalks.{least_unique}
 use Rattle.cu_interval.proofs.Days.{least-days}
 use Rattle.cu_interval.proofs.Middles.{first_least}
 use Rattle.cu_interval.proofs.Unpacked.{way_there}
-use Rattle.cu_interval.proofs.Walks.{below-append, below-more}
 use Rattle.cu_customize.proofs.LowFunctions.{runs_by}
-use Rattle.cu_customize.proofs.Lows.{HasLeastBelow, built_some}
+use Rattle.cu_customize.proofs.Lows.{HasLeastBelow, built_some, candidate_walk}
 use Rattle.cu_edits.proofs.ResettledRoads.{IsSameRoad, same_arrives, same_leads}
 
 -- a way arrives at one second
@@ -27,23 +23,6 @@ arrives_once g o u v t (Road r) a b p q = sym p ∙ q
 arrives_once g o u v t (Via m) a b p q =
     let one : p.0 ≡ q.0 = least_unique g o u m t p.0 q.0 p.1 q.1 in
     least_unique g o m v q.0 a b (subst (λ (x : ℕ). IsLeastLowDrive g o m v x a) one p.2) q.2
-
--- a candidate's arrival is that of a low walk
-candidate_walk : (g : NetworkValue) (o : OrderValue) (u v t : ℕ) (way : Way) (a : ℕ) → u ≢ v → IsCandidate g o u v way → Arrives g o u v t way a
-    → (w : List ℕ) × IsLowWalk g o u w v × (drive g w t ≡ a)
-candidate_walk g o u v t (Road r) a apart leads arrives = (r ∷ [], (apart, leads), arrives)
-candidate_walk g o u v t (Via m) a apart (mu, mv, one, two) (between, first, second) =
-    let (w1, l1, e1) = first.reached in
-    let (w2, l2, e2) = second.reached in
-    let low_u : min u m ≡ m = min-eq_right (omega (arith, mu)) in
-    let low_v : min m v ≡ m = min-eq_left (omega (arith, mv)) in
-    let below : m < min u v = omega (arith, mu, mv) in
-    let to = below-more g o m (min u v) u w1 m (omega (arith, below)) (subst (λ (k : ℕ). WalkBelow g o k u w1 m) low_u l1.1) in
-    let on = below-more g o m (min u v) m w2 v (omega (arith, below)) (subst (λ (k : ℕ). WalkBelow g o k m w2 v) low_v l2.1) in (
-      w1 ++ w2,
-      (apart, below-append g o (min u v) u m w1 w2 v below to on),
-      drive-append g w1 w2 t ∙ ap (drive g w2) e1 ∙ e2,
-    )
 
 -- a first way arrives at the least low drive
 pub first_is_least : (g : NetworkValue) (o : OrderValue) → IsNetwork g → (u v t : ℕ) → u ≢ v → HasLeastBelow g o (min u v) → (way : Way)

@@ -7,13 +7,13 @@ use Rattle.cu_model.specs.declared.roads.Edit.{Edit}
 use Rattle.cu_model.specs.Edits.{edited}
 use Rattle.cu_chordal.specs.declared.graph.Ends.{Ends}
 use Rattle.cu_interval.specs.declared.ways.Dir.{Dir}
-use Rattle.cu_interval.specs.declared.ways.Dir.TheVariants.{Up, Down}
 use Rattle.cu_interval.specs.declared.ways.Way.{Way}
 use Rattle.cu_interval.specs.declared.ways.Way.TheVariants.{Road, Via}
 use Rattle.cu_interval.specs.declared.ways.Entry.{Entry}
 use Rattle.cu_interval.specs.Hierarchies.{HierarchyValue, IsHierarchy, end_of, entries_or_none, list_from, list_of, start_of}
 use Rattle.cu_interval.specs.Resettling.{ArrivesIn, IsCandidateIn, IsResettled, IsResettledList, rebuilt, value_by}
 use Rattle.cu_interval.proofs.Unique.{runs_unique}
+use Rattle.cu_interval.proofs.EndsLaws.{below_low}
 use Rattle.cu_customize.proofs.Keeping.{number_parts}
 use Rattle.cu_customize.proofs.LowFunctions.{runs_by}
 use Rattle.cu_edits.proofs.RebuiltBelow.{AgreesBelow, agrees_below, lists_from_both, rebuilt_below, then_alike}
@@ -23,11 +23,6 @@ use Rattle.cu_edits.proofs.ResettledDecided.{touched_decided}
 -- two hierarchies have the same lists from lower ends below this
 abbrev pub AreSameBelow : HierarchyValue → HierarchyValue → ℕ → Type 0
 AreSameBelow h k m = (edge : ℕ) (dir : Dir) (ends : Ends) → slice_get h.edges edge ≡ Some ends → ends.low < m → list_of h edge dir ≡ list_of k edge dir
-
--- a middle below both ends of an edge is below its lower end
-below_low : (ends : Ends) (dir : Dir) (m : ℕ) → m < start_of ends dir → m < end_of ends dir → m < ends.low
-below_low ends Up m to on = to
-below_low ends Down m to on = on
 
 module _ (old : HierarchyValue) (edit : Edit) (lists more : List (List Entry)) (sound : IsHierarchy (after old edit lists)) (low u v : ℕ)
     (below : (m : ℕ) → m < u → m < v → m < low)
@@ -80,7 +75,7 @@ entries_there None = refl
 entries_there (Some entries) = refl
 
 -- the list with a number is that of its edge and direction
-list_at : (lists : List (List Entry)) (k : ℕ) → get_or lists k [] ≡ entries_or_none (slice_get lists k)
+pub list_at : (lists : List (List Entry)) (k : ℕ) → get_or lists k [] ≡ entries_or_none (slice_get lists k)
 list_at lists k = sym (entries_there (slice_get lists k) ∙ unwrap_or-slice_get lists k [])
 
 module _ (old : HierarchyValue) (edit : Edit) (lists more : List (List Entry)) (sound : IsHierarchy (after old edit lists))

@@ -26,51 +26,52 @@ use Rattle.cu_edits.proofs.ResettledRoads.{same_arrives, unchanged_same}
 abbrev pub IsTouchedPair : NetworkValue → OrderValue → Edit → ℕ → ℕ → Type 0
 IsTouchedPair g o edit u v = IsTouched g o edit u v ⊎ IsTouched g o edit v u
 
-pub pair_back : (g : NetworkValue) (o : OrderValue) (edit : Edit) (u v : ℕ) → IsTouchedPair g o edit u v → IsTouchedPair g o edit v u
-pair_back g o edit u v (inl t) = inr t
-pair_back g o edit u v (inr t) = inl t
+module _ (g : NetworkValue) (o : OrderValue) (edit : Edit) where
+  pub pair_back : (u v : ℕ) → IsTouchedPair g o edit u v → IsTouchedPair g o edit v u
+  pair_back u v (inl t) = inr t
+  pair_back u v (inr t) = inl t
 
-pub road_touches : (g : NetworkValue) (o : OrderValue) (edit : Edit) (a u v : ℕ) → u ≢ v → IsChanged g edit a → LinksRanks g o a u v
-    → IsTouchedPair g o edit u v
-road_touches g o edit a u v apart changed links =
-    elim (cases_lt u v) [
-      | inl lt ↦ inl (by_road a u v changed (inl links) lt)
-      | inr ge ↦ inr (by_road a v u changed (inr links) (omega (arith, ge, apart)))
-    ]
+  pub road_touches : (a u v : ℕ) → u ≢ v → IsChanged g edit a → LinksRanks g o a u v
+      → IsTouchedPair g o edit u v
+  road_touches a u v apart changed links =
+      elim (cases_lt u v) [
+        | inl lt ↦ inl (by_road a u v changed (inl links) lt)
+        | inr ge ↦ inr (by_road a v u changed (inr links) (omega (arith, ge, apart)))
+      ]
 
-pub side_touches : (g : NetworkValue) (o : OrderValue) (edit : Edit) (m u v : ℕ) → u ≢ v → m < u → m < v → IsEdge g o m u → IsEdge g o m v
-    → IsTouched g o edit m u → IsTouchedPair g o edit u v
-side_touches g o edit m u v apart mu mv one two touched =
-    elim (cases_lt u v) [
-      | inl lt ↦ inl (by_first m u v touched mu lt one two)
-      | inr ge ↦ inr (by_second m v u touched mv (omega (arith, ge, apart)) two one)
-    ]
+  pub side_touches : (m u v : ℕ) → u ≢ v → m < u → m < v → IsEdge g o m u → IsEdge g o m v
+      → IsTouched g o edit m u → IsTouchedPair g o edit u v
+  side_touches m u v apart mu mv one two touched =
+      elim (cases_lt u v) [
+        | inl lt ↦ inl (by_first m u v touched mu lt one two)
+        | inr ge ↦ inr (by_second m v u touched mv (omega (arith, ge, apart)) two one)
+      ]
 
--- a side from a lower middle is touched upwards
-pub pair_up : (g : NetworkValue) (o : OrderValue) (edit : Edit) (m u : ℕ) → m < u → IsTouchedPair g o edit u m → IsTouched g o edit m u
-pair_up g o edit m u lt (inl t) = let rise = touched_rises g o edit u m t in absurd (omega (arith, lt, rise))
-pair_up g o edit m u lt (inr t) = t
+  -- a side from a lower middle is touched upwards
+  pub pair_up : (m u : ℕ) → m < u → IsTouchedPair g o edit u m → IsTouched g o edit m u
+  pair_up m u lt (inl t) = let rise = touched_rises g o edit u m t in absurd (omega (arith, lt, rise))
+  pair_up m u lt (inr t) = t
 
--- the sides over which a pair lies aren't touched where the pair isn't
-pub sides_off : (g : NetworkValue) (o : OrderValue) (edit : Edit) (m u v : ℕ) → u ≢ v → m < u → m < v → IsEdge g o m u → IsEdge g o m v
-    → (IsTouchedPair g o edit u v → ⊥)
-    → (IsTouchedPair g o edit u m → ⊥) × (IsTouchedPair g o edit m v → ⊥)
-sides_off g o edit m u v apart mu mv one two off = (
-  (λ t. off (side_touches g o edit m u v apart mu mv one two (pair_up g o edit m u mu t))),
-  (λ t. off (pair_back g o edit v u
-      (side_touches g o edit m v u (λ same. apart (sym same)) mv mu two one (pair_up g o edit m v mv (pair_back g o edit m v t))))),
-)
+  -- the sides over which a pair lies aren't touched where the pair isn't
+  pub sides_off : (m u v : ℕ) → u ≢ v → m < u → m < v → IsEdge g o m u → IsEdge g o m v
+      → (IsTouchedPair g o edit u v → ⊥)
+      → (IsTouchedPair g o edit u m → ⊥) × (IsTouchedPair g o edit m v → ⊥)
+  sides_off m u v apart mu mv one two off = (
+    (λ t. off (side_touches m u v apart mu mv one two (pair_up m u mu t))),
+    (λ t. off (pair_back v u
+        (side_touches m v u (λ same. apart (sym same)) mv mu two one (pair_up m v mv (pair_back m v t))))),
+  )
 
--- the ends of an edge, in a direction
-pub pair_of_edge : (g : NetworkValue) (o : OrderValue) (edit : Edit) (ends : Ends) (dir : Dir) → IsTouched g o edit ends.low ends.high
-    → IsTouchedPair g o edit (start_of ends dir) (end_of ends dir)
-pair_of_edge g o edit ends Up t = inl t
-pair_of_edge g o edit ends Down t = inr t
+  -- the ends of an edge, in a direction
+  pub pair_of_edge : (ends : Ends) (dir : Dir) → IsTouched g o edit ends.low ends.high
+      → IsTouchedPair g o edit (start_of ends dir) (end_of ends dir)
+  pair_of_edge ends Up t = inl t
+  pair_of_edge ends Down t = inr t
 
-pub edge_of_pair : (g : NetworkValue) (o : OrderValue) (edit : Edit) (ends : Ends) (dir : Dir) → ends.low < ends.high
-    → IsTouchedPair g o edit (start_of ends dir) (end_of ends dir) → IsTouched g o edit ends.low ends.high
-edge_of_pair g o edit ends Up lt t = pair_up g o edit ends.low ends.high lt (pair_back g o edit ends.low ends.high t)
-edge_of_pair g o edit ends Down lt t = pair_up g o edit ends.low ends.high lt t
+  pub edge_of_pair : (ends : Ends) (dir : Dir) → ends.low < ends.high
+      → IsTouchedPair g o edit (start_of ends dir) (end_of ends dir) → IsTouched g o edit ends.low ends.high
+  edge_of_pair ends Up lt t = pair_up ends.low ends.high lt (pair_back ends.low ends.high t)
+  edge_of_pair ends Down lt t = pair_up ends.low ends.high lt t
 
 -- two different ranks that an edit doesn't touch
 abbrev pub IsUntouched : HierarchyValue → Edit → ℕ → ℕ → Type 0

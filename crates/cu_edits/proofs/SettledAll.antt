@@ -1,9 +1,8 @@
 -- Where all touched edges are settled the hierarchy is the resettled one.
-use Rattle.std.proofs.Common.{◌≡◌, ◌≢◌, ◌∙◌, ℕ, List, [], Some, refl, ap, sym, subst, arith, inl, inr, get_or, eqb, true, false}
+use Rattle.std.proofs.Common.{◌≡◌, ◌≢◌, ◌∙◌, ℕ, List, [], Some, refl, ap, sym, subst, arith, inl, inr, get_or, eqb}
 use Rattle.std.specs.Prelude.{All, slice_get}
 use Rattle.std.specs.List.{AllPairs}
 use Rattle.std.specs.List.Sorted.{IsNonDecreasing, IsNonDecreasingBy, IsPermutation, IsStrictlyIncreasing}
-use Rattle.std.proofs.lemmas.Bool.{cases_eq}
 use Rattle.std.proofs.lemmas.Bool.Decides.{Decides-eqb}
 use Rattle.std.proofs.lemmas.List.{get_or-map, length-map}
 use Rattle.std.proofs.lemmas.List.Kept.{AllPairs-from_increasing}
@@ -15,6 +14,7 @@ use Rattle.cu_model.specs.Edits.{IsEditInRange, edited}
 use Rattle.cu_model.proofs.RoadLaws.{all_at}
 use Rattle.cu_chordal.specs.declared.graph.Ends.{Ends}
 use Rattle.cu_chordal.specs.Graphs.{IsChordal}
+use Rattle.cu_chordal.proofs.Members.{flips}
 use Rattle.cu_interval.specs.declared.ways.Dir.{Dir}
 use Rattle.cu_interval.specs.declared.ways.Way.{Way}
 use Rattle.cu_interval.specs.declared.ways.Way.TheVariants.{Road, Via}
@@ -159,12 +159,6 @@ numbers_rise edges up = λ i j d le inside.
     let second = get_or-map number edges j no_edge d (omega (arith, inside, long)) in
     let step = up i j no_edge le (omega (arith, inside, long)) in
     omega (arith, step, first, second)
-
-flips : (x y : ℕ) → eqb x y ≡ eqb y x
-flips x y = elim (cases_eq x y) [
-  | inl same ↦ let one : eqb x y ≡ true = grind (arith, same) in let two : eqb y x ≡ true = grind (arith, same) in one ∙ sym two
-  | inr other ↦ let one : eqb x y ≡ false = grind (arith, other) in let two : eqb y x ≡ false = grind (arith, other) in one ∙ sym two
-]
 
 pub sorted_numbers : (settled sorted : List TouchedEdge) → AreApart settled → IsPermutation settled sorted → IsNonDecreasingBy (λ (t : TouchedEdge). t.edge) sorted
     → IsStrictlyIncreasing (numbers_of sorted)

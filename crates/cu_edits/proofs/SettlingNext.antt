@@ -19,23 +19,21 @@ use Rattle.cu_edits.specs.Steps.Known.{HasFunctions, IsSide, Learns, functions_o
 use Rattle.cu_edits.proofs.EditSettling.{settling_learnt, settling_more}
 use Rattle.cu_edits.proofs.SettledFrames.{settled_with}
 
--- the graph has the hierarchy's edges
-same_edges : (s : SettlingValue) (graph : ChordalValue) (arcs : List (List ℕ)) (rebuilt : RebuiltValue) (known : List (Option EdgeFunctions)) → IsSettling s graph arcs rebuilt known
-    → graph.edges ≡ s.before.edges
-same_edges s graph arcs rebuilt known old = ap (λ (k : ChordalValue). k.edges) old.hierarchy.0
+module _ (s : SettlingValue) (graph : ChordalValue) (arcs : List (List ℕ)) (rebuilt : RebuiltValue) (known : List (Option EdgeFunctions)) where
+  -- the graph has the hierarchy's edges
+  same_edges : IsSettling s graph arcs rebuilt known → graph.edges ≡ s.before.edges
+  same_edges old = ap (λ (k : ChordalValue). k.edges) old.hierarchy.0
 
-pub next_within : (s : SettlingValue) (graph : ChordalValue) (arcs : List (List ℕ)) (rebuilt : RebuiltValue) (known : List (Option EdgeFunctions)) (edge : ℕ) → IsSettling s graph arcs rebuilt known
-    → IsNext s edge → edge < length graph.edges
-next_within s graph arcs rebuilt known edge old asked =
-    let (ends, at, is) = asked.touched in
-    let inside = slice_get_within s.before.edges edge ends at in
-    let long : length graph.edges ≡ length s.before.edges = ap (λ (es : List Ends). length es) (same_edges s graph arcs rebuilt known old) in
-    omega (arith, inside, long)
+  pub next_within : (edge : ℕ) → IsSettling s graph arcs rebuilt known → IsNext s edge → edge < length graph.edges
+  next_within edge old asked =
+      let (ends, at, is) = asked.touched in
+      let inside = slice_get_within s.before.edges edge ends at in
+      let long : length graph.edges ≡ length s.before.edges = ap (λ (es : List Ends). length es) (same_edges old) in
+      omega (arith, inside, long)
 
-pub next_roads : (s : SettlingValue) (graph : ChordalValue) (arcs : List (List ℕ)) (rebuilt : RebuiltValue) (known : List (Option EdgeFunctions)) → IsSettling s graph arcs rebuilt known
-    → AreEdgeArcs s.before.network s.before.order graph.edges arcs
-next_roads s graph arcs rebuilt known old =
-    subst (λ (es : List Ends). AreEdgeArcs s.before.network s.before.order es arcs) (sym (same_edges s graph arcs rebuilt known old)) old.roads
+  pub next_roads : IsSettling s graph arcs rebuilt known → AreEdgeArcs s.before.network s.before.order graph.edges arcs
+  next_roads old =
+      subst (λ (es : List Ends). AreEdgeArcs s.before.network s.before.order es arcs) (sym (same_edges old)) old.roads
 
 pub ends_within : (graph : ChordalValue) (edge : ℕ) (ends : Ends) → IsChordal graph → slice_get graph.edges edge ≡ Some ends → (ends.low < graph.ranks) × (ends.high < graph.ranks)
 ends_within graph edge ends sound at =

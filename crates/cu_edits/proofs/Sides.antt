@@ -2,7 +2,6 @@
 use Rattle.std.proofs.Common.{◌≡◌, ◌≢◌, ◌<◌, ◌∙◌, ℕ, Bool, List, [], Option, Some, None, refl, ap, sym, subst, arith, inl, inr, ltb, true, false, if◌then◌else◌}
 use Rattle.std.specs.Prelude.{slice_get}
 use Rattle.cu_model.specs.declared.roads.Edit.{Edit}
-use Rattle.cu_model.proofs.RoadLaws.{all_at}
 use Rattle.cu_chordal.specs.declared.graph.Ends.{Ends}
 use Rattle.cu_chordal.specs.Graphs.{HasEdge, IsRising}
 use Rattle.cu_chordal.proofs.Members.{member_at, place_of}
@@ -11,6 +10,7 @@ use Rattle.cu_interval.specs.declared.ways.Dir.TheVariants.{Up, Down}
 use Rattle.cu_interval.specs.Hierarchies.{HierarchyValue, IsHierarchy, end_of, list_from, list_of, list_of_some, number_from, start_of}
 use Rattle.cu_interval.specs.Touching.{IsTouched, IsTouchedEdge, by_first, by_second}
 use Rattle.cu_interval.proofs.Lookups.{number_finds, number_found}
+use Rattle.cu_interval.proofs.EndsLaws.{ends_rise}
 use Rattle.cu_edits.specs.Settling.{IsLowerSide}
 
 -- an edge in a direction that leads from one rank to another
@@ -26,9 +26,6 @@ over edges edge dir ends at = record { ends = ends; at = at; from = refl; to = r
 -- the pairs of ranks that such edges join
 abbrev pub PairOf : List Ends → (ℕ → Type 0) → ℕ → ℕ → Type 0
 PairOf edges Good u v = (edge : ℕ) × (dir : Dir) × LeadsOver edges edge dir u v × Good edge
-
-pub ends_rising : (h : HierarchyValue) → IsHierarchy h → (e : ℕ) (ends : Ends) → slice_get h.edges e ≡ Some ends → ends.low < ends.high
-ends_rising h sound e ends at = (all_at (λ (x : Ends). (x.low < x.high) × (x.high < h.network.nodes)) h.edges e ends sound.graph.in_range at).0
 
 -- the list that leads from one end of an edge to the other is the edge's, in whatever has these edges
 list_at_ends : (h : HierarchyValue) → IsRising h.edges → (edge : ℕ) (dir : Dir) (ends : Ends) → ends.low < ends.high → slice_get h.edges edge ≡ Some ends
@@ -49,7 +46,7 @@ list_at before h sound same edge dir u v leads =
     let at : slice_get h.edges edge ≡ Some leads.ends = ap (λ (es : List Ends). slice_get es edge) same ∙ leads.at in
     subst (λ (x : ℕ). list_from h x v ≡ list_of h edge dir) leads.from
     (subst (λ (y : ℕ). list_from h (start_of leads.ends dir) y ≡ list_of h edge dir) leads.to
-    (list_at_ends h rising edge dir leads.ends (ends_rising before sound edge leads.ends leads.at) at))
+    (list_at_ends h rising edge dir leads.ends (ends_rise before sound edge leads.ends leads.at) at))
 
 -- where a list isn't empty there is an edge
 found_edge : (h : HierarchyValue) (low high : ℕ) (dir : Dir) (found : Option ℕ) → number_from 0 h.edges low high ≡ found → list_of_some h found dir ≢ [] → HasEdge h.edges low high
@@ -110,7 +107,7 @@ pub side_touched : (h : HierarchyValue) → IsHierarchy h → (edit : Edit) (edg
 side_touched h sound edit edge side (ends, m, at, low, high, which) (given, there, touched) =
     let (below, first) = (sound.edges.exact m ends.low).0 low in
     let (lower, second) = (sound.edges.exact m ends.high).0 high in
-    let rise = ends_rising h sound edge ends at in (
+    let rise = ends_rise h sound edge ends at in (
       ends,
       at,
       elim which [

@@ -1,17 +1,19 @@
 -- Touched edges spread from the changed roads: what was added is touched, and in the end all that is touched was taken out.
-use Rattle.std.proofs.Common.{◌≡◌, ◌≢◌, ◌≤◌, ◌<◌, ◌+◌, ◌∙◌, ◌⊎◌, ℕ, List, Option, Some, get_or, refl, ap, sym, subst, arith, inl, inr, length}
+use Rattle.std.proofs.Common.{◌≡◌, ◌≢◌, ◌≤◌, ◌<◌, ◌+◌, ◌∙◌, ◌⊎◌, ℕ, List, Option, Some, refl, ap, sym, subst, arith, inl, inr, length}
 use Rattle.std.specs.Prelude.{◌↔◌, max, min, replicate, slice_get}
 use Rattle.std.proofs.lemmas.Bool.{cases_eq, cases_lt}
 use Rattle.std.proofs.lemmas.List.{length-replicate}
 use Rattle.std.proofs.lemmas.List.Elements.{All-replicate}
-use Rattle.std.proofs.lemmas.Option.{get_or_from_slice_get, slice_get_cases, slice_get_within}
+use Rattle.std.proofs.lemmas.Option.{slice_get_cases, slice_get_within}
 use Rattle.cu_model.proofs.RoadLaws.{all_at}
 use Rattle.cu_model.specs.declared.roads.Edit.{Edit}
+use Rattle.cu_model.proofs.OptionLaws.{same_value}
 use Rattle.cu_chordal.specs.declared.graph.Ends.{Ends}
-use Rattle.cu_chordal.specs.Graphs.{ChordalValue, ComesBefore, HasEdge}
+use Rattle.cu_chordal.specs.Graphs.{ChordalValue, HasEdge}
 use Rattle.cu_chordal.proofs.Members.{member_at, place_of}
 use Rattle.cu_interval.specs.Hierarchies.{HierarchyValue, IsHierarchy, graph_of}
 use Rattle.cu_interval.specs.Touching.{IsTouched, IsTouchedEdge, by_first, by_road, by_second}
+use Rattle.cu_interval.proofs.EndsLaws.{ends_rise}
 use Rattle.cu_links.specs.declared.buckets.EdgeState.{EdgeState}
 use Rattle.cu_links.specs.declared.buckets.EdgeState.TheVariants.{Free, Held, Done}
 use Rattle.cu_links.specs.Buckets.{BucketsValue, IsDone, IsFree, IsHeld, IsLowestHeld, cleared, popped}
@@ -25,9 +27,6 @@ pub record IsSpreading (h : HierarchyValue) (edit : Edit) (buckets : BucketsValu
   pub done : (e : ℕ) → IsDone buckets e → IsTouchedEdge h edit e
   pub changed : (e : ℕ) → IsOfChanged h edit e → IsFree buckets e → ⊥
   pub above : (e over : ℕ) → IsDone buckets e → IsAbove h.edges e over → IsFree buckets over → ⊥
-
-same_value : {X : Type 0} (o : Option X) (a b : X) → o ≡ Some a → o ≡ Some b → a ≡ b
-same_value o a b p q = cc (p, q)
 
 -- what holds of two ranks in their order
 at_min_max : (P : ℕ → ℕ → Type 0) (x y : ℕ) → (x < y → P x y) → (y ≤ x → P y x) → P (min x y) (max x y)
@@ -49,31 +48,29 @@ between_up edges x y e lt at = at_min_max (λ p q. slice_get edges e ≡ Some (r
 between_down : (edges : List Ends) (x y e : ℕ) → x < y → slice_get edges e ≡ Some (record { low = x; high = y }) → IsBetween edges y x e
 between_down edges x y e lt at = at_min_max (λ p q. slice_get edges e ≡ Some (record { low = p; high = q })) y x (λ up. absurd (omega (arith, lt, up))) (λ down. at)
 
-ends_rise : (h : HierarchyValue) → IsHierarchy h → (e : ℕ) (ends : Ends) → slice_get h.edges e ≡ Some ends → ends.low < ends.high
-ends_rise h sound e ends at = (all_at (λ (x : Ends). (x.low < x.high) × (x.high < h.network.nodes)) h.edges e ends sound.graph.in_range at).0
+module _ (h : HierarchyValue) (sound : IsHierarchy h) where
+  -- the edge of a changed road is touched
+  changed_touched : (edit : Edit) (e : ℕ) → IsOfChanged h edit e → IsTouchedEdge h edit e
+  changed_touched edit e (arc, changed, (x, y, links, at)) =
+      let rise = ends_rise h sound e (record { low = min x y; high = max x y }) at in (
+        record { low = min x y; high = max x y },
+        at,
+        at_min_max (λ p q. p < q → IsTouched h.network h.order edit p q) x y (λ lt up. by_road arc x y changed (inl links) lt) (λ ge up. by_road arc y x changed (inr links) up) rise,
+      )
 
--- the edge of a changed road is touched
-changed_touched : (h : HierarchyValue) → IsHierarchy h → (edit : Edit) (e : ℕ) → IsOfChanged h edit e → IsTouchedEdge h edit e
-changed_touched h sound edit e (arc, changed, (x, y, links, at)) =
-    let rise = ends_rise h sound e (record { low = min x y; high = max x y }) at in (
-      record { low = min x y; high = max x y },
-      at,
-      at_min_max (λ p q. p < q → IsTouched h.network h.order edit p q) x y (λ lt up. by_road arc x y changed (inl links) lt) (λ ge up. by_road arc y x changed (inr links) up) rise,
-    )
-
--- the edges above a touched one are touched
-above_touched : (h : HierarchyValue) → IsHierarchy h → (edit : Edit) (e over : ℕ) → IsTouchedEdge h edit e → IsAbove h.edges e over → IsTouchedEdge h edit over
-above_touched h sound edit e over (ends, at, touched) (same, rank, there, side, between) =
-    let is : ends ≡ same = same_value (slice_get h.edges e) ends same at there in
-    let t : IsTouched h.network h.order edit same.low same.high = subst (λ (x : Ends). IsTouched h.network h.order edit x.low x.high) is touched in
-    let (low, first) = (sound.edges.exact same.low same.high).0 (member_at h.edges same e there) in
-    let (lower, second) = (sound.edges.exact same.low rank).0 side in
-    let rise = ends_rise h sound over (record { low = min rank same.high; high = max rank same.high }) between in (
-      record { low = min rank same.high; high = max rank same.high },
-      between,
-      at_min_max (λ p q. p < q → IsTouched h.network h.order edit p q) rank same.high (λ lt up. by_second same.low rank same.high t lower lt second first)
-          (λ ge up. by_first same.low same.high rank t low up first second) rise,
-    )
+  -- the edges above a touched one are touched
+  above_touched : (edit : Edit) (e over : ℕ) → IsTouchedEdge h edit e → IsAbove h.edges e over → IsTouchedEdge h edit over
+  above_touched edit e over (ends, at, touched) (same, rank, there, side, between) =
+      let is : ends ≡ same = same_value (slice_get h.edges e) ends same at there in
+      let t : IsTouched h.network h.order edit same.low same.high = subst (λ (x : Ends). IsTouched h.network h.order edit x.low x.high) is touched in
+      let (low, first) = (sound.edges.exact same.low same.high).0 (member_at h.edges same e there) in
+      let (lower, second) = (sound.edges.exact same.low rank).0 side in
+      let rise = ends_rise h sound over (record { low = min rank same.high; high = max rank same.high }) between in (
+        record { low = min rank same.high; high = max rank same.high },
+        between,
+        at_min_max (λ p q. p < q → IsTouched h.network h.order edit p q) rank same.high (λ lt up. by_second same.low rank same.high t lower lt second first)
+            (λ ge up. by_first same.low same.high rank t low up first second) rise,
+      )
 
 -- in cleared buckets all edges are free
 all_free : (ranks edges e : ℕ) (state : EdgeState) → slice_get (cleared ranks edges).states e ≡ Some state → state ≡ Free
@@ -106,38 +103,37 @@ buckets_cleared graph ranks edges same count = record {
   held = λ e rank held. absurd (cc (all_free ranks edges e (Held rank) held));
 }
 
--- what is taken out isn't held any more, and all else is as it was
-popped_here : (buckets : BucketsValue) (edge rank : ℕ) → IsHeld buckets edge rank → IsDone (popped buckets edge rank) edge
-popped_here buckets edge rank held = get_here buckets.states edge Done (slice_get_within buckets.states edge (Held rank) held)
+module _ (buckets : BucketsValue) (edge rank : ℕ) (held : IsHeld buckets edge rank) where
+  -- what is taken out isn't held any more, and all else is as it was
+  popped_here : IsDone (popped buckets edge rank) edge
+  popped_here = get_here buckets.states edge Done (slice_get_within buckets.states edge (Held rank) held)
 
-popped_other : (buckets : BucketsValue) (edge rank e : ℕ) (state : EdgeState) → IsHeld buckets edge rank → state ≢ Done
-    → slice_get (popped buckets edge rank).states e ≡ Some state → slice_get buckets.states e ≡ Some state
-popped_other buckets edge rank e state held not_done at =
-    elim (cases_eq edge e) [
-      | inl same ↦ absurd (not_done (same_value (slice_get (popped buckets edge rank).states e) state Done at (subst (IsDone (popped buckets edge rank)) same (popped_here buckets edge rank held))))
-      | inr other ↦ sym (get_other buckets.states edge e Done other) ∙ at
-    ]
+  popped_other : (e : ℕ) (state : EdgeState) → state ≢ Done → slice_get (popped buckets edge rank).states e ≡ Some state → slice_get buckets.states e ≡ Some state
+  popped_other e state not_done at =
+      elim (cases_eq edge e) [
+        | inl same ↦ absurd (not_done (same_value (slice_get (popped buckets edge rank).states e) state Done at (subst (IsDone (popped buckets edge rank)) same popped_here)))
+        | inr other ↦ sym (get_other buckets.states edge e Done other) ∙ at
+      ]
 
--- what was done before, or was taken out
-pub done_popped : (buckets : BucketsValue) (edge rank e : ℕ) → IsHeld buckets edge rank → IsDone (popped buckets edge rank) e ↔ (IsDone buckets e ⊎ (edge ≡ e))
-done_popped buckets edge rank e held = elim (cases_eq edge e) [
-  | inl same ↦ ((λ d. inr same), λ d. subst (IsDone (popped buckets edge rank)) same (popped_here buckets edge rank held))
-  | inr other ↦
-      let kept = get_other buckets.states edge e Done other in
-      ((λ d. inl (sym kept ∙ d)), λ d. only_left (IsDone buckets e) (edge ≡ e) (IsDone (popped buckets edge rank) e) d (λ l. kept ∙ l) other)
-]
-  where
-    only_left : (A B C : Type 0) → A ⊎ B → (A → C) → (B → ⊥) → C
-    only_left A B C (inl a) f n = f a
-    only_left A B C (inr b) f n = absurd (n b)
+  -- what was done before, or was taken out
+  pub done_popped : (e : ℕ) → IsDone (popped buckets edge rank) e ↔ (IsDone buckets e ⊎ (edge ≡ e))
+  done_popped e = elim (cases_eq edge e) [
+    | inl same ↦ ((λ d. inr same), λ d. subst (IsDone (popped buckets edge rank)) same popped_here)
+    | inr other ↦
+        let kept = get_other buckets.states edge e Done other in
+        ((λ d. inl (sym kept ∙ d)), λ d. only_left (IsDone buckets e) (edge ≡ e) (IsDone (popped buckets edge rank) e) d (λ l. kept ∙ l) other)
+  ]
+    where
+      only_left : (A B C : Type 0) → A ⊎ B → (A → C) → (B → ⊥) → C
+      only_left A B C (inl a) f n = f a
+      only_left A B C (inr b) f n = absurd (n b)
 
-pub buckets_of_popped : (graph : ChordalValue) (buckets : BucketsValue) (edge rank : ℕ) → AreBucketsOf graph buckets → IsHeld buckets edge rank
-    → AreBucketsOf graph (popped buckets edge rank)
-buckets_of_popped graph buckets edge rank fit held = record {
-  ranks = fit.ranks;
-  count = set_long buckets.states edge Done ∙ fit.count;
-  held = λ e r at. fit.held e r (popped_other buckets edge rank e (Held r) held (λ x. absurd (cc x)) at);
-}
+  pub buckets_of_popped : (graph : ChordalValue) → AreBucketsOf graph buckets → AreBucketsOf graph (popped buckets edge rank)
+  buckets_of_popped graph fit = record {
+    ranks = fit.ranks;
+    count = set_long buckets.states edge Done ∙ fit.count;
+    held = λ e r at. fit.held e r (popped_other e (Held r) (λ x. absurd (cc x)) at);
+  }
 
 -- one more touched edge is taken out
 pub spreading_step : (h : HierarchyValue) → IsHierarchy h → (edit : Edit) (old new : BucketsValue) (edge : ℕ) → IsSpreading h edit old → Takes h.edges old new (Some edge)
@@ -146,12 +142,12 @@ spreading_step h sound edit old new edge s (rank, lowest, adds) =
     let mid = popped old edge rank in
     let IsNew = IsAbove h.edges edge in
     let touched = s.held edge rank lowest.held in
-    let free : (e : ℕ) → IsFree new e → IsFree old e = λ e f. popped_other old edge rank e Free lowest.held (λ x. absurd (cc x)) (free_before h.edges IsNew mid new adds e f) in
-    let done : (e : ℕ) → IsDone new e → IsDone old e ⊎ (edge ≡ e) = λ e d. (done_popped old edge rank e lowest.held).0 (done_before h.edges IsNew mid new adds e d) in
+    let free : (e : ℕ) → IsFree new e → IsFree old e = λ e f. popped_other old edge rank lowest.held e Free (λ x. absurd (cc x)) (free_before h.edges IsNew mid new adds e f) in
+    let done : (e : ℕ) → IsDone new e → IsDone old e ⊎ (edge ≡ e) = λ e d. (done_popped old edge rank lowest.held e).0 (done_before h.edges IsNew mid new adds e d) in
     record {
-      fit = buckets_of_added (graph_of h) IsNew mid new (buckets_of_popped (graph_of h) old edge rank s.fit lowest.held) adds;
+      fit = buckets_of_added (graph_of h) IsNew mid new (buckets_of_popped old edge rank lowest.held (graph_of h) s.fit) adds;
       held = λ e r held. elim (adds.each e) [
-        | inl kept ↦ s.held e r (popped_other old edge rank e (Held r) lowest.held (λ x. absurd (cc x)) (sym kept ∙ held))
+        | inl kept ↦ s.held e r (popped_other old edge rank lowest.held e (Held r) (λ x. absurd (cc x)) (sym kept ∙ held))
         | inr a ↦ above_touched h sound edit edge e touched a.is_new
       ];
       done = λ e d. elim (done e d) [
@@ -174,70 +170,45 @@ neither o Done is free held = is
 same_low : (edges : List Ends) (e x y rank : ℕ) → slice_get edges e ≡ Some (record { low = x; high = y }) → IsLowEnd edges e rank → x ≡ rank
 same_low edges e x y rank at (ends, there, low) = ap (λ (p : Ends). p.low) (same_value (slice_get edges e) (record { low = x; high = y }) ends at there) ∙ low
 
--- an edge that was added, of a rank below all that hold an edge, was taken out
-done_below : (h : HierarchyValue) (edit : Edit) (buckets : BucketsValue) → IsSpreading h edit buckets → (bound : ℕ) → ((e rank : ℕ) → IsHeld buckets e rank → bound ≤ rank)
-    → (x y e : ℕ) → x < bound → slice_get h.edges e ≡ Some (record { low = x; high = y }) → (IsFree buckets e → ⊥) → IsDone buckets e
-done_below h edit buckets s bound none x y e below at added =
-    let inside = slice_get_within h.edges e (record { low = x; high = y }) at in
-    let count = s.fit.count in
-    elim (slice_get_cases buckets.states e).1 [
-      | inl here ↦ let (state, lt, is, read) = here in neither (slice_get buckets.states e) state is added (λ rank held.
-          let low = same_low h.edges e x y rank at (s.fit.held e rank held) in
-          let high = none e rank held in
-          omega (arith, below, low, high))
-      | inr past ↦ absurd (omega (arith, inside, count, past.0))
-    ]
+module _ (h : HierarchyValue) (sound : IsHierarchy h) (edit : Edit) (buckets : BucketsValue) (s : IsSpreading h edit buckets) where
+  module _ (bound : ℕ) (none : (e rank : ℕ) → IsHeld buckets e rank → bound ≤ rank) where
+    -- an edge that was added, of a rank below all that hold an edge, was taken out
+    done_below : (x y e : ℕ) → x < bound → slice_get h.edges e ≡ Some (record { low = x; high = y }) → (IsFree buckets e → ⊥) → IsDone buckets e
+    done_below x y e below at added =
+        let inside = slice_get_within h.edges e (record { low = x; high = y }) at in
+        let count = s.fit.count in
+        elim (slice_get_cases buckets.states e).1 [
+          | inl here ↦ let (state, lt, is, read) = here in neither (slice_get buckets.states e) state is added (λ rank held.
+              let low = same_low h.edges e x y rank at (s.fit.held e rank held) in
+              let high = none e rank held in
+              omega (arith, below, low, high))
+          | inr past ↦ absurd (omega (arith, inside, count, past.0))
+        ]
 
--- each touched edge of a rank below all that hold an edge was taken out
-reached : (h : HierarchyValue) → IsHierarchy h → (edit : Edit) (buckets : BucketsValue) → IsSpreading h edit buckets → (bound : ℕ)
-    → ((e rank : ℕ) → IsHeld buckets e rank → bound ≤ rank)
-    → (x y : ℕ) → IsTouched h.network h.order edit x y → x < bound → (e : ℕ) → slice_get h.edges e ≡ Some (record { low = x; high = y }) → IsDone buckets e
-reached h sound edit buckets s bound none _ _ (by_road a x y changed (inl links) lt) below e at =
-    done_below h edit buckets s bound none x y e below at (s.changed e (a, changed, (x, y, links, between_up h.edges x y e lt at)))
-reached h sound edit buckets s bound none _ _ (by_road a x y changed (inr links) lt) below e at =
-    done_below h edit buckets s bound none x y e below at (s.changed e (a, changed, (y, x, links, between_down h.edges x y e lt at)))
-reached h sound edit buckets s bound none _ _ (by_first m x y touched low lt first second) below e at =
-    let (k, side) = place_of h.edges (record { low = m; high = x }) ((sound.edges.exact m x).1 (low, first)) in
-    let other : HasEdge h.edges m y = (sound.edges.exact m y).1 (omega (arith, low, lt), second) in
-    let before = reached h sound edit buckets s bound none m x touched (omega (arith, low, below)) k side in
-    done_below h edit buckets s bound none x y e below at (s.above k e before (record { low = m; high = x }, y, side, other, between_down h.edges x y e lt at))
-reached h sound edit buckets s bound none _ _ (by_second m x y touched low lt first second) below e at =
-    let (k, side) = place_of h.edges (record { low = m; high = y }) ((sound.edges.exact m y).1 (omega (arith, low, lt), second)) in
-    let other : HasEdge h.edges m x = (sound.edges.exact m x).1 (low, first) in
-    let before = reached h sound edit buckets s bound none m y touched (omega (arith, low, below)) k side in
-    done_below h edit buckets s bound none x y e below at (s.above k e before (record { low = m; high = y }, x, side, other, between_up h.edges x y e lt at))
+    -- each touched edge of a rank below all that hold an edge was taken out
+    reached : (x y : ℕ) → IsTouched h.network h.order edit x y → x < bound → (e : ℕ) → slice_get h.edges e ≡ Some (record { low = x; high = y }) → IsDone buckets e
+    reached _ _ (by_road a x y changed (inl links) lt) below e at =
+        done_below x y e below at (s.changed e (a, changed, (x, y, links, between_up h.edges x y e lt at)))
+    reached _ _ (by_road a x y changed (inr links) lt) below e at =
+        done_below x y e below at (s.changed e (a, changed, (y, x, links, between_down h.edges x y e lt at)))
+    reached _ _ (by_first m x y touched low lt first second) below e at =
+        let (k, side) = place_of h.edges (record { low = m; high = x }) ((sound.edges.exact m x).1 (low, first)) in
+        let other : HasEdge h.edges m y = (sound.edges.exact m y).1 (omega (arith, low, lt), second) in
+        let before = reached m x touched (omega (arith, low, below)) k side in
+        done_below x y e below at (s.above k e before (record { low = m; high = x }, y, side, other, between_down h.edges x y e lt at))
+    reached _ _ (by_second m x y touched low lt first second) below e at =
+        let (k, side) = place_of h.edges (record { low = m; high = y }) ((sound.edges.exact m y).1 (omega (arith, low, lt), second)) in
+        let other : HasEdge h.edges m x = (sound.edges.exact m x).1 (low, first) in
+        let before = reached m y touched (omega (arith, low, below)) k side in
+        done_below x y e below at (s.above k e before (record { low = m; high = y }, x, side, other, between_up h.edges x y e lt at))
 
--- each touched edge of a lower rank was taken out before an edge of the lowest rank held
-pub lower_first : (h : HierarchyValue) → IsHierarchy h → (edit : Edit) (buckets : BucketsValue) → IsSpreading h edit buckets → (edge rank : ℕ) → IsLowestHeld buckets edge rank
-    → (e : ℕ) (ends : Ends) → slice_get h.edges e ≡ Some ends → ends.low < rank → IsTouchedEdge h edit e → IsDone buckets e
-lower_first h sound edit buckets s edge rank lowest e ends at below (same, there, touched) =
-    let is : same ≡ ends = same_value (slice_get h.edges e) same ends there at in
-    reached h sound edit buckets s rank lowest.lowest same.low same.high touched (subst (λ (x : Ends). x.low < rank) (sym is) below) e there
+  -- each touched edge of a lower rank was taken out before an edge of the lowest rank held
+  pub lower_first : (edge rank : ℕ) → IsLowestHeld buckets edge rank → (e : ℕ) (ends : Ends) → slice_get h.edges e ≡ Some ends → ends.low < rank → IsTouchedEdge h edit e → IsDone buckets e
+  lower_first edge rank lowest e ends at below (same, there, touched) =
+      let is : same ≡ ends = same_value (slice_get h.edges e) same ends there at in
+      reached rank lowest.lowest same.low same.high touched (subst (λ (x : Ends). x.low < rank) (sym is) below) e there
 
--- so do the numbers: an edge of a lower rank has a lower number
-pub lower_numbered : (h : HierarchyValue) → IsHierarchy h → (e f : ℕ) (a b : Ends) → slice_get h.edges e ≡ Some a → slice_get h.edges f ≡ Some b → a.low < b.low → e < f
-lower_numbered h sound e f a b at there lt =
-    elim (cases_lt f e) [
-      | inl back ↦
-          let inside = slice_get_within h.edges e a at in
-          let first = get_or_from_slice_get h.edges f b a there in
-          let second = get_or_from_slice_get h.edges e a a at in
-          let after : ComesBefore b a = subst (λ (x : Ends). ComesBefore x a) first (subst (ComesBefore (get_or h.edges f a)) second (sound.graph.rising f e a back inside)) in
-          elim after [
-            | inl lower ↦ absurd (omega (arith, lt, lower))
-            | inr level ↦ let same = level.0 in absurd (omega (arith, lt, same))
-          ]
-      | inr on ↦
-          elim (cases_eq e f) [
-            | inl same ↦
-                let is : a ≡ b = same_value (slice_get h.edges f) a b (subst (λ (k : ℕ). slice_get h.edges k ≡ Some a) same at) there in
-                absurd (omega (arith, lt, ap (λ (x : Ends). x.low) is))
-            | inr other ↦ omega (arith, on, other)
-          ]
-    ]
-
--- where none is held any more, the edges taken out are the touched ones
-pub spreading_end : (h : HierarchyValue) → IsHierarchy h → (edit : Edit) (buckets : BucketsValue) → IsSpreading h edit buckets
-    → ((e rank : ℕ) → IsHeld buckets e rank → ⊥) → (e : ℕ) → IsDone buckets e ↔ IsTouchedEdge h edit e
-spreading_end h sound edit buckets s none e =
-    ((λ d. s.done e d), λ t. reached h sound edit buckets s (t.0.low + 1) (λ f rank held. absurd (none f rank held)) t.0.low t.0.high t.2 (omega arith) e t.1)
+  -- where none is held any more, the edges taken out are the touched ones
+  pub spreading_end : ((e rank : ℕ) → IsHeld buckets e rank → ⊥) → (e : ℕ) → IsDone buckets e ↔ IsTouchedEdge h edit e
+  spreading_end none e =
+      ((λ d. s.done e d), λ t. reached (t.0.low + 1) (λ f rank held. absurd (none f rank held)) t.0.low t.0.high t.2 (omega arith) e t.1)

@@ -48,8 +48,8 @@ taken_more : (h : HierarchyValue) → IsHierarchy h → (edit : Edit) (old new :
     → Takes h.edges old new (Some edge) → AreTaken h edit new (taken ++ (edge ∷ []))
 taken_more h sound edit old new taken edge t takes =
     let (rank, lowest, adds) = takes in
-    let done : (e : ℕ) → IsDone old e → IsDone new e = λ e d. done_after h.edges (IsAbove h.edges edge) _ new adds e ((done_popped old edge rank e lowest.held).1 (inl d)) in
-    let itself : IsDone new edge = done_after h.edges (IsAbove h.edges edge) _ new adds edge ((done_popped old edge rank edge lowest.held).1 (inr refl)) in
+    let done : (e : ℕ) → IsDone old e → IsDone new e = λ e d. done_after h.edges (IsAbove h.edges edge) _ new adds e ((done_popped old edge rank lowest.held e).1 (inl d)) in
+    let itself : IsDone new edge = done_after h.edges (IsAbove h.edges edge) _ new adds edge ((done_popped old edge rank lowest.held edge).1 (inr refl)) in
     record {
       spreading = spreading_step h sound edit old new edge t.spreading takes;
       listed = λ e. (
@@ -57,7 +57,7 @@ taken_more h sound edit old new taken edge t takes =
           | inl before ↦ done e ((t.listed e).0 before)
           | inr same ↦ subst (IsDone new) same itself
         ]),
-        λ d. elim ((done_popped old edge rank e lowest.held).0 (done_before h.edges (IsAbove h.edges edge) _ new adds e d)) [
+        λ d. elim ((done_popped old edge rank lowest.held e).0 (done_before h.edges (IsAbove h.edges edge) _ new adds e d)) [
           | inl before ↦ Contains-append_left taken (edge ∷ []) e ((t.listed e).1 before)
           | inr same ↦ subst (Contains (taken ++ (edge ∷ []))) same (Contains-push taken edge)
         ],

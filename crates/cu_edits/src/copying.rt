@@ -1,46 +1,13 @@
-//! A network copied from whatever stands for one.
+//! A profile copied from whatever stands for a network.
 
 ghost use Rattle.std.specs.Prelude.{◌≡◌, ◌<◌, ◌^◌, Some, IfOk, length, slice_get};
 ghost use Rattle.cu_model.specs.Profiles.{IsProfile};
 
-use cu_model::{Network, NoMemory, Piece, Profile, RoadArc, Roads};
+use cu_model::{NoMemory, Piece, Profile, Roads};
 use std::alloc::Global;
 
-/// The network that these roads stand for, in memory of its own.
-pub fn copy_network<N: Roads>(alloc: Global, roads: &N) -> Result<Network, NoMemory>
-    ensures same { IfOk result (λ network. network ≡ N.network roads.now) }
-{
-    let arcs = copy_arcs(alloc, roads)?;
-    let profiles = copy_profiles(alloc, roads)?;
-    Ok(Network::of(roads.nodes(), arcs, profiles))
-}
-
-fn copy_arcs<N: Roads>(alloc: Global, roads: &N) -> Result<Vec<RoadArc>, NoMemory>
-    ensures { IfOk result (λ arcs. arcs.items ≡ (N.network roads.now).arcs) }
-{
-    let mut arcs = Vec::with_capacity(alloc, roads.arcs() as usize)?;
-    for arc in 0..roads.arcs() {
-        arcs.push(roads.arc(arc))?;
-    }
-    Ok(arcs)
-}
-
-fn copy_profiles<N: Roads>(alloc: Global, roads: &N) -> Result<Vec<Profile>, NoMemory>
-    ensures { IfOk result (λ profiles. profiles.items ≡ (N.network roads.now).profiles) }
-{
-    let mut profiles = Vec::with_capacity(alloc, roads.profiles() as usize)?;
-    for profile in 0..roads.profiles() {
-        profiles.push(copy_profile(alloc, roads, profile)?)?;
-    }
-    Ok(profiles)
-}
-
-// The profile with this number, below the number of profiles.
-pub(crate) fn copy_profile<N: Roads>(
-    alloc: Global,
-    roads: &N,
-    profile: u32,
-) -> Result<Profile, NoMemory>
+/// The profile with this number, below the number of profiles, in memory of its own.
+pub fn copy_profile<N: Roads>(alloc: Global, roads: &N, profile: u32) -> Result<Profile, NoMemory>
     requires { profile < length (N.network roads.now).profiles }
     ensures { IfOk result (λ copy.
         slice_get (N.network roads.now).profiles profile ≡ Some copy) }

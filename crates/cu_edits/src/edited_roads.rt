@@ -1,15 +1,14 @@
 //! The roads of a network after an edit, over the roads before it.
 
-ghost use Rattle.std.specs.Prelude.{◌≡◌, ◌≤◌, ◌<◌, ◌^◌, ◌/◌, ◌%◌, Some, length, slice_get, true};
+ghost use Rattle.std.specs.Prelude.{◌≡◌, ◌<◌, ◌%◌, Some, length, slice_get};
 ghost use Rattle.cu_model.specs.declared.roads.RoadArc.{RoadArc};
-ghost use Rattle.cu_model.specs.Days.{day};
 ghost use Rattle.cu_model.specs.Edits.{IsEditInRange, edited};
 ghost use Rattle.cu_model.specs.Networks.{IsNetwork, NetworkValue};
-ghost use Rattle.cu_model.specs.Profiles.{is_closed_rule, is_rule_in_limit, piece_at, rule_value};
+ghost use Rattle.cu_model.specs.Profiles.{piece_at};
 ghost use Rattle.cu_model.specs.Roads.{pieces_of};
 ghost use Rattle.cu_edits.specs.Steps.Edited.{GivesProfile};
 
-use cu_model::{DAY, Edit, Piece, Profile, RoadArc, Roads, Rule};
+use cu_model::{DAY, Edit, Piece, Profile, RoadArc, Roads};
 use std::marker::Model;
 
 /// Roads as an edit leaves them. Contracts see their network.
@@ -75,12 +74,14 @@ impl<'a, R: Roads> Roads for EditedRoads<'a, R> {
     }
 
     fn closed(&self, arc: u32) -> bool {
-        closes(self.piece(self.arc(arc).profile, 0).rule)
+        self.piece(self.arc(arc).profile, 0).rule.is_closed()
     }
 
     fn drive(&self, arc: u32, second: u64) -> u64 {
         let time = (second % u64::from(DAY)) as u32;
-        arrival(self.piece_begun(self.arc(arc).profile, time).rule, second)
+        self.piece_begun(self.arc(arc).profile, time)
+            .rule
+            .arrival(second)
     }
 
     fn pieces(&self, profile: u32) -> u32 {
@@ -126,25 +127,5 @@ fn given_to(edit: &Edit, profile: u32) -> Option<&Profile>
             pieces,
         } if *given == profile => Some(pieces),
         _ => None,
-    }
-}
-
-// Whether a rule lets nobody through.
-fn closes(rule: Rule) -> bool
-    ensures { result ≡ is_closed_rule rule }
-{
-    matches!(rule, Rule::Closed(_))
-}
-
-// When a rule arrives, leaving at an absolute second. A closed one is asked by nobody.
-fn arrival(rule: Rule, second: u64) -> u64
-    requires in_limit { is_rule_in_limit rule ≡ true }
-    requires time { second ≤ 2 ^ 62 }
-    ensures { result ≡ rule_value rule (second / day) (second % day) }
-{
-    match rule {
-        Rule::Travel(seconds) => second + u64::from(seconds),
-        Rule::Until(arrival) => second - second % u64::from(DAY) + u64::from(arrival),
-        Rule::Closed(_) => second,
     }
 }

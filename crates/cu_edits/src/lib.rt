@@ -9,7 +9,7 @@
 //! `cu_interval`). [`recustomize`] settles them, each after the touched edges of its lower triangles, by a [`Settler`];
 //! [`EditSettler`] is the one that [`touch`] takes. It settles by functions that are words, whose promise is the same as that of
 //! plain ones; once a way takes longer than words can say, as in a file that isn't built, it goes over to plain functions.
-//! [`copy_network`] copies the network of whatever stands for one.
+//! [`copy_profile`] copies a profile of whatever stands for a network.
 //!
 //! A law speaks of the definitions alone, [`resettled_is_built`]: a built hierarchy that is resettled by an edit is the built one
 //! of the edited network.
@@ -38,7 +38,7 @@ mod settler;
 mod tests;
 mod touching;
 
-pub use copying::copy_network;
+pub use copying::copy_profile;
 pub use edit_settler::EditSettler;
 pub use laws::resettled_is_built;
 pub use lines::{EditLine, EditRefusal, MAX_EDIT_LINE, check_edit};

@@ -4,7 +4,7 @@ ghost use Rattle.std.specs.Prelude.{◌≡◌, ◌<◌, IfOk, length};
 ghost use Rattle.cu_model.specs.Edits.{IsEditInRange};
 ghost use Rattle.cu_model.specs.Profiles.{IsProfile};
 
-use crate::{Touched, copy_network, touch, touched_edges};
+use crate::{Touched, touch, touched_edges};
 use cu_chordal::close;
 use cu_customize::customize;
 use cu_interval::{Dir, EdgeArcs, Entry, Hierarchy, TouchedEdge, Way, Ways};
@@ -116,14 +116,6 @@ fn way(hierarchy: &Hierarchy) -> Option<Way>
 {
     let edge = hierarchy.edge(1, 2)?;
     hierarchy.way(edge, Dir::Up, 0)
-}
-
-#[test]
-fn a_copy_is_made(rt: HostRuntime) -> Result<(), Fail> {
-    let network = network(rt.alloc())?;
-    let copy = copy_network(rt.alloc(), &network)?;
-    assert_eq!(rt; (copy.nodes(), copy.arcs(), copy.profiles()), (3, 4, 3));
-    Ok(())
 }
 
 // What the edit touches in this hierarchy.

@@ -1,4 +1,4 @@
-use Rattle.std.proofs.Common.{◌≡◌, ◌∙◌, ap, length, refl, subst, sym}
+use Rattle.std.proofs.Common.{◌∙◌, ap, length, refl, subst, sym}
 use Rattle.cu_model.specs.Orders.{OrderValue}
 use Rattle.cu_chordal.specs.Edges.{IsClosureOf}
 use Rattle.cu_chordal.specs.Graphs.{ChordalValue}
