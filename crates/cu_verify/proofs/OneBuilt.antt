@@ -1,22 +1,14 @@
 -- A network and an order have one built hierarchy.
-use Rattle.std.proofs.Common.{◌≡◌, ◌<◌, ◌*◌, ◌∙◌, ℕ, List, [], Option, Some, None, length, get_or, refl, sym, subst, arith}
-use Rattle.std.specs.Prelude.{slice_get, unwrap_or}
+use Rattle.std.proofs.Common.{◌≡◌, ◌<◌, ◌*◌, ◌∙◌, ℕ, List, [], length, get_or, sym, subst, arith}
+use Rattle.std.specs.Prelude.{slice_get}
 use Rattle.std.proofs.lemmas.List.{ext_get_or}
-use Rattle.std.proofs.lemmas.Option.{unwrap_or-slice_get}
 use Rattle.cu_interval.specs.declared.ways.Entry.{Entry}
 use Rattle.cu_interval.specs.FirstWays.{IsCandidate, Arrives}
 use Rattle.cu_interval.specs.Hierarchies.{HierarchyValue, IsBuilt, end_of, entries_or_none, list_of, start_of}
 use Rattle.cu_interval.proofs.Unique.{runs_unique}
 use Rattle.cu_customize.proofs.Keeping.{number_parts}
+use Rattle.cu_edits.proofs.ResettledOnce.{list_at}
 use Rattle.cu_verify.specs.Verdicts.{with_lists}
-
-entries_there : (o : Option (List Entry)) → entries_or_none o ≡ unwrap_or o []
-entries_there None = refl
-entries_there (Some entries) = refl
-
--- the list with a number is that of its edge and direction
-list_at : (lists : List (List Entry)) (k : ℕ) → get_or lists k [] ≡ entries_or_none (slice_get lists k)
-list_at lists k = sym (entries_there (slice_get lists k) ∙ unwrap_or-slice_get lists k [])
 
 module _ (h : HierarchyValue) (lists : List (List Entry)) (first : IsBuilt h) (second : IsBuilt (with_lists h lists)) where
   -- at each number stands the same list

@@ -6,10 +6,9 @@ use Rattle.std.proofs.lemmas.Bool.{cases_lt, cases_eq}
 use Rattle.std.proofs.lemmas.Option.{slice_get-get_or, get_or_from_slice_get, slice_get_within, slice_get_past, same_Some}
 use Rattle.cu_model.specs.Days.{day}
 use Rattle.cu_model.proofs.Begun.{begun_until, gt_test, none_begun, rises_between}
-use Rattle.cu_interval.specs.declared.ways.Way.{Way}
 use Rattle.cu_interval.specs.declared.ways.Entry.{Entry}
 use Rattle.cu_interval.specs.WayLists.{IsWayList, entry_in, way_in}
-use Rattle.cu_interval.proofs.Spelled.{entries_rise}
+use Rattle.cu_interval.proofs.Spelled.{entries_rise, same_entry}
 use Rattle.cu_verify.specs.Verdicts.{PartAt}
 use Rattle.cu_verify.specs.Steps.Comparing.{PartBy, begin_or_day}
 
@@ -88,9 +87,6 @@ still xs ys one two (suc j) x same at late is =
     let begun : w.from < x.from = subst (λ (z : Entry). w.from < z.from) next turn.0 in
     let held : way_in ys x.from ≡ Some w.way = in_force ys two j x.from w (sym (same j (omega arith)) ∙ there) (omega (arith, begun)) late in
     turn.1 (cc (held, is, next))
-
-same_entry : (x y : Entry) → x.from ≡ y.from → x.way ≡ y.way → x ≡ y
-same_entry x y from way = ap (λ (n : ℕ). record { from = n; way = x.way }) from ∙ ap (λ (w : Way). record { from = y.from; way = w }) way
 
 -- the ways differ where the first of two different entries begins
 apart_at : (xs ys : List Entry) → IsWayList xs → IsWayList ys → (i : ℕ) (x : Entry) (o : Option Entry) → ((k : ℕ) → k < i → slice_get xs k ≡ slice_get ys k) → slice_get xs i ≡ Some x

@@ -1,7 +1,7 @@
 //! The way lists of a packed file compared with the built ones.
 
 ghost use Rattle.std.specs.Prelude.{◌≡◌, ◌<◌, ◌+◌, ◌*◌, length, slice_get, take};
-ghost use Rattle.cu_interval.specs.Hierarchies.{IsBuilt, list_number, list_of};
+ghost use Rattle.cu_interval.specs.Hierarchies.{IsBuilt, list_number};
 ghost use Rattle.cu_interval.specs.WayLists.{IsWayList};
 ghost use Rattle.cu_verify.specs.Verdicts.{IsVerdict, with_lists};
 ghost use Rattle.cu_verify.specs.Steps.Comparing.{FindsParting, IsVerdictTo, PartBy, begin_or_day};

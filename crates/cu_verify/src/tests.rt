@@ -3,10 +3,11 @@
 ghost use Rattle.std.specs.Prelude.{◌≡◌, IfOk};
 
 use super::*;
+use crate::copying::copy_network;
 use cu_chordal::close;
 use cu_customize::customize;
 use cu_interval::{Dir, Hierarchy, Way};
-use cu_model::{Network, Order, Piece, Profile, RoadArc, Rule};
+use cu_model::{Network, Order, Piece, Profile, RoadArc, Roads, Rule};
 use cu_pack::{PackedView, pack};
 use sha2::{Digest, Sha256};
 use std::alloc::Global;
@@ -126,5 +127,13 @@ fn finds_lists_that_are_empty(rt: HostRuntime) -> Result<(), Fail> {
     ];
     let found = verdict(alloc, &two, 312)?;
     assert_eq!(rt; found, differs(0, Dir::Down, 0, None, Some(Way::Road(0))));
+    Ok(())
+}
+
+#[test]
+fn a_copy_is_made(rt: HostRuntime) -> Result<(), Fail> {
+    let network = network(rt.alloc())?;
+    let copy = copy_network(rt.alloc(), &network)?;
+    assert_eq!(rt; (copy.nodes(), copy.arcs(), copy.profiles()), (3, 3, 3));
     Ok(())
 }
