@@ -1,6 +1,6 @@
 mod Outputs
 pub mod Legal
-mod SessionLaws
+pub mod SessionLaws
 mod EditingLaws
 mod RouteLaws
 mod RouterLaws

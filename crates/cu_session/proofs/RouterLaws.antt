@@ -8,10 +8,10 @@ use Rattle.cu_model.specs.Edits.{edited, IsEditInRange}
 use Rattle.cu_model.specs.Networks.{NetworkValue}
 use Rattle.cu_model.specs.Orders.{OrderValue}
 use Rattle.cu_chordal.specs.declared.graph.Ends.{Ends}
-use Rattle.cu_chordal.specs.Edges.{IsClosureOf, LinksRanks}
+use Rattle.cu_chordal.specs.Edges.{IsClosureOf}
 use Rattle.cu_chordal.specs.Graphs.{ChordalValue}
 use Rattle.cu_elimtree.specs.SweepArcs.{parents_in}
-use Rattle.cu_edits.proofs.Unmoved.{links_edited, links_kept, nodes_edited}
+use Rattle.cu_edits.proofs.Unmoved.{nodes_edited}
 use Rattle.cu_interval.specs.declared.ways.TouchedEdge.{TouchedEdge}
 use Rattle.cu_interval.specs.EdgeArcs.{AreArcsFrom, AreEdgeArcs}
 use Rattle.cu_interval.specs.Hierarchies.{HierarchyValue, IsHierarchy, graph_of}
@@ -23,10 +23,12 @@ use Rattle.cu_pack.specs.Checks.{Spells}
 use Rattle.cu_pack.specs.Reading.{decoded}
 use Rattle.cu_pack.specs.Spelling.{spelling}
 use Rattle.cu_pack.proofs.Again.{one_hierarchy, read_again}
+use Rattle.cu_pack.proofs.Views.{said_again}
 use Rattle.cu_recall.specs.Rooms.{RoomValue}
 use Rattle.cu_sweep.specs.Desks.{DeskValue}
 use Rattle.cu_session.specs.Steps.Routing.{FitsSome, HasRoom, IsEdited}
 use Rattle.cu_edits.proofs.ResettledBuilt.{resettled_built}
+use Rattle.cu_edits.proofs.Unchanged.{ranks_edited, ranks_kept}
 
 -- the same bytes spell the same hierarchy
 pub same_hierarchy : (bytes : List ℕ) (h other : HierarchyValue) → Spells bytes h → Spells bytes other → h ≡ other
@@ -36,27 +38,18 @@ same_hierarchy bytes h other one two = one_hierarchy h other one.sound two.sound
 pub decoded_is : (bytes : List ℕ) (h : HierarchyValue) → Spells bytes h → decoded bytes ≡ h
 decoded_is bytes h spells = ap decoded spells.spelled ∙ read_again h spells.sound
 
-pub spells_decoded : (bytes : List ℕ) (h : HierarchyValue) → Spells bytes h → Spells bytes (decoded bytes)
-spells_decoded bytes h spells = subst (Spells bytes) (sym (decoded_is bytes h spells)) spells
-
 -- the room beside a hierarchy is beside the one that its packed bytes say
 pub held_new : (bytes : List ℕ) (h : HierarchyValue) → Spells bytes h
     → (graph : ChordalValue) (parents : List (Option ℕ)) (arcs : List (List ℕ)) (queries : DeskValue) (known : Option RoomValue) (walks : Option ℕ) (buckets : BucketsValue)
     → HasRoom h graph parents arcs queries known walks buckets → Spells bytes (decoded bytes) × HasRoom (decoded bytes) graph parents arcs queries known walks buckets
 held_new bytes h spells graph parents arcs queries known walks buckets room = (
-  spells_decoded bytes h spells,
+  said_again bytes h spells,
   subst (λ (g : HierarchyValue). HasRoom g graph parents arcs queries known walks buckets) (sym (decoded_is bytes h spells)) room,
 )
 
 -- a hierarchy's edges are the closure of its network
 pub closed_graph : (h : HierarchyValue) → IsHierarchy h → IsClosureOf h.network h.order (graph_of h)
 closed_graph h sound = record { ranks = refl; edges = sound.edges }
-
-ranks_edited : (g : NetworkValue) (o : OrderValue) (edit : Edit) (a u v : ℕ) → LinksRanks g o a u v → LinksRanks (edited g edit) o a u v
-ranks_edited g o edit a u v (p, q, links, from, to) = (p, q, links_edited g edit a p q links, from, to)
-
-ranks_kept : (g : NetworkValue) (o : OrderValue) (edit : Edit) (a u v : ℕ) → LinksRanks (edited g edit) o a u v → LinksRanks g o a u v
-ranks_kept g o edit a u v (p, q, links, from, to) = (p, q, links_kept g edit a p q links, from, to)
 
 from_edited : (g : NetworkValue) (o : OrderValue) (edit : Edit) (u v : ℕ) (arcs : List ℕ) → AreArcsFrom g o u v arcs → AreArcsFrom (edited g edit) o u v arcs
 from_edited g o edit u v arcs are = record {

@@ -1,6 +1,6 @@
 //! Words and numbers of a reply.
 
-ghost use Rattle.std.specs.Prelude.{◌≡◌, ◌++◌, decimal};
+ghost use Rattle.std.specs.Prelude.{◌++◌, decimal};
 ghost use Rattle.cu_io.specs.Sinks.{Wrote};
 ghost use Rattle.cu_session.specs.Refusals.{piece_refusal_words};
 ghost use Rattle.cu_session.specs.Swept.{damaged_text, dir_word};
