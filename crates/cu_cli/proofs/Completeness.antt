@@ -142,6 +142,9 @@ few_taken source now taken (input, told, few) took =
     let size = ap (λ (t : List ℕ). length t) parts in
     omega (arith, size, length-append taken rest, few)
 
+no_source : (a b : ShelfState) (s t : SourceState) (k mid now : SinkState) (script : Bool) (why : Stop) → MeetsNoFault a b s t k now → Leaves script (status_of why) s t k mid → why ≡ stop.Source → ⊥
+no_source a b s t k mid now script why fine leaves is = fine.source (leaves.source_fault (ap status_of is))
+
 no_sink : (a b : ShelfState) (s t : SourceState) (k mid now : SinkState) (script : Bool) (why : Stop) → MeetsNoFault a b s t k now → mid.faults ≤ now.faults
     → Leaves script (status_of why) s t k mid → why ≡ stop.Sink → ⊥
 no_sink a b s t k mid now script why fine later leaves is = fine.sink (omega (arith, later, leaves.sink_fault (ap status_of is)))
@@ -160,14 +163,12 @@ serve_stops : (a b : ShelfState) (s t : SourceState) (k mid now : SinkState) (ta
     → Works true (Some why) (EndsServe a b tables) a b s t k mid → why ≡ stop.NoMemory
 serve_stops a b s t k mid now tables why can short fine later done = ends done.ended
   where
-    no_source : why ≡ stop.Source → ⊥
-    no_source is = fine.source (done.leaves.source_fault (ap status_of is))
-
     ends : EndsServe a b tables done.work → why ≡ stop.NoMemory
     ends (inl (read, order, prepares, answers, stored)) =
         let Output = IsOutput read.network order in
         let stops = subst (λ (o : Option Stop). Answers Output o done.work.taken done.work.output) done.stop answers in
-        answers_stop Output why done.work.taken done.work.output (few_taken s t.left done.work.taken short done.moves.0) no_source
+        answers_stop Output why done.work.taken done.work.output (few_taken s t.left done.work.taken short done.moves.0)
+        (no_source a b s t k mid now true why fine done.leaves)
         (no_sink a b s t k mid now true why fine later done.leaves) stops
     ends (inr (other, stops, before)) =
         let same : other ≡ why = cc (before.0, done.stop) in
@@ -246,13 +247,11 @@ ask_stops : (a b : ShelfState) (s t : SourceState) (k mid now : SinkState) (name
     → Works true (Some why) (EndsAsk a b name) a b s t k mid → why ≡ stop.NoMemory
 ask_stops a b s t k mid now name why can short fine later done = ends done.ended
   where
-    no_source : why ≡ stop.Source → ⊥
-    no_source is = fine.source (done.leaves.source_fault (ap status_of is))
-
     ends : EndsAsk a b name done.work → why ≡ stop.NoMemory
     ends (inl (h, opens, answers, legal, stored)) =
         let stops = subst (λ (o : Option Stop). Answers (IsHeldOutput h) o done.work.taken done.work.output) done.stop answers in
-        answers_stop (IsHeldOutput h) why done.work.taken done.work.output (few_taken s t.left done.work.taken short done.moves.0) no_source
+        answers_stop (IsHeldOutput h) why done.work.taken done.work.output (few_taken s t.left done.work.taken short done.moves.0)
+        (no_source a b s t k mid now true why fine done.leaves)
         (no_sink a b s t k mid now true why fine later done.leaves) stops
     ends (inr (other, stops, before)) =
         let same : other ≡ why = cc (before.0, done.stop) in

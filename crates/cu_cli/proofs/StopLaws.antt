@@ -1,5 +1,5 @@
 -- What is said of a stop, step by step.
-use Rattle.std.proofs.Common.{◌≡◌, ◌≢◌, ◌∷◌, [], ◌++◌, ℕ, List, refl, ap, inl, inr}
+use Rattle.std.proofs.Common.{◌≡◌, ◌≢◌, ◌∷◌, [], ◌++◌, ℕ, List, refl, inl, inr}
 use Rattle.std.specs.Prelude.{Option, Some, Result, Ok, Err, IfOk, IfErr, IsErr, IsErrAnd}
 use Rattle.cu_io.specs.Sinks.{SinkState, Wrote, WroteLine}
 use Rattle.cu_io.proofs.Appending.{wrote_nothing, wrote_stops, line_stops}
@@ -22,11 +22,6 @@ line_breaks {T = T} {E = E} {e = e} rest is h = line_stops {T = T} {E = E} {e = 
 -- there is no line to write
 pub said_nothing : {T E : Type 0} (a : SinkState) (x : T) → Said {T = T} {E = E} a a (Ok x) []
 said_nothing a x = record { wrote = wrote_nothing a x; flushed = inl refl; some = tt }
-
--- an error that is known
-pub err_is : {T E : Type 0} (r : Result T E) (e : E) → IsErrAnd r (λ d. d ≡ e) → r ≡ Err e
-err_is {T = T} {E = E} (Ok x) e h = absurd h
-err_is {T = T} {E = E} (Err d) e h = let f : E → Result T E = λ t. Err t in ap f h
 
 -- a stop that is known
 pub stop_is : {T : Type 0} (r : Result T Stop) (why : Option Stop) → IsErrAnd r (λ other. Some other ≡ why) → stop_of r ≡ why

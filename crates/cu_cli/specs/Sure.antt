@@ -1,5 +1,5 @@
 -- How a run ends over a shelf, a source and a sink that never fail.
-use Rattle.std.specs.Prelude.{Option, Some, None}
+use Rattle.std.specs.Prelude.{Option, Some}
 use Rattle.cu_io.specs.Shelves.{ShelfState}
 use Rattle.cu_io.specs.Sure.{file_or_empty, sure_limit}
 use Rattle.cu_io.specs.declared.sure.SureShelf.{SureShelf}

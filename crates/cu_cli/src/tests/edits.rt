@@ -1,6 +1,7 @@
 //! Edit lines between queries, over the rush hour's tables; replies worked out by hand.
 
 use super::{PLAIN, Run, says};
+use cu_model::{MAX_TRAVEL, MAX_UNTIL};
 use std::test::Fail;
 
 // Node 1 has the lowest rank, so that the way over it is a shortcut of the road beside it.
@@ -11,7 +12,7 @@ const RANKED: Run<'static> = Run {
 
 #[test]
 fn edits_change_the_next_answer(rt: HostRuntime) -> Result<(), Fail> {
-    let rows: [(&str, &str); 7] = [
+    let rows: [(&str, &str); 6] = [
         // A slower first road, and back: then the road beside both is the better way.
         (
             "s,0,0,travel,200\nq,0,2,0\ns,0,0,travel,60\nq,0,2,0\n",
@@ -29,11 +30,6 @@ fn edits_change_the_next_answer(rt: HostRuntime) -> Result<(), Fail> {
             "s,2,0,closed,0\nq,0,2,28800\ns,0,0,closed,0\nq,0,2,0\nq,1,2,0\ns,0,0,travel,60\nq,0,2,0\n",
             "done 1\narrive=29160 arcs=0 1\ndone 2\nunreachable\narrive=100 arcs=1\ndone 2\narrive=160 arcs=0 1\n",
         ),
-        // The most that a piece may say.
-        (
-            "s,0,0,travel,604801\ns,0,0,travel,604800\ns,0,0,until,691200\n",
-            "refused: limit\ndone 2\ndone 2\n",
-        ),
         // Each check in its turn.
         (
             "s,9,0,fly,1\ns,0,0,fly,1\na,9,0\na,0,9\ns,0,5,travel,1\ns,0,0,travel,1,0,travel,2\ns,0,0\n",
@@ -48,5 +44,21 @@ fn edits_change_the_next_answer(rt: HostRuntime) -> Result<(), Fail> {
         let asked = Run { script, ..RANKED };
         assert!(rt; says(rt.alloc(), asked, 0, replies.as_bytes()));
     }
+    Ok(())
+}
+
+#[test]
+fn pieces_say_no_more_than_their_limits(rt: HostRuntime) -> Result<(), Fail> {
+    let script = format!(in rt.alloc();
+        "s,0,0,travel,{}\ns,0,0,travel,{}\ns,0,0,until,{}\n",
+        MAX_TRAVEL + 1,
+        MAX_TRAVEL,
+        MAX_UNTIL
+    )?;
+    let asked = Run {
+        script: script.as_str(),
+        ..RANKED
+    };
+    assert!(rt; says(rt.alloc(), asked, 0, b"refused: limit\ndone 2\ndone 2\n"));
     Ok(())
 }

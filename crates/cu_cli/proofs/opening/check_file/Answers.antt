@@ -1,6 +1,6 @@
 use Rattle.cu_cli.specs.Steps.Outcomes.{stop_of_file}
 use Rattle.cu_cli.proofs.OpeningLaws.{stops_checks}
-use Rattle.cu_cli.proofs.StopLaws.{err_is}
+use Rattle.cu_session.proofs.SessionLaws.{err_is}
 use Rattle.cu_cli.proofs.opening.check_file.Goals as goal
 
 pub returns-in_err-open-clause-refused : goal.returns-in_err-open-clause-refused

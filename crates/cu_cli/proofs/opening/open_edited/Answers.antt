@@ -2,7 +2,7 @@ use Rattle.std.proofs.Common.{inl, inr}
 use Rattle.cu_cli.specs.declared.stops.Role.TheVariants as role
 use Rattle.cu_cli.specs.Words.{FileAsked}
 use Rattle.cu_cli.proofs.LoadLaws.{loaded_behind, stops_behind}
-use Rattle.cu_cli.proofs.StopLaws.{err_is}
+use Rattle.cu_session.proofs.SessionLaws.{err_is}
 use Rattle.cu_cli.proofs.opening.open_edited.Goals as goal
 
 pub returns-in_err-edits-clause-err : goal.returns-in_err-edits-clause-err

@@ -1,5 +1,5 @@
 use Rattle.std.proofs.Common.{inr}
-use Rattle.cu_cli.proofs.StopLaws.{err_is}
+use Rattle.cu_session.proofs.SessionLaws.{err_is}
 use Rattle.cu_cli.proofs.opening.open_file.Goals as goal
 
 pub returns-in_err-check_file-clause-err : goal.returns-in_err-check_file-clause-err

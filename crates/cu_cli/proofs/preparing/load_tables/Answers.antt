@@ -1,7 +1,7 @@
 use Rattle.std.proofs.Common.{◌∙◌, inl, inr}
 use Rattle.cu_cli.specs.declared.stops.Role.TheVariants as role
 use Rattle.cu_cli.proofs.LoadLaws.{loaded_behind, only_then, stops_behind}
-use Rattle.cu_cli.proofs.StopLaws.{err_is}
+use Rattle.cu_session.proofs.SessionLaws.{err_is}
 use Rattle.cu_cli.proofs.preparing.load_tables.Goals as goal
 
 pub returns-in_err-roads-clause-err : goal.returns-in_err-roads-clause-err

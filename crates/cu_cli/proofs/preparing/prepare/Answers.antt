@@ -4,7 +4,8 @@ use Rattle.cu_cli.specs.Steps.Loading.{order_texts, table_texts}
 use Rattle.cu_cli.specs.Words.{network_files, order_files}
 use Rattle.cu_cli.proofs.LoadLaws.{all_loaded_behind, loaded_then, stops_all_behind, stops_later, stops_sooner}
 use Rattle.cu_cli.proofs.OrderKinds.{read_asked, reading_stops_asked}
-use Rattle.cu_cli.proofs.StopLaws.{err_is, if_ok_map, if_err_map}
+use Rattle.cu_session.proofs.SessionLaws.{err_is}
+use Rattle.cu_cli.proofs.StopLaws.{if_ok_map, if_err_map}
 use Rattle.cu_cli.proofs.preparing.prepare.Goals as goal
 
 pub returns-in_err-texts-clause-err : goal.returns-in_err-texts-clause-err

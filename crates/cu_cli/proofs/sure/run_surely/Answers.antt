@@ -1,5 +1,5 @@
 -- The counts of these objects never rise, so no fault is the cause of an end.
-use Rattle.std.proofs.Common.{◌≡◌, ◌∙◌, arith, map, string_bytes, sym}
+use Rattle.std.proofs.Common.{◌≡◌, ◌∙◌, arith, map, string_bytes}
 use Rattle.cu_io.specs.Counts.{Rose}
 use Rattle.cu_cli.specs.Stops.{status_at}
 use Rattle.cu_cli.specs.Sure.{shelf_state}

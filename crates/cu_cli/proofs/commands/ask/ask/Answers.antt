@@ -1,5 +1,6 @@
 use Rattle.std.specs.Prelude.{Some, None}
-use Rattle.cu_cli.proofs.StopLaws.{err_is, stop_is}
+use Rattle.cu_session.proofs.SessionLaws.{err_is}
+use Rattle.cu_cli.proofs.StopLaws.{stop_is}
 use Rattle.cu_cli.proofs.WorkLaws.{asked, opening_stopped}
 use Rattle.cu_cli.proofs.commands.ask.ask.Goals as goal
 

@@ -4,7 +4,7 @@ use Rattle.cu_cli.specs.declared.stops.Stop.TheVariants as stop
 use Rattle.cu_cli.specs.Runs.{built_text}
 use Rattle.cu_cli.specs.Steps.Asks.{building_asked}
 use Rattle.cu_cli.specs.Steps.Loading.{HasBuilt}
-use Rattle.cu_cli.proofs.StopLaws.{err_is}
+use Rattle.cu_session.proofs.SessionLaws.{err_is}
 use Rattle.cu_cli.proofs.StoreLaws.{stored_behind, storing_refused, storing_said, storing_unsaid}
 use Rattle.cu_cli.proofs.WorkLaws.{behind_nothing, built, built_large, building_stopped, has_built}
 use Rattle.cu_cli.proofs.commands.build.build.Goals as goal

@@ -5,7 +5,8 @@ use Rattle.cu_cli.specs.Opening.{OpensEdits}
 use Rattle.cu_cli.specs.Runs.{stored_text}
 use Rattle.cu_cli.specs.Steps.Asks.{editing_asked}
 use Rattle.cu_cli.proofs.EditedLaws.{behind_edits, edit_stopped, edits_large, edits_stopped, edits_stored}
-use Rattle.cu_cli.proofs.StopLaws.{err_is, stop_is}
+use Rattle.cu_session.proofs.SessionLaws.{err_is}
+use Rattle.cu_cli.proofs.StopLaws.{stop_is}
 use Rattle.cu_cli.proofs.StoreLaws.{stored_behind, storing_refused, storing_said, storing_unsaid}
 use Rattle.cu_cli.proofs.commands.edit.edit.Goals as goal
 

@@ -2,7 +2,7 @@ use Rattle.std.proofs.Common.{refl, inr, false}
 use Rattle.cu_cli.specs.declared.stops.Stop.TheVariants as stop
 use Rattle.cu_cli.specs.Runs.{made_text}
 use Rattle.cu_cli.specs.Steps.Asks.{grid_asked, making_asked}
-use Rattle.cu_cli.proofs.StopLaws.{err_is}
+use Rattle.cu_session.proofs.SessionLaws.{err_is}
 use Rattle.cu_cli.proofs.StoreLaws.{storing_refused, storing_said, storing_unsaid}
 use Rattle.cu_cli.proofs.WorkLaws.{behind_nothing, made, stopped_before}
 use Rattle.cu_cli.proofs.commands.make.make.Goals as goal

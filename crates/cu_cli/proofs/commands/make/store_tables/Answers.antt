@@ -1,6 +1,6 @@
 use Rattle.std.proofs.Common.{◌≡◌, ◌∙◌, ap}
 use Rattle.cu_roads.specs.Written.{ThreeTexts}
-use Rattle.cu_cli.proofs.StopLaws.{err_is}
+use Rattle.cu_session.proofs.SessionLaws.{err_is}
 use Rattle.cu_cli.proofs.StoreLaws.{stops_there, stored_then}
 use Rattle.cu_cli.proofs.commands.make.store_tables.Goals as goal
 

@@ -5,7 +5,7 @@ use Rattle.cu_cli.specs.Preparing.{ReadsTables, StopsOrdering}
 use Rattle.cu_cli.specs.Runs.{ordered_text}
 use Rattle.cu_cli.specs.Steps.Asks.{ordering_asked}
 use Rattle.cu_cli.specs.Steps.Loading.{table_texts}
-use Rattle.cu_cli.proofs.StopLaws.{err_is}
+use Rattle.cu_session.proofs.SessionLaws.{err_is}
 use Rattle.cu_cli.proofs.StoreLaws.{stored_behind, storing_refused, storing_said, storing_unsaid}
 use Rattle.cu_cli.proofs.WorkLaws.{behind_nothing, ordered, ordering_stopped}
 use Rattle.cu_cli.proofs.commands.order.order.Goals as goal

@@ -1,6 +1,7 @@
 use Rattle.std.specs.Prelude.{Some, None}
 use Rattle.cu_cli.specs.Steps.Asks.{tables_asked}
-use Rattle.cu_cli.proofs.StopLaws.{err_is, stop_is}
+use Rattle.cu_session.proofs.SessionLaws.{err_is}
+use Rattle.cu_cli.proofs.StopLaws.{stop_is}
 use Rattle.cu_cli.proofs.WorkLaws.{served, stopped}
 use Rattle.cu_cli.proofs.commands.serve.serve.Goals as goal
 

@@ -1,7 +1,7 @@
 use Rattle.std.proofs.Common.{inl}
 use Rattle.cu_cli.specs.declared.stops.Stop.TheVariants as stop
 use Rattle.cu_cli.specs.Steps.Asks.{grid_asked, trial_asked}
-use Rattle.cu_cli.proofs.StopLaws.{err_is}
+use Rattle.cu_session.proofs.SessionLaws.{err_is}
 use Rattle.cu_cli.proofs.LoadLaws.{only_nothing}
 use Rattle.cu_cli.proofs.StoreLaws.{said_alone, unsaid_alone}
 use Rattle.cu_cli.proofs.TrialLaws.{grid_drawable, grid_stopped, spelled_once, tried_all}

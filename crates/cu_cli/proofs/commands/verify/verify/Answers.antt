@@ -1,5 +1,5 @@
 use Rattle.cu_cli.specs.declared.stops.Stop.TheVariants as stop
-use Rattle.cu_cli.proofs.StopLaws.{err_is}
+use Rattle.cu_session.proofs.SessionLaws.{err_is}
 use Rattle.cu_cli.proofs.VerifyLaws.{comparing_stopped, differs, same_said, same_unsaid, verdict_stopped}
 use Rattle.cu_cli.proofs.commands.verify.verify.Goals as goal
 
