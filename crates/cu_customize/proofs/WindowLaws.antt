@@ -10,10 +10,11 @@ use Rattle.cu_arrival.specs.declared.runs.RunRule.{RunRule}
 use Rattle.cu_arrival.specs.declared.runs.RunRule.TheVariants.{Shift, Fixed}
 use Rattle.cu_arrival.specs.Runs.{arrival_value}
 use Rattle.cu_arrival.specs.Steps.Stretches.{arrives}
+use Rattle.cu_customize.specs.declared.windows.Span.{Span}
 use Rattle.cu_customize.specs.declared.windows.TheConstants.{WINDOWS}
 use Rattle.cu_customize.specs.declared.windows.Window.{Window}
 use Rattle.cu_customize.specs.declared.windows.Windows.{Windows}
-use Rattle.cu_customize.specs.Steps.Bounded.{IsAt, IsReach, IsUpper, IsWindow, IsWithinReach}
+use Rattle.cu_customize.specs.Steps.Bounded.{IsAt, IsReach, IsSpan, IsUpper, IsWindow, IsWithinReach}
 use Rattle.cu_customize.specs.Windows.{AreLowered, AreStarts, IsIn, IsLowered, Reaches, TakesBetween, TakesUpToBetween, reach_end, reach_span, reach_start, window_start}
 use Rattle.cu_customize.specs.Words.{IsDayList, IsFunctionWords, composed}
 use Rattle.cu_customize.proofs.CompareLaws.{at_next, at_stepped, at_value}
@@ -163,6 +164,16 @@ module _ (windows : Windows) where
         absurd (omega (arith, last, in_day, late, early))
   ]
 
+  -- so what is known of the last one is known of those
+  pub span_in_last : (f : ℕ → ℕ) (i last : ℕ) (span : Span) → last ≡ min i 31 → IsSpan f (window_start windows last) (window_start windows (last + 1)) span
+      → IsSpan f (window_start windows i) (window_start windows (i + 1)) span
+  span_in_last f i last span is_last is =
+      let there : (t : ℕ) → IsIn windows i t → IsIn windows last t = λ t inside. subst (λ (n : ℕ). IsIn windows n t) (sym is_last) (in_last i t inside) in
+      record {
+        slower = λ t late early. let inside = there t (late, early) in is.slower t inside.0 inside.1;
+        faster = λ known t late early. let inside = there t (late, early) in is.faster known t inside.0 inside.1;
+      }
+
 -- between which seconds the reaches lie
 module _ (windows : Windows) (window : ℕ) (inside : window < WINDOWS) where
   pub two_reached : (reach_start windows window ≡ window_start windows window) × (reach_end windows window ≡ window_start windows (window + 2))
@@ -238,13 +249,12 @@ lowered_one f from until old upper new is small same = elim (cases_lt upper old)
   | inr ge ↦ inl (omega (arith, same, ge))
 ]
 
--- a number that is capped is no bound, or is what it was
+-- who leaves in a window arrives within the reach of the seconds between which they arrive
 pub window_taken : (windows : Windows) (f : ℕ → ℕ) (number least most reach : ℕ) (window : Window) → TakesBetween f (window_start windows number) (window_start windows (number + 1)) least
-    → TakesUpToBetween f (window_start windows number) (window_start windows (number + 1)) most → window.least ≡ min least 65535 → window.most ≡ min most 65535 → window.reach ≡ reach
+    → TakesUpToBetween f (window_start windows number) (window_start windows (number + 1)) most → IsSpan f (window_start windows number) (window_start windows (number + 1)) window.span → window.reach ≡ reach
     → IsReach windows (min (window_start windows number + least) (2 ^ 64 - 1)) (min (window_start windows (number + 1) + most) (2 ^ 64 - 1)) reach → IsWindow windows f number window
-window_taken windows f number least most reach window takes takes_up is_least is_most is_reach reaches = record {
-  slower = λ t late early. let one = takes t late early in omega (arith, one, is_least);
-  faster = λ known t late early. let one = takes_up t late early in omega (arith, one, is_most, known);
+window_taken windows f number least most reach window takes takes_up span is_reach reaches = record {
+  span = span;
   is_reach = let few = reaches.0 in omega (arith, few, is_reach);
   reach = λ inside.
       let (small, (days, low, high)) = reaches.1 (omega (arith, inside, is_reach)) in (

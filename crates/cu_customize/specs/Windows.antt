@@ -46,10 +46,6 @@ AreEach IsOne items count = (i : ℕ) → i < count → IsOne i (get_or items i 
 abbrev pub AreStarts : Windows → List ℕ → Type 0
 AreStarts windows starts = AreEach (λ window start. start ≡ window_start windows window) starts (WINDOWS + 1)
 
--- each of these numbers is one from the second until another between which its reach lies
-abbrev pub AreReaches : Windows → (ℕ → ℕ → ℕ → Type 0) → List ℕ → Type 0
-AreReaches windows IsOne items = AreEach (λ reach one. IsOne (reach_start windows reach) (reach_end windows reach) one) items (2 * WINDOWS + 1)
-
 -- what a function takes at least in each window
 abbrev pub TakesInWindows : Windows → (ℕ → ℕ) → List ℕ → Type 0
 TakesInWindows windows f least = AreEach (λ window bound. TakesBetween f (window_start windows window) (window_start windows (window + 1)) bound) least WINDOWS

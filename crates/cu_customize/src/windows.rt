@@ -11,21 +11,20 @@ ghost use Rattle.cu_customize.specs.Words.{IsDayList, IsFunctionWords, composed}
 ghost use Rattle.cu_customize.specs.Windows.{
   AreEach,
   AreLowered,
-  AreReaches,
   AreStarts,
   TakesBetween,
-  TakesInWindows,
   TakesUpToBetween,
   window_start,
 };
 ghost use Rattle.cu_customize.specs.Steps.Bounded.{
   AreBounds,
+  AreReaches,
+  AreSpans,
   IsAt,
   IsReach,
+  IsSpan,
   IsUpper,
   IsWindow,
-  TakesIfKnown,
-  TakesIfKnownInWindows,
 };
 ghost use Rattle.cu_customize.specs.Travels.{TakesAtLeast, TakesAtMost};
 
@@ -64,20 +63,26 @@ pub struct Windows {
     pub widths: [u16; WIDTHS],
 }
 
-/// How long a function takes in each of some windows, and over each reach: at least, and at most where that is below
-/// 65,535; and for each window the reach within which all arrive who leave in it.
+/// How long a function takes from one second until another: at least, and at most where that is below 65,535.
+#[derive(Clone, Copy, Debug, PartialEq, Eq)]
+pub struct Span {
+    pub least: u16,
+    pub most: u16,
+}
+
+/// How long a function takes in each of some windows, and over each reach; and for each window the reach within which
+/// all arrive who leave in it.
 ///
 /// A reach is some windows, one behind the other, by a number: below 32 it is that window and the next one, below 64
 /// the window of 32 less and the next three, as far as the day has them, and 64 is the whole day. So what a second
-/// function takes behind a first one is looked up at one place, whichever windows those are.
+/// function takes behind a first one is looked up at one place, whichever windows those are. The least and the most
+/// stand side by side there, as both are read.
 #[derive(Debug, Drop)]
 pub struct Bounds {
     windows: Windows,
-    least: [u16; WINDOWS],
-    most: [u16; WINDOWS],
+    own: [Span; WINDOWS],
     reach: [u8; WINDOWS],
-    least_over: [u16; REACHES],
-    most_over: [u16; REACHES],
+    over: [Span; REACHES],
 }
 
 /// What a candidate takes at least in each of these windows, and what some candidate takes at most.
@@ -88,11 +93,10 @@ pub struct Limits<'a> {
     pub most: &'a [u32; WINDOWS],
 }
 
-// The same of one window.
+// What is known of one window.
 #[derive(Clone, Copy)]
 struct Window {
-    least: u16,
-    most: u16,
+    span: Span,
     reach: u8,
 }
 
@@ -191,13 +195,12 @@ impl Bounds {
         ensures windows { result.windows ≡ windows }
         ensures bounds { AreBounds (arrival_value words.now) result }
     {
+        let whole = span_of(least, most);
         let mut bounds = Bounds {
             windows,
-            least: [0; WINDOWS],
-            most: [0; WINDOWS],
+            own: [whole; WINDOWS],
             reach: [0; WINDOWS],
-            least_over: [0; REACHES],
-            most_over: [0; REACHES],
+            over: [whole; REACHES],
         };
         let starts = windows.starts();
         let mut index = 0;
@@ -206,13 +209,11 @@ impl Bounds {
             let until = start_in(&starts, window + 1);
             let travels = travels_between(words, index, from, until);
             let known = window_of(&starts, from, until, travels);
-            bounds.least[window] = known.least;
-            bounds.most[window] = known.most;
+            bounds.own[window] = known.span;
             bounds.reach[window] = known.reach;
             index = travels.index;
         }
-        bounds.least_over = least_by_reach(&bounds.least, short(least));
-        bounds.most_over = most_by_reach(&bounds.most, short(most));
+        bounds.over = by_reach(&bounds.own, whole);
         bounds
     }
 
@@ -235,7 +236,7 @@ impl Bounds {
             (window_start self.now.windows (window + 1)) result }
     {
         let reach = self.reach[window] as usize;
-        u32::from(self.least[window]) + u32::from(second.least_over[reach])
+        u32::from(self.own[window].least) + u32::from(second.over[reach].least)
     }
 
     /// What it takes at most, where that is below 4,294,967,295.
@@ -250,7 +251,7 @@ impl Bounds {
             (window_start self.now.windows (window + 1)) result }
     {
         let reach = self.reach[window] as usize;
-        let most = u32::from(self.most[window]) + u32::from(second.most_over[reach]);
+        let most = u32::from(self.own[window].most) + u32::from(second.over[reach].most);
         // Unknown where one of the two is. As great a sum of two that are known is dropped too: it only loses a limit.
         if most >= u32::from(UNKNOWN) {
             return NO_LIMIT;
@@ -259,52 +260,43 @@ impl Bounds {
     }
 }
 
-// What a function takes at least over each reach, by what it takes in each window and over the day.
-fn least_by_reach(least: &[u16; WINDOWS], whole: u16) -> [u16; REACHES]
-    ensures { (windows : Windows) → (f : ℕ → ℕ) → TakesInWindows windows f least.now
-        → TakesBetween f 0 DAY whole → AreReaches windows (TakesBetween f) result }
+// What a function takes over each reach, by what it takes in each window and over the day.
+fn by_reach(own: &[Span; WINDOWS], whole: Span) -> [Span; REACHES]
+    ensures { (windows : Windows) → (f : ℕ → ℕ) → AreSpans windows f own.now
+        → IsSpan f 0 DAY whole → AreReaches windows f result }
 {
     let mut over = [whole; REACHES];
     'windows: for window in 0..WINDOWS {
-        let two = least_of_two(least, window);
+        let two = of_two(own, window);
         over[window] = two;
-        over[WINDOWS + window] = two.min(least_of_two(least, window + 2));
+        over[WINDOWS + window] = joined(two, of_two(own, window + 2));
     }
     over
 }
 
-// And at most.
-fn most_by_reach(most: &[u16; WINDOWS], whole: u16) -> [u16; REACHES]
-    ensures { (windows : Windows) → (f : ℕ → ℕ) → TakesIfKnownInWindows windows f most.now
-        → TakesIfKnown f 0 DAY whole → AreReaches windows (TakesIfKnown f) result }
+// What a function takes in a window and the next one, as far as the day has them.
+#[inline(always)]
+fn of_two(own: &[Span; WINDOWS], window: usize) -> Span
+    requires { window ≤ 2 * WINDOWS }
+    ensures { (windows : Windows) → (f : ℕ → ℕ) → AreSpans windows f own.now
+        → IsSpan f (window_start windows window) (window_start windows (window + 2)) result }
 {
-    let mut over = [whole; REACHES];
-    'windows: for window in 0..WINDOWS {
-        let two = most_of_two(most, window);
-        over[window] = two;
-        over[WINDOWS + window] = two.max(most_of_two(most, window + 2));
+    joined(
+        own[window.min(WINDOWS - 1)],
+        own[(window + 1).min(WINDOWS - 1)],
+    )
+}
+
+// What a function takes over both of two stretches of the day, one behind the other.
+#[inline(always)]
+fn joined(one: Span, two: Span) -> Span
+    ensures { (f : ℕ → ℕ) → (from middle until : ℕ) → IsSpan f from middle one
+        → IsSpan f middle until two → IsSpan f from until result }
+{
+    Span {
+        least: one.least.min(two.least),
+        most: one.most.max(two.most),
     }
-    over
-}
-
-// What a function takes at least in a window and the next one, as far as the day has them.
-#[inline(always)]
-fn least_of_two(least: &[u16; WINDOWS], window: usize) -> u16
-    requires { window ≤ 2 * WINDOWS }
-    ensures { (windows : Windows) → (f : ℕ → ℕ) → TakesInWindows windows f least.now
-        → TakesBetween f (window_start windows window) (window_start windows (window + 2)) result }
-{
-    least[window.min(WINDOWS - 1)].min(least[(window + 1).min(WINDOWS - 1)])
-}
-
-// And at most.
-#[inline(always)]
-fn most_of_two(most: &[u16; WINDOWS], window: usize) -> u16
-    requires { window ≤ 2 * WINDOWS }
-    ensures { (windows : Windows) → (f : ℕ → ℕ) → TakesIfKnownInWindows windows f most.now
-        → TakesIfKnown f (window_start windows window) (window_start windows (window + 2)) result }
-{
-    most[window.min(WINDOWS - 1)].max(most[(window + 1).min(WINDOWS - 1)])
 }
 
 // How long a function takes in a window, by its travel times from one second until another.
@@ -321,9 +313,20 @@ fn window_of(starts: &[u32; STARTS], from: u64, until: u64, travels: Travels) ->
         until.saturating_add(travels.most),
     );
     Window {
-        least: short(travels.least),
-        most: short(travels.most),
+        span: span_of(travels.least, travels.most),
         reach: reach as u8,
+    }
+}
+
+// Such travel times, as short numbers have them.
+#[inline(always)]
+fn span_of(least: u64, most: u64) -> Span
+    ensures { (f : ℕ → ℕ) → (from until : ℕ) → TakesBetween f from until least
+        → TakesUpToBetween f from until most → IsSpan f from until result }
+{
+    Span {
+        least: short(least),
+        most: short(most),
     }
 }
 

@@ -8,11 +8,12 @@ use Rattle.cu_arrival.specs.declared.runs.Run.{Run}
 use Rattle.cu_arrival.specs.Runs.{arrival_value}
 use Rattle.cu_customize.specs.declared.windows.TheConstants.{NO_LIMIT, UNKNOWN, WINDOWS}
 use Rattle.cu_customize.specs.declared.windows.Bounds.{Bounds}
+use Rattle.cu_customize.specs.declared.windows.Span.{Span}
 use Rattle.cu_customize.specs.declared.windows.Window.{Window}
 use Rattle.cu_customize.specs.declared.windows.Windows.{Windows}
 use Rattle.cu_customize.specs.Travels.{Takes, TakesAtLeast, TakesAtMost}
 use Rattle.cu_customize.specs.Words.{IsFunctionWords}
-use Rattle.cu_customize.specs.Windows.{AreEach, AreReaches, Reaches, TakesBetween, TakesUpToBetween, reach_end, reach_start, window_start}
+use Rattle.cu_customize.specs.Windows.{Reaches, TakesBetween, TakesUpToBetween, reach_end, reach_start, window_start}
 
 -- on one day all these seconds are within a reach, unless it's the whole day
 abbrev pub IsReach : Windows → ℕ → ℕ → ℕ → Type 0
@@ -23,19 +24,31 @@ IsReach windows first last reach =
 abbrev pub TakesIfKnown : (ℕ → ℕ) → ℕ → ℕ → ℕ → Type 0
 TakesIfKnown f from until most = most < UNKNOWN → TakesUpToBetween f from until most
 
--- so in each window
-abbrev pub TakesIfKnownInWindows : Windows → (ℕ → ℕ) → List ℕ → Type 0
-TakesIfKnownInWindows windows f most = AreEach (λ window bound. TakesIfKnown f (window_start windows window) (window_start windows (window + 1)) bound) most WINDOWS
+-- what it takes from one second until another, at least and at most
+pub record IsSpan (f : ℕ → ℕ) (from until : ℕ) (span : Span) : Type 0 where
+  pub slower : TakesBetween f from until span.least
+  pub faster : TakesIfKnown f from until span.most
+
+-- the span at a place of a list: none is read behind its end
+abbrev pub span_at : List Span → ℕ → Span
+span_at spans i = get_or spans i (record { least = 0; most = 0 })
+
+-- what it takes in each window
+abbrev pub AreSpans : Windows → (ℕ → ℕ) → List Span → Type 0
+AreSpans windows f own = (i : ℕ) → i < WINDOWS → IsSpan f (window_start windows i) (window_start windows (i + 1)) (span_at own i)
+
+-- and over each reach
+abbrev pub AreReaches : Windows → (ℕ → ℕ) → List Span → Type 0
+AreReaches windows f over = (i : ℕ) → i ≤ 2 * WINDOWS → IsSpan f (reach_start windows i) (reach_end windows i) (span_at over i)
 
 pub record IsWindow (windows : Windows) (f : ℕ → ℕ) (number : ℕ) (window : Window) : Type 0 where
-  pub slower : TakesBetween f (window_start windows number) (window_start windows (number + 1)) window.least
-  pub faster : TakesIfKnown f (window_start windows number) (window_start windows (number + 1)) window.most
+  pub span : IsSpan f (window_start windows number) (window_start windows (number + 1)) window.span
   pub is_reach : window.reach ≤ 2 * WINDOWS
   pub reach : window.reach < 2 * WINDOWS → Reaches windows f (window_start windows number) (window_start windows (number + 1)) window.reach
 
 -- what is kept of a window
 abbrev pub window_in : Bounds → ℕ → Window
-window_in bounds i = record { least = get_or bounds.least i 0; most = get_or bounds.most i 0; reach = get_or bounds.reach i 0 }
+window_in bounds i = record { span = span_at bounds.own i; reach = get_or bounds.reach i 0 }
 
 -- what is known of a function in the first windows, so many
 abbrev pub AreWindows : Windows → (ℕ → ℕ) → Bounds → ℕ → Type 0
@@ -44,8 +57,7 @@ AreWindows windows f bounds count = (i : ℕ) → i < count → IsWindow windows
 -- in each of its windows, and over each reach
 pub record AreBounds (f : ℕ → ℕ) (bounds : Bounds) : Type 0 where
   pub windows : AreWindows bounds.windows f bounds WINDOWS
-  pub slower : AreReaches bounds.windows (TakesBetween f) bounds.least_over
-  pub faster : AreReaches bounds.windows (TakesIfKnown f) bounds.most_over
+  pub over : AreReaches bounds.windows f bounds.over
 
 -- so it is where there are bounds
 abbrev pub AreKnown : (ℕ → ℕ) → Option (Box Bounds) → Type 0

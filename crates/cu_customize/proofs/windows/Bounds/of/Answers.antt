@@ -2,8 +2,7 @@ use Rattle.std.proofs.Common.{◌≡◌, ◌<◌, ◌+◌, ◌∙◌, ℕ, arith
 use Rattle.cu_arrival.specs.Runs.{arrival_value}
 use Rattle.cu_customize.specs.declared.windows.TheConstants.{WINDOWS}
 use Rattle.cu_customize.specs.declared.windows.Windows.{Windows}
-use Rattle.cu_customize.specs.Steps.Bounded.{AreWindows, IsAt, TakesIfKnown}
-use Rattle.cu_customize.specs.Windows.{AreReaches, TakesBetween}
+use Rattle.cu_customize.specs.Steps.Bounded.{AreReaches, AreWindows, IsAt}
 use Rattle.cu_customize.proofs.BoundLaws.{windows_set}
 use Rattle.cu_customize.proofs.WindowLaws.{starts_in_day, starts_rise}
 use Rattle.cu_customize.proofs.windows.Bounds.of.Goals as goal
@@ -27,20 +26,17 @@ windows-preserved c =
     let bounds = c.windows.bounds in
     let travels = c.travels_between-travels in
     let window = c.windows.window in
-    let least_long = c.windows.invariant.least_long in
-    let most_long = c.windows.invariant.most_long in
+    let own_long = c.windows.invariant.own_long in
     let reach_long = c.windows.invariant.reach_long in
-    let one : window < length bounds.least = omega (arith, least_long) in
-    let two : window < length bounds.most = omega (arith, most_long) in
-    let three : window < length bounds.reach = omega (arith, reach_long) in
+    let one : window < length bounds.own = omega (arith, own_long) in
+    let two : window < length bounds.reach = omega (arith, reach_long) in
     let from = c.start_in-from.ensures c.args.windows c.starts-starts.ensures in
     let until = c.start_in-until.ensures c.args.windows c.starts-starts.ensures in
     record {
       held = subst (λ (t : ℕ). IsAt words travels.result.index t) until travels.ensures.index;
-      known = windows_set c.args.windows (arrival_value words) bounds window c.window_of-known.result one two three c.windows.invariant.known
+      known = windows_set c.args.windows (arrival_value words) bounds window c.window_of-known.result one two c.windows.invariant.known
           (c.window_of-known.ensures c.args.windows c.starts-starts.ensures (arrival_value words) window from until (travels.ensures.least c.requires.onward) travels.ensures.most);
-      least_long = length-set bounds.least window c.window_of-known.result.least ∙ least_long;
-      most_long = length-set bounds.most window c.window_of-known.result.most ∙ most_long;
+      own_long = length-set bounds.own window c.window_of-known.result.span ∙ own_long;
       reach_long = length-set bounds.reach window c.window_of-known.result.reach ∙ reach_long;
       windows = c.windows.invariant.windows;
     }
@@ -56,10 +52,9 @@ returns-clause-bounds c =
     let bounds = c.windows.bounds in
     let same : windows ≡ bounds.windows = sym c.windows.invariant.windows in
     let known : AreWindows windows f bounds WINDOWS = subst (λ (n : ℕ). AreWindows windows f bounds n) all c.windows.invariant.known in
-    let least = c.least_by_reach-bounds in
-    let most = c.most_by_reach-bounds in
+    let over = c.by_reach-bounds in
+    let whole = c.span_of-whole.ensures f 0 86400 (λ t late early. c.requires.least t early) (λ t late early. c.requires.most t early) in
     record {
       windows = subst (λ (ws : Windows). AreWindows ws f bounds WINDOWS) same known;
-      slower = subst (λ (ws : Windows). AreReaches ws (TakesBetween f) least.result) same (least.ensures windows f (λ i inside. (known i inside).slower) (λ t late early. let takes = c.requires.least t early in omega (arith, takes, c.short.ensures)));
-      faster = subst (λ (ws : Windows). AreReaches ws (TakesIfKnown f) most.result) same (most.ensures windows f (λ i inside. (known i inside).faster) (λ few t late early. let takes = c.requires.most t early in omega (arith, takes, c.short-2.ensures, few)));
+      over = subst (λ (ws : Windows). AreReaches ws f over.result) same (over.ensures windows f (λ i inside. (known i inside).span) whole);
     }

@@ -9,8 +9,7 @@ abbrev pub invariant-windows : goal.invariant-windows
 invariant-windows l = record {
   held : IsAt l.words l.index (window_start l.fn.windows l.window);
   known : AreWindows l.fn.windows (arrival_value l.words) l.bounds l.window;
-  least_long : length l.bounds.least ≡ WINDOWS;
-  most_long : length l.bounds.most ≡ WINDOWS;
+  own_long : length l.bounds.own ≡ WINDOWS;
   reach_long : length l.bounds.reach ≡ WINDOWS;
   windows : l.bounds.windows ≡ l.initial.bounds.windows;
 }

@@ -1,12 +1,12 @@
 use Rattle.std.proofs.Common.{◌≡◌, ◌+◌, ◌*◌, ℕ, length}
 use Rattle.cu_customize.specs.declared.windows.TheConstants.{WINDOWS}
 use Rattle.cu_customize.specs.declared.windows.Windows.{Windows}
-use Rattle.cu_customize.specs.Windows.{TakesBetween, TakesInWindows}
+use Rattle.cu_customize.specs.Steps.Bounded.{AreSpans}
 use Rattle.cu_customize.proofs.BoundLaws.{AreFirst}
-use Rattle.cu_customize.proofs.windows.least_by_reach.Given as goal
+use Rattle.cu_customize.proofs.windows.by_reach.Given as goal
 
 abbrev pub invariant-windows : goal.invariant-windows
 invariant-windows l = record {
   long : length l.over ≡ 2 * WINDOWS + 1;
-  first : (windows : Windows) → (f : ℕ → ℕ) → TakesInWindows windows f l.least → AreFirst windows (TakesBetween f) l.over l.window l.whole;
+  first : (windows : Windows) → (f : ℕ → ℕ) → AreSpans windows f l.own → AreFirst windows f l.over l.window l.fn.whole;
 }
