@@ -7,6 +7,7 @@ use Rattle.std.proofs.lemmas.Map.Steps.{length-le_from_distinct_below}
 use Rattle.cu_model.specs.Networks.{NetworkValue, IsNetwork}
 use Rattle.cu_model.specs.Orders.{OrderValue}
 use Rattle.cu_model.specs.Roads.{drive, arc_value}
+use Rattle.cu_model.proofs.OrderLaws.{none_pass}
 use Rattle.cu_interval.specs.Low.{LeadsRanks, WalkBelow}
 use Rattle.cu_interval.proofs.Walks.{below-fifo, leads-onward}
 
@@ -107,18 +108,6 @@ drop_to g o f m x u (a ∷ b ∷ w) (y ∷ ys) v h d e =
           }
     ]
 
-or_left : (a b : Bool) → (a || b) ≡ false → a ≡ false
-or_left false b e = refl
-or_left true b e = cc e
-
-or_right : (a b : Bool) → (a || b) ≡ false → b ≡ false
-or_right false b e = e
-or_right true b e = cc e
-
-pub none_of : (x : ℕ) (xs : List ℕ) → list_any (eqb x) xs ≡ false → AllByRecursion (λ y. eqb x y ≡ false) xs
-none_of x [] e = tt
-none_of x (y ∷ ys) e = (or_left (eqb x y) (list_any (eqb x) ys) e, none_of x ys (or_right (eqb x y) (list_any (eqb x) ys) e))
-
 pub simple : (g : NetworkValue) (o : OrderValue) → IsNetwork g → (m u : ℕ) (w : List ℕ) (v : ℕ) → WalkBelow g o m u w v → IsSimple g o m u w v
 unfolding IsDistinct
 simple g o f m u [] v h = absurd h
@@ -143,7 +132,7 @@ simple g o f m u (a ∷ b ∷ w) v h =
           }
       | inr new ↦
           let t2 = through_step g o m x a u s.arcs s.inner v lt j s.through in
-          let d2 : IsDistinct eqb (x ∷ s.inner) = (none_of x s.inner new, s.different) in
+          let d2 : IsDistinct eqb (x ∷ s.inner) = (none_pass x s.inner new, s.different) in
           record {
             arcs = a ∷ s.arcs;
             inner = x ∷ s.inner;

@@ -8,6 +8,7 @@ use Rattle.cu_model.specs.Networks.{NetworkValue}
 use Rattle.cu_model.specs.Orders.{OrderValue}
 use Rattle.cu_model.specs.Days.{day}
 use Rattle.cu_model.specs.Roads.{drive}
+use Rattle.cu_model.proofs.OrderLaws.{none_pass}
 use Rattle.cu_model.proofs.RoadLaws.{drive-append}
 use Rattle.cu_interval.specs.declared.ways.Way.{Way}
 use Rattle.cu_interval.specs.declared.ways.Way.TheVariants.{Road, Via}
@@ -20,7 +21,7 @@ use Rattle.cu_interval.proofs.Days.{built_first}
 use Rattle.cu_interval.proofs.Fuel.{unpacked-via}
 use Rattle.cu_interval.proofs.Halves.{halves_apart}
 use Rattle.cu_interval.proofs.Lookups.{middles_fall}
-use Rattle.cu_interval.proofs.Simple.{Through, bound, inner_below, none_of}
+use Rattle.cu_interval.proofs.Simple.{Through, bound, inner_below}
 use Rattle.cu_interval.proofs.Unpacked.{list_from_spelled, way_there}
 
 or_true : (b : Bool) → (b || true) ≡ true
@@ -59,9 +60,9 @@ not_true false f = refl
 distinct_join : (m : ℕ) (xs ys : List ℕ) → IsDistinct eqb xs → IsDistinct eqb ys → ((z : ℕ) → list_any (eqb z) xs ≡ true → z < m) → ((z : ℕ) → list_any (eqb z) ys ≡ true → z < m)
     → ((z : ℕ) → list_any (eqb z) xs ≡ true → list_any (eqb z) ys ≡ true → ⊥) → IsDistinct eqb (xs ++ (m ∷ ys))
 unfolding IsDistinct
-distinct_join m [] ys d e a b apart = (none_of m ys (not_true (list_any (eqb m) ys) (λ p. let lt = b m p in omega (arith, lt))), e)
+distinct_join m [] ys d e a b apart = (none_pass m ys (not_true (list_any (eqb m) ys) (λ p. let lt = b m p in omega (arith, lt))), e)
 distinct_join m (x ∷ xs) ys d e a b apart = (
-  none_of x (xs ++ (m ∷ ys)) (not_true (list_any (eqb x) (xs ++ (m ∷ ys))) (λ p.
+  none_pass x (xs ++ (m ∷ ys)) (not_true (list_any (eqb x) (xs ++ (m ∷ ys))) (λ p.
       elim (any_append x xs (m ∷ ys) p) [
         | inl q ↦ not_any x xs d.0 q
         | inr q ↦ elim (or_cases (eqb x m) (list_any (eqb x) ys) q) [

@@ -4,6 +4,7 @@ use Rattle.std.specs.List.{list_any, IsDistinct, AllByRecursion}
 use Rattle.std.specs.Prelude.{◌||◌}
 use Rattle.std.proofs.lemmas.Bool.{cases_Bool, eqb-true}
 use Rattle.std.proofs.lemmas.Map.Steps.{length-le_from_distinct_below}
+use Rattle.cu_model.proofs.OrderLaws.{none_pass}
 use Rattle.cu_links.specs.Chains.{link_at}
 use Rattle.cu_links.specs.Steps.Kept.{IsDeep}
 use Rattle.cu_links.proofs.Links.{link_within, same_value}
@@ -43,18 +44,6 @@ member_deep links (suc n) place d q e =
           (k, omega (arith, le), deep, lt)
     ]
 
-or_left : (a b : Bool) → (a || b) ≡ false → a ≡ false
-or_left false b e = refl
-or_left true b e = cc e
-
-or_right : (a b : Bool) → (a || b) ≡ false → b ≡ false
-or_right false b e = e
-or_right true b e = cc e
-
-none_of : (x : ℕ) (xs : List ℕ) → list_any (eqb x) xs ≡ false → AllByRecursion (λ y. eqb x y ≡ false) xs
-none_of x [] e = tt
-none_of x (y ∷ ys) e = (or_left (eqb x y) (list_any (eqb x) ys) e, none_of x ys (or_right (eqb x y) (list_any (eqb x) ys) e))
-
 places_differ : (links : List (Option (ℕ × ℕ))) (n place : ℕ) (d : IsDeep links n place) → IsDistinct eqb (deep_places links n place d)
 unfolding IsDistinct deep_places
 places_differ links zero place d = tt
@@ -67,7 +56,7 @@ places_differ links (suc n) place d =
           absurd (omega (arith, same, le))
       | inr none ↦ none
     ] in
-    (none_of place (deep_places links n d.0 d.3) new, places_differ links n d.0 d.3)
+    (none_pass place (deep_places links n d.0 d.3) new, places_differ links n d.0 d.3)
 
 pub deep_few : (links : List (Option (ℕ × ℕ))) (n place : ℕ) → IsDeep links n place → n ≤ length links
 deep_few links n place d =

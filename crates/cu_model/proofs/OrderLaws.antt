@@ -40,8 +40,8 @@ different nodes once i j i_in j_in same =
       ]
     ]
 
--- where no element passes the test, none of them does
-none_pass : (v : ℕ) (nodes : List ℕ) → list_any (eqb v) nodes ≡ false → AllByRecursion (λ y. eqb v y ≡ false) nodes
+-- a number that a list doesn't have differs from each of its elements
+pub none_pass : (v : ℕ) (nodes : List ℕ) → list_any (eqb v) nodes ≡ false → AllByRecursion (λ y. eqb v y ≡ false) nodes
 none_pass v nodes none =
     recursion_from_All (λ y. eqb v y ≡ false) nodes
     (λ k d h. elim (cases_Bool (eqb v (get_or nodes k d))) [
