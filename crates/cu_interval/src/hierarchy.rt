@@ -28,6 +28,11 @@ pub trait Ways: Roads {
         ensures range { result < (hierarchy self.now).network.nodes }
         ensures sound { IsHierarchy (hierarchy self.now) };
 
+    /// How many ranks there are, as many as nodes.
+    fn ranks(&self) -> u32
+        ensures count { result ≡ (hierarchy self.now).network.nodes }
+        ensures sound { IsHierarchy (hierarchy self.now) };
+
     /// How many edges there are, at most 16,777,216.
     fn edges(&self) -> u32
         ensures count { result ≡ length (hierarchy self.now).edges }
@@ -216,6 +221,10 @@ impl Ways for Hierarchy {
 
     fn node(&self, rank: u32) -> u32 {
         self.order.node(rank)
+    }
+
+    fn ranks(&self) -> u32 {
+        self.graph.ranks()
     }
 
     fn edges(&self) -> u32 {

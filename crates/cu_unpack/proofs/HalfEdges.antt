@@ -66,8 +66,8 @@ module _ (h : HierarchyValue) (f : IsHierarchy h) where
 pub halves_sides : (h : HierarchyValue) (whole first second : Shortcut) (m : ℕ) → AreHalves h whole m first second → IsSide h.edges whole.edge first.edge × IsSide h.edges whole.edge second.edge
 halves_sides h whole first second m halves = by_dir whole.dir halves.to halves.onward
   where
-    by_dir : (dir : Dir) → slice_get h.edges first.edge ≡ Some (record { low = m; high = start_of halves.ends dir }) → slice_get h.edges second.edge ≡ Some (record { low = m; high = end_of halves.ends dir })
-        → IsSide h.edges whole.edge first.edge × IsSide h.edges whole.edge second.edge
+    by_dir : (dir : Dir) → slice_get h.edges first.edge ≡ Some (record { low = m; high = start_of halves.ends dir })
+        → slice_get h.edges second.edge ≡ Some (record { low = m; high = end_of halves.ends dir }) → IsSide h.edges whole.edge first.edge × IsSide h.edges whole.edge second.edge
     by_dir Up to onward = (
       record { ends = halves.ends; at = halves.at; middle = m; first = first.edge; to_low = to; second = second.edge; to_high = onward; either = inl refl },
       record { ends = halves.ends; at = halves.at; middle = m; first = first.edge; to_low = to; second = second.edge; to_high = onward; either = inr refl },
@@ -78,7 +78,8 @@ halves_sides h whole first second m halves = by_dir whole.dir halves.to halves.o
     )
 
 -- so a half that isn't there is missing
-module _ (h : HierarchyValue) (f : IsHierarchy h) (IsThere : Shortcut → Type 0) (whole first second : Shortcut) (m : ℕ) (way : IsWayOf h whole (Via m)) (halves : AreHalves h whole m first second) where
+module _ (h : HierarchyValue) (f : IsHierarchy h) (IsThere : Shortcut → Type 0) (whole first second : Shortcut) (m : ℕ) (way : IsWayOf h whole (Via m))
+    (halves : AreHalves h whole m first second) where
   pub first_missing : (IsThere first → ⊥) → IsMissingHalf h IsThere whole first
   first_missing lacks =
       let (ways, lower) = (halves_lower h f whole first second m way halves).0 in
@@ -89,7 +90,8 @@ module _ (h : HierarchyValue) (f : IsHierarchy h) (IsThere : Shortcut → Type 0
       let (ways, lower) = (halves_lower h f whole first second m way halves).1 in
       record { missing = (ways, lacks); lower = lower; side = (halves_sides h whole first second m halves).1 }
 
-same_number : (h : HierarchyValue) → IsHierarchy h → (i j low high : ℕ) → slice_get h.edges i ≡ Some (record { low = low; high = high }) → slice_get h.edges j ≡ Some (record { low = low; high = high }) → i ≡ j
+same_number : (h : HierarchyValue) → IsHierarchy h → (i j low high : ℕ) → slice_get h.edges i ≡ Some (record { low = low; high = high })
+    → slice_get h.edges j ≡ Some (record { low = low; high = high }) → i ≡ j
 same_number h f i j low high at_i at_j =
     let one = number_at 0 h.edges i low high f.graph.rising at_i in
     let two = number_at 0 h.edges j low high f.graph.rising at_j in

@@ -90,8 +90,8 @@ half_waits IsOpen waiting next half is missing below =
     })
 
 -- and a lower edge is next
-pub half_smaller : (amount : ℕ) (before now waiting : List Shortcut) (shortcut next half : Shortcut) → Takes before shortcut waiting next → now ≡ (waiting ++ next ∷ []) ++ half ∷ [] → half.edge < next.edge
-    → amount + next_edge now shortcut < amount + next_edge before shortcut
+pub half_smaller : (amount : ℕ) (before now waiting : List Shortcut) (shortcut next half : Shortcut) → Takes before shortcut waiting next
+    → now ≡ (waiting ++ next ∷ []) ++ half ∷ [] → half.edge < next.edge → amount + next_edge now shortcut < amount + next_edge before shortcut
 half_smaller amount before now waiting shortcut next half taken is below =
     let old = next_edge-taken before waiting shortcut next taken in
     let new : next_edge now shortcut ≡ half.edge = ap (λ (xs : List Shortcut). next_edge xs shortcut) is ∙ next_edge-push (waiting ++ next ∷ []) half shortcut in

@@ -16,7 +16,7 @@ use Rattle.cu_unpack.specs.Steps.Rebuilding.{AreKept, IsKept, IsMissing, KeepsOn
 use Rattle.cu_unpack.proofs.Writes.{set_here, set_other}
 
 -- a shortcut's list has a place among those of all edges
-pub number_there : (h : HierarchyValue) (kept : List (Option (List Run))) (shortcut : Shortcut) → AreKept h kept → shortcut.edge < length h.edges → number_of shortcut < length kept
+number_there : (h : HierarchyValue) (kept : List (Option (List Run))) (shortcut : Shortcut) → AreKept h kept → shortcut.edge < length h.edges → number_of shortcut < length kept
 number_there h kept shortcut are lt = let within = number_within shortcut.edge (length h.edges) shortcut.dir lt in omega (arith, within, are.0)
 
 one_more : (h : HierarchyValue) (kept : List (Option (List Run))) (shortcut : Shortcut) (runs : List Run) → shortcut.edge < length h.edges → AreKept h kept
@@ -79,6 +79,7 @@ fewer_missing h shortcut before now are (ways, missing) (runs, is, function) =
     omega (arith, one, sums, same)
 
 -- a shortcut whose function is written is kept
-pub kept_now : (h : HierarchyValue) (shortcut : Shortcut) (before now : List (Option (List Run))) → AreKept h before → shortcut.edge < length h.edges → KeepsOne h shortcut before now → IsKept now shortcut
+pub kept_now : (h : HierarchyValue) (shortcut : Shortcut) (before now : List (Option (List Run))) → AreKept h before → shortcut.edge < length h.edges
+    → KeepsOne h shortcut before now → IsKept now shortcut
 kept_now h shortcut before now are lt (runs, is, function) =
     (runs, ap (λ (xs : List (Option (List Run))). slice_get xs (number_of shortcut)) is ∙ set_here before (number_of shortcut) (Some runs) (number_there h before shortcut are lt))

@@ -17,7 +17,7 @@ use Rattle.cu_unpack.specs.Steps.WordRebuilding.{HasWords, IsKnown, IsUnknown, L
 use Rattle.cu_unpack.proofs.Writes.{set_here, set_other}
 
 -- a shortcut's list has a place
-pub known_within : (edges : ℕ) (value : WordsValue) (shortcut : Shortcut) → IsSized edges value → shortcut.edge < edges → number_of shortcut < length value.known
+known_within : (edges : ℕ) (value : WordsValue) (shortcut : Shortcut) → IsSized edges value → shortcut.edge < edges → number_of shortcut < length value.known
 known_within edges value shortcut size lt = let within = number_within shortcut.edge edges shortcut.dir lt in omega (arith, within, size.known)
 
 pub function_within : (edges : ℕ) (value : WordsValue) (shortcut : Shortcut) → IsSized edges value → shortcut.edge < edges → number_of shortcut < length value.functions
@@ -33,7 +33,8 @@ known_words h asked value size keeps shortcut ways needed known =
     some_words None at = absurd (ways.1 (keeps shortcut.edge shortcut.dir needed known None at))
     some_words (Some words) at = (words, at)
 
-module _ (h : HierarchyValue) (shortcut : Shortcut) (before now : WordsValue) (size : IsSized (length h.edges) before) (lt : shortcut.edge < length h.edges) (one : LearnsOne h shortcut before now) where
+module _ (h : HierarchyValue) (shortcut : Shortcut) (before now : WordsValue) (size : IsSized (length h.edges) before) (lt : shortcut.edge < length h.edges)
+    (one : LearnsOne h shortcut before now) where
   now_known : now.known ≡ slice_set before.known (number_of shortcut) true
   now_known = ap (λ (v : WordsValue). v.known) one.1
 

@@ -126,8 +126,10 @@ module _ (h : HierarchyValue) (f : IsHierarchy h) (value : WordsValue) (size : I
   pub far_via : (to on : List Run) → slice_get value.functions (number_of first) ≡ Some (Some to) → slice_get value.functions (number_of second) ≡ Some (Some on)
       → TakeLonger (MAX_NUMBER - day) (Some (arrival_value to)) (Some (arrival_value on)) → IsFarWay h value whole.edge whole.dir (Via m)
   far_via to on to_at on_at longer =
-      let first_at : slice_get value.functions (list_number first.edge Down) ≡ Some (Some to) = subst (λ (d : Dir). slice_get value.functions (list_number first.edge d) ≡ Some (Some to)) halves.down to_at in
-      let second_at : slice_get value.functions (list_number second.edge Up) ≡ Some (Some on) = subst (λ (d : Dir). slice_get value.functions (list_number second.edge d) ≡ Some (Some on)) halves.up on_at in
+      let first_at : slice_get value.functions (list_number first.edge Down) ≡ Some (Some to) =
+      subst (λ (d : Dir). slice_get value.functions (list_number first.edge d) ≡ Some (Some to)) halves.down to_at in
+      let second_at : slice_get value.functions (list_number second.edge Up) ≡ Some (Some on) =
+      subst (λ (d : Dir). slice_get value.functions (list_number second.edge d) ≡ Some (Some on)) halves.up on_at in
       let both = known first second halves in
       record {
         ends = halves.ends;

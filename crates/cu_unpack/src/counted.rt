@@ -90,10 +90,8 @@ impl<'a, W: Ways> CountedWays for Counted<'a, W> {
 
     ghost steps = { λ counted. counted.steps };
 
-    // What holds ways says at a call that it is a hierarchy.
     fn nodes(&self) -> u32 {
-        let _edges = self.ways.edges();
-        self.ways.nodes()
+        self.ways.ranks()
     }
 
     fn ends(&self, edge: u32) -> Ends {

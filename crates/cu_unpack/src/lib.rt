@@ -12,6 +12,7 @@
 
 mod counted;
 mod listed;
+mod missing;
 mod rebuilding;
 mod room;
 mod shortcuts;

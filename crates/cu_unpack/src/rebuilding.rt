@@ -6,8 +6,9 @@ ghost use Rattle.cu_chordal.specs.declared.graph.TheConstants.{MAX_EDGES};
 ghost use Rattle.cu_interval.specs.declared.ways.Entry.{Entry};
 ghost use Rattle.cu_interval.specs.Hierarchies.{HierarchyValue, IsHierarchy};
 ghost use Rattle.cu_unpack.specs.Rebuilds.{IsRebuiltFunction, Keeps};
-ghost use Rattle.cu_unpack.specs.Steps.Rebuilding.{AreKept, FindsHalf, FindsMissing, HasHalves, HasWays, IsEarlier, IsKept, IsLeastOf, IsWayFunction, IsWayOf, KeepsOne, number_of, ways_of};
+ghost use Rattle.cu_unpack.specs.Steps.Rebuilding.{AreKept, FindsMissing, HasHalves, HasWays, IsEarlier, IsKept, IsLeastOf, IsWayFunction, IsWayOf, KeepsOne, number_of, ways_of};
 
+use crate::missing::{Known, missing_half};
 use crate::shortcuts::{Shortcut, halves, is_among, list_number, take_next};
 use cu_arrival::{Arrival, compose, lesser};
 use cu_chordal::MAX_EDGES;
@@ -69,8 +70,29 @@ impl Rebuilt {
             return Ok(None);
         }
         let shortcut = Shortcut { edge, dir };
-        rebuild(alloc, ways, &mut self.kept, shortcut)?;
-        Ok(Some(kept_function(&self.kept, shortcut).copy(alloc)?))
+        rebuild(alloc, ways, self, shortcut)?;
+        Ok(Some(self.kept_function(shortcut).copy(alloc)?))
+    }
+
+    // The function of a shortcut, which is kept.
+    fn kept_function(&self, shortcut: Shortcut) -> &Arrival
+        requires { IsKept self.now.kept shortcut }
+        ensures { slice_get self.now.kept (number_of shortcut) ≡ Some (Some result.now) }
+    {
+        let Some(function) = &self.kept[list_number(shortcut)] else {
+            unreachable!()
+        };
+        function
+    }
+}
+
+impl Known for Rebuilt {
+    ghost lists = { λ rebuilt. length rebuilt.kept };
+
+    ghost knows = { λ rebuilt. IsKept rebuilt.kept };
+
+    fn is_known(&self, shortcut: Shortcut) -> bool {
+        self.kept[list_number(shortcut)].is_some()
     }
 }
 
@@ -79,105 +101,45 @@ impl Rebuilt {
 fn rebuild<W: Ways>(
     alloc: Global,
     ways: &W,
-    kept: &mut [Option<Arrival>],
+    rebuilt: &mut Rebuilt,
     shortcut: Shortcut,
 ) -> Result<(), NoMemory>
     requires ways { HasWays (W.hierarchy ways.now) shortcut }
-    requires kept { AreKept (W.hierarchy ways.now) kept.old }
-    ensures found { OnOk result (IsKept kept.new shortcut) }
-    ensures kept { AreKept (W.hierarchy ways.now) kept.new }
+    requires kept { AreKept (W.hierarchy ways.now) rebuilt.old.kept }
+    ensures found { OnOk result (IsKept rebuilt.new.kept shortcut) }
+    ensures kept { AreKept (W.hierarchy ways.now) rebuilt.new.kept }
 {
     let mut waiting = Vec::new(alloc);
-    'shortcuts: while !is_kept(kept, shortcut) {
+    'shortcuts: while !rebuilt.is_known(shortcut) {
         let next = take_next(&mut waiting, shortcut);
-        match missing_half(ways, kept, next) {
+        match missing_half(ways, rebuilt, next) {
             Some(half) => {
                 waiting.push(next)?;
                 waiting.push(half)?;
             }
-            None => keep_function(alloc, ways, kept, next)?,
+            None => keep_function(alloc, ways, rebuilt, next)?,
         }
     }
     Ok(())
-}
-
-// Whether the function of a shortcut is kept.
-fn is_kept(kept: &[Option<Arrival>], shortcut: Shortcut) -> bool
-    requires { number_of shortcut < length kept.now }
-    ensures { IsTrue result ↔ IsKept kept.now shortcut }
-{
-    kept[list_number(shortcut)].is_some()
-}
-
-// The function of a shortcut, which is kept.
-fn kept_function(kept: &[Option<Arrival>], shortcut: Shortcut) -> &Arrival
-    requires { IsKept kept.now shortcut }
-    ensures { slice_get kept.now (number_of shortcut) ≡ Some (Some result.now) }
-{
-    let Some(function) = &kept[list_number(shortcut)] else {
-        unreachable!()
-    };
-    function
-}
-
-// A half of a shortcut, of a lower edge, whose function isn't kept. None where all halves of all its ways are.
-fn missing_half<W: Ways>(ways: &W, kept: &[Option<Arrival>], shortcut: Shortcut) -> Option<Shortcut>
-    requires edge { shortcut.edge < length (W.hierarchy ways.now).edges }
-    requires kept { AreKept (W.hierarchy ways.now) kept.now }
-    ensures missing { FindsMissing (W.hierarchy ways.now) (IsKept kept.now) shortcut
-        (ways_of (W.hierarchy ways.now) shortcut) result }
-{
-    for index in 0..ways.entries(shortcut.edge, shortcut.dir) {
-        let entry = ways.entry(shortcut.edge, shortcut.dir, index);
-        let half = missing_half_of(ways, kept, shortcut, entry.way);
-        if half.is_some() {
-            return half;
-        }
-    }
-    None
-}
-
-// The same of one way.
-fn missing_half_of<W: Ways>(
-    ways: &W,
-    kept: &[Option<Arrival>],
-    shortcut: Shortcut,
-    way: Way,
-) -> Option<Shortcut>
-    requires sound { IsHierarchy (W.hierarchy ways.now) }
-    requires way { IsWayOf (W.hierarchy ways.now) shortcut way }
-    requires kept { AreKept (W.hierarchy ways.now) kept.now }
-    ensures missing { FindsHalf (W.hierarchy ways.now) (IsKept kept.now) shortcut way result }
-{
-    let Way::Via(middle) = way else {
-        return None;
-    };
-    let (first, second) = halves(ways, shortcut, middle);
-    if !is_kept(kept, first) {
-        return Some(first);
-    }
-    if !is_kept(kept, second) {
-        return Some(second);
-    }
-    None
 }
 
 // Rebuilds and keeps the function of a shortcut with a way. Those of its halves are kept.
 fn keep_function<W: Ways>(
     alloc: Global,
     ways: &W,
-    kept: &mut [Option<Arrival>],
+    rebuilt: &mut Rebuilt,
     shortcut: Shortcut,
 ) -> Result<(), NoMemory>
     requires ways { HasWays (W.hierarchy ways.now) shortcut }
-    requires kept { AreKept (W.hierarchy ways.now) kept.old }
-    requires halves { FindsMissing (W.hierarchy ways.now) (IsKept kept.old) shortcut
+    requires kept { AreKept (W.hierarchy ways.now) rebuilt.old.kept }
+    requires halves { FindsMissing (W.hierarchy ways.now) (IsKept rebuilt.old.kept) shortcut
         (ways_of (W.hierarchy ways.now) shortcut) None }
-    ensures found { OnOk result (KeepsOne (W.hierarchy ways.now) shortcut kept.old kept.new) }
-    ensures same { OnErr result (kept.new ≡ kept.old) }
+    ensures found { OnOk result
+        (KeepsOne (W.hierarchy ways.now) shortcut rebuilt.old.kept rebuilt.new.kept) }
+    ensures same { OnErr result (rebuilt.new ≡ rebuilt.old) }
 {
-    let function = least_function(alloc, ways, kept, shortcut)?;
-    kept[list_number(shortcut)] = function;
+    let function = least_function(alloc, ways, rebuilt, shortcut)?;
+    rebuilt.kept[list_number(shortcut)] = function;
     Ok(())
 }
 
@@ -185,12 +147,12 @@ fn keep_function<W: Ways>(
 fn least_function<W: Ways>(
     alloc: Global,
     ways: &W,
-    kept: &[Option<Arrival>],
+    rebuilt: &Rebuilt,
     shortcut: Shortcut,
 ) -> Result<Option<Arrival>, NoMemory>
     requires edge { shortcut.edge < length (W.hierarchy ways.now).edges }
-    requires kept { AreKept (W.hierarchy ways.now) kept.now }
-    requires halves { FindsMissing (W.hierarchy ways.now) (IsKept kept.now) shortcut
+    requires kept { AreKept (W.hierarchy ways.now) rebuilt.now.kept }
+    requires halves { FindsMissing (W.hierarchy ways.now) (IsKept rebuilt.now.kept) shortcut
         (ways_of (W.hierarchy ways.now) shortcut) None }
     ensures least { IfOk result (IsLeastOf (W.hierarchy ways.now) shortcut
         (ways_of (W.hierarchy ways.now) shortcut)) }
@@ -198,7 +160,7 @@ fn least_function<W: Ways>(
 {
     let mut least = None;
     for index in 0..ways.entries(shortcut.edge, shortcut.dir) {
-        least = least_with(alloc, ways, kept, shortcut, least, index)?;
+        least = least_with(alloc, ways, rebuilt, shortcut, least, index)?;
     }
     Ok(least)
 }
@@ -208,14 +170,14 @@ fn least_function<W: Ways>(
 fn least_with<W: Ways>(
     alloc: Global,
     ways: &W,
-    kept: &[Option<Arrival>],
+    rebuilt: &Rebuilt,
     shortcut: Shortcut,
     least: Option<Arrival>,
     index: u32,
 ) -> Result<Option<Arrival>, NoMemory>
     requires edge { shortcut.edge < length (W.hierarchy ways.now).edges }
-    requires kept { AreKept (W.hierarchy ways.now) kept.now }
-    requires halves { FindsMissing (W.hierarchy ways.now) (IsKept kept.now) shortcut
+    requires kept { AreKept (W.hierarchy ways.now) rebuilt.now.kept }
+    requires halves { FindsMissing (W.hierarchy ways.now) (IsKept rebuilt.now.kept) shortcut
         (ways_of (W.hierarchy ways.now) shortcut) None }
     requires index { index < length (ways_of (W.hierarchy ways.now) shortcut) }
     requires least { IsLeastOf (W.hierarchy ways.now) shortcut
@@ -227,7 +189,7 @@ fn least_with<W: Ways>(
     if is_among(ways, shortcut, index, entry.way) {
         return Ok(least);
     }
-    let function = way_function(alloc, ways, kept, shortcut, entry.way)?;
+    let function = way_function(alloc, ways, rebuilt, shortcut, entry.way)?;
     Ok(Some(earlier(alloc, least, function)?))
 }
 
@@ -247,14 +209,14 @@ fn earlier(alloc: Global, first: Option<Arrival>, second: Arrival) -> Result<Arr
 fn way_function<W: Ways>(
     alloc: Global,
     ways: &W,
-    kept: &[Option<Arrival>],
+    rebuilt: &Rebuilt,
     shortcut: Shortcut,
     way: Way,
 ) -> Result<Arrival, NoMemory>
     requires sound { IsHierarchy (W.hierarchy ways.now) }
     requires way { IsWayOf (W.hierarchy ways.now) shortcut way }
-    requires kept { AreKept (W.hierarchy ways.now) kept.now }
-    requires halves { HasHalves (W.hierarchy ways.now) (IsKept kept.now) shortcut way }
+    requires kept { AreKept (W.hierarchy ways.now) rebuilt.now.kept }
+    requires halves { HasHalves (W.hierarchy ways.now) (IsKept rebuilt.now.kept) shortcut way }
     ensures function { IfOk result (IsWayFunction (W.hierarchy ways.now) shortcut way) }
     ensures sound { IfOk result IsArrivalFunction }
 {
@@ -264,8 +226,8 @@ fn way_function<W: Ways>(
             let (first, second) = halves(ways, shortcut, middle);
             compose(
                 alloc,
-                kept_function(kept, first),
-                kept_function(kept, second),
+                rebuilt.kept_function(first),
+                rebuilt.kept_function(second),
             )
         }
     }

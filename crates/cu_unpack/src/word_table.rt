@@ -1,11 +1,12 @@
 //! Functions by list number as words, and which lists are known.
 
-ghost use Rattle.std.specs.Prelude.{◌≡◌, ◌≤◌, ◌<◌, ◌*◌, ◌↔◌, All, IfOk, IsTrue, None, Some, false, length, slice_get};
+ghost use Rattle.std.specs.Prelude.{◌≡◌, ◌≤◌, ◌<◌, ◌*◌, All, IfOk, None, Some, false, length, slice_get};
 ghost use Rattle.cu_chordal.specs.declared.graph.TheConstants.{MAX_EDGES};
 ghost use Rattle.cu_unpack.specs.RebuiltWords.{IsSized, with_list};
 ghost use Rattle.cu_unpack.specs.Steps.Rebuilding.{number_of};
 ghost use Rattle.cu_unpack.specs.Steps.WordRebuilding.{HasWords, IsKnown};
 
+use crate::missing::Known;
 use crate::shortcuts::{Shortcut, list_number};
 use cu_chordal::MAX_EDGES;
 use cu_customize::DayFunction;
@@ -56,14 +57,6 @@ impl WordTable {
         &self.functions
     }
 
-    /// Whether the list of a shortcut is known.
-    pub fn is_known(&self, shortcut: Shortcut) -> bool
-        requires { number_of shortcut < length self.now.known }
-        ensures { IsTrue result ↔ IsKnown self.now shortcut }
-    {
-        self.known[list_number(shortcut)]
-    }
-
     /// The function of a shortcut, which has one.
     pub fn function(&self, shortcut: Shortcut) -> &DayFunction
         requires { HasWords self.now shortcut }
@@ -84,5 +77,15 @@ impl WordTable {
         let number = list_number(shortcut);
         self.known[number] = true;
         self.functions[number] = function;
+    }
+}
+
+impl Known for WordTable {
+    ghost lists = { λ table. length table.known };
+
+    ghost knows = { λ table. IsKnown table };
+
+    fn is_known(&self, shortcut: Shortcut) -> bool {
+        self.known[list_number(shortcut)]
     }
 }

@@ -5,9 +5,10 @@ ghost use Rattle.cu_chordal.specs.declared.graph.TheConstants.{MAX_EDGES};
 ghost use Rattle.cu_interval.specs.declared.ways.Dir.TheVariants.{Up, Down};
 ghost use Rattle.cu_interval.specs.Hierarchies.{IsHierarchy, list_number};
 ghost use Rattle.cu_unpack.specs.RebuiltWords.{IsFarList, IsFarWay, IsKnownList, IsNeeded, IsRebuiltWords, IsSized, KeepsWords, Learns, NeedsFarList};
-ghost use Rattle.cu_unpack.specs.Steps.Rebuilding.{FindsHalf, FindsMissing, HasHalves, HasWays, IsWayOf, ways_of};
+ghost use Rattle.cu_unpack.specs.Steps.Rebuilding.{FindsMissing, HasHalves, HasWays, IsWayOf, ways_of};
 ghost use Rattle.cu_unpack.specs.Steps.WordRebuilding.{AddsWay, HoldsLeast, IsKnown, LearnsIf};
 
+use crate::missing::{Known, missing_half};
 use crate::room::Room;
 use crate::shortcuts::{Shortcut, halves, is_among, take_next};
 use crate::word_table::WordTable;
@@ -138,7 +139,7 @@ fn learn_all<W: Ways>(
     let mut waiting = Vec::new(alloc);
     'shortcuts: while !table.is_known(shortcut) {
         let next = take_next(&mut waiting, shortcut);
-        match unknown_half(ways, table, next) {
+        match missing_half(ways, table, next) {
             Some(half) => {
                 waiting.push(next)?;
                 waiting.push(half)?;
@@ -151,48 +152,6 @@ fn learn_all<W: Ways>(
         }
     }
     Ok(true)
-}
-
-// A half of a shortcut, of a lower edge, that isn't known. None where all halves of all its ways are.
-fn unknown_half<W: Ways>(ways: &W, table: &WordTable, shortcut: Shortcut) -> Option<Shortcut>
-    requires edge { shortcut.edge < length (W.hierarchy ways.now).edges }
-    requires size { IsSized (length (W.hierarchy ways.now).edges) table.now }
-    ensures missing { FindsMissing (W.hierarchy ways.now) (IsKnown table.now) shortcut
-        (ways_of (W.hierarchy ways.now) shortcut) result }
-{
-    for index in 0..ways.entries(shortcut.edge, shortcut.dir) {
-        let entry = ways.entry(shortcut.edge, shortcut.dir, index);
-        let half = unknown_half_of(ways, table, shortcut, entry.way);
-        if half.is_some() {
-            return half;
-        }
-    }
-    None
-}
-
-// The same of one way.
-fn unknown_half_of<W: Ways>(
-    ways: &W,
-    table: &WordTable,
-    shortcut: Shortcut,
-    way: Way,
-) -> Option<Shortcut>
-    requires sound { IsHierarchy (W.hierarchy ways.now) }
-    requires way { IsWayOf (W.hierarchy ways.now) shortcut way }
-    requires size { IsSized (length (W.hierarchy ways.now).edges) table.now }
-    ensures missing { FindsHalf (W.hierarchy ways.now) (IsKnown table.now) shortcut way result }
-{
-    let Way::Via(middle) = way else {
-        return None;
-    };
-    let (first, second) = halves(ways, shortcut, middle);
-    if !table.is_known(first) {
-        return Some(first);
-    }
-    if !table.is_known(second) {
-        return Some(second);
-    }
-    None
 }
 
 // Learns the list of a shortcut with a way, whose halves are known. False where a way takes longer than words can say.

@@ -11,7 +11,7 @@ way_function-requires-clause-way g c =
 
 pub way_function-requires-clause-halves : goal.way_function-requires-clause-halves
 way_function-requires-clause-halves g c =
-    entry_halves (g.W.Ways.hierarchy c.args.ways.now) (IsKept c.args.kept.now) c.args.shortcut c.args.index c.entry-entry.result c.entry-entry.ensures.there c.requires.halves
+    entry_halves (g.W.Ways.hierarchy c.args.ways.now) (IsKept c.args.rebuilt.now.kept) c.args.shortcut c.args.index c.entry-entry.result c.entry-entry.ensures.there c.requires.halves
 
 pub returns-then-is_among : goal.returns-then-is_among
 returns-then-is_among g c =

@@ -7,9 +7,9 @@ use Rattle.cu_unpack.proofs.rebuilding.rebuild.Given as goal
 
 abbrev pub invariant-shortcuts : goal.invariant-shortcuts
 invariant-shortcuts g l = record {
-  kept : AreKept (g.W.Ways.hierarchy l.ways) l.kept;
-  waiting : AreWaitingHalves (IsMissing (g.W.Ways.hierarchy l.ways) (IsKept l.kept)) l.waiting.items;
+  kept : AreKept (g.W.Ways.hierarchy l.ways) l.rebuilt.kept;
+  waiting : AreWaitingHalves (IsMissing (g.W.Ways.hierarchy l.ways) (IsKept l.rebuilt.kept)) l.waiting.items;
 }
 
 abbrev pub decreases-shortcuts : goal.decreases-shortcuts
-decreases-shortcuts g l = count_missing l.kept * length (g.W.Ways.hierarchy l.ways).edges + next_edge l.waiting.items l.shortcut
+decreases-shortcuts g l = count_missing l.rebuilt.kept * length (g.W.Ways.hierarchy l.ways).edges + next_edge l.waiting.items l.shortcut

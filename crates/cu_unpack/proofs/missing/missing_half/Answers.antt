@@ -1,7 +1,6 @@
 use Rattle.std.proofs.Common.{◌≡◌, None, arith, rules}
-use Rattle.cu_unpack.specs.Steps.Rebuilding.{IsKept}
 use Rattle.cu_unpack.proofs.HalfEdges.{all_there, entry_way, more_there}
-use Rattle.cu_unpack.proofs.rebuilding.missing_half.Goals as goal
+use Rattle.cu_unpack.proofs.missing.missing_half.Goals as goal
 
 pub missing_half_of-half-requires-clause-way : goal.missing_half_of-half-requires-clause-way
 missing_half_of-half-requires-clause-way g c =
@@ -10,11 +9,11 @@ missing_half_of-half-requires-clause-way g c =
 pub loop-index-preserved : goal.loop-index-preserved
 loop-index-preserved g c =
     let none : c.missing_half_of-half.result ≡ None = search rules in
-    more_there (g.W.Ways.hierarchy c.args.ways.now) (IsKept c.args.kept.now) c.args.shortcut c.loop-index.index c.entry-entry.result c.missing_half_of-half.result c.entry-entry.ensures.there none
-    c.missing_half_of-half.ensures.missing c.loop-index.invariant
+    more_there (g.W.Ways.hierarchy c.args.ways.now) (g.K.Known.knows c.args.known.now) c.args.shortcut c.loop-index.index c.entry-entry.result c.missing_half_of-half.result
+    c.entry-entry.ensures.there none c.missing_half_of-half.ensures.missing c.loop-index.invariant
 
 pub returns : goal.returns
 returns g c = record {
-  missing = all_there (g.W.Ways.hierarchy c.args.ways.now) (IsKept c.args.kept.now) c.args.shortcut c.loop-index.index
+  missing = all_there (g.W.Ways.hierarchy c.args.ways.now) (g.K.Known.knows c.args.known.now) c.args.shortcut c.loop-index.index
       (omega (arith, c.loop-index-test.false, c.entries-index-end.ensures.count)) c.loop-index.invariant;
 }

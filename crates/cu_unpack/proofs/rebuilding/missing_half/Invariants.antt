@@ -1,8 +1,0 @@
-use Rattle.std.proofs.Common.{None, take}
-use Rattle.cu_unpack.specs.Steps.Rebuilding.{FindsMissing, IsKept, ways_of}
-use Rattle.cu_unpack.proofs.rebuilding.missing_half.Given as goal
-
-abbrev pub invariant-loop-index : goal.invariant-loop-index
-invariant-loop-index g l =
-    let h = g.W.Ways.hierarchy l.ways in
-    FindsMissing h (IsKept l.kept) l.shortcut (take l.index (ways_of h l.shortcut)) None
