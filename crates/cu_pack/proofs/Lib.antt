@@ -40,4 +40,5 @@ pub mod Rewritten
 pub mod SetItems
 pub mod Edited
 pub mod Whole
+pub mod Bodies
 pub mod InForce

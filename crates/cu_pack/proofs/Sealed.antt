@@ -2,7 +2,6 @@
 use Rattle.std.proofs.Common.{◌≡◌, ◌≤◌, ◌+◌, ◌-◌, ◌*◌, ◌∙◌, ℕ, suc, List, ◌++◌, length, map, take, flat_map, refl, sym, ap, arith}
 use Rattle.std.specs.Prelude.{codes, slice_range}
 use Rattle.std.specs.List.{range_with_len}
-use Rattle.std.proofs.lemmas.List.{take-append-drop}
 use Rattle.std.proofs.lemmas.List.FromFn.{length-map-range_with_len}
 use Rattle.sha2.specs.Sha256.{sha256}
 use Rattle.cu_chordal.specs.declared.graph.Ends.{Ends}
@@ -15,6 +14,7 @@ use Rattle.cu_pack.specs.Places.{long_at, word_at}
 use Rattle.cu_pack.specs.Reading.{arc_in, counts_in, decoded, entry_from, entry_place, list_in, network_in, order_in, piece_from, piece_place, profile_in, profile_start, way_start, words_in}
 use Rattle.cu_pack.specs.Spelling.{arcs_section, body, counts_of, edge_starts, edges_section, entry_bytes, header, long, order_section, piece_bytes, profiles_section, spelling, total, ways_section, word}
 use Rattle.cu_pack.proofs.Adopted.{AreEdges}
+use Rattle.cu_pack.proofs.Bodies.{sealed_same}
 use Rattle.cu_pack.proofs.Laid.{first_list, first_profile, last_list, last_profile, list_kinds, list_rises, list_within, lists_lead, profile_kinds, profile_rises, profile_within, profiles_lead}
 use Rattle.cu_pack.proofs.Slices.{part_then}
 use Rattle.cu_pack.proofs.Passed.{edges_right, hierarchy_sound}
@@ -176,5 +176,5 @@ module _ (bytes : List ℕ) (small : AreBytes bytes) (f : IsGraph bytes) (none :
     sound = hierarchy_sound bytes f none;
     spelled =
         let digest = f.roads.joined.ordered.sized.limited.sealed.digest in
-        sym (take-append-drop (length bytes - 32) bytes) ∙ ap (λ end. body_in bytes ++ end) digest ∙ ap (λ front. front ++ sha256 front) (sym body_again);
+        sym (sealed_same bytes digest) ∙ ap (λ front. front ++ sha256 front) (sym body_again);
   }

@@ -1,5 +1,5 @@
 -- Which bytes are a packed file, and by which check others are refused: the first of these that fails.
-use Rattle.std.specs.Prelude.{ℕ, suc, List, ◌≡◌, ◌≢◌, ◌≤◌, ◌<◌, ◌⊎◌, ◌*◌, ◌-◌, Option, None, Some, codes, drop, length, slice_get, take}
+use Rattle.std.specs.Prelude.{ℕ, suc, List, ◌≡◌, ◌≢◌, ◌≤◌, ◌<◌, ◌⊎◌, ◌*◌, ◌-◌, ◌++◌, Option, None, Some, codes, drop, length, slice_get, take}
 use Rattle.std.specs.List.{Contains}
 use Rattle.sha2.specs.Sha256.{sha256}
 use Rattle.cu_model.specs.declared.limits.TheConstants.{DAY, MAX_ARCS, MAX_NODES, MAX_PROFILES}
@@ -56,6 +56,10 @@ digest_in bytes = drop (length bytes - 32) bytes
 
 abbrev pub body_in : List ℕ → List ℕ
 body_in bytes = take (length bytes - 32) bytes
+
+-- bytes with the digest of all but the last 32 in the place of these
+abbrev pub sealed : List ℕ → List ℕ
+sealed bytes = body_in bytes ++ sha256 (body_in bytes)
 
 pub record IsSealed (bytes : List ℕ) : Type 0 where
   pub whole : IsWhole bytes

@@ -1,15 +1,14 @@
 //! The sections of a file, each number read where it lies.
 
-ghost use Rattle.std.specs.Prelude.{◌≡◌, ◌≤◌, ◌<◌, ◌*◌, Some, length, slice_range, suc};
+ghost use Rattle.std.specs.Prelude.{◌≡◌, ◌≤◌, ◌<◌, ◌*◌, ◌-◌, Some, length, slice_range, suc};
 ghost use Rattle.cu_model.specs.Profiles.{piece_at};
 ghost use Rattle.cu_pack.specs.Layouts.{AreInLimits, file_length, layout_of};
 ghost use Rattle.cu_pack.specs.Reading.{arc_in, counts_in, edge_start, entry_from, entry_kind, entry_place, node_at_in, piece_from, piece_kind, piece_place, list_in, profile_in, profile_start, rank_of_in, upper_in, way_start};
 ghost use Rattle.cu_pack.specs.Steps.Cursors.{IsBefore, IsReaching};
 ghost use Rattle.cu_pack.specs.Steps.Parts.{FindsUpper, HasList, HasPart, HasProfile, IsLowOf, IsPartUpTo, StartsRise};
 
-use crate::bytes::{entry as entry_at, long, word};
+use crate::body::Body;
 use crate::layout::{Counts, Layout};
-use crate::searching::count_up_to;
 use crate::way_slices::WaySlice;
 use cu_interval::Entry;
 use cu_model::{Piece, RoadArc, Rule};
@@ -21,7 +20,7 @@ pub mod in_force;
 /// the bytes.
 #[derive(Drop)]
 pub struct Sections<'a> {
-    bytes: &'a [u8],
+    body: Body<'a>,
     counts: Counts,
     layout: Layout,
 }
@@ -32,22 +31,22 @@ impl<'a> Model for Sections<'a> {
 
     ghost Value = { List ℕ };
 
-    ghost view = { λ sections. sections.bytes.now };
+    ghost view = { λ sections. sections.body };
 
-    ghost invariant = { λ sections. IsCut sections.bytes.now sections.counts sections.layout };
+    ghost invariant = { λ sections. IsCut sections.body sections.counts sections.layout };
 }
 
 impl<'a> Sections<'a> {
     /// The sections of these bytes, whose header has these counts.
-    pub fn of(bytes: &'a [u8], counts: Counts) -> Sections<'a>
-        requires counts { counts ≡ counts_in bytes.now }
+    pub fn of(body: Body<'a>, counts: Counts) -> Sections<'a>
+        requires counts { counts ≡ counts_in body }
         requires limits { AreInLimits counts }
-        requires size { file_length counts ≡ length bytes.now }
-        ensures same { result ≡ bytes.now }
+        requires size { file_length counts ≡ length body }
+        ensures same { result ≡ body.entry }
     {
         let layout = Layout::of(&counts);
         Sections {
-            bytes,
+            body,
             counts,
             layout,
         }
@@ -72,10 +71,10 @@ impl<'a> Sections<'a> {
     /// The bytes from a place on, up to another.
     pub fn between(&self, start: u64, end: u64) -> &'a [u8]
         requires order { start ≤ end }
-        requires room { end ≤ length self.now }
+        requires room { end ≤ length self.now - 32 }
         ensures part { result.now ≡ slice_range self.now start end }
     {
-        &self.bytes[start as usize..end as usize]
+        self.body.between(start, end)
     }
 
     /// The node at a rank.
@@ -83,7 +82,8 @@ impl<'a> Sections<'a> {
         requires rank { rank < (counts_in self.now).nodes }
         ensures node { result ≡ node_at_in self.now rank }
     {
-        word(self.bytes, self.layout.node_at as usize + 4 * rank as usize)
+        self.body
+            .word(self.layout.node_at as usize + 4 * rank as usize)
     }
 
     /// The rank of a node.
@@ -91,7 +91,8 @@ impl<'a> Sections<'a> {
         requires node { node < (counts_in self.now).nodes }
         ensures rank { result ≡ rank_of_in self.now node }
     {
-        word(self.bytes, self.layout.rank_of as usize + 4 * node as usize)
+        self.body
+            .word(self.layout.rank_of as usize + 4 * node as usize)
     }
 
     /// The road with this number.
@@ -101,9 +102,9 @@ impl<'a> Sections<'a> {
     {
         let at = self.layout.arcs as usize + 12 * arc as usize;
         RoadArc {
-            tail: word(self.bytes, at),
-            head: word(self.bytes, at + 4),
-            profile: word(self.bytes, at + 8),
+            tail: self.body.word(at),
+            head: self.body.word(at + 4),
+            profile: self.body.word(at + 8),
         }
     }
 
@@ -112,10 +113,8 @@ impl<'a> Sections<'a> {
         requires profile { profile ≤ (counts_in self.now).profiles }
         ensures start { result ≡ profile_start self.now profile }
     {
-        long(
-            self.bytes,
-            self.layout.profile_starts as usize + 8 * profile as usize,
-        )
+        self.body
+            .long(self.layout.profile_starts as usize + 8 * profile as usize)
     }
 
     /// The kind of a piece, counted over all profiles.
@@ -123,10 +122,8 @@ impl<'a> Sections<'a> {
         requires piece { piece < (counts_in self.now).pieces }
         ensures kind { result ≡ piece_kind self.now piece }
     {
-        word(
-            self.bytes,
-            self.layout.pieces as usize + 12 * piece as usize + 4,
-        )
+        self.body
+            .word(self.layout.pieces as usize + 12 * piece as usize + 4)
     }
 
     /// A piece, counted over all profiles.
@@ -135,14 +132,14 @@ impl<'a> Sections<'a> {
         ensures piece { result ≡ piece_from self.now (piece_place self.now piece) }
     {
         let at = self.layout.pieces as usize + 12 * piece as usize;
-        let value = word(self.bytes, at + 8);
-        let rule = match word(self.bytes, at + 4) {
+        let value = self.body.word(at + 8);
+        let rule = match self.body.word(at + 4) {
             0 => Rule::Travel(value),
             1 => Rule::Until(value),
             _ => Rule::Closed(value),
         };
         Piece {
-            from: word(self.bytes, at),
+            from: self.body.word(at),
             rule,
         }
     }
@@ -152,10 +149,8 @@ impl<'a> Sections<'a> {
         requires rank { rank ≤ (counts_in self.now).nodes }
         ensures start { result ≡ edge_start self.now rank }
     {
-        word(
-            self.bytes,
-            self.layout.edge_starts as usize + 4 * rank as usize,
-        )
+        self.body
+            .word(self.layout.edge_starts as usize + 4 * rank as usize)
     }
 
     /// The higher rank of an edge.
@@ -163,7 +158,8 @@ impl<'a> Sections<'a> {
         requires edge { edge < (counts_in self.now).edges }
         ensures rank { result ≡ upper_in self.now edge }
     {
-        word(self.bytes, self.layout.uppers as usize + 4 * edge as usize)
+        self.body
+            .word(self.layout.uppers as usize + 4 * edge as usize)
     }
 
     /// How many entries are before a way list; at the number of lists, how many there are in all.
@@ -171,10 +167,8 @@ impl<'a> Sections<'a> {
         requires list { list ≤ 2 * (counts_in self.now).edges }
         ensures start { result ≡ way_start self.now list }
     {
-        long(
-            self.bytes,
-            self.layout.way_starts as usize + 8 * list as usize,
-        )
+        self.body
+            .long(self.layout.way_starts as usize + 8 * list as usize)
     }
 
     /// The kind of an entry, counted over all way lists.
@@ -182,10 +176,8 @@ impl<'a> Sections<'a> {
         requires entry { entry < (counts_in self.now).entries }
         ensures kind { result ≡ entry_kind self.now entry }
     {
-        word(
-            self.bytes,
-            self.layout.entries as usize + 12 * entry as usize + 4,
-        )
+        self.body
+            .word(self.layout.entries as usize + 12 * entry as usize + 4)
     }
 
     /// An entry, counted over all way lists.
@@ -193,10 +185,8 @@ impl<'a> Sections<'a> {
         requires entry { entry < (counts_in self.now).entries }
         ensures entry { result ≡ entry_from self.now (entry_place self.now entry) }
     {
-        entry_at(
-            self.bytes,
-            self.layout.entries as usize + 12 * entry as usize,
-        )
+        self.body
+            .entry(self.layout.entries as usize + 12 * entry as usize)
     }
 
     /// The last piece of a profile that has begun by this second of the day.
@@ -207,7 +197,9 @@ impl<'a> Sections<'a> {
         let pieces = self.layout.pieces as usize;
         let start = self.profile_start(profile);
         let count = (self.profile_start(profile + 1) - start) as usize;
-        let begun = count_up_to(self.bytes, pieces + 12 * start as usize, 12, count, second);
+        let begun = self
+            .body
+            .count_up_to(pieces + 12 * start as usize, 12, count, second);
         self.piece(start + begun as u64 - 1)
     }
 
@@ -218,7 +210,9 @@ impl<'a> Sections<'a> {
         ensures low { IsLowOf self.now edge result }
     {
         let starts = self.layout.edge_starts as usize;
-        count_up_to(self.bytes, starts, 4, self.counts.nodes as usize, edge) as u32 - 1
+        self.body
+            .count_up_to(starts, 4, self.counts.nodes as usize, edge) as u32
+            - 1
     }
 
     /// The edge from a rank to a higher one.
@@ -243,7 +237,7 @@ impl<'a> Sections<'a> {
         ensures end { result ≡ edge_start self.now (suc low) }
     {
         let first = self.layout.edge_starts as usize;
-        word(self.bytes, first + 4 * (low as usize + 1))
+        self.body.word(first + 4 * (low as usize + 1))
     }
 
     /// The edge from a rank to a higher one, sought from a place on before which the rank's edges lead lower.
@@ -301,7 +295,8 @@ impl<'a> Sections<'a> {
         let uppers = self.layout.uppers as usize;
         let start = self.edge_start(low);
         let count = (self.edge_start(low + 1) - start) as usize;
-        count_up_to(self.bytes, uppers + 4 * start as usize, 4, count, high) as u32
+        self.body
+            .count_up_to(uppers + 4 * start as usize, 4, count, high) as u32
     }
 
     /// The way list with this number.
@@ -312,6 +307,6 @@ impl<'a> Sections<'a> {
         let entries = self.layout.entries as usize;
         let start = self.way_start(list);
         let count = self.way_start(list + 1) - start;
-        WaySlice::of(self.bytes, entries + 12 * start as usize, count as u32)
+        WaySlice::of(&self.body, entries + 12 * start as usize, count as u32)
     }
 }

@@ -8,22 +8,25 @@
 //! (`specs/InForce.antt`). [`order_of`] and [`chordal_of`] copy the order and the graph. [`repack`] gives the file of a
 //! view's hierarchy with its network edited and the way lists of some edges replaced: whatever stays is copied as it
 //! lies, so that an edit which touches little costs little more than a copy of the file and its digest.
+//! [`repack_unsealed`] saves the digest too, [`PackedView::adopt_unsealed`] reads its bytes as they are, and [`seal`]
+//! writes the digest once the whole file is asked for.
 //!
 //! Two laws speak of files alone. [`file_of_one_hierarchy`]: no two hierarchies have the same file, and a file is
 //! as long as its counts say. [`file_is_read_back`]: a file says its hierarchy (`specs/Reading.antt`), and no check
 //! refuses it.
 //!
-//! Where each section of a file lies is said once, by [`Layout`] (`specs/Layouts.antt`). What is private stands on
-//! it in layers: `bytes` reads a number at a place, `searching` counts the numbers of a column up to a bound,
-//! `cutting` looks up whatever a section holds, and `copying` reads whole columns into memory. `driving` and
-//! `joining` answer for roads and edges as soon as the checks of their sections have passed; the later checks
-//! (`checks`) and the view call the same ones. `sections` puts the sections of a hierarchy, `editing` and `replacing`
-//! those of a view's after an edit. What only private functions cite is in `specs/Steps`.
+//! Where each section of a file lies is said once, by [`Layout`] (`specs/Layouts.antt`). What is private stands on it
+//! in layers: `bytes` reads a number at a place, `searching` counts the numbers of a column up to a bound, `body` does
+//! both before a digest that needn't be there, `cutting` looks up whatever a section holds, and `copying` reads whole
+//! columns into memory. `driving` and `joining` answer for roads and edges as soon as the checks of their sections have
+//! passed; the later checks (`checks`) and the view call the same ones. `sections` puts the sections of a hierarchy,
+//! `editing` and `replacing` those of a view's after an edit. What only private functions cite is in `specs/Steps`.
 //!
 //! It stands on `cu_model`, `cu_chordal` and `cu_interval`, on the crate `sha2` for the digest (FIPS 180-4), and on
 //! `cu_customize` for its tests alone.
 #![tactic(auto)]
 
+mod body;
 mod bytes;
 mod checked_roads;
 mod checks;
@@ -41,6 +44,7 @@ mod packing;
 mod refusals;
 mod repacking;
 mod replacing;
+mod sealing;
 mod searching;
 mod sections;
 #[cfg(test)]
@@ -53,7 +57,8 @@ pub use laws::{file_is_read_back, file_of_one_hierarchy};
 pub use layout::{Counts, Layout};
 pub use packing::pack;
 pub use refusals::{Field, PackRefusal};
-pub use repacking::repack;
+pub use repacking::{repack, repack_unsealed};
+pub use sealing::seal;
 pub use view::PackedView;
 pub use view::copies::{chordal_of, order_of};
 pub use way_slices::WaySlice;

@@ -5,10 +5,10 @@ ghost use Rattle.cu_pack.specs.Spelling.{arcs_section, edges_section, order_sect
 
 use crate::counting::count;
 use crate::layout::Layout;
+use crate::sealing::seal;
 use crate::sections::{put_arcs, put_edges, put_header, put_order, put_profiles, put_ways};
 use cu_interval::Hierarchy;
 use cu_model::NoMemory;
-use sha2::{Digest, Sha256};
 use std::alloc::Global;
 
 /// The bytes of a hierarchy's packed file, its digest included.
@@ -20,8 +20,8 @@ pub fn pack(alloc: Global, hierarchy: &Hierarchy) -> Result<Vec<u8>, NoMemory>
     let mut bytes = Vec::with_capacity(alloc, layout.length as usize)?;
     put_header(&mut bytes, &counts, layout.length)?;
     put_parts(&mut bytes, hierarchy)?;
-    let digest = Sha256::digest(bytes.as_slice());
-    bytes.extend_from_slice(&digest)?;
+    bytes.extend_from_slice(&[0; 32])?;
+    seal(bytes.as_mut_slice());
     Ok(bytes)
 }
 

@@ -1,22 +1,23 @@
 //! The packed file of a hierarchy after an edit, most of it copied from the file before.
 
-ghost use Rattle.std.specs.Prelude.{◌≡◌, ◌<◌, ◌++◌, All, IfOk, OnOk, length, map};
+ghost use Rattle.std.specs.Prelude.{◌≡◌, ◌≤◌, ◌<◌, ◌++◌, All, IfOk, OnOk, length, map};
 ghost use Rattle.std.specs.List.Sorted.{IsStrictlyIncreasing};
 ghost use Rattle.cu_model.specs.Edits.{IsEditInRange};
 ghost use Rattle.cu_interval.specs.declared.ways.TouchedEdge.{TouchedEdge};
 ghost use Rattle.cu_interval.specs.Hierarchies.{IsHierarchy};
 ghost use Rattle.cu_interval.specs.Replacing.{hierarchy_with};
+ghost use Rattle.cu_pack.specs.Checks.{sealed};
 ghost use Rattle.cu_pack.specs.Layouts.{AreInLimits};
 ghost use Rattle.cu_pack.specs.Spelling.{arcs_section, counts_of, edges_section, order_section, profiles_section, spelling, ways_section};
 
 use crate::editing::{count_edited, put_edited_arcs, put_edited_profiles};
 use crate::layout::{Counts, Layout};
 use crate::replacing::{count_replaced, put_replaced};
+use crate::sealing::seal;
 use crate::sections::put_header;
 use crate::view::PackedView;
 use cu_interval::{TouchedEdge, Ways};
 use cu_model::{Edit, NoMemory, Roads};
-use sha2::{Digest, Sha256};
 use std::alloc::Global;
 
 /// The packed file of a view's hierarchy with its network edited and both way lists of some edges replaced. The numbers
@@ -38,13 +39,34 @@ pub fn repack(
     ensures spelled { IfOk result
         (λ bytes. bytes.items ≡ spelling (hierarchy_with view.now edit.now lists.now)) }
 {
+    let mut bytes = repack_unsealed(alloc, view, edit, lists)?;
+    seal(bytes.as_mut_slice());
+    Ok(bytes)
+}
+
+/// [`repack`], but that the last 32 bytes aren't the digest: [`seal`] writes it.
+pub fn repack_unsealed(
+    alloc: Global,
+    view: &PackedView<'_>,
+    edit: &Edit,
+    lists: &[TouchedEdge],
+) -> Result<Vec<u8>, NoMemory>
+    requires edit { IsEditInRange view.now.network edit.now }
+    requires rising { IsStrictlyIncreasing
+        (map (λ (touched : TouchedEdge). touched.edge) lists.now) }
+    requires edges { All
+        (λ (touched : TouchedEdge). touched.edge < length view.now.edges) lists.now }
+    requires sound { IsHierarchy (hierarchy_with view.now edit.now lists.now) }
+    ensures spelled { IfOk result
+        (λ bytes. sealed bytes.items ≡ spelling (hierarchy_with view.now edit.now lists.now)) }
+    ensures long { IfOk result (λ bytes. 32 ≤ length bytes.items) }
+{
     let counts = recount(view, edit, lists);
     let layout = Layout::of(&counts);
     let mut bytes = Vec::with_capacity(alloc, layout.length as usize)?;
     put_header(&mut bytes, &counts, layout.length)?;
     put_edited(&mut bytes, view, edit, lists)?;
-    let digest = Sha256::digest(bytes.as_slice());
-    bytes.extend_from_slice(&digest)?;
+    bytes.extend_from_slice(&[0; 32])?;
     Ok(bytes)
 }
 

@@ -2,9 +2,10 @@
 
 ghost use Rattle.std.specs.Prelude.{◌≡◌, ◌*◌, suc};
 ghost use Rattle.cu_interval.specs.Hierarchies.{HierarchyValue};
-ghost use Rattle.cu_pack.specs.Checks.{IsGraph, IsWrongList, NoneWrong, Spells};
+ghost use Rattle.cu_pack.specs.Checks.{IsGraph, IsWrongList, NoneWrong, Spells, sealed};
 ghost use Rattle.cu_pack.specs.Reading.{counts_in, decoded};
 
+use crate::body::Body;
 use crate::checks::header::header_counts;
 use crate::cutting::Sections;
 use std::marker::Model;
@@ -42,8 +43,17 @@ impl<'a> PackedView<'a> {
         requires spelled { (h : HierarchyValue) × Spells bytes.now h }
         ensures spells { Spells bytes.now result }
     {
+        PackedView::adopt_unsealed(bytes)
+    }
+
+    /// The view of bytes that are a hierarchy's packed file but for the last 32, which needn't be its digest. They are
+    /// borrowed, and nothing of them is checked. Takes no memory.
+    pub fn adopt_unsealed(bytes: &'a [u8]) -> PackedView<'a>
+        requires spelled { (h : HierarchyValue) × Spells (sealed bytes.now) h }
+        ensures spells { Spells (sealed bytes.now) result }
+    {
         PackedView {
-            sections: Sections::of(bytes, header_counts(bytes)),
+            sections: Sections::of(Body::of(bytes), header_counts(bytes)),
         }
     }
 

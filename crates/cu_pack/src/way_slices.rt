@@ -4,8 +4,7 @@ ghost use Rattle.std.specs.Prelude.{◌≡◌, ◌<◌, Some, length, slice_get}
 ghost use Rattle.cu_interval.specs.WayLists.{IsWayList, way_at};
 ghost use Rattle.cu_pack.specs.Steps.Slices.{IsWaySlice, entries_from};
 
-use crate::bytes::entry;
-use crate::searching::count_up_to;
+use crate::body::Body;
 use cu_interval::{Entry, Way};
 use cu_model::DAY;
 use std::marker::Model;
@@ -15,7 +14,7 @@ pub mod in_force;
 /// A way list in the bytes of a packed file. Contracts see its entries.
 #[derive(Drop)]
 pub struct WaySlice<'a> {
-    bytes: &'a [u8],
+    body: Body<'a>,
     at: usize,
     count: u32,
 }
@@ -27,18 +26,22 @@ impl<'a> Model for WaySlice<'a> {
 
     ghost Value = { List Entry };
 
-    ghost view = { λ slice. entries_from slice.bytes.now slice.at slice.count };
+    ghost view = { λ slice. entries_from slice.body slice.at slice.count };
 
-    ghost invariant = { λ slice. IsWaySlice slice.bytes.now slice.at slice.count };
+    ghost invariant = { λ slice. IsWaySlice slice.body slice.at slice.count };
 }
 
 impl<'a> WaySlice<'a> {
     // The list of so many entries, the first of them at this place.
-    pub(crate) fn of(bytes: &'a [u8], at: usize, count: u32) -> WaySlice<'a>
-        requires { IsWaySlice bytes.now at count }
-        ensures { result ≡ entries_from bytes.now at count }
+    pub(crate) fn of(body: &Body<'a>, at: usize, count: u32) -> WaySlice<'a>
+        requires { IsWaySlice body.now at count }
+        ensures { result ≡ entries_from body.now at count }
     {
-        WaySlice { bytes, at, count }
+        WaySlice {
+            body: body.again(),
+            at,
+            count,
+        }
     }
 
     /// How many entries it has, at most 86,400.
@@ -54,7 +57,7 @@ impl<'a> WaySlice<'a> {
         requires { index < length self.now }
         ensures { slice_get self.now index ≡ Some result }
     {
-        entry(self.bytes, self.at + 12 * index as usize)
+        self.body.entry(self.at + 12 * index as usize)
     }
 
     /// The way of the last entry that has begun by this second's second of the day. None exactly where the list is
@@ -66,7 +69,9 @@ impl<'a> WaySlice<'a> {
             return None;
         }
         let time = (second % u64::from(DAY)) as u32;
-        let begun = count_up_to(self.bytes, self.at, 12, self.count as usize, time);
+        let begun = self
+            .body
+            .count_up_to(self.at, 12, self.count as usize, time);
         Some(self.entry(begun as u32 - 1).way)
     }
 }

@@ -6,6 +6,7 @@ ghost use Rattle.cu_pack.specs.Checks.{AreBeforeInLimits, IsPastLimit, IsRefused
 ghost use Rattle.cu_pack.specs.Layouts.{AreInLimits};
 ghost use Rattle.cu_pack.specs.Reading.{counts_in};
 
+use crate::body::Body;
 use crate::bytes::{long, word};
 use crate::cutting::Sections;
 use crate::layout::{Counts, Layout};
@@ -135,5 +136,5 @@ fn cut<'a>(bytes: &'a [u8]) -> Result<Sections<'a>, PackRefusal>
     if counted != found {
         return Err(PackRefusal::Size { counted, found });
     }
-    Ok(Sections::of(bytes, counts))
+    Ok(Sections::of(Body::of(bytes), counts))
 }

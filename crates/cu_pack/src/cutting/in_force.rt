@@ -6,7 +6,6 @@ ghost use Rattle.cu_pack.specs.Reading.{counts_in, piece_from, piece_place, prof
 ghost use Rattle.cu_pack.specs.Steps.Parts.{HasProfile};
 
 use crate::cutting::Sections;
-use crate::searching::count_up_to;
 use cu_model::{DAY, Rule};
 
 /// A rule, and the seconds of the day at which a road has it: from `from` until before `until`.
@@ -27,7 +26,9 @@ impl<'a> Sections<'a> {
         let pieces = self.layout.pieces as usize;
         let start = self.profile_start(profile);
         let count = (self.profile_start(profile + 1) - start) as usize;
-        let begun = count_up_to(self.bytes, pieces + 12 * start as usize, 12, count, second);
+        let begun = self
+            .body
+            .count_up_to(pieces + 12 * start as usize, 12, count, second);
         let piece = self.piece(start + begun as u64 - 1);
         RuleInForce {
             rule: piece.rule,

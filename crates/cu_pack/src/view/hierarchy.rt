@@ -34,6 +34,10 @@ impl<'a> Ways for PackedView<'a> {
         self.sections.node_at(rank)
     }
 
+    fn ranks(&self) -> u32 {
+        self.sections.counts().nodes
+    }
+
     fn edges(&self) -> u32 {
         self.sections.counts().edges
     }

@@ -1,13 +1,16 @@
-//! What no clause says: that the file of a small hierarchy answers as its roads and ways do, worked out by hand.
+//! What no clause says: that the file of a small hierarchy answers as its roads and ways do, worked out by hand, and
+//! does so before its digest is written.
 
-ghost use Rattle.std.specs.Prelude.{IfOk};
+ghost use Rattle.std.specs.Prelude.{◌≡◌, ◌<◌, [], IfOk, length};
+ghost use Rattle.cu_model.specs.Edits.{IsEditInRange};
+ghost use Rattle.cu_interval.specs.Replacing.{hierarchy_with};
 ghost use Rattle.cu_pack.specs.Checks.{Spells};
 
 use crate::tests::triangle;
-use crate::{PackedView, chordal_of, order_of, pack};
+use crate::{PackedView, chordal_of, order_of, pack, repack, repack_unsealed, seal};
 use cu_chordal::Ends;
-use cu_interval::{Dir, Entry, Hierarchy, Way, Ways};
-use cu_model::{Order, Piece, Roads, Rule};
+use cu_interval::{Dir, Entry, Hierarchy, TouchedEdge, Way, Ways};
+use cu_model::{Edit, Order, Piece, Roads, Rule};
 use std::alloc::Global;
 use std::test::Fail;
 
@@ -63,6 +66,18 @@ fn node(order: &Order, rank: u32) -> Option<u32> {
         return None;
     }
     Some(order.node(rank))
+}
+
+// The edit that gives the first road the profile that it has.
+fn first_road_again(view: &PackedView<'_>) -> Edit
+    requires some { 0 < length view.now.network.arcs }
+    ensures range { IsEditInRange view.now.network result }
+    ensures same { hierarchy_with view.now result [] ≡ view.now }
+{
+    Edit::Assign {
+        arc: 0,
+        profile: view.arc(0).profile,
+    }
 }
 
 #[test]
@@ -138,5 +153,24 @@ fn copies_the_order_and_the_graph(rt: HostRuntime) -> Result<(), Fail> {
     assert_eq!(rt; graph.ranks(), 3);
     assert_eq!(rt; graph.up(0), [1, 2].as_slice());
     assert_eq!(rt; graph.up(1), [2].as_slice());
+    Ok(())
+}
+
+#[test]
+fn answers_before_it_is_sealed(rt: HostRuntime) -> Result<(), Fail> {
+    let alloc = rt.alloc();
+    let bytes = file_of(alloc, &triangle(alloc)?)?;
+    let view = PackedView::adopt(&bytes);
+    assert_eq!(rt; view.arcs(), 3);
+    let edit = first_road_again(&view);
+    let lists: [TouchedEdge; 0] = [];
+    let whole = repack(alloc, &view, &edit, &lists)?;
+    let mut unsealed = repack_unsealed(alloc, &view, &edit, &lists)?;
+    assert!(rt; unsealed.as_slice() != whole.as_slice());
+    let later = PackedView::adopt_unsealed(&unsealed);
+    assert_eq!(rt; arrival(&later, 1, 28_800), Some(29_100));
+    assert_eq!(rt; way(&later, 2, Dir::Up, 86_399), Some(Way::Via(0)));
+    seal(unsealed.as_mut_slice());
+    assert_eq!(rt; unsealed.as_slice(), whole.as_slice());
     Ok(())
 }

@@ -5,7 +5,6 @@ ghost use Rattle.cu_interval.specs.declared.ways.Entry.{Entry};
 ghost use Rattle.cu_pack.specs.InForce.{FindsWayInForce};
 ghost use Rattle.cu_pack.specs.Steps.Begins.{begin_of};
 
-use crate::searching::count_up_to;
 use crate::way_slices::WaySlice;
 use cu_interval::Way;
 use cu_model::DAY;
@@ -28,7 +27,9 @@ impl<'a> WaySlice<'a> {
         if self.count == 0 {
             return None;
         }
-        let next = count_up_to(self.bytes, self.at, 12, self.count as usize, second) as u32;
+        let next = self
+            .body
+            .count_up_to(self.at, 12, self.count as usize, second) as u32;
         let entry = self.entry(next - 1);
         Some(WayInForce {
             way: entry.way,

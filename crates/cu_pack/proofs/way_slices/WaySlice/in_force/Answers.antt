@@ -4,14 +4,14 @@ use Rattle.cu_pack.proofs.WayRows.{way_slice_begun, way_slice_long, way_slice_ri
 use Rattle.cu_pack.proofs.way_slices.WaySlice.in_force.Goals as goal
 
 pub count_up_to-next-requires-clause-rising : goal.count_up_to-next-requires-clause-rising
-count_up_to-next-requires-clause-rising c = let s = c.self.inside in way_slice_rises s.bytes.now s.at s.count c.args.self.now c.self.invariant c.self.view_is
+count_up_to-next-requires-clause-rising c = let s = c.self.inside in way_slice_rises s.body s.at s.count c.args.self.now c.self.invariant c.self.view_is
 
 pub entry-entry-requires : goal.entry-entry-requires
 entry-entry-requires c =
     let s = c.self.inside in
     let some : 0 < s.count = search rules in
-    let begun = way_slice_begun s.bytes.now s.at s.count c.args.self.now c.self.invariant c.self.view_is _ c.count_up_to-next.result some c.count_up_to-next.ensures in
-    let long = way_slice_long s.bytes.now s.at s.count c.args.self.now c.self.invariant c.self.view_is in
+    let begun = way_slice_begun s.body s.at s.count c.args.self.now c.self.invariant c.self.view_is _ c.count_up_to-next.result some c.count_up_to-next.ensures in
+    let long = way_slice_long s.body s.at s.count c.args.self.now c.self.invariant c.self.view_is in
     omega (arith, begun.0, c.count_up_to-next.ensures.within, long)
 
 pub returns : goal.returns
@@ -19,6 +19,6 @@ returns c =
     let s = c.self.inside in
     let some : 0 < s.count = search rules in
     record {
-      found = way_in_force s.bytes.now s.at s.count c.args.self.now c.self.invariant c.self.view_is c.args.second c.count_up_to-next.result c.begin_or_day.result c.entry-entry.result
+      found = way_in_force s.body s.at s.count c.args.self.now c.self.invariant c.self.view_is c.args.second c.count_up_to-next.result c.begin_or_day.result c.entry-entry.result
           c.requires.day some c.count_up_to-next.ensures c.entry-entry.ensures c.begin_or_day.ensures.begin;
     }
