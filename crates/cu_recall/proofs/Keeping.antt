@@ -1,6 +1,7 @@
 -- Keeping what was met: rows stay true of their lists.
-use Rattle.std.proofs.Common.{◌≡◌, ◌≤◌, ◌+◌, ◌-◌, ◌*◌, ◌⊎◌, ℕ, zero, suc, List, [], ◌∷◌, Some, All, refl, sym, ap, subst, arith, inl, inr, ◌∙◌, replicate}
+use Rattle.std.proofs.Common.{◌≡◌, ◌≤◌, ◌+◌, ◌-◌, ◌*◌, ◌⊎◌, ℕ, zero, suc, List, [], ◌∷◌, ◌++◌, Some, All, length, refl, sym, ap, subst, arith, rules, inl, inr, ◌∙◌, replicate}
 use Rattle.std.specs.Prelude.{slice_get, slice_set}
+use Rattle.std.proofs.lemmas.List.{length-append, length-replicate}
 use Rattle.std.proofs.lemmas.List.Elements.{All-replicate}
 use Rattle.std.proofs.lemmas.Option.{get_or_from_slice_get, slice_get_within}
 use Rattle.cu_interval.specs.Hierarchies.{HierarchyValue}
@@ -10,6 +11,7 @@ use Rattle.cu_recall.specs.declared.spans.Parts.{Parts}
 use Rattle.cu_recall.specs.declared.spans.Parts.TheVariants as part
 use Rattle.cu_recall.specs.declared.spans.Row.{Row}
 use Rattle.cu_recall.specs.declared.spans.Span.{Span}
+use Rattle.cu_recall.specs.Rooms.{Fits, no_row, rows_of}
 use Rattle.cu_recall.specs.Spans.{HasSecond, HoldsMet, HoldsParts, HoldsRow, HoldsSpan, Knows, WalkTakes}
 use Rattle.cu_recall.specs.Windows.{HoldsDriven, IsWindow}
 
@@ -87,3 +89,30 @@ nothing_known h n row rows holds same list found at =
     let all : All (λ (r : Row). r ≡ row) rows = subst (All (λ (r : Row). r ≡ row)) (sym same) (All-replicate (λ (r : Row). r ≡ row) n row refl) in
     let is : found ≡ row = sym (get_or_from_slice_get rows list found row at) ∙ all list row lt in
     subst (HoldsRow h list) (sym is) (holds list)
+
+-- where no row is written nothing is known
+pub nothing_written : (h : HierarchyValue) (lists : ℕ) (rows : List Row) → rows ≡ [] → Knows h (rows_of lists rows)
+nothing_written h lists rows none = subst (λ (rs : List Row). Knows h (rows_of lists rs)) (sym none) (nothing_known h (lists - 0) no_row _ (λ list. search rules) refl)
+
+-- a row that is written is that of its list
+slice_get_front : (rows rest : List Row) (list : ℕ) (row : Row) → slice_get rows list ≡ Some row → slice_get (rows ++ rest) list ≡ Some row
+slice_get_front [] rest list row at = cc at
+slice_get_front (r ∷ rows) rest zero row at = cc at
+slice_get_front (r ∷ rows) rest (suc list) row at = slice_get_front rows rest list row at
+
+-- the rows that are written are among those of the lists
+pub known_written : (h : HierarchyValue) (lists : ℕ) (rows : List Row) → Knows h (rows_of lists rows) → Knows h rows
+known_written h lists rows knows list row at = knows list row (slice_get_front rows _ list row at)
+
+-- where each row is written they are those of the lists
+pub all_written : (lists : ℕ) (rows : List Row) → length rows ≡ lists → rows_of lists rows ≡ rows
+all_written lists rows same = search rules
+
+-- there are as many as lists
+pub length_rows : (lists : ℕ) (rows : List Row) → length rows ≤ lists → length (rows_of lists rows) ≡ lists
+length_rows lists rows most = omega (arith, length-append rows (replicate (lists - length rows) no_row), length-replicate (lists - length rows) no_row, most)
+
+-- room whose rows are all written fits by them
+pub fits_written : (h : HierarchyValue) (nodes lists : ℕ) (rows : List Row) → length rows ≡ lists → Fits h (record { nodes = nodes; rows = rows })
+    → Fits h (record { nodes = nodes; rows = rows_of lists rows })
+fits_written h nodes lists rows same fits = subst (λ (rs : List Row). Fits h (record { nodes = nodes; rows = rs })) (sym (all_written lists rows same)) fits

@@ -1,8 +1,22 @@
 -- Room for relaxations that remember, as contracts see it.
-use Rattle.std.specs.Prelude.{ℕ, List, ◌≡◌, ◌*◌, length}
+use Rattle.std.specs.Prelude.{ℕ, List, ◌≡◌, ◌*◌, ◌-◌, ◌++◌, length, replicate}
 use Rattle.cu_interval.specs.Hierarchies.{HierarchyValue}
+use Rattle.cu_recall.specs.declared.kept.Kept.TheVariants as kept
 use Rattle.cu_recall.specs.declared.spans.Row.{Row}
+use Rattle.cu_recall.specs.declared.spans.Span.{Span}
 use Rattle.cu_recall.specs.Spans.{Knows}
+
+-- a span that has no second
+abbrev pub no_span : Span
+no_span = record { from = 0; seconds = 0; roads = 0; travel = 0 }
+
+-- a row that says nothing
+abbrev pub no_row : Row
+no_row = record { latest = no_span; early = no_span; noon = no_span; late = no_span; met = kept.Road 0 0 0 }
+
+-- the rows of so many lists: those that are there, and for each other list one that says nothing
+abbrev pub rows_of : ℕ → List Row → List Row
+rows_of lists rows = rows ++ replicate (lists - length rows) no_row
 
 -- for how many nodes it was made, and the row of each list
 pub record RoomValue : Type 0 where

@@ -13,7 +13,7 @@ ghost use Rattle.cu_recall.specs.Steps.Looks.{edge_asked};
 
 use crate::looking::known;
 use crate::pending::Asked;
-use crate::room::Room;
+use crate::room::{Room, make_rows};
 use crate::spans::Driven;
 use crate::unpacking::unpack;
 use cu_chordal::Chordal;
@@ -103,6 +103,7 @@ fn relax_over(
     ensures fits { Fits view.now room.new }
 {
     let asked = asked_of(edge, dir, at);
+    make_rows(&mut room.rows, room.lists);
     if let Some(driven) = known(&room.rows, asked) {
         return answer(view, edge, dir, at, driven);
     }

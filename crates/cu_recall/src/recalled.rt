@@ -98,6 +98,10 @@ impl<'a> Ways for RecalledWays<'a> {
         self.view.node(rank)
     }
 
+    fn ranks(&self) -> u32 {
+        self.view.ranks()
+    }
+
     fn edges(&self) -> u32 {
         self.view.edges()
     }
@@ -139,12 +143,15 @@ fn way_over(
 ) -> Option<Way>
     requires graph { graph.now ≡ graph_of view.now }
     requires edge { edge < length view.now.edges }
-    requires size { length rows.now ≡ 2 * length view.now.edges }
     requires knows { Knows view.now rows.now }
     requires sound { IsHierarchy view.now }
     ensures way { result ≡ way_at (list_of view.now edge dir) second }
 {
-    let Some(met) = met_last(rows, asked_of(edge, dir, second)) else {
+    let asked = asked_of(edge, dir, second);
+    if asked.list as usize >= rows.len() {
+        return view.way(edge, dir, second);
+    }
+    let Some(met) = met_last(rows, asked) else {
         return view.way(edge, dir, second);
     };
     // A middle is below both ends of what it parts, so it is the lower end of each half.

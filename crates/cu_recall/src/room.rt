@@ -1,8 +1,9 @@
 //! Room for relaxations that remember.
 
-ghost use Rattle.std.specs.Prelude.{◌≡◌, ◌≤◌, ◌*◌, IfOk, length};
+ghost use Rattle.std.specs.Prelude.{◌≡◌, ◌≤◌, ◌*◌, IfOk, length, vec_capacity};
 ghost use Rattle.cu_chordal.specs.declared.graph.TheConstants.{MAX_EDGES};
 ghost use Rattle.cu_interval.specs.Hierarchies.{HierarchyValue};
+ghost use Rattle.cu_recall.specs.Rooms.{rows_of};
 ghost use Rattle.cu_recall.specs.Spans.{Knows};
 
 use crate::pending::{Asked, Half, Pending};
@@ -12,24 +13,29 @@ use cu_model::NoMemory;
 use std::alloc::Global;
 use std::marker::Model;
 
-/// Rows for the lists of a hierarchy, and places for the lists in work while one is unpacked, made once. Contracts see for
-/// how many nodes it was made, and the rows.
+/// Rows for the lists of a hierarchy, and places for the lists in work while one is unpacked. There is room for all of them
+/// from the start, but the rows are written when the first query comes, so that opening a file costs none. Contracts see for
+/// how many nodes it was made, and the rows, of which those that aren't written say nothing.
 #[derive(Debug, Drop)]
 pub struct Room {
+    pub(crate) lists: usize,
     pub(crate) rows: Vec<Row>,
     pub(crate) pending: Vec<Pending>,
 }
 
 impl Model for Room {
-    ghost use Rattle.std.specs.Prelude.{length};
-    ghost use Rattle.cu_recall.specs.Rooms.{RoomValue};
+    ghost use Rattle.std.specs.Prelude.{◌≤◌, length, vec_capacity};
+    ghost use Rattle.cu_recall.specs.Rooms.{RoomValue, rows_of};
 
     ghost Value = { RoomValue };
 
     ghost view = { λ room. record {
       nodes = length room.pending.items;
-      rows = room.rows.items;
+      rows = rows_of room.lists room.rows.items;
     } };
+
+    ghost invariant = { λ room. (length room.rows.items ≤ room.lists)
+        × (room.lists ≤ vec_capacity room.rows) };
 }
 
 impl Room {
@@ -46,8 +52,10 @@ impl Room {
             ahead: 0,
             half: Half::First { rest: 0 },
         };
+        let lists = 2 * edges as usize;
         Ok(Room {
-            rows: vec![in alloc; Row::NOTHING; 2 * edges as usize]?,
+            lists,
+            rows: Vec::with_capacity(alloc, lists)?,
             pending: vec![in alloc; nothing; nodes as usize]?,
         })
     }
@@ -58,6 +66,34 @@ impl Room {
         ensures lists { length self.new.rows ≡ length self.old.rows }
         ensures knows { (h : HierarchyValue) → Knows h self.new.rows }
     {
-        self.rows.fill(Row::NOTHING);
+        self.rows.clear();
+    }
+}
+
+/// Writes the rows of so many lists that aren't there yet, for which there is room.
+#[inline(always)]
+pub(crate) fn make_rows(rows: &mut Vec<Row>, lists: usize)
+    requires most { length rows.old.items ≤ lists }
+    requires room { lists ≤ vec_capacity rows.old }
+    ensures rows { rows.new.items ≡ rows_of lists rows.old.items }
+    ensures room { lists ≤ vec_capacity rows.new }
+{
+    if rows.len() < lists {
+        write_rows(rows, lists);
+    }
+}
+
+// The same, once for many queries.
+#[cold]
+#[inline(never)]
+fn write_rows(rows: &mut Vec<Row>, lists: usize)
+    requires most { length rows.old.items ≤ lists }
+    requires room { lists ≤ vec_capacity rows.old }
+    ensures rows { rows.new.items ≡ rows_of lists rows.old.items }
+    ensures room { lists ≤ vec_capacity rows.new }
+{
+    match rows.resize(lists, Row::NOTHING) {
+        Ok(()) => {}
+        Err(_) => unreachable!(),
     }
 }

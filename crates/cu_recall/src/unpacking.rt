@@ -2,6 +2,7 @@
 //! joined, and kept for each list on the way.
 
 ghost use Rattle.std.specs.Prelude.{◌≡◌, ◌≤◌, ◌<◌, ◌+◌, ◌*◌, ◌%◌, ◌^◌, length, min};
+ghost use Rattle.cu_model.specs.declared.limits.TheConstants.{MAX_NODES};
 ghost use Rattle.cu_model.specs.Days.{day};
 ghost use Rattle.cu_interval.specs.Hierarchies.{IsHierarchy, graph_of};
 ghost use Rattle.cu_recall.specs.declared.pending.Half.TheVariants as half;
@@ -189,7 +190,7 @@ fn second_next(top: Pending, driven: Driven) -> Pending
 // What a list in work takes whose first half took so much and whose second takes this.
 fn joined(top: Pending, travel: u64, roads: u32, driven: Driven) -> Driven
     requires travel { travel + driven.travel < 2 ^ 64 }
-    requires roads { roads + driven.roads < 2 ^ 32 }
+    requires roads { roads + driven.roads ≤ MAX_NODES }
     ensures { result ≡ record {
       back = min top.back driven.back;
       ahead = min top.ahead driven.ahead;

@@ -1,6 +1,5 @@
-use Rattle.std.proofs.Common.{rules}
-use Rattle.cu_recall.proofs.Keeping.{nothing_known}
+use Rattle.cu_recall.proofs.Keeping.{nothing_written}
 use Rattle.cu_recall.proofs.room.Room.new.Goals as goal
 
 pub returns-clause-knows : goal.returns-clause-knows
-returns-clause-knows c h = nothing_known h _ _ c.in_ok-vec.field-0.items (λ list. search rules) (c.in_ok-vec.ensures.items_if_clones_equal (λ y same. same))
+returns-clause-knows c h = nothing_written h _ c.in_ok-with_capacity.field-0.items c.in_ok-with_capacity.ensures.items
