@@ -25,6 +25,7 @@ pub mod OneRun
 pub mod RoadWords
 pub mod Places
 pub mod Gathers
+pub mod Layers
 pub mod Middles
 pub mod LeftOut
 pub mod LimitLaws

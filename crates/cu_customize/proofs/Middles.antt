@@ -1,5 +1,5 @@
 -- A middle among the candidates of a list: both halves by the functions before the list.
-use Rattle.std.proofs.Common.{◌≡◌, ◌≤◌, ◌<◌, ◌+◌, ◌-◌, ◌^◌, ◌∙◌, ℕ, List, Option, Some, None, refl, ap, subst, arith, inl, inr, length, get_or, map, max, min, slice_index_or}
+use Rattle.std.proofs.Common.{◌≡◌, ◌≤◌, ◌<◌, ◌+◌, ◌-◌, ◌^◌, ◌∙◌, ℕ, List, Option, Some, None, refl, ap, subst, arith, inl, inr, length, get_or, map, max, min}
 use Rattle.std.specs.Prelude.{IsSome, slice_get}
 use Rattle.std.specs.List.{Contains}
 use Rattle.std.specs.Option.{option_map}
@@ -31,7 +31,6 @@ use Rattle.cu_customize.specs.Words.{IsFunctionWords, composed}
 use Rattle.cu_customize.proofs.AddLaws.{composed_order}
 use Rattle.cu_customize.proofs.Gathers.{HasFunction, at_once, gathers_at, gathers_none, gathers_one}
 use Rattle.cu_customize.proofs.Loops.{member_map}
-use Rattle.cu_customize.proofs.MergeLaws.{read_there}
 use Rattle.cu_customize.proofs.SeenLaws.{window_found}
 use Rattle.cu_customize.specs.Windows.{TakesInWindows}
 use Rattle.cu_customize.proofs.WindowLaws.{starts_in_day}
@@ -60,35 +59,33 @@ module _ (g : NetworkValue) (task : Task) (is : HasTriangles g task) (m : ℕ) (
         (knows_second task.graph.now.edges (state_of g task) task.leg.from task.leg.to m is.chordal.rising below is.halves e d one two)
 
     -- what is read of them by a list's number
-    half_first : (n : ℕ) (read kept : Option (List Run)) → n ≡ list_number e Down → read ≡ slice_index_or task.functions.now n read → slice_index_or task.functions.now n read ≡ kept
+    half_first : (n : ℕ) (kept : Option (List Run)) → n ≡ list_number e Down → slice_get task.functions.now n ≡ Some kept
         → function_from task.graph.now.edges (state_of g task) task.leg.from m ≡ option_map arrival_value kept
-    half_first n read kept same is_read is_kept =
-        let there : slice_get task.functions.now (list_number e Down) ≡ Some kept =
-        read_there task.functions.now (list_number e Down) read first_kept (subst (λ (i : ℕ). read ≡ slice_index_or task.functions.now i read) same is_read) ∙ ap Some (is_read ∙ is_kept) in
-        first_is task.graph.now.edges (state_of g task) task.leg.from task.leg.to m is.chordal.rising below e one ∙ ap value_kept there
+    half_first n kept same there =
+        first_is task.graph.now.edges (state_of g task) task.leg.from task.leg.to m is.chordal.rising below e one
+        ∙ ap value_kept (subst (λ (i : ℕ). slice_get task.functions.now i ≡ Some kept) same there)
 
-    half_second : (n : ℕ) (read kept : Option (List Run)) → n ≡ list_number d Up → read ≡ slice_index_or task.functions.now n read → slice_index_or task.functions.now n read ≡ kept
+    half_second : (n : ℕ) (kept : Option (List Run)) → n ≡ list_number d Up → slice_get task.functions.now n ≡ Some kept
         → function_from task.graph.now.edges (state_of g task) m task.leg.to ≡ option_map arrival_value kept
-    half_second n read kept same is_read is_kept =
-        let there : slice_get task.functions.now (list_number d Up) ≡ Some kept =
-        read_there task.functions.now (list_number d Up) read second_kept (subst (λ (i : ℕ). read ≡ slice_index_or task.functions.now i read) same is_read) ∙ ap Some (is_read ∙ is_kept) in
-        second_is task.graph.now.edges (state_of g task) task.leg.from task.leg.to m is.chordal.rising below d two ∙ ap value_kept there
+    half_second n kept same there =
+        second_is task.graph.now.edges (state_of g task) task.leg.from task.leg.to m is.chordal.rising below d two
+        ∙ ap value_kept (subst (λ (i : ℕ). slice_get task.functions.now i ≡ Some kept) same there)
 
-    pub no_first_function : (n : ℕ) (read : Option (List Run)) → n ≡ list_number e Down → read ≡ slice_index_or task.functions.now n read → slice_index_or task.functions.now n read ≡ None
-        → FindsHalves g task m None
-    no_first_function n read same is_read none free = none_some (function_from task.graph.now.edges (state_of g task) task.leg.from m) (half_first n read None same is_read none) free.0
+    pub no_first_function : (n : ℕ) (kept : Option (List Run)) → n ≡ list_number e Down → slice_get task.functions.now n ≡ Some kept → kept ≡ None → FindsHalves g task m None
+    no_first_function n kept same there none free =
+        none_some (function_from task.graph.now.edges (state_of g task) task.leg.from m) (half_first n kept same there ∙ ap (option_map arrival_value) none) free.0
 
-    pub no_second_function : (n : ℕ) (read : Option (List Run)) → n ≡ list_number d Up → read ≡ slice_index_or task.functions.now n read → slice_index_or task.functions.now n read ≡ None
-        → FindsHalves g task m None
-    no_second_function n read same is_read none free = none_some (function_from task.graph.now.edges (state_of g task) m task.leg.to) (half_second n read None same is_read none) free.1
+    pub no_second_function : (n : ℕ) (kept : Option (List Run)) → n ≡ list_number d Up → slice_get task.functions.now n ≡ Some kept → kept ≡ None → FindsHalves g task m None
+    no_second_function n kept same there none free =
+        none_some (function_from task.graph.now.edges (state_of g task) m task.leg.to) (half_second n kept same there ∙ ap (option_map arrival_value) none) free.1
 
-    pub first_found : (n : ℕ) (read : Option (List Run)) (a : List Run) → n ≡ list_number e Down → read ≡ slice_index_or task.functions.now n read → slice_index_or task.functions.now n read ≡ Some a
+    pub first_found : (n : ℕ) (kept : Option (List Run)) (a : List Run) → n ≡ list_number e Down → slice_get task.functions.now n ≡ Some kept → kept ≡ Some a
         → function_from task.graph.now.edges (state_of g task) task.leg.from m ≡ Some (arrival_value a)
-    first_found n read a same is_read some = half_first n read (Some a) same is_read some
+    first_found n kept a same there some = half_first n kept same there ∙ ap (option_map arrival_value) some
 
-    pub second_found : (n : ℕ) (read : Option (List Run)) (b : List Run) → n ≡ list_number d Up → read ≡ slice_index_or task.functions.now n read → slice_index_or task.functions.now n read ≡ Some b
+    pub second_found : (n : ℕ) (kept : Option (List Run)) (b : List Run) → n ≡ list_number d Up → slice_get task.functions.now n ≡ Some kept → kept ≡ Some b
         → function_from task.graph.now.edges (state_of g task) m task.leg.to ≡ Some (arrival_value b)
-    second_found n read b same is_read some = half_second n read (Some b) same is_read some
+    second_found n kept b same there some = half_second n kept same there ∙ ap (option_map arrival_value) some
 
 -- a way by a middle that has no function is near
 pub near_none : (g : NetworkValue) (task : Task) (m : ℕ) → FindsHalves g task m None → IsNear g task (Via m)

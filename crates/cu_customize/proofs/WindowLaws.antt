@@ -11,7 +11,7 @@ use Rattle.cu_arrival.specs.declared.runs.RunRule.TheVariants.{Shift, Fixed}
 use Rattle.cu_arrival.specs.Runs.{arrival_value}
 use Rattle.cu_arrival.specs.Steps.Stretches.{arrives}
 use Rattle.cu_customize.specs.declared.windows.Span.{Span}
-use Rattle.cu_customize.specs.declared.windows.TheConstants.{WINDOWS}
+use Rattle.cu_customize.specs.declared.windows.TheConstants.{WIDTHS, WINDOWS}
 use Rattle.cu_customize.specs.declared.windows.Window.{Window}
 use Rattle.cu_customize.specs.declared.windows.Windows.{Windows}
 use Rattle.cu_customize.specs.Steps.Bounded.{IsAt, IsReach, IsSpan, IsUpper, IsWindow, IsWithinReach}
@@ -101,24 +101,24 @@ travelling_done words from until index at least most is late =
 module _ (windows : Windows) where
   pub starts_in_day : (i : ℕ) → window_start windows i ≤ day
   starts_in_day zero = omega arith
-  starts_in_day (suc i) = elim (cases_lt i 31) [
-    | inl lt ↦ let test : ltb i 31 ≡ true = grind (arith, nat_tests) in rw test (omega arith)
-    | inr ge ↦ let test : ltb i 31 ≡ false = grind (arith, nat_tests) in rw test (omega arith)
+  starts_in_day (suc i) = elim (cases_lt i WIDTHS) [
+    | inl lt ↦ let test : ltb i WIDTHS ≡ true = grind (arith, nat_tests) in rw test (omega arith)
+    | inr ge ↦ let test : ltb i WIDTHS ≡ false = grind (arith, nat_tests) in rw test (omega arith)
   ]
 
-  start_narrow : (i : ℕ) → i < 31 → window_start windows (suc i) ≡ min day (window_start windows i + get_or windows.widths i 0)
-  start_narrow i lt = let test : ltb i 31 ≡ true = grind (arith, nat_tests) in rw test refl
+  start_narrow : (i : ℕ) → i < WIDTHS → window_start windows (suc i) ≡ min day (window_start windows i + get_or windows.widths i 0)
+  start_narrow i lt = let test : ltb i WIDTHS ≡ true = grind (arith, nat_tests) in rw test refl
 
-  pub start_next : (i : ℕ) → i < 31 → window_start windows (i + 1) ≡ min day (window_start windows i + get_or windows.widths i 0)
+  pub start_next : (i : ℕ) → i < WIDTHS → window_start windows (i + 1) ≡ min day (window_start windows i + get_or windows.widths i 0)
   start_next i lt =
       let same : suc i ≡ i + 1 = omega arith in
       subst (λ (n : ℕ). window_start windows n ≡ min day (window_start windows i + get_or windows.widths i 0)) same (start_narrow i lt)
 
-  pub start_last : (i : ℕ) → 31 ≤ i → window_start windows (suc i) ≡ day
-  start_last i ge = let test : ltb i 31 ≡ false = grind (arith, nat_tests) in rw test refl
+  pub start_last : (i : ℕ) → WIDTHS ≤ i → window_start windows (suc i) ≡ day
+  start_last i ge = let test : ltb i WIDTHS ≡ false = grind (arith, nat_tests) in rw test refl
 
   start_step : (i : ℕ) → window_start windows i ≤ window_start windows (suc i)
-  start_step i = elim (cases_lt i 31) [
+  start_step i = elim (cases_lt i WIDTHS) [
     | inl lt ↦ let in_day = starts_in_day i in let next = start_narrow i lt in omega (arith, in_day, next)
     | inr ge ↦ let in_day = starts_in_day i in let next = start_last i ge in omega (arith, in_day, next)
   ]
@@ -128,7 +128,7 @@ module _ (windows : Windows) where
   start_behind i = elim (cases_lt i WINDOWS) [
     | inl lt ↦ let same : min i WINDOWS ≡ i = omega (arith, lt) in ap (window_start windows) same
     | inr ge ↦
-        let capped : min i WINDOWS ≡ suc 31 = omega (arith, ge) in
+        let capped : min i WINDOWS ≡ suc WIDTHS = omega (arith, ge) in
         let next : suc (i - 1) ≡ i = omega (arith, ge) in
         ap (window_start windows) capped ∙ sym (start_last (i - 1) (omega (arith, ge))) ∙ ap (window_start windows) next
   ]
@@ -152,9 +152,9 @@ module _ (windows : Windows) where
   start_there starts are i = are (min i WINDOWS) (omega arith) ∙ start_behind i
 
   -- a second of the day is in no window behind the last one
-  pub in_last : (i t : ℕ) → IsIn windows i t → IsIn windows (min i 31) t
-  in_last i t inside = elim (cases_lt i 32) [
-    | inl lt ↦ let same : i ≡ min i 31 = omega (arith, lt) in subst (λ (n : ℕ). IsIn windows n t) same inside
+  pub in_last : (i t : ℕ) → IsIn windows i t → IsIn windows (min i WIDTHS) t
+  in_last i t inside = elim (cases_lt i WINDOWS) [
+    | inl lt ↦ let same : i ≡ min i WIDTHS = omega (arith, lt) in subst (λ (n : ℕ). IsIn windows n t) same inside
     | inr ge ↦
         let next : suc (i - 1) ≡ i = omega (arith, ge) in
         let last : window_start windows i ≡ day = subst (λ (n : ℕ). window_start windows n ≡ day) next (start_last (i - 1) (omega (arith, ge))) in
@@ -165,7 +165,7 @@ module _ (windows : Windows) where
   ]
 
   -- so what is known of the last one is known of those
-  pub span_in_last : (f : ℕ → ℕ) (i last : ℕ) (span : Span) → last ≡ min i 31 → IsSpan f (window_start windows last) (window_start windows (last + 1)) span
+  pub span_in_last : (f : ℕ → ℕ) (i last : ℕ) (span : Span) → last ≡ min i WIDTHS → IsSpan f (window_start windows last) (window_start windows (last + 1)) span
       → IsSpan f (window_start windows i) (window_start windows (i + 1)) span
   span_in_last f i last span is_last is =
       let there : (t : ℕ) → IsIn windows i t → IsIn windows last t = λ t inside. subst (λ (n : ℕ). IsIn windows n t) (sym is_last) (in_last i t inside) in

@@ -1,4 +1,5 @@
 pub mod Functions
+pub mod Layers
 pub mod Settling
 pub mod Steps
 pub mod Words

@@ -2,13 +2,13 @@
 use Rattle.std.specs.Prelude.{ℕ, zero, suc, List, ◌≡◌, ◌≤◌, ◌<◌, ◌+◌, ◌*◌, ◌%◌, ◌⊎◌, min, nat_lt, if◌then◌else◌}
 use Rattle.std.proofs.Common.{get_or}
 use Rattle.cu_model.specs.Days.{day}
-use Rattle.cu_customize.specs.declared.windows.TheConstants.{NO_LIMIT, WINDOWS}
+use Rattle.cu_customize.specs.declared.windows.TheConstants.{NO_LIMIT, WIDTHS, WINDOWS}
 use Rattle.cu_customize.specs.declared.windows.Windows.{Windows}
 
 -- the second at which a window begins, and the end of the day behind the last one
 abbrev pub window_start : Windows → ℕ → ℕ
 window_start windows zero = 0
-window_start windows (suc before) = if nat_lt before 31 then min day (window_start windows before + get_or windows.widths before 0) else day
+window_start windows (suc before) = if nat_lt before WIDTHS then min day (window_start windows before + get_or windows.widths before 0) else day
 
 -- a second in a window
 abbrev pub IsIn : Windows → ℕ → ℕ → Type 0

@@ -297,7 +297,8 @@ fn is_settled(
         Dir::Down => 2 * edge as usize + 1,
     };
     let (network, graph, arcs) = (customized.network, customized.graph, customized.arcs);
-    let Some(settled) = settling.settle(alloc, network, graph, arcs, functions, edge, dir)? else {
+    let older = DayFunctions::of(functions);
+    let Some(settled) = settling.settle(alloc, network, graph, arcs, older, edge, dir)? else {
         return Ok(false);
     };
     let Some(list) = customized.lists.get(number) else {

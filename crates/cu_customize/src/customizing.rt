@@ -8,6 +8,7 @@ ghost use Rattle.cu_customize.specs.Steps.Kept.{AreBuilt, IsBuilding, IsBuilding
 ghost use Rattle.cu_customize.specs.Steps.Triangles.{AreTrianglesOf};
 
 use crate::day_function::DayFunction;
+use crate::day_functions::DayFunctions;
 use crate::dropping::drop_edges_to;
 use crate::gathering::Gatherer;
 use crate::pulling::pull;
@@ -62,9 +63,10 @@ fn settle_next(
         building.new.functions.items building.new.lists.items) }
 {
     let ends = parts.graph.ends(edge);
+    let functions = DayFunctions::of(&building.functions);
     let task = Task {
         graph: parts.graph,
-        functions: &building.functions,
+        functions: &functions,
         stay: parts.stay,
         windows: parts.windows,
         leg: leg_of(ends, dir),

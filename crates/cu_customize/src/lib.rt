@@ -16,7 +16,7 @@
 //! value by these functions (`specs/Settling.antt`), and that it is the built one where they are those of a network
 //! and order (`specs/Functions.antt`). It asks how long the ways by middles take, and for the functions of those alone
 //! that aren't slower at each second than some candidate is. [`WordSettling`] makes the same list as customization makes
-//! it, word by word, from functions that are kept by list number ([`DayFunction`]), as long as words can say them.
+//! it, word by word, from functions that are kept by list number ([`DayFunctions`]), as long as words can say them.
 //!
 //! It stands on `cu_interval` and `cu_chordal`, for hierarchies, and on `cu_arrival`, for what a run says. How runs are
 //! packed and how lists are stepped through is private; what only that cites is in `specs/Steps`.
@@ -27,6 +27,7 @@ mod choosing;
 mod choosing_windows;
 mod customizing;
 mod day_function;
+mod day_functions;
 mod dropping;
 mod functions;
 mod gathering;
@@ -44,6 +45,7 @@ mod words;
 
 pub use customizing::{built_lists, customize};
 pub use day_function::DayFunction;
+pub use day_functions::DayFunctions;
 pub use functions::Functions;
 pub use linking::link;
 pub use merger::Merger;

@@ -1,6 +1,7 @@
 //! What one list is settled from, where functions are words.
 
 use crate::day_function::DayFunction;
+use crate::day_functions::DayFunctions;
 use crate::settling::Leg;
 use crate::triangles::Triangle;
 use crate::windows::Windows;
@@ -14,7 +15,7 @@ use cu_chordal::Chordal;
 #[derive(Clone, Copy)]
 pub struct Task<'a> {
     pub graph: &'a Chordal,
-    pub functions: &'a [Option<DayFunction>],
+    pub functions: &'a DayFunctions<'a>,
     pub stay: &'a [Word],
     pub windows: Windows,
     pub leg: Leg,

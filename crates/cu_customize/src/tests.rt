@@ -1,6 +1,6 @@
 //! What no clause says: that calls succeed, and values worked by hand from a road and a ferry.
 
-ghost use Rattle.std.specs.Prelude.{◌≡◌, ◌≤◌, ◌^◌, IfOk};
+ghost use Rattle.std.specs.Prelude.{◌≡◌, ◌≤◌, ◌<◌, ◌^◌, IfOk, length};
 ghost use Rattle.cu_arrival.specs.Runs.{rule_number};
 ghost use Rattle.cu_customize.specs.Words.{IsFunctionWords};
 
@@ -109,6 +109,43 @@ fn travel_times_of_a_ferry(rt: HostRuntime) -> Result<(), Fail> {
     assert_eq!(rt;
         (least_travel(&words), most_travel(&words)),
         (13_601, 100_000)
+    );
+    Ok(())
+}
+
+// The function of a road that takes so many seconds.
+fn taking(alloc: Global, seconds: u64) -> Result<DayFunction, NoMemory>
+    requires { seconds ≤ 2 ^ 40 }
+{
+    let words = function_of_run(alloc, Word::of(0, false, seconds))?;
+    Ok(DayFunction::of(words))
+}
+
+// What the function of a list takes at least; 0 where it has none.
+fn least_of(functions: &DayFunctions<'_>, number: usize) -> u64
+    requires { number < length functions.now }
+{
+    let Some(function) = functions.get(number) else {
+        return 0;
+    };
+    function.least()
+}
+
+// The second of three lists has a newer function.
+#[test]
+fn a_newer_function_stands_in_the_place_of_an_older_one(rt: HostRuntime) -> Result<(), Fail> {
+    let alloc = rt.alloc();
+    let older = [Some(taking(alloc, 10)?), Some(taking(alloc, 20)?), None];
+    let newer = [Some(taking(alloc, 30)?)];
+    let all = DayFunctions::with_newer(&older, &[0, 1], &newer);
+    assert_eq!(rt;
+        (least_of(&all, 0), least_of(&all, 1), least_of(&all, 2)),
+        (10, 30, 0)
+    );
+    let all = DayFunctions::of(&older);
+    assert_eq!(rt;
+        (least_of(&all, 0), least_of(&all, 1), least_of(&all, 2)),
+        (10, 20, 0)
     );
     Ok(())
 }

@@ -1,13 +1,12 @@
 //! How long functions take in each window of the day. These bounds tell where a candidate can't be the least, and so
 //! needs no linking.
 
-ghost use Rattle.std.specs.Prelude.{◌≡◌, ◌≤◌, ◌<◌, ◌+◌, ◌*◌, ◌↔◌, ℕ, List, IsTrue, min};
+ghost use Rattle.std.specs.Prelude.{◌≡◌, ◌≤◌, ◌<◌, ◌+◌, ◌*◌, ◌↔◌, ℕ, IsTrue, min};
 ghost use Rattle.std.proofs.Common.{get_or};
 ghost use Rattle.cu_model.specs.declared.limits.TheConstants.{DAY};
 ghost use Rattle.cu_model.specs.Days.{IsOnward};
-ghost use Rattle.cu_arrival.specs.declared.runs.Run.{Run};
 ghost use Rattle.cu_arrival.specs.Runs.{arrival_value};
-ghost use Rattle.cu_customize.specs.Words.{IsDayList, IsFunctionWords, composed};
+ghost use Rattle.cu_customize.specs.Words.{IsDayList};
 ghost use Rattle.cu_customize.specs.Windows.{
   AreEach,
   AreLowered,
@@ -21,6 +20,7 @@ ghost use Rattle.cu_customize.specs.Steps.Bounded.{
   AreReaches,
   AreSpans,
   IsAt,
+  IsOfBoth,
   IsReach,
   IsSpan,
   IsUpper,
@@ -230,10 +230,8 @@ impl Bounds {
         requires window { window < WINDOWS }
         requires reach { get_or self.now.reach window 0 ≤ 2 * WINDOWS }
         requires same { second.now.windows ≡ self.now.windows }
-        ensures { (first behind : List Run) → IsFunctionWords behind
-            → AreBounds (arrival_value first) self.now → AreBounds (arrival_value behind) second.now
-            → TakesBetween (composed first behind) (window_start self.now.windows window)
-            (window_start self.now.windows (window + 1)) result }
+        ensures { IsOfBoth (λ f from until. TakesBetween f from until result)
+            self.now second.now window }
     {
         let reach = self.reach[window] as usize;
         u32::from(self.own[window].least) + u32::from(second.over[reach].least)
@@ -245,10 +243,8 @@ impl Bounds {
         requires window { window < WINDOWS }
         requires reach { get_or self.now.reach window 0 ≤ 2 * WINDOWS }
         requires same { second.now.windows ≡ self.now.windows }
-        ensures { (first behind : List Run) → IsFunctionWords behind
-            → AreBounds (arrival_value first) self.now → AreBounds (arrival_value behind) second.now
-            → IsUpper (composed first behind) (window_start self.now.windows window)
-            (window_start self.now.windows (window + 1)) result }
+        ensures { IsOfBoth (λ f from until. IsUpper f from until result)
+            self.now second.now window }
     {
         let reach = self.reach[window] as usize;
         let most = u32::from(self.own[window].most) + u32::from(second.over[reach].most);

@@ -12,7 +12,7 @@ ghost use Rattle.cu_customize.specs.Settling.{HasFarWay, IsDayValueOf, IsSettled
 ghost use Rattle.cu_customize.specs.Steps.Gathering.{AreNear, HasTriangles, IsFar, IsNear};
 ghost use Rattle.cu_customize.specs.Steps.Triangles.{AreTriangles, FindsTriangle};
 
-use crate::day_function::DayFunction;
+use crate::day_functions::DayFunctions;
 use crate::gathering::{Gatherer, halves_of};
 use crate::pulling::{SettledWords, pull};
 use crate::settling::leg_of;
@@ -54,7 +54,7 @@ impl WordSettling {
         roads: &R,
         graph: &Chordal,
         arcs: &EdgeArcs,
-        functions: &[Option<DayFunction>],
+        functions: DayFunctions<'_>,
         edge: u32,
         dir: Dir,
     ) -> Result<Option<SettledWords>, NoMemory>
@@ -62,20 +62,20 @@ impl WordSettling {
         requires lists { length arcs.now ≡ 2 * length graph.now.edges }
         requires arcs { (list : List ℕ) → slice_get arcs.now (list_number edge dir) ≡ Some list
             → IsStrictlyIncreasing list × All (λ a. a < length (R.network roads.now).arcs) list }
-        requires functions { length functions.now ≡ 2 * length graph.now.edges }
+        requires functions { length functions ≡ 2 * length graph.now.edges }
         ensures ways { (ends : Ends) (list : List ℕ)
             → slice_get graph.now.edges edge ≡ Some ends
             → slice_get arcs.now (list_number edge dir) ≡ Some list
             → IfOk result (λ found. IfSome found (λ settled. IsSettledList graph.now.edges list
-            (kept_state (R.network roads.now) functions.now)
+            (kept_state (R.network roads.now) functions.entry)
             (start_of ends dir) (end_of ends dir) settled.ways)) }
         ensures function { (ends : Ends) → slice_get graph.now.edges edge ≡ Some ends
             → IfOk result (λ found. IfSome found (λ settled. IsDayValueOf graph.now.edges
-            (kept_state (R.network roads.now) functions.now)
+            (kept_state (R.network roads.now) functions.entry)
             (start_of ends dir) (end_of ends dir) settled.ways settled.function)) }
         ensures far { (ends : Ends) → slice_get graph.now.edges edge ≡ Some ends
             → IfOk result (λ found. found ≡ None → HasFarWay graph.now.edges
-            (kept_state (R.network roads.now) functions.now)
+            (kept_state (R.network roads.now) functions.entry)
             (start_of ends dir) (end_of ends dir)) }
     {
         let ends = graph.ends(edge);
@@ -83,7 +83,7 @@ impl WordSettling {
         let stay = staying();
         let task = Task {
             graph,
-            functions,
+            functions: &functions,
             stay: &stay,
             windows: self.windows,
             leg: leg_of(ends, dir),

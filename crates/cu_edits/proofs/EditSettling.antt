@@ -15,7 +15,7 @@ use Rattle.cu_interval.specs.declared.ways.Entry.{Entry}
 use Rattle.cu_interval.specs.declared.ways.TouchedEdge.{TouchedEdge}
 use Rattle.cu_interval.specs.EdgeArcs.{AreEdgeArcs}
 use Rattle.cu_interval.specs.Hierarchies.{HierarchyValue, end_of, list_of, start_of}
-use Rattle.cu_interval.specs.Resettling.{rebuilt}
+use Rattle.cu_interval.specs.Resettling.{IsResettledList, rebuilt}
 use Rattle.cu_interval.specs.Touching.{IsTouchedEdge}
 use Rattle.cu_customize.specs.Functions.{FunctionsState}
 use Rattle.cu_customize.specs.Settling.{IsValueOf}
@@ -25,15 +25,16 @@ use Rattle.cu_edits.specs.Settling.{HasFinalSides, IsFinal, IsLowerSide, IsReset
 use Rattle.cu_edits.specs.Steps.Holding.{IsSettledEdge, IsSettling}
 use Rattle.cu_edits.specs.Steps.Known.{AreRebuilt, HasFunctions, IsSide, Learns, function_in, functions_of}
 use Rattle.cu_edits.specs.Steps.Settled.{AreSettled}
-use Rattle.cu_edits.proofs.Frames.{IsFrame, rebuilt_stays}
+use Rattle.cu_edits.specs.Steps.Frames.{IsFrame, LeadsOver}
+use Rattle.cu_edits.proofs.Frames.{rebuilt_stays}
 use Rattle.cu_edits.proofs.Halves.{KnowsAll, half_known}
 use Rattle.cu_edits.proofs.Replaced.{list_pushed}
 use Rattle.cu_edits.proofs.SettledFrames.{FinalPair, UntouchedPair, final_still, other_edge, settled_cases, settled_itself, settled_with, stays_frame, untouched_frame, untouched_list}
 use Rattle.cu_edits.proofs.SettledOnce as once
-use Rattle.cu_edits.proofs.Sides.{LeadsOver, halves_at, over}
+use Rattle.cu_edits.proofs.Sides.{halves_at, over}
 
 -- functions of a pair that is framed stay those of its list
-function_stays : (a b : HierarchyValue) (Pair : ℕ → ℕ → Type 0) → IsFrame a b Pair → (edges : List Ends) → a.edges ≡ edges → b.edges ≡ edges → (e : ℕ) (dir : Dir) (function : Option (List Run))
+pub function_stays : (a b : HierarchyValue) (Pair : ℕ → ℕ → Type 0) → IsFrame a b Pair → (edges : List Ends) → a.edges ≡ edges → b.edges ≡ edges → (e : ℕ) (dir : Dir) (function : Option (List Run))
     → ((ends : Ends) → slice_get edges e ≡ Some ends → Pair (start_of ends dir) (end_of ends dir)) → list_of b e dir ≡ list_of a e dir → IsRebuiltFunction a e dir function → IsRebuiltFunction b e dir function
 function_stays a b Pair frame edges of_a of_b e dir None pair list is = list ∙ is
 function_stays a b Pair frame edges of_a of_b e dir (Some runs) pair list (some, is, values) = (
@@ -108,14 +109,17 @@ module _ (s : SettlingValue) (are : AreSettled s) (arcs : List (List ℕ)) (road
         );
   }
 
+  resettled_now : (dir : Dir) (ends : Ends) → slice_get s.before.edges t.edge ≡ Some ends → IsResettledList now (start_of ends dir) (end_of ends dir) (list_in t dir)
+  resettled_now = once.resettled_by s arcs roads t asked knows settled.ways
+
   pub edge_resettled : IsResettledEdge next t
-  edge_resettled = once.edge_resettled s are arcs roads t touched fresh sides asked knows settled.ways
+  edge_resettled = once.edge_resettled s are t touched fresh sides resettled_now
 
   pub more : AreSettled (settled_with s t)
-  more = once.more s are arcs roads t touched fresh sides asked knows settled.ways
+  more = once.more s are t touched fresh sides resettled_now
 
   new_list : (dir : Dir) → list_of next t.edge dir ≡ list_in t dir
-  new_list = once.new_list s are arcs roads t touched fresh sides asked knows settled.ways
+  new_list = once.new_list s are t touched fresh sides resettled_now
 
   new_function : (dir : Dir) (function : Option (List Run)) (ends : Ends) → slice_get s.before.edges t.edge ≡ Some ends
       → IsValueOf s.before.edges asked (start_of ends dir) (end_of ends dir) (list_in t dir) function → IsRebuiltFunction next t.edge dir function
@@ -123,7 +127,7 @@ module _ (s : SettlingValue) (are : AreSettled s) (arcs : List (List ℕ)) (road
   new_function dir (Some runs) ends at (some, is, values) = (
     subst (λ (es : List Entry). es ≢ []) (sym (new_list dir)) some,
     is,
-    once.new_values s are arcs roads t touched fresh sides asked knows settled.ways dir runs ends at some is.starts values,
+    once.new_values s are t touched fresh sides resettled_now dir runs ends at is.starts (once.least_by s arcs roads t asked knows settled.ways dir runs ends at some values),
   )
 
   pub new_functions : AreRebuilt next t.edge functions

@@ -5,7 +5,6 @@ use Rattle.std.proofs.lemmas.Bool.{cases_eq}
 use Rattle.std.proofs.lemmas.Option.{get_or_from_slice_get, slice_get-get_or, slice_get_within}
 use Rattle.cu_model.proofs.Begun.{gt_test, last_begun-at, le_test, rises_between}
 use Rattle.cu_model.specs.Days.{day}
-use Rattle.cu_model.specs.Roads.{drive}
 use Rattle.cu_chordal.specs.declared.graph.Ends.{Ends}
 use Rattle.cu_interval.specs.declared.ways.Dir.{Dir}
 use Rattle.cu_interval.specs.declared.ways.Way.{Way}
@@ -15,16 +14,7 @@ use Rattle.cu_interval.specs.Hierarchies.{HierarchyValue, end_of, list_from, sta
 use Rattle.cu_interval.specs.Resettling.{least_in, lesser_of, rebuilt, rebuilt_by, then_at, value_by}
 use Rattle.cu_interval.specs.WayLists.{IsRunsOf, IsWayList, entry_in, way_in}
 use Rattle.cu_interval.proofs.Spelled.{entries_rise}
-
--- a way has the same value in both: its road is driven alike, or its halves, both of lower edges, are among the pairs
-abbrev pub IsFramed : HierarchyValue → HierarchyValue → (ℕ → ℕ → Type 0) → ℕ → ℕ → Way → Type 0
-IsFramed a b Pair u v (Road road) = (t : ℕ) → drive a.network (road ∷ []) t ≡ drive b.network (road ∷ []) t
-IsFramed a b Pair u v (Via m) = (m < u) × (m < v) × Pair u m × Pair m v
-
--- both hierarchies have the same lists between these pairs of ranks, and their ways lead to none but such pairs
-pub record IsFrame (a b : HierarchyValue) (Pair : ℕ → ℕ → Type 0) : Type 0 where
-  pub lists : (u v : ℕ) → Pair u v → list_from a u v ≡ list_from b u v
-  pub ways : (u v : ℕ) → Pair u v → All (λ (entry : Entry). IsFramed a b Pair u v entry.way) (list_from a u v)
+use Rattle.cu_edits.specs.Steps.Frames.{IsFrame, IsFramed}
 
 pub then_at-same : (a b : Option ℕ) (f g : ℕ → Option ℕ) → a ≡ b → ((x : ℕ) → f x ≡ g x) → then_at a f ≡ then_at b g
 then_at-same None b f g e same = ap (λ (o : Option ℕ). then_at o g) e

@@ -1,33 +1,45 @@
 -- Plain functions taken from words, one edge after the other; and what a settler holds once it has gone over to them.
-use Rattle.std.proofs.Common.{◌≡◌, ◌<◌, ◌+◌, ◌∙◌, ℕ, List, Option, Some, None, ap, sym, subst, arith, inl, inr, length, get_or}
-use Rattle.std.specs.Prelude.{slice_get, slice_set}
+use Rattle.std.proofs.Common.{◌≡◌, ◌<◌, ◌+◌, ◌∙◌, ℕ, List, Option, Some, None, ap, refl, sym, subst, arith, inl, inr, length}
+use Rattle.std.specs.Prelude.{All, slice_get, slice_set}
 use Rattle.std.specs.List.{Contains}
 use Rattle.std.proofs.lemmas.Bool.{cases_eq}
-use Rattle.std.proofs.lemmas.Option.{slice_get-get_or, slice_get_within}
+use Rattle.std.proofs.lemmas.Option.{slice_get_within}
+use Rattle.cu_model.proofs.RoadLaws.{all_at}
 use Rattle.cu_arrival.specs.declared.runs.Run.{Run}
 use Rattle.cu_chordal.specs.Graphs.{ChordalValue}
 use Rattle.cu_chordal.proofs.Members.{member_at, place_of}
 use Rattle.cu_links.proofs.Links.{get_here, get_other, set_long}
 use Rattle.cu_interval.specs.declared.ways.Dir.{Dir}
 use Rattle.cu_interval.specs.declared.ways.TouchedEdge.{TouchedEdge}
-use Rattle.cu_interval.specs.Hierarchies.{HierarchyValue, list_number}
+use Rattle.cu_interval.specs.Hierarchies.{HierarchyValue, end_of, start_of}
 use Rattle.cu_unpack.specs.Rebuilds.{IsRebuiltFunction}
 use Rattle.cu_unpack.specs.RebuiltWords.{IsRebuiltWords, WordsValue}
 use Rattle.cu_edits.specs.declared.held.HeldPlain.{HeldPlain}
 use Rattle.cu_edits.specs.declared.known.EdgeFunctions.{EdgeFunctions}
-use Rattle.cu_edits.specs.Settling.{SettlingValue, numbers_of, settled_so_far}
+use Rattle.cu_edits.specs.Settling.{IsSettled, SettlingValue, numbers_of, settled_so_far}
 use Rattle.cu_edits.specs.Steps.ByWords.{IsSettlingByWords}
-use Rattle.cu_edits.specs.Steps.GoingOver.{ArePlainOf, SaysSame, SayWords}
+use Rattle.cu_edits.specs.Steps.GoingOver.{ArePlainOf, SayLists, SaysList, SaysSame}
 use Rattle.cu_edits.specs.Steps.Holding.{IsSettling}
-use Rattle.cu_edits.specs.Steps.Known.{AreRebuilt, HasFunctions, function_in}
-use Rattle.cu_edits.proofs.LearntWords.{number_within}
+use Rattle.cu_edits.specs.Steps.Known.{HasFunctions, function_in}
+use Rattle.cu_edits.specs.Steps.Moving.{IsUnmoved, MovedValue, StandingPair}
+use Rattle.cu_edits.proofs.EditSettling.{function_stays}
 use Rattle.cu_edits.proofs.Replaced.{number_among, number_of_one}
+use Rattle.cu_edits.proofs.Sides.{list_at, over}
 
 -- the functions of the first of these edges are known
-pub record AreSaid (edges : ℕ) (settled : List TouchedEdge) (words : WordsValue) (index : ℕ) (known : List (Option EdgeFunctions)) : Type 0 where
-  pub count : length known ≡ edges
-  pub functions : (edge : ℕ) (functions : EdgeFunctions) → slice_get known edge ≡ Some (Some functions) → Contains (numbers_of settled) edge × SayWords words edge functions
+pub record AreSaid (h : HierarchyValue) (settled : List TouchedEdge) (moved : MovedValue) (index : ℕ) (known : List (Option EdgeFunctions)) : Type 0 where
+  pub count : length known ≡ length h.edges
+  pub functions : (edge : ℕ) (functions : EdgeFunctions) → slice_get known edge ≡ Some (Some functions) → Contains (numbers_of settled) edge × SayLists h moved edge functions
   pub has : (k : ℕ) (t : TouchedEdge) → k < index → slice_get settled k ≡ Some t → HasFunctions known t.edge
+
+-- none so far
+pub said_none : (h : HierarchyValue) (settled : List TouchedEdge) (moved : MovedValue) (known : List (Option EdgeFunctions)) → length known ≡ length h.edges
+    → All (λ (one : Option EdgeFunctions). one ≡ None) known → AreSaid h settled moved 0 known
+said_none h settled moved known long none = record {
+  count = long;
+  functions = λ e functions at. let no = all_at (λ (one : Option EdgeFunctions). one ≡ None) known e (Some functions) none at in absurd (cc no);
+  has = λ k t lt at. absurd (omega (arith, lt));
+}
 
 still_has : (known : List (Option EdgeFunctions)) (edge e : ℕ) (functions : EdgeFunctions) → edge < length known → HasFunctions known e → HasFunctions (slice_set known edge (Some functions)) e
 still_has known edge e functions inside (before, at) = elim (cases_eq edge e) [
@@ -35,10 +47,10 @@ still_has known edge e functions inside (before, at) = elim (cases_eq edge e) [
   | inr other ↦ (before, get_other known edge e (Some functions) other ∙ at)
 ]
 
-pub said_more : (edges : ℕ) (settled : List TouchedEdge) (words : WordsValue) (index : ℕ) (known : List (Option EdgeFunctions)) (t : TouchedEdge) (functions : EdgeFunctions)
-    → AreSaid edges settled words index known → slice_get settled index ≡ Some t → t.edge < edges → SayWords words t.edge functions
-    → AreSaid edges settled words (index + 1) (slice_set known t.edge (Some functions))
-said_more edges settled words index known t functions old at inside says =
+pub said_more : (h : HierarchyValue) (settled : List TouchedEdge) (moved : MovedValue) (index : ℕ) (known : List (Option EdgeFunctions)) (t : TouchedEdge) (functions : EdgeFunctions)
+    → AreSaid h settled moved index known → slice_get settled index ≡ Some t → t.edge < length h.edges → SayLists h moved t.edge functions
+    → AreSaid h settled moved (index + 1) (slice_set known t.edge (Some functions))
+said_more h settled moved index known t functions old at inside says =
     let count = old.count in
     let here = get_here known t.edge (Some functions) (omega (arith, inside, count)) in
     record {
@@ -48,7 +60,7 @@ said_more edges settled words index known t functions old at inside says =
             let now : slice_get (slice_set known t.edge (Some functions)) e ≡ Some (Some functions) =
             subst (λ (k : ℕ). slice_get (slice_set known t.edge (Some functions)) k ≡ Some (Some functions)) same here in
             let is : functions ≡ given = cc (now, there) in
-            (subst (Contains (numbers_of settled)) same (number_among settled t (member_at settled t index at)), subst (SayWords words e) is (subst (λ (k : ℕ). SayWords words k functions) same says))
+            (subst (Contains (numbers_of settled)) same (number_among settled t (member_at settled t index at)), subst (SayLists h moved e) is (subst (λ (k : ℕ). SayLists h moved k functions) same says))
         | inr other ↦ old.functions e given (sym (get_other known t.edge e (Some functions) other) ∙ there)
       ];
       has = λ k one lt there. elim (cases_eq k index) [
@@ -59,9 +71,9 @@ said_more edges settled words index known t functions old at inside says =
       ];
     }
 
-pub said_all : (edges : ℕ) (settled : List TouchedEdge) (words : WordsValue) (index : ℕ) (known : List (Option EdgeFunctions)) → AreSaid edges settled words index known → index ≡ length settled
+pub said_all : (h : HierarchyValue) (settled : List TouchedEdge) (moved : MovedValue) (index : ℕ) (known : List (Option EdgeFunctions)) → AreSaid h settled moved index known → index ≡ length settled
     → (edge : ℕ) → Contains (numbers_of settled) edge → slice_get known edge ≡ Some None → ⊥
-said_all edges settled words index known old all edge c none =
+said_all h settled moved index known old all edge c none =
     let (t, among, same) = number_of_one settled edge c in
     let (k, at) = place_of settled t among in
     let (functions, there) = old.has k t (let inside = slice_get_within settled k t at in omega (arith, inside, all)) at in
@@ -75,31 +87,39 @@ says_rebuilt h edge dir None (Some runs) says is = absurd says
 says_rebuilt h edge dir (Some words) None says is = absurd says
 says_rebuilt h edge dir (Some words) (Some runs) (sound, same) (some, of, onward, values) = (some, sound, λ ends at t. values ends at t ∙ ap (λ (x : ℕ). Some x) (sym (same t)))
 
-settled_rebuilt : (s : SettlingValue) (graph : ChordalValue) (arcs : List (List ℕ)) (words : WordsValue) (edge : ℕ) (functions : EdgeFunctions) → IsSettlingByWords s graph arcs words
-    → Contains (numbers_of s.settled) edge → SayWords words edge functions → AreRebuilt (settled_so_far s) edge functions
-settled_rebuilt s graph arcs words edge functions old c says dir =
-    let (ends, at, is) = old.are.touched edge c in
-    let inside = number_within (length s.before.edges) edge dir (slice_get_within s.before.edges edge ends at) in
-    let long = old.size.functions in
-    let given = get_or words.functions (list_number edge dir) None in
-    let there : slice_get words.functions (list_number edge dir) ≡ Some given = slice_get-get_or words.functions (list_number edge dir) None (omega (arith, inside, long)) in
-    says_rebuilt (settled_so_far s) edge dir given (function_in functions dir) (says dir given there) (old.settled edge dir c (old.known edge dir c) given there)
+-- so is the function of a list that stands
+module _ (s : SettlingValue) (graph : ChordalValue) (arcs : List (List ℕ)) (words : WordsValue) (moved : MovedValue) (old : IsSettlingByWords s graph arcs words moved) (edge : ℕ)
+    (settled : IsSettled s edge) (dir : Dir) where
+  stands_rebuilt : (function : Option (List Run)) → IsUnmoved moved edge dir → IsRebuiltFunction s.before edge dir function → IsRebuiltFunction (settled_so_far s) edge dir function
+  stands_rebuilt function unmoved is =
+      let now = settled_so_far s in
+      let (ends, at, touched) = old.are.touched edge settled in
+      let leads = over s.before.edges edge dir ends at in
+      let u = start_of ends dir in
+      let v = end_of ends dir in
+      let pair : StandingPair s moved u v = (edge, dir, leads, inl settled, unmoved) in
+      function_stays s.before now (StandingPair s moved) old.stands s.before.edges refl refl edge dir function
+      (λ other there. (edge, dir, over s.before.edges edge dir other there, inl settled, unmoved))
+      (sym (list_at s.before now old.are.sound refl edge dir u v leads) ∙ sym (old.stands.lists u v pair) ∙ list_at s.before s.before old.are.sound refl edge dir u v leads) is
+
+  list_rebuilt : (function : Option (List Run)) → SaysList s.before moved edge dir function → IsRebuiltFunction (settled_so_far s) edge dir function
+  list_rebuilt function (inl (unmoved, is)) = stands_rebuilt function unmoved is
+  list_rebuilt function (inr (given, moves, says)) = says_rebuilt (settled_so_far s) edge dir given function says (old.moves edge dir given moves).1
 
 -- so a settler may go over
-pub gone_over : (s : SettlingValue) (graph : ChordalValue) (arcs : List (List ℕ)) (words : WordsValue) (held : HeldPlain) → IsSettlingByWords s graph arcs words
-    → ArePlainOf (length graph.edges) s.settled words held → IsSettling s graph arcs held.rebuilt held.known.items
-gone_over s graph arcs words held old plain =
-    let long : length graph.edges ≡ length s.before.edges = ap (λ (k : ChordalValue). length k.edges) old.hierarchy.0 in
-    let size = plain.size in
-    record {
-      are = old.are;
-      hierarchy = old.hierarchy;
-      roads = old.roads;
-      range = old.range;
-      pieces = old.pieces;
-      size = omega (arith, size, long);
-      keeps = plain.keeps s.before;
-      count = plain.count ∙ long;
-      functions = λ e functions at. let (c, says) = plain.functions e functions at in (inl c, settled_rebuilt s graph arcs words e functions old c says);
-      settled = plain.known;
-    }
+pub gone_over : (s : SettlingValue) (graph : ChordalValue) (arcs : List (List ℕ)) (words : WordsValue) (moved : MovedValue) (held : HeldPlain) → IsSettlingByWords s graph arcs words moved
+    → ArePlainOf s.before s.settled moved held → IsSettling s graph arcs held.rebuilt held.known.items
+gone_over s graph arcs words moved held old plain = record {
+  are = old.are;
+  hierarchy = old.parts.hierarchy;
+  roads = old.parts.roads;
+  range = old.parts.range;
+  pieces = old.parts.pieces;
+  size = plain.size;
+  keeps = plain.keeps;
+  count = plain.count;
+  functions = λ e functions at.
+      let (settled, says) = plain.functions e functions at in
+      (inl settled, λ dir. list_rebuilt s graph arcs words moved old e settled dir (function_in functions dir) (says dir));
+  settled = plain.known;
+}

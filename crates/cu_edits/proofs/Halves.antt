@@ -28,8 +28,9 @@ use Rattle.cu_unpack.specs.Rebuilds.{IsRebuiltFunction}
 use Rattle.cu_edits.specs.declared.known.EdgeFunctions.{EdgeFunctions}
 use Rattle.cu_edits.specs.Settling.{SettlingValue, settled_so_far}
 use Rattle.cu_edits.specs.Steps.Known.{AreRebuilt, function_in, functions_of, known_function, road_in, values_of}
+use Rattle.cu_edits.specs.Steps.Frames.{LeadsOver}
 use Rattle.cu_edits.proofs.Frames.{ChoosesAlike}
-use Rattle.cu_edits.proofs.Sides.{LeadsOver, edge_down, edge_up, list_at}
+use Rattle.cu_edits.proofs.Sides.{edge_down, edge_up, list_at}
 use Rattle.cu_edits.proofs.Unchanged.{joins_leads, leads_joins, ranks_edited, ranks_kept}
 
 -- the function that is asked for between the ends of an edge is the edge's
@@ -118,61 +119,81 @@ open_road g a false e some = e
 road_there : (g : NetworkValue) (a : ℕ) → is_closed_arc g a ≡ false → road_in g a ≡ Some (arc_value g a)
 road_there g a e = rw e refl
 
--- what settling calls a candidate and its arrival is what the hierarchy does
+-- what settling knows of a way is what the hierarchy does: of a road its function, of a middle both halves
+abbrev pub KnowsWay : HierarchyValue → FunctionsState → ℕ → ℕ → Way → Type 0
+KnowsWay h f u v (Road a) = f.road a ≡ road_in h.network a
+KnowsWay h f u v (Via m) = m < u → m < v → HasEdge h.edges m u → HasEdge h.edges m v → IsHalf h f u m × IsHalf h f m v
+
+module _ (before : HierarchyValue) (edit : Edit) (h : HierarchyValue) (network : h.network ≡ edited before.network edit) (order : h.order ≡ before.order) (roads : List ℕ) (f : FunctionsState)
+    (u v : ℕ) (are : AreArcsFrom before.network before.order u v roads) where
+  is_open : (a : ℕ) → KnowsWay h f u v (Road a) → IsSome (f.road a) → is_closed_arc h.network a ≡ false
+  is_open a knows some = open_road h.network a (is_closed_arc h.network a) refl (subst IsSome knows some)
+
+  -- what settling calls a candidate is one
+  pub candidate_in : (way : Way) → KnowsWay h f u v way → IsCandidateBy h.edges roads f u v way → IsCandidateIn h u v way
+  candidate_in (Road a) knows (c, some) =
+      joins_leads h.network h.order a u v
+      (subst (λ (g : NetworkValue). LinksRanks g h.order a u v) (sym network) (subst (λ (o : OrderValue). LinksRanks (edited before.network edit) o a u v) (sym order)
+      (ranks_edited before.network before.order edit a u v ((are.exact a).0 c)))) (is_open a knows some)
+  candidate_in (Via m) knows (to, on, first, second) =
+      let halves = knows to on (down_edge h.edges f u m to first) (up_edge h.edges f m v on second) in (
+        to,
+        on,
+        some_list h u m halves.0.function (function_from h.edges f u m) halves.0.is halves.0.rebuilds first,
+        some_list h m v halves.1.function (function_from h.edges f m v) halves.1.is halves.1.rebuilds second,
+      )
+
+  -- and the other way round
+  pub candidate_by : (way : Way) → KnowsWay h f u v way → IsCandidateIn h u v way → IsCandidateBy h.edges roads f u v way
+  candidate_by (Road a) knows leads =
+      let (joins, open_now) = leads_joins h.network h.order a u v leads in (
+        (are.exact a).1 (ranks_kept before.network before.order edit a u v
+            (subst (λ (o : OrderValue). LinksRanks (edited before.network edit) o a u v) order (subst (λ (g : NetworkValue). LinksRanks g h.order a u v) network joins))),
+        subst IsSome (sym (knows ∙ road_there h.network a open_now)) refl,
+      )
+  candidate_by (Via m) knows (to, on, first, second) =
+      let halves = knows to on (edge_down h u m to first) (edge_up h m v on second) in (
+        to,
+        on,
+        some_function h u m halves.0.function (function_from h.edges f u m) halves.0.is halves.0.rebuilds first,
+        some_function h m v halves.1.function (function_from h.edges f m v) halves.1.is halves.1.rebuilds second,
+      )
+
+  road_value : (a t : ℕ) → KnowsWay h f u v (Road a) → IsSome (f.road a) → value_at (f.road a) t ≡ Some (arc_value h.network a t)
+  road_value a t knows some = ap (λ (o : Option (ℕ → ℕ)). value_at o t) (knows ∙ road_there h.network a (is_open a knows some))
+
+  middle_value : (m t : ℕ) → KnowsWay h f u v (Via m) → IsCandidateBy h.edges roads f u v (Via m)
+      → then_at (rebuilt h u m t) (rebuilt h m v) ≡ through (function_from h.edges f u m) (function_from h.edges f m v) t
+  middle_value m t knows (to, on, first, second) =
+      let halves = knows to on (down_edge h.edges f u m to first) (up_edge h.edges f m v on second) in
+      via_value h u m v t halves.0.function halves.1.function (function_from h.edges f u m) (function_from h.edges f m v) halves.0.is halves.1.is halves.0.rebuilds halves.1.rebuilds
+      (some_list h u m halves.0.function (function_from h.edges f u m) halves.0.is halves.0.rebuilds first)
+      (some_list h m v halves.1.function (function_from h.edges f m v) halves.1.is halves.1.rebuilds second)
+
+  -- it arrives alike
+  pub arrives_in : (t : ℕ) (way : Way) (x : ℕ) → KnowsWay h f u v way → IsCandidateBy h.edges roads f u v way → ArrivesBy h.edges f u v t way x → ArrivesIn h u v t way x
+  arrives_in t (Road a) x knows (c, some) e = sym (road_value a t knows some) ∙ e
+  arrives_in t (Via m) x knows c e = middle_value m t knows c ∙ e
+
+  pub arrives_by : (t : ℕ) (way : Way) (x : ℕ) → KnowsWay h f u v way → IsCandidateBy h.edges roads f u v way → ArrivesIn h u v t way x → ArrivesBy h.edges f u v t way x
+  arrives_by t (Road a) x knows (c, some) e = road_value a t knows some ∙ e
+  arrives_by t (Via m) x knows c e = sym (middle_value m t knows c) ∙ e
+
+-- so it is with each way
 pub record KnowsAll (h : HierarchyValue) (f : FunctionsState) (u v : ℕ) : Type 0 where
   pub road : (a : ℕ) → f.road a ≡ road_in h.network a
   pub halves : (m : ℕ) → m < u → m < v → HasEdge h.edges m u → HasEdge h.edges m v → IsHalf h f u m × IsHalf h f m v
 
+pub knows_way : (h : HierarchyValue) (f : FunctionsState) (u v : ℕ) → KnowsAll h f u v → (way : Way) → KnowsWay h f u v way
+knows_way h f u v knows (Road a) = knows.road a
+knows_way h f u v knows (Via m) = knows.halves m
+
 pub settled_alike : (before : HierarchyValue) (edit : Edit) (h : HierarchyValue) → h.network ≡ edited before.network edit → h.order ≡ before.order → (roads : List ℕ) (f : FunctionsState) (u v : ℕ)
     → AreArcsFrom before.network before.order u v roads → KnowsAll h f u v
     → ChoosesAlike (IsCandidateBy h.edges roads f u v) (IsCandidateIn h u v) (ArrivesBy h.edges f u v) (ArrivesIn h u v)
-settled_alike before edit h network order roads f u v are knows = record { there = there; back = back; arrives = arrives; arrived = arrived }
-  where
-    is_open : (a : ℕ) → IsSome (f.road a) → is_closed_arc h.network a ≡ false
-    is_open a some = open_road h.network a (is_closed_arc h.network a) refl (subst IsSome (knows.road a) some)
-
-    there : (way : Way) → IsCandidateBy h.edges roads f u v way → IsCandidateIn h u v way
-    there (Road a) (c, some) =
-        joins_leads h.network h.order a u v
-        (subst (λ (g : NetworkValue). LinksRanks g h.order a u v) (sym network) (subst (λ (o : OrderValue). LinksRanks (edited before.network edit) o a u v) (sym order)
-        (ranks_edited before.network before.order edit a u v ((are.exact a).0 c)))) (is_open a some)
-    there (Via m) (to, on, first, second) =
-        let halves = knows.halves m to on (down_edge h.edges f u m to first) (up_edge h.edges f m v on second) in (
-          to,
-          on,
-          some_list h u m halves.0.function (function_from h.edges f u m) halves.0.is halves.0.rebuilds first,
-          some_list h m v halves.1.function (function_from h.edges f m v) halves.1.is halves.1.rebuilds second,
-        )
-
-    back : (way : Way) → IsCandidateIn h u v way → IsCandidateBy h.edges roads f u v way
-    back (Road a) leads =
-        let (joins, open_now) = leads_joins h.network h.order a u v leads in (
-          (are.exact a).1 (ranks_kept before.network before.order edit a u v
-              (subst (λ (o : OrderValue). LinksRanks (edited before.network edit) o a u v) order (subst (λ (g : NetworkValue). LinksRanks g h.order a u v) network joins))),
-          subst IsSome (sym (knows.road a ∙ road_there h.network a open_now)) refl,
-        )
-    back (Via m) (to, on, first, second) =
-        let halves = knows.halves m to on (edge_down h u m to first) (edge_up h m v on second) in (
-          to,
-          on,
-          some_function h u m halves.0.function (function_from h.edges f u m) halves.0.is halves.0.rebuilds first,
-          some_function h m v halves.1.function (function_from h.edges f m v) halves.1.is halves.1.rebuilds second,
-        )
-
-    road_value : (a t : ℕ) → IsSome (f.road a) → value_at (f.road a) t ≡ Some (arc_value h.network a t)
-    road_value a t some = ap (λ (o : Option (ℕ → ℕ)). value_at o t) (knows.road a ∙ road_there h.network a (is_open a some))
-
-    middle_value : (m t : ℕ) → IsCandidateBy h.edges roads f u v (Via m) → then_at (rebuilt h u m t) (rebuilt h m v) ≡ through (function_from h.edges f u m) (function_from h.edges f m v) t
-    middle_value m t (to, on, first, second) =
-        let halves = knows.halves m to on (down_edge h.edges f u m to first) (up_edge h.edges f m v on second) in
-        via_value h u m v t halves.0.function halves.1.function (function_from h.edges f u m) (function_from h.edges f m v) halves.0.is halves.1.is halves.0.rebuilds halves.1.rebuilds
-        (some_list h u m halves.0.function (function_from h.edges f u m) halves.0.is halves.0.rebuilds first)
-        (some_list h m v halves.1.function (function_from h.edges f m v) halves.1.is halves.1.rebuilds second)
-
-    arrives : (t : ℕ) (way : Way) (x : ℕ) → IsCandidateBy h.edges roads f u v way → ArrivesBy h.edges f u v t way x → ArrivesIn h u v t way x
-    arrives t (Road a) x (c, some) e = sym (road_value a t some) ∙ e
-    arrives t (Via m) x c e = middle_value m t c ∙ e
-
-    arrived : (t : ℕ) (way : Way) (x : ℕ) → IsCandidateBy h.edges roads f u v way → ArrivesIn h u v t way x → ArrivesBy h.edges f u v t way x
-    arrived t (Road a) x (c, some) e = road_value a t some ∙ e
-    arrived t (Via m) x c e = sym (middle_value m t c) ∙ e
+settled_alike before edit h network order roads f u v are knows = record {
+  there = λ way c. candidate_in before edit h network order roads f u v are way (knows_way h f u v knows way) c;
+  back = λ way c. candidate_by before edit h network order roads f u v are way (knows_way h f u v knows way) c;
+  arrives = λ t way x c e. arrives_in before edit h network order roads f u v are t way x (knows_way h f u v knows way) c e;
+  arrived = λ t way x c e. arrives_by before edit h network order roads f u v are t way x (knows_way h f u v knows way) c e;
+}

@@ -1,101 +1,105 @@
--- Words that are learned of edges that aren't touched, one list after the other.
-use Rattle.std.proofs.Common.{◌≡◌, ◌<◌, ◌+◌, ◌*◌, ◌∙◌, ℕ, List, Some, ap, sym, subst, arith, inl, inr, length, get_or}
-use Rattle.std.specs.Prelude.{slice_get}
+-- Words that are learned of lists of the hierarchy before an edit, one list after the other.
+use Rattle.std.proofs.Common.{◌≡◌, ◌<◌, ◌+◌, ◌*◌, ◌/◌, ◌%◌, ◌∙◌, ◌⊎◌, ℕ, List, [], ◌∷◌, Some, true, arith, get_or, inl, inr, length, subst, sym, take}
+use Rattle.std.specs.Prelude.{All, slice_get}
 use Rattle.std.specs.List.{Contains}
 use Rattle.std.proofs.lemmas.Bool.{cases_eq}
-use Rattle.std.proofs.lemmas.List.{get_or_default}
-use Rattle.cu_model.specs.declared.roads.Edit.{Edit}
+use Rattle.std.proofs.lemmas.List.Elements.{All-contains, All-more}
 use Rattle.cu_chordal.specs.declared.graph.Ends.{Ends}
-use Rattle.cu_chordal.specs.Graphs.{HasEdge, IsRising}
-use Rattle.cu_chordal.proofs.Members.{member_at}
+use Rattle.cu_chordal.specs.Graphs.{HasEdge}
+use Rattle.cu_chordal.proofs.Members.{here, member_cases, none_in_nil, there}
 use Rattle.cu_interval.specs.declared.ways.Dir.{Dir}
 use Rattle.cu_interval.specs.declared.ways.Dir.TheVariants.{Up, Down}
-use Rattle.cu_interval.specs.Hierarchies.{HierarchyValue, IsHierarchy, list_number}
-use Rattle.cu_unpack.specs.RebuiltWords.{IsClosedUnder, IsSized, KeepsWords, Learns, WordsValue}
-use Rattle.cu_unpack.specs.RebuiltWords as words
-use Rattle.cu_unpack.proofs.Learning.{keeps_needed, learned_keeps, learned_others, learned_still}
-use Rattle.cu_edits.specs.Settling.{IsLowerSide}
-use Rattle.cu_edits.specs.Steps.ByWords.{AreKnown, IsUntouched, LearnsWords}
-use Rattle.cu_edits.specs.Steps.Known.{IsSide, IsSideOver}
-use Rattle.cu_edits.proofs.LearntSides.{one_number}
-use Rattle.cu_edits.proofs.Sides.{side_touched}
+use Rattle.cu_interval.specs.declared.ways.Way.{Way}
+use Rattle.cu_interval.specs.declared.ways.Way.TheVariants.{Road, Via}
+use Rattle.cu_interval.specs.declared.ways.Entry.{Entry}
+use Rattle.cu_interval.specs.Hierarchies.{HierarchyValue, list_number}
+use Rattle.cu_unpack.specs.RebuiltWords.{IsKnownList, IsSameList, IsSized, Learns, WordsValue}
+use Rattle.cu_unpack.proofs.Learning.{learned_keeps, learned_still}
+use Rattle.cu_edits.specs.Steps.ByWords.{AreAtHandIfMoved, AreWordsOf, IsAtHand, IsWayAtHand, LearnsWords}
+use Rattle.cu_edits.specs.Steps.Moving.{HalvesAre, MovedValue}
+use Rattle.cu_edits.proofs.BothHalves.{joins_low}
 
 pub number_within : (edges edge : ℕ) (dir : Dir) → edge < edges → list_number edge dir < 2 * edges
 number_within edges edge Up lt = omega (arith, lt)
 number_within edges edge Down lt = omega (arith, lt)
 
--- a side is a lower side, and so none of an edge that isn't touched is
-lower_side : (edges : List Ends) (edge side : ℕ) → words.IsSide edges edge side → IsLowerSide edges edge side
-lower_side edges edge side of =
-    let low : Ends = record { low = of.middle; high = of.ends.low } in
-    let high : Ends = record { low = of.middle; high = of.ends.high } in (
-      of.ends,
-      of.middle,
-      of.at,
-      member_at edges low of.first of.to_low,
-      member_at edges high of.second of.to_high,
-      elim of.either [
-        | inl same ↦ inl (subst (λ (e : ℕ). slice_get edges e ≡ Some low) (sym same) of.to_low)
-        | inr same ↦ inr (subst (λ (e : ℕ). slice_get edges e ≡ Some high) (sym same) of.to_high)
-      ],
-    )
+-- each number is that of a list
+number_is : (number : ℕ) → (edge : ℕ) × (dir : Dir) × (list_number edge dir ≡ number)
+number_is number = elim (cases_eq (number % 2) 0) [
+  | inl even ↦ (number / 2, Up, omega (arith, even))
+  | inr odd ↦ (number / 2, Down, omega (arith, odd))
+]
 
-module _ (h : HierarchyValue) (sound : IsHierarchy h) (edit : Edit) where
-  pub untouched_closed : IsClosedUnder h.edges (IsUntouched h edit)
-  untouched_closed edge side untouched of = λ touched. untouched (side_touched h sound edit edge side (lower_side h.edges edge side of) touched)
-
-  -- what is asked for one list of such an edge
-  pub asks_for : (edge : ℕ) (value : WordsValue) → IsUntouched h edit edge → KeepsWords h (IsUntouched h edit) value
-      → KeepsWords h (words.IsNeeded h.edges edge) value
-  asks_for edge value untouched keeps = keeps_needed h (IsUntouched h edit) value untouched_closed edge untouched keeps
-
-  -- one list was, and those that it needs
-  pub learns_list : (edge : ℕ) (before now : WordsValue) → IsUntouched h edit edge → KeepsWords h (IsUntouched h edit) before
-      → IsSized (length h.edges) now → Learns h edge before now → LearnsWords h edit before now
-  learns_list edge before now untouched keeps size learns = record {
+-- one list was learned, and those that it needs
+pub learns_list : (h : HierarchyValue) (edge : ℕ) (before now : WordsValue) → AreWordsOf h before → IsSized (length h.edges) now → Learns h edge before now → LearnsWords h before now
+learns_list h edge before now are size learns = record {
+  words = record {
     size = size;
-    keeps = learned_keeps h (IsUntouched h edit) edge before now learns keeps;
-    still = λ e d known. (learned_still h edge before now learns e d known).0;
-    others = λ e d touched. learned_others h (IsUntouched h edit) untouched_closed edge untouched before now learns e d (λ other. other touched);
-  }
+    keeps = learned_keeps h (λ e. Unit {0}) edge before now learns are.keeps;
+    unknown = λ number unknown.
+        let (e, d, is) = number_is number in
+        elim (learns e d) [
+          | inl same ↦ (let (known, functions) = subst (IsSameList before now) is same in functions ∙ are.unknown number (sym known ∙ unknown))
+          | inr learned ↦
+              let known : slice_get now.known number ≡ Some true = subst (IsKnownList now) is learned.known in
+              absurd (cc (known, unknown))
+        ];
+  };
+  still = λ e d known. (learned_still h edge before now learns e d known).0;
+}
 
 -- one after the other
-pub learns_then : (h : HierarchyValue) (edit : Edit) (before mid now : WordsValue) → LearnsWords h edit before mid → LearnsWords h edit mid now → LearnsWords h edit before now
-learns_then h edit before mid now first second = record {
-  size = second.size;
-  keeps = second.keeps;
+pub learns_then : (h : HierarchyValue) (before mid now : WordsValue) → LearnsWords h before mid → LearnsWords h mid now → LearnsWords h before now
+learns_then h before mid now first second = record {
+  words = second.words;
   still = λ e d known. second.still e d (first.still e d known);
-  others = λ e d touched. let a = first.others e d touched in let b = second.others e d touched in (b.0 ∙ a.0, b.1 ∙ a.1);
 }
 
--- both edges over a rank are known
-pub known_over : (edges : List Ends) → IsRising edges → (ends : Ends) (rank first second : ℕ) (value : WordsValue) → slice_get edges first ≡ Some (record { low = rank; high = ends.low })
-    → slice_get edges second ≡ Some (record { low = rank; high = ends.high }) → AreKnown (λ (e : ℕ). e ≡ first) value → AreKnown (λ (e : ℕ). e ≡ second) value
-    → AreKnown (IsSideOver edges ends rank) value
-known_over edges rising ends rank first second value to on one two side dir (low, high, inl at) = one side dir (sym (one_number edges rising rank ends.low first side to at))
-known_over edges rising ends rank first second value to on one two side dir (low, high, inr at) = two side dir (sym (one_number edges rising rank ends.high second side on at))
+-- what was at hand still is
+module _ (h : HierarchyValue) (moved : MovedValue) (before now : WordsValue) (learns : LearnsWords h before now) where
+  pub still_at_hand : (edge : ℕ) (dir : Dir) → IsAtHand moved before edge dir → IsAtHand moved now edge dir
+  still_at_hand edge dir known unmoved = learns.still edge dir (known unmoved)
 
-pub known_still : (h : HierarchyValue) (edit : Edit) (IsAsked : ℕ → Type 0) (before now : WordsValue) → LearnsWords h edit before now → AreKnown IsAsked before → AreKnown IsAsked now
-known_still h edit IsAsked before now learns known e d asked = learns.still e d (known e d asked)
+  pub halves_still : (edges : List Ends) (ends : Ends) (dir : Dir) (middle : ℕ) → HalvesAre (IsAtHand moved before) edges ends dir middle → HalvesAre (IsAtHand moved now) edges ends dir middle
+  halves_still edges ends dir middle known first second are =
+      let both = known first second are in
+      (still_at_hand first Down both.0, still_at_hand second Up both.1)
 
--- the sides over the first of these ranks are known
-pub record IsLearningWords (h : HierarchyValue) (edit : Edit) (edges : List Ends) (ends : Ends) (ranks : List ℕ) (count : ℕ) (before now : WordsValue) : Type 0 where
-  pub learns : LearnsWords h edit before now
-  pub sides : (k : ℕ) → k < count → AreKnown (IsSideOver edges ends (get_or ranks k 0)) now
+  pub moved_still : (edges : List Ends) (ends : Ends) (dir : Dir) (middle : ℕ) → AreAtHandIfMoved moved before edges ends dir middle → AreAtHandIfMoved moved now edges ends dir middle
+  moved_still edges ends dir middle (inl unmoved) = inl unmoved
+  moved_still edges ends dir middle (inr known) = inr (halves_still edges ends dir middle known)
 
-pub learning_more : (h : HierarchyValue) (edit : Edit) (edges : List Ends) (ends : Ends) (ranks : List ℕ) (count rank : ℕ) (before mid now : WordsValue)
-    → IsLearningWords h edit edges ends ranks count before mid → rank ≡ get_or ranks count 0 → LearnsWords h edit mid now → AreKnown (IsSideOver edges ends rank) now
-    → IsLearningWords h edit edges ends ranks (count + 1) before now
-learning_more h edit edges ends ranks count rank before mid now so_far same more known = record {
-  learns = learns_then h edit before mid now so_far.learns more;
-  sides = λ k lt. elim (cases_eq k count) [
-    | inl last ↦ subst (λ (r : ℕ). AreKnown (IsSideOver edges ends r) now) (same ∙ sym (ap (λ (i : ℕ). get_or ranks i 0) last)) known
-    | inr other ↦ known_still h edit (IsSideOver edges ends (get_or ranks k 0)) mid now more (so_far.sides k (omega (arith, lt, other)))
-  ];
-}
+  way_still : (edges : List Ends) (ends : Ends) (dir : Dir) (way : Way) → IsWayAtHand moved before edges ends dir way → IsWayAtHand moved now edges ends dir way
+  way_still edges ends dir (Road a) known = known
+  way_still edges ends dir (Via m) known = halves_still edges ends dir m known
 
-pub learning_all : (h : HierarchyValue) (edit : Edit) (edges : List Ends) (ends : Ends) (ranks : List ℕ) (count : ℕ) (before now : WordsValue)
-    → IsLearningWords h edit edges ends ranks count before now → count ≡ length ranks → ((x : ℕ) → HasEdge edges x ends.low → Contains ranks x) → AreKnown (IsSide edges ends) now
-learning_all h edit edges ends ranks count before now so_far all members side dir (rank, over) =
-    let (k, inside, at) = members rank over.0 in
-    so_far.sides k (omega (arith, inside, all)) side dir (subst (λ (r : ℕ). IsSideOver edges ends r side) (sym at ∙ get_or_default ranks k rank 0 inside) over)
+  pub ways_still : (edges : List Ends) (ends : Ends) (dir : Dir) (entries : List Entry) → All (λ (entry : Entry). IsWayAtHand moved before edges ends dir entry.way) entries
+      → All (λ (entry : Entry). IsWayAtHand moved now edges ends dir entry.way) entries
+  ways_still edges ends dir entries all k d inside = way_still edges ends dir (get_or entries k d).way (all k d inside)
+
+-- so it is of the first middles and one more
+pub learns_more : (Known Now : ℕ → Type 0) → ((x : ℕ) → Known x → Now x) → (middles : List ℕ) (i : ℕ) → i < length middles → All Known (take i middles) → Now (get_or middles i 0)
+    → All Now (take (i + 1) middles)
+learns_more Known Now still middles i inside all one = All-more Now middles i 0 inside (λ k d h. still (get_or (take i middles) k d) (all k d h)) one
+
+-- a number is in a list, or it isn't
+member_or_not : (xs : List ℕ) (x : ℕ) → Contains xs x ⊎ (Contains xs x → ⊥)
+member_or_not [] x = inr (none_in_nil x)
+member_or_not (y ∷ ys) x = elim (cases_eq y x) [
+  | inl same ↦ inl (subst (λ (z : ℕ). Contains (y ∷ ys) z) same (here y ys))
+  | inr other ↦ elim (member_or_not ys x) [
+    | inl c ↦ inl (there y ys x c)
+    | inr apart ↦ inr (λ c. elim (member_cases y ys x c) [
+      | inl same ↦ other same
+      | inr c ↦ apart c
+    ])
+  ]
+]
+
+-- what is so of the halves by all middles that are joined to the lower end is so of any
+pub moved_by_any : (moved : MovedValue) (value : WordsValue) (edges : List Ends) (ends : Ends) (dir : Dir) (middles : List ℕ) → ((x : ℕ) → HasEdge edges x ends.low → Contains middles x)
+    → All (AreAtHandIfMoved moved value edges ends dir) middles → (middle : ℕ) → AreAtHandIfMoved moved value edges ends dir middle
+moved_by_any moved value edges ends dir middles members all middle = elim (member_or_not middles middle) [
+  | inl c ↦ All-contains (AreAtHandIfMoved moved value edges ends dir) middles middle all c
+  | inr apart ↦ inl (λ first second are. absurd (apart (members middle (joins_low edges ends dir middle first second are))))
+]

@@ -19,7 +19,7 @@ use Rattle.cu_edits.specs.Settling.{list_in, numbers_of}
 abbrev pub AreApart : List TouchedEdge → Type 0
 AreApart edges = AllPairs (λ (first second : TouchedEdge). first.edge ≢ second.edge) edges
 
-numbers_apart : (e f : ℕ) (d c : Dir) → e ≢ f → list_number e d ≢ list_number f c
+pub numbers_apart : (e f : ℕ) (d c : Dir) → e ≢ f → list_number e d ≢ list_number f c
 numbers_apart e f Up Up ne same = ne (omega (arith, same))
 numbers_apart e f Up Down ne same = omega (arith, same)
 numbers_apart e f Down Up ne same = omega (arith, same)

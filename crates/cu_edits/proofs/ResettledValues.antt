@@ -132,6 +132,13 @@ module _ (h : HierarchyValue) (sound : IsHierarchy h) (u v : ℕ) (lower : AreRe
       runs_by (IsCandidateIn h u v) (IsCandidate h.network h.order u v) (ArrivesIn h u v)
       (Arrives h.network h.order u v) entries candidate_there candidate_back arrival_there arrival_back settled
 
+  -- and the built list is the resettled one
+  pub built_list_resettled : (entries : List Entry) → IsBuiltList h.network h.order u v entries → IsResettledList h u v entries
+  built_list_resettled entries built =
+      runs_by (IsCandidate h.network h.order u v) (IsCandidateIn h u v) (Arrives h.network h.order u v) (ArrivesIn h u v) entries candidate_back candidate_there
+      (λ s a way lt candidate e. arrival_back s a way lt (candidate_there way candidate) e)
+      (λ s a way lt candidate e. arrival_there s a way lt (candidate_there way candidate) e) built
+
   formed_candidate : (way : Way) → IsWellFormed h u v way → IsCandidate h.network h.order u v way
   formed_candidate (Road r) leads = leads
   formed_candidate (Via m) (mu, mv, one, two, some, other) = candidate_there (Via m) (mu, mv, some, other)

@@ -28,10 +28,11 @@ use Rattle.cu_interval.specs.WayLists.{IsWayList}
 use Rattle.cu_edits.specs.Settling.{IsSettled, SettlingValue, list_in, numbers_of, settled_so_far}
 use Rattle.cu_edits.specs.Steps.Known.{IsEditSound}
 use Rattle.cu_edits.specs.Steps.Settled.{AreSettled}
+use Rattle.cu_edits.specs.Steps.Frames.{LeadsOver}
 use Rattle.cu_edits.proofs.Frames.{candidates_alone}
 use Rattle.cu_edits.proofs.Replaced.{AreApart, among_or_not, number_among, number_of_one, number_parts, replaced_long, replaced_other, replaced_same}
 use Rattle.cu_edits.proofs.SettledFrames.{all_so, leads_touched, settled_list, untouched_frame, untouched_list, untouched_sides}
-use Rattle.cu_edits.proofs.Sides.{LeadsOver, edge_down, edge_up, halves_good, over}
+use Rattle.cu_edits.proofs.Sides.{edge_down, edge_up, halves_good, over}
 use Rattle.cu_edits.proofs.Unchanged.{edited_network, leads_joins, leads_still}
 use Rattle.cu_edits.proofs.Unmoved.{closure_edited, nodes_edited}
 
@@ -142,7 +143,7 @@ numbers_differ edges apart = λ i j d lt inside.
     let second = get_or-map number edges j no_edge d (omega (arith, inside, long)) in
     λ same. apart i j no_edge lt (omega (arith, inside, long)) (sym first ∙ same ∙ second)
 
-edges_differ : (edges : List TouchedEdge) → IsStrictlyIncreasing (numbers_of edges) → AreApart edges
+pub edges_differ : (edges : List TouchedEdge) → IsStrictlyIncreasing (numbers_of edges) → AreApart edges
 edges_differ edges rising = λ i j d lt inside.
     let number : TouchedEdge → ℕ = λ (t : TouchedEdge). t.edge in
     let long = length-map edges number in

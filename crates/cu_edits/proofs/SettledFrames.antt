@@ -23,9 +23,10 @@ use Rattle.cu_interval.proofs.Lookups.{list_formed}
 use Rattle.cu_interval.proofs.EndsLaws.{ends_rise}
 use Rattle.cu_edits.specs.Settling.{HasFinalSides, IsFinal, IsLowerSide, IsResettledEdge, IsSettled, SettlingValue, list_in, settled_so_far}
 use Rattle.cu_edits.specs.Steps.Settled.{AreSettled}
-use Rattle.cu_edits.proofs.Frames.{ChoosesAlike, IsFrame, IsFramed, candidates_alone, runs_alike, via_same}
+use Rattle.cu_edits.specs.Steps.Frames.{IsFrame, IsFramed, LeadsOver, PairOf}
+use Rattle.cu_edits.proofs.Frames.{ChoosesAlike, candidates_alone, runs_alike, via_same}
 use Rattle.cu_edits.proofs.Replaced.{list_kept, list_pushed, list_replaced, number_among, number_of_one}
-use Rattle.cu_edits.proofs.Sides.{LeadsOver, PairOf, edge_down, edge_up, halves_good, list_at, over, side_touched}
+use Rattle.cu_edits.proofs.Sides.{edge_down, edge_up, halves_good, list_at, over, side_touched}
 use Rattle.cu_edits.proofs.Unchanged.{leads_joins, unchanged_alike}
 
 -- one more edge is settled

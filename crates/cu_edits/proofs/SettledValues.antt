@@ -17,8 +17,9 @@ use Rattle.cu_interval.specs.WayLists.{IsWayList, entry_in, way_in}
 use Rattle.cu_interval.proofs.Lookups.{entry_held, entry_of_way}
 use Rattle.cu_interval.proofs.Unique.{some_way}
 use Rattle.cu_customize.specs.Functions.{FunctionsState}
-use Rattle.cu_edits.proofs.Frames.{IsFrame, candidates_alone, least_in-same, rebuilt_same, then_at-same}
-use Rattle.cu_edits.proofs.Halves.{HasRebuilt, KnowsAll}
+use Rattle.cu_edits.specs.Steps.Frames.{IsFrame}
+use Rattle.cu_edits.proofs.Frames.{candidates_alone, least_in-same, rebuilt_same, then_at-same}
+use Rattle.cu_edits.proofs.Halves.{HasRebuilt, KnowsWay}
 use Rattle.cu_edits.proofs.Sides.{edge_down, edge_up}
 
 -- a way has a value that isn't below this
@@ -58,19 +59,23 @@ some_value : (h : HierarchyValue) (u v t : ℕ) (function : Option (List Run)) �
 some_value h u v t None none some = absurd (some none)
 some_value h u v t (Some runs) (list, values) some = (arrival_value runs t, values t)
 
--- each candidate arrives
-candidate_arrives : (h : HierarchyValue) (f : FunctionsState) (u v : ℕ) → KnowsAll h f u v → (t : ℕ) (way : Way) → IsCandidateIn h u v way → (x : ℕ) × ArrivesIn h u v t way x
-candidate_arrives h f u v knows t (Road a) c = (_, refl)
-candidate_arrives h f u v knows t (Via m) (to, on, first, second) =
-    let halves = knows.halves m to on (edge_down h u m to first) (edge_up h m v on second) in
+-- a candidate of which the hierarchy's values are known arrives
+pub way_arrives : (h : HierarchyValue) (f : FunctionsState) (u v t : ℕ) (way : Way) → KnowsWay h f u v way → IsCandidateIn h u v way → (x : ℕ) × ArrivesIn h u v t way x
+way_arrives h f u v t (Road a) knows c = (_, refl)
+way_arrives h f u v t (Via m) knows (to, on, first, second) =
+    let halves = knows to on (edge_down h u m to first) (edge_up h m v on second) in
     let (x, one) = some_value h u m t halves.0.function halves.0.rebuilds first in
     let (y, two) = some_value h m v x halves.1.function halves.1.rebuilds second in
     (min y (2 ^ 62), ap (λ (o : Option ℕ). then_at o (rebuilt h m v)) one ∙ ap (option_map (λ (z : ℕ). min z (2 ^ 62))) two)
 
+-- each way of a list arrives at each second
+abbrev pub AllArrive : HierarchyValue → ℕ → ℕ → List Entry → Type 0
+AllArrive h u v es = (t : ℕ) → All (λ (entry : Entry). (x : ℕ) × ArrivesIn h u v t entry.way x) es
+
 -- the way in force arrives at the least value of the list
-pub runs_least : (h : HierarchyValue) (f : FunctionsState) (u v : ℕ) (es : List Entry) → KnowsAll h f u v → IsResettledList h u v es → (s x : ℕ) (way : Way) → s < day
+pub runs_least : (h : HierarchyValue) (u v : ℕ) (es : List Entry) → AllArrive h u v es → IsResettledList h u v es → (s x : ℕ) (way : Way) → s < day
     → way_in es s ≡ Some way → ArrivesIn h u v s way x → least_in (value_by h.network (rebuilt h) u v s) es ≡ Some x
-runs_least h f u v es knows runs s x way lt at arrives =
+runs_least h u v es all runs s x way lt at arrives =
     let value = value_by h.network (rebuilt h) u v s in
     let first = runs.first s way lt at in
     let both : Some first.arrival ≡ Some x = sym first.arrives ∙ arrives in
@@ -80,7 +85,7 @@ runs_least h f u v es knows runs s x way lt at arrives =
     let candidates = candidates_alone (IsCandidateIn h u v) (ArrivesIn h u v) es runs in
     least_is value es x entry
     (λ k d inside.
-    let (y, other) = candidate_arrives h f u v knows s _ (candidates k d inside) in (
+    let (y, other) = all s k d inside in (
       y,
       other,
       elim (first.first _ y (candidates k d inside) other) [
@@ -101,26 +106,32 @@ values_stay a b Pair frame same u v s halves (Via m) (to, on, first, second) =
     (sym (rebuilt_same a b Pair frame (suc (min u m)) (min u v) u m s pairs.0 (omega arith) (omega (arith, to, on))))
     (λ x. sym (rebuilt_same a b Pair frame (suc (min m v)) (min u v) m v x pairs.1 (omega arith) (omega (arith, to, on))))
 
-in_force_at : (es : List Entry) → IsWayList es → es ≢ [] → (s : ℕ) → (w : Way) × (way_in es s ≡ Some w)
+pub in_force_at : (es : List Entry) → IsWayList es → es ≢ [] → (s : ℕ) → (w : Way) × (way_in es s ≡ Some w)
 in_force_at [] spelled full s = absurd (full refl)
 in_force_at (e ∷ es) spelled full s = some_way e es s spelled
 
 -- the rebuilt value of a new list, once it stands in the hierarchy
-pub new_value : (a b : HierarchyValue) (Pair : ℕ → ℕ → Type 0) → IsFrame a b Pair → a.network ≡ b.network → (f : FunctionsState) (u v : ℕ) (es : List Entry) (runs : List Run)
-    → ((m : ℕ) → HasEdge a.edges m u → HasEdge a.edges m v → Pair u m × Pair m v) → KnowsAll a f u v → IsResettledList a u v es → list_from b u v ≡ es → es ≢ [] → option_map (λ (run : Run). run.from) (slice_get runs 0) ≡ Some 0
-    → ((s : ℕ) (way : Way) → s < day → way_in es s ≡ Some way → ArrivesIn a u v s way (arrival_value runs s)) → (t : ℕ) → rebuilt b u v t ≡ Some (arrival_value runs t)
-new_value a b Pair frame same f u v es runs halves knows resettled list some starts arrives t =
+pub least_stays : (a b : HierarchyValue) (Pair : ℕ → ℕ → Type 0) → IsFrame a b Pair → a.network ≡ b.network → (u v : ℕ) (es : List Entry) (runs : List Run)
+    → ((m : ℕ) → HasEdge a.edges m u → HasEdge a.edges m v → Pair u m × Pair m v) → IsResettledList a u v es → list_from b u v ≡ es → option_map (λ (run : Run). run.from) (slice_get runs 0) ≡ Some 0
+    → ((s : ℕ) → s < day → least_in (value_by a.network (rebuilt a) u v s) es ≡ Some (arrival_value runs s)) → (t : ℕ) → rebuilt b u v t ≡ Some (arrival_value runs t)
+least_stays a b Pair frame same u v es runs halves resettled list starts least t =
     let s = t % day in
     let lt : s < day = omega arith in
     let candidates = candidates_alone (IsCandidateIn a u v) (ArrivesIn a u v) es resettled in
-    let (way, at) = in_force_at es resettled.spelled some s in
-    let least = runs_least a f u v es knows resettled s (arrival_value runs s) way lt at (arrives s way lt at) in
     let moved : least_in (value_by b.network (rebuilt_by b (min u v)) u v s) (list_from b u v) ≡ Some (arrival_value runs s) =
     ap (least_in (value_by b.network (rebuilt_by b (min u v)) u v s)) list
     ∙ least_in-same (value_by b.network (rebuilt_by b (min u v)) u v s) (value_by a.network (rebuilt a) u v s) es (λ k d h. values_stay a b Pair frame same u v s halves _ (candidates k d h))
-    ∙ least in
+    ∙ least s lt in
     let days = value-days runs starts (t / day) s lt in
     let parts : (t / day) * day + s ≡ t = omega arith in
     let whole : arrival_value runs t ≡ (t / day) * day + arrival_value runs s = subst (λ (n : ℕ). arrival_value runs n ≡ (t / day) * day + arrival_value runs s) parts days in
     let sum : day * (t / day) + arrival_value runs s ≡ arrival_value runs t = omega (arith, whole) in
     ap (option_map (λ (value : ℕ). day * (t / day) + value)) moved ∙ ap Some sum
+
+-- at each second the value of a list is that of its way in force
+pub values_least : (h : HierarchyValue) (u v : ℕ) (es : List Entry) (runs : List Run) → AllArrive h u v es → IsResettledList h u v es → es ≢ []
+    → ((s : ℕ) (way : Way) → s < day → way_in es s ≡ Some way → ArrivesIn h u v s way (arrival_value runs s)) → (s : ℕ) → s < day
+    → least_in (value_by h.network (rebuilt h) u v s) es ≡ Some (arrival_value runs s)
+values_least h u v es runs all resettled some arrives s lt =
+    let (way, at) = in_force_at es resettled.spelled some s in
+    runs_least h u v es all resettled s (arrival_value runs s) way lt at (arrives s way lt at)

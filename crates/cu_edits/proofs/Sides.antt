@@ -12,20 +12,10 @@ use Rattle.cu_interval.specs.Touching.{IsTouched, IsTouchedEdge, by_first, by_se
 use Rattle.cu_interval.proofs.Lookups.{number_finds, number_found}
 use Rattle.cu_interval.proofs.EndsLaws.{ends_rise}
 use Rattle.cu_edits.specs.Settling.{IsLowerSide}
-
--- an edge in a direction that leads from one rank to another
-pub record LeadsOver (edges : List Ends) (edge : ℕ) (dir : Dir) (u v : ℕ) : Type 0 where
-  pub ends : Ends
-  pub at : slice_get edges edge ≡ Some ends
-  pub from : start_of ends dir ≡ u
-  pub to : end_of ends dir ≡ v
+use Rattle.cu_edits.specs.Steps.Frames.{LeadsOver, PairOf}
 
 pub over : (edges : List Ends) (edge : ℕ) (dir : Dir) (ends : Ends) → slice_get edges edge ≡ Some ends → LeadsOver edges edge dir (start_of ends dir) (end_of ends dir)
 over edges edge dir ends at = record { ends = ends; at = at; from = refl; to = refl }
-
--- the pairs of ranks that such edges join
-abbrev pub PairOf : List Ends → (ℕ → Type 0) → ℕ → ℕ → Type 0
-PairOf edges Good u v = (edge : ℕ) × (dir : Dir) × LeadsOver edges edge dir u v × Good edge
 
 -- the list that leads from one end of an edge to the other is the edge's, in whatever has these edges
 list_at_ends : (h : HierarchyValue) → IsRising h.edges → (edge : ℕ) (dir : Dir) (ends : Ends) → ends.low < ends.high → slice_get h.edges edge ≡ Some ends

@@ -1,25 +1,40 @@
 -- One edge more is settled by words, or none.
-use Rattle.std.proofs.Common.{◌≡◌, ◌<◌, ◌+◌, ◌++◌, ◌*◌, ◌∙◌, ℕ, List, [], ◌∷◌, Option, ap, sym, subst, arith, length}
-use Rattle.std.specs.Prelude.{IfSome, Some, slice_get}
+use Rattle.std.proofs.Common.{◌≡◌, ◌≢◌, ◌≤◌, ◌<◌, ◌+◌, ◌++◌, ◌*◌, ◌∙◌, ℕ, suc, Bool, List, [], ◌∷◌, Option, Some, None, ap, sym, subst, arith, inl, inr, length}
+use Rattle.std.specs.Prelude.{IfSome, slice_get, slice_set}
 use Rattle.std.proofs.lemmas.Option.{slice_get_within}
 use Rattle.cu_model.specs.declared.roads.Edit.{Edit}
 use Rattle.cu_model.specs.Edits.{edited}
 use Rattle.cu_model.specs.Networks.{NetworkValue}
+use Rattle.cu_model.proofs.RoadLaws.{all_at}
 use Rattle.cu_arrival.specs.declared.runs.Run.{Run}
 use Rattle.cu_chordal.specs.declared.graph.Ends.{Ends}
 use Rattle.cu_chordal.specs.Graphs.{ChordalValue}
+use Rattle.cu_interval.specs.declared.ways.Dir.{Dir}
+use Rattle.cu_interval.specs.declared.ways.Dir.TheVariants.{Up, Down}
+use Rattle.cu_interval.specs.declared.ways.Entry.{Entry}
 use Rattle.cu_interval.specs.declared.ways.TouchedEdge.{TouchedEdge}
-use Rattle.cu_interval.specs.Hierarchies.{HierarchyValue, IsHierarchyOf}
-use Rattle.cu_interval.specs.Touching.{IsTouchedEdge}
+use Rattle.cu_interval.specs.Hierarchies.{HierarchyValue, IsHierarchyOf, end_of, list_number, list_of, start_of}
+use Rattle.cu_interval.specs.Resettling.{IsResettledList}
 use Rattle.cu_customize.specs.Functions.{kept_state}
-use Rattle.cu_unpack.specs.RebuiltWords.{IsSized, WordsValue}
-use Rattle.cu_edits.specs.declared.by_words.EdgeWords.{EdgeWords}
-use Rattle.cu_edits.specs.Settling.{HasFinalSides, IsLowerSide, IsResettledEdge, IsSettled, SettlingValue, settled_so_far}
-use Rattle.cu_edits.specs.Steps.ByWords.{AreKnown, IsEdgeByWords, IsSettlingByWords, LearnsWords}
+use Rattle.cu_customize.specs.Layers.{layered}
+use Rattle.cu_customize.specs.Settling.{IsDayValueOf, IsSettledList}
+use Rattle.cu_customize.specs.declared.pulling.SettledWords.{SettledWords}
+use Rattle.cu_unpack.specs.RebuiltWords.{IsRebuiltWords, WordsValue}
+use Rattle.cu_edits.specs.declared.new_list.Fate.{Fate}
+use Rattle.cu_edits.specs.declared.new_list.Fate.TheVariants.{Stands, Moves}
+use Rattle.cu_edits.specs.declared.new_list.NewList.{NewList}
+use Rattle.cu_edits.specs.Customized.{AreCustomized}
+use Rattle.cu_edits.specs.Settling.{IsResettledEdge, SettlingValue, list_in, settled_so_far}
+use Rattle.cu_edits.specs.Steps.ByWords.{AreCandidatesAtHand, IsListByWords, IsSettlingByWords, LearnsWords}
 use Rattle.cu_edits.specs.Steps.Holding.{IsNext, settling_of}
-use Rattle.cu_edits.specs.Steps.Known.{IsSide}
-use Rattle.cu_edits.proofs.WordsPut.{IsPut}
-use Rattle.cu_edits.proofs.WordsSettling.{edge_resettled, words_learnt, words_more}
+use Rattle.cu_edits.specs.Steps.Moving.{IsFate, IsFateOf, IsNewList, KeepsFate, MayStand, MovedValue, SayValue}
+use Rattle.cu_edits.specs.Steps.Settled.{AreSettled}
+use Rattle.cu_edits.proofs.AtHand.{same_edges}
+use Rattle.cu_edits.proofs.NewLists as new
+use Rattle.cu_edits.proofs.Placing.{before_last, behind_all, fate_in, keeping_places, placed_both}
+use Rattle.cu_edits.proofs.SettledFrames.{settled_with}
+use Rattle.cu_edits.proofs.SettledOnce as once
+use Rattle.cu_edits.proofs.StandingLists.{ArePlaced, moves_more, stands_more}
 
 -- the next edge is one of the graph's
 pub edge_inside : (s : SettlingValue) (graph : ChordalValue) (edge : ℕ) → IsHierarchyOf graph s.before → IsNext s edge → edge < length graph.edges
@@ -29,66 +44,207 @@ edge_inside s graph edge of asked =
     let long : length graph.edges ≡ length s.before.edges = ap (λ (k : ChordalValue). length k.edges) of.0 in
     omega (arith, inside, long)
 
--- and there is room for its words
-pub words_room : (h : HierarchyValue) (graph : ChordalValue) (words : WordsValue) (edge : ℕ) → IsHierarchyOf graph h → edge < length graph.edges → IsSized (length h.edges) words
-    → (2 * edge + 1 < length words.known) × (2 * edge + 1 < length words.functions)
-words_room h graph words edge of inside size =
-    let long : length graph.edges ≡ length h.edges = ap (λ (k : ChordalValue). length k.edges) of.0 in
-    let known = size.known in
-    let functions = size.functions in
-    (omega (arith, inside, long, known), omega (arith, inside, long, functions))
+-- more was learned
+pub words_learnt : (s : SettlingValue) (graph : ChordalValue) (arcs : List (List ℕ)) (words learnt : WordsValue) (moved : MovedValue) → IsSettlingByWords s graph arcs words moved
+    → LearnsWords s.before words learnt → IsSettlingByWords s graph arcs learnt moved
+words_learnt s graph arcs words learnt moved old learns = record {
+  are = old.are;
+  parts = old.parts;
+  known = learns.words;
+  places = old.places;
+  inside = old.inside;
+  stands = old.stands;
+  moves = old.moves;
+}
 
--- the sides over its ends are its lower sides
-lower_known : (edges : List Ends) (words : WordsValue) (edge : ℕ) (ends : Ends) → slice_get edges edge ≡ Some ends → AreKnown (IsSide edges ends) words → AreKnown (IsLowerSide edges edge) words
-lower_known edges words edge ends at known side dir (given, rank, there, low, high, which) =
-    let same : given ≡ ends = cc (there, at) in
-    known side dir (subst (λ (x : Ends). IsSide edges x side) same (rank, (low, high, which)))
+-- so it holds where no list was moved
+pub words_still : (s : SettlingValue) (graph : ChordalValue) (arcs : List (List ℕ)) (words learnt : WordsValue) (moved now : MovedValue) → IsSettlingByWords s graph arcs words moved
+    → LearnsWords s.before words learnt → now ≡ moved → IsSettlingByWords s graph arcs learnt now
+words_still s graph arcs words learnt moved now old learns same = subst (IsSettlingByWords s graph arcs learnt) (sym same) (words_learnt s graph arcs words learnt moved old learns)
 
--- what settling an edge found
-pub settled_found : (edges : List Ends) (arcs : List (List ℕ)) (g : NetworkValue) (given functions : List (Option (List Run))) → given ≡ functions → (edge : ℕ)
-    (found : Option (TouchedEdge × EdgeWords)) (t : TouchedEdge) (words : EdgeWords) → found ≡ Some (t, words)
-    → IfSome found (λ (pair : TouchedEdge × EdgeWords). IsEdgeByWords edges arcs (kept_state g given) edge pair.0 pair.1)
-    → IsEdgeByWords edges arcs (kept_state g functions) edge t words
-settled_found edges arcs g given functions same edge found t words is made =
-    subst (λ (fs : List (Option (List Run))). IsEdgeByWords edges arcs (kept_state g fs) edge t words) same
-    (subst (λ (o : Option (TouchedEdge × EdgeWords)). IfSome o (λ (pair : TouchedEdge × EdgeWords). IsEdgeByWords edges arcs (kept_state g given) edge pair.0 pair.1)) is made)
+module _ (s : SettlingValue) (graph : ChordalValue) (arcs : List (List ℕ)) (words : WordsValue) (moved : MovedValue) (holds : IsSettlingByWords s graph arcs words moved) (edge : ℕ) (asked : IsNext s edge)
+    (marks : List Bool) (customized : AreCustomized s.before marks) (dir : Dir) where
+  -- a list that stands
+  pub list_stands : MayStand s.before s.edit arcs marks moved edge dir → (list : NewList) → list.ways ≡ list_of s.before edge dir → list.fate ≡ Stands → IsNewList s moved edge dir list
+  list_stands may list same fate = record {
+    resettled = λ ends at.
+        subst (IsResettledList (settled_so_far s) (start_of ends dir) (end_of ends dir)) (sym same)
+        (new.old_resettled s graph arcs words moved holds edge dir asked.sides ends at marks customized may);
+    fate = λ ends at.
+        subst (IsFate s moved edge dir ends list.ways) (sym fate) (
+          same,
+          subst (new.AreFramed s graph arcs words moved holds edge dir asked.sides ends at) (sym same)
+              (new.old_framed s graph arcs words moved holds edge dir asked.sides ends at (new.old_unmoved s graph arcs words moved holds edge dir asked.sides ends at marks customized may)),
+        );
+  }
 
--- nothing more was settled
-pub words_none : (h : HierarchyValue) (edit : Edit) (before after : List TouchedEdge) (graph : ChordalValue) (arcs : List (List ℕ)) (words learnt : WordsValue)
-    → IsSettlingByWords (settling_of h edit before) graph arcs words → LearnsWords h edit words learnt → after ≡ before → IsSettlingByWords (settling_of h edit after) graph arcs learnt
-words_none h edit before after graph arcs words learnt old learns same =
-    subst (λ (settled : List TouchedEdge). IsSettlingByWords (settling_of h edit settled) graph arcs learnt) (sym same)
-    (words_learnt (settling_of h edit before) graph arcs words learnt old learns)
+  -- the halves that are at hand
+  known_or_behind : (ends : Ends) (at : slice_get s.before.edges edge ≡ Some ends) → AreCandidatesAtHand s.before s.edit marks moved words edge dir → (m : ℕ)
+      → new.IsKnownOrBehind s graph arcs words moved holds edge dir asked.sides ends at m
+  known_or_behind ends at (inl all) m to on first second = inl (new.both_at_hand s graph arcs words moved holds edge dir asked.sides ends at m (all ends at m) first second)
+  known_or_behind ends at (inr (keeps, ways, some)) m to on first second = elim (some ends at m) [
+    | inl unmoved ↦
+        let both = new.both_stand s graph arcs words moved holds edge dir asked.sides ends at m unmoved first second in
+        inr (
+          both.0,
+          both.1,
+          record {
+            resettled = customized edge keeps.marked dir ends at;
+            unmoved = keeps.ways ends at;
+            known = λ k d lt. new.knows_at_hand s graph arcs words moved holds edge dir asked.sides ends at _ (ways ends at k d lt);
+          },
+        )
+    | inr hand ↦ inl (new.both_at_hand s graph arcs words moved holds edge dir asked.sides ends at m hand first second)
+  ]
 
--- one edge more was
-pub record IsOneMore (h : HierarchyValue) (edit : Edit) (before after : List TouchedEdge) (graph : ChordalValue) (arcs : List (List ℕ)) (words : WordsValue) (t : TouchedEdge) : Type 0 where
+  -- a list that was settled
+  module _ (hand : AreCandidatesAtHand s.before s.edit marks moved words edge dir) (found : SettledWords)
+      (by : IsListByWords s.before.edges arcs (kept_state (edited s.before.network s.edit) (layered words.functions moved.places moved.functions)) edge dir found) where
+    resettled : (ends : Ends) → slice_get s.before.edges edge ≡ Some ends → IsResettledList (settled_so_far s) (start_of ends dir) (end_of ends dir) found.ways
+    resettled ends at =
+        let (list, there) = once.listed s.before arcs holds.parts.roads edge dir ends at in
+        new.new_resettled s graph arcs words moved holds edge dir asked.sides ends at list (holds.parts.roads.each edge dir ends list at there) (known_or_behind ends at hand) found.ways
+        (by.ways ends list at there)
+
+    fate_of : (ends : Ends) (at : slice_get s.before.edges edge ≡ Some ends) (fate : Fate) → IsFateOf s.before s.edit moved edge dir found fate → IsFate s moved edge dir ends found.ways fate
+    fate_of ends at Stands (same, unmoved) = (
+      same,
+      subst (new.AreFramed s graph arcs words moved holds edge dir asked.sides ends at) (sym same) (new.old_framed s graph arcs words moved holds edge dir asked.sides ends at (unmoved ends at)),
+    )
+    fate_of ends at (Moves function) same =
+        let (list, there) = once.listed s.before arcs holds.parts.roads edge dir ends at in
+        subst (SayValue (settled_so_far s) (start_of ends dir) (end_of ends dir) found.ways) (sym same)
+        (new.new_value s graph arcs words moved holds edge dir asked.sides ends at list (holds.parts.roads.each edge dir ends list at there) (known_or_behind ends at hand) found.ways
+        (by.ways ends list at there) found.function (by.value ends at))
+
+    pub list_settled : (list : NewList) → list.ways ≡ found.ways → IsFateOf s.before s.edit moved edge dir found list.fate → IsNewList s moved edge dir list
+    list_settled list same fate = record {
+      resettled = λ ends at. subst (IsResettledList (settled_so_far s) (start_of ends dir) (end_of ends dir)) (sym same) (resettled ends at);
+      fate = λ ends at. subst (λ (ways : List Entry). IsFate s moved edge dir ends ways list.fate) (sym same) (fate_of ends at list.fate fate);
+    }
+
+-- one edge more was settled
+pub record IsOneMore (h : HierarchyValue) (edit : Edit) (before after : List TouchedEdge) (graph : ChordalValue) (arcs : List (List ℕ)) (words : WordsValue) (moved : MovedValue) (t : TouchedEdge) : Type 0 where
   pub list : after ≡ before ++ (t ∷ [])
   pub resettled : IsResettledEdge (settled_so_far (settling_of h edit after)) t
-  pub holds : IsSettlingByWords (settling_of h edit after) graph arcs words
+  pub holds : IsSettlingByWords (settling_of h edit after) graph arcs words moved
 
-pub words_one : (h : HierarchyValue) (edit : Edit) (before after : List TouchedEdge) (graph : ChordalValue) (arcs : List (List ℕ)) (words learnt last : WordsValue) (edge : ℕ) (ends : Ends)
-    (t copy : TouchedEdge) (functions : EdgeWords) → IsSettlingByWords (settling_of h edit before) graph arcs words → IsNext (settling_of h edit before) edge → slice_get graph.edges edge ≡ Some ends
-    → LearnsWords h edit words learnt → AreKnown (IsSide graph.edges ends) learnt → IsEdgeByWords graph.edges arcs (kept_state (edited h.network edit) learnt.functions) edge t functions
-    → copy ≡ t → after ≡ before ++ (copy ∷ []) → IsPut edge functions learnt last → IsOneMore h edit before after graph arcs last t
-words_one h edit before after graph arcs words learnt last edge ends t copy functions old asked at learns known settled copied pushed put =
+module _ (s : SettlingValue) (graph : ChordalValue) (arcs : List (List ℕ)) (words : WordsValue) (moved after : MovedValue) (holds : IsSettlingByWords s graph arcs words moved) (t : TouchedEdge)
+    (asked : IsNext s t.edge) (up down : NewList) (upper : IsNewList s moved t.edge Up up) (lower : IsNewList s moved t.edge Down down) (first : t.up ≡ up.ways) (second : t.down ≡ down.ways)
+    (placed : ArePlaced moved after t.edge (fate_in up.fate down.fate)) where
+  abbrev pub now : HierarchyValue
+  now = settled_so_far s
+
+  abbrev pub next : HierarchyValue
+  next = settled_so_far (settled_with s t)
+
+  resettled_now : (dir : Dir) (ends : Ends) → slice_get s.before.edges t.edge ≡ Some ends → IsResettledList now (start_of ends dir) (end_of ends dir) (list_in t dir)
+  resettled_now Up ends at = subst (IsResettledList now (start_of ends Up) (end_of ends Up)) (sym first) (upper.resettled ends at)
+  resettled_now Down ends at = subst (IsResettledList now (start_of ends Down) (end_of ends Down)) (sym second) (lower.resettled ends at)
+
+  became : (dir : Dir) (ends : Ends) → slice_get s.before.edges t.edge ≡ Some ends → IsFate s moved t.edge dir ends (list_in t dir) (fate_in up.fate down.fate dir)
+  became Up ends at = subst (λ (ways : List Entry). IsFate s moved t.edge Up ends ways up.fate) (sym first) (upper.fate ends at)
+  became Down ends at = subst (λ (ways : List Entry). IsFate s moved t.edge Down ends ways down.fate) (sym second) (lower.fate ends at)
+
+  pub next_resettled : IsResettledEdge next t
+  next_resettled = once.edge_resettled s holds.are t asked.touched asked.fresh asked.sides resettled_now
+
+  more : AreSettled (settled_with s t)
+  more = once.more s holds.are t asked.touched asked.fresh asked.sides resettled_now
+
+  says : (dir : Dir) (function : Option (List Run)) (ends : Ends) → slice_get s.before.edges t.edge ≡ Some ends
+      → SayValue now (start_of ends dir) (end_of ends dir) (list_in t dir) function → IsRebuiltWords next t.edge dir function
+  says dir None ends at empty = once.new_list s holds.are t asked.touched asked.fresh asked.sides resettled_now dir ∙ empty
+  says dir (Some runs) ends at (some, is, onward, least) = (
+    subst (λ (es : List Entry). es ≢ []) (sym (once.new_list s holds.are t asked.touched asked.fresh asked.sides resettled_now dir)) some,
+    is,
+    onward,
+    once.new_values s holds.are t asked.touched asked.fresh asked.sides resettled_now dir runs ends at is.over_day.starts least,
+  )
+
+  pub words_more : IsSettlingByWords (settled_with s t) graph arcs words after
+  words_more = record {
+    are = more;
+    parts = holds.parts;
+    known = holds.known;
+    places = placed.long ∙ holds.places;
+    inside = placed.inside;
+    stands = stands_more s holds.are t asked.touched asked.fresh more moved after (fate_in up.fate down.fate) placed became holds.stands;
+    moves = moves_more s holds.are t asked.touched asked.fresh more moved after (fate_in up.fate down.fate) placed became holds.inside says holds.moves;
+  }
+
+-- what settling one edge more gives, by its parts
+pub words_one : (h : HierarchyValue) (edit : Edit) (before after : List TouchedEdge) (graph : ChordalValue) (arcs : List (List ℕ)) (words : WordsValue) (moved one two last : MovedValue) (t copy : TouchedEdge)
+    (up down : NewList) (upwards downwards : ℕ) → IsSettlingByWords (settling_of h edit before) graph arcs words moved → IsNext (settling_of h edit before) t.edge
+    → IsNewList (settling_of h edit before) moved t.edge Up up → IsNewList (settling_of h edit before) moved t.edge Down down → t.up ≡ up.ways → t.down ≡ down.ways
+    → KeepsFate moved one up.fate upwards → KeepsFate one two down.fate downwards
+    → last.places ≡ slice_set (slice_set two.places (list_number t.edge Up) upwards) (list_number t.edge Down) downwards → last.functions ≡ two.functions
+    → copy ≡ t → after ≡ before ++ (copy ∷ []) → IsOneMore h edit before after graph arcs words last t
+words_one h edit before after graph arcs words moved one two last t copy up down upwards downwards holds asked upper lower first second keep_up keep_down places functions copied pushed =
     let s = settling_of h edit before in
-    let f = kept_state (edited h.network edit) learnt.functions in
-    let number : edge ≡ t.edge = sym settled.number in
-    let edges = ap (λ (k : ChordalValue). k.edges) old.hierarchy.0 in
-    let touched = subst (IsTouchedEdge h edit) number asked.touched in
-    let fresh = subst (λ (e : ℕ). IsSettled s e → ⊥) number asked.fresh in
-    let sides = subst (HasFinalSides s) number asked.sides in
-    let held = words_learnt s graph arcs words learnt old learns in
-    let has : AreKnown (IsLowerSide h.edges t.edge) learnt =
-    subst (λ (e : ℕ). AreKnown (IsLowerSide h.edges e) learnt) number
-    (subst (λ (es : List Ends). AreKnown (IsLowerSide es edge) learnt) edges (lower_known graph.edges learnt edge ends at known)) in
-    let by_words : IsEdgeByWords h.edges arcs f t.edge t functions =
-    subst (λ (e : ℕ). IsEdgeByWords h.edges arcs f e t functions) number (subst (λ (es : List Ends). IsEdgeByWords es arcs f edge t functions) edges settled) in
     let list : after ≡ before ++ (t ∷ []) = pushed ∙ ap (λ (x : TouchedEdge). before ++ (x ∷ [])) copied in
+    let (ends, at, is) = asked.touched in
+    let inside = slice_get_within h.edges t.edge ends at in
+    let long = holds.places in
+    let placed = placed_both moved one two last t.edge up.fate down.fate upwards downwards (omega (arith, inside, long)) holds.inside keep_up keep_down places functions in
     record {
       list = list;
       resettled = subst (λ (xs : List TouchedEdge). IsResettledEdge (settled_so_far (settling_of h edit xs)) t) (sym list)
-          (edge_resettled s graph arcs learnt held t touched fresh sides has functions by_words);
-      holds = subst (λ (xs : List TouchedEdge). IsSettlingByWords (settling_of h edit xs) graph arcs last) (sym list)
-          (words_more s graph arcs learnt held t touched fresh sides has functions by_words last (subst (λ (e : ℕ). IsPut e functions learnt last) number put));
+          (next_resettled s graph arcs words moved last holds t asked up down upper lower first second placed);
+      holds = subst (λ (xs : List TouchedEdge). IsSettlingByWords (settling_of h edit xs) graph arcs words last) (sym list)
+          (words_more s graph arcs words moved last holds t asked up down upper lower first second placed);
     }
+
+-- functions that are only kept change nothing
+pub words_kept : (s : SettlingValue) (graph : ChordalValue) (arcs : List (List ℕ)) (words : WordsValue) (old new : MovedValue) (fate : Fate) (place : ℕ) → KeepsFate old new fate place
+    → IsSettlingByWords s graph arcs words old → IsSettlingByWords s graph arcs words new
+words_kept s graph arcs words old new Stands place (none, same) holds = subst (IsSettlingByWords s graph arcs words) (sym same) holds
+words_kept s graph arcs words old new (Moves function) place (here, same) holds =
+    let longer = behind_all old.functions function in
+    subst (IsSettlingByWords s graph arcs words) (sym same) (record {
+      are = holds.are;
+      parts = holds.parts;
+      known = holds.known;
+      places = holds.places;
+      inside = λ k d lt. let le = holds.inside k d lt in omega (arith, le, longer);
+      stands = holds.stands;
+      moves = λ e d given (p, at, there).
+          let le = all_at (λ (k : ℕ). k ≤ length old.functions) old.places (list_number e d) (suc p) holds.inside at in
+          holds.moves e d given (p, at, sym (before_last old.functions function p (omega (arith, le))) ∙ there);
+    })
+
+-- there is a place for both lists of the next edge
+pub place_within : (s : SettlingValue) (graph : ChordalValue) (arcs : List (List ℕ)) (words : WordsValue) (moved one two : MovedValue) (edge : ℕ) (up down : Fate) (upwards downwards : ℕ)
+    → IsSettlingByWords s graph arcs words moved → IsNext s edge → KeepsFate moved one up upwards → KeepsFate one two down downwards → 2 * edge + 1 < length two.places
+place_within s graph arcs words moved one two edge up down upwards downwards holds asked first second =
+    let (ends, at, is) = asked.touched in
+    let inside = slice_get_within s.before.edges edge ends at in
+    let long = holds.places in
+    let same : length two.places ≡ length moved.places = ap length (keeping_places one two down downwards second ∙ keeping_places moved one up upwards first) in
+    omega (arith, inside, long, same)
+
+-- what became of a list, where the moved lists are those of before
+pub new_list_over : (s : SettlingValue) (moved kept : MovedValue) (edge : ℕ) (dir : Dir) (found : Option NewList) (list : NewList) → found ≡ Some list → kept ≡ moved
+    → IfSome found (IsNewList s moved edge dir) → IsNewList s kept edge dir list
+new_list_over s moved kept edge dir found list is same made =
+    subst (λ (m : MovedValue). IsNewList s m edge dir list) (sym same) (subst (λ (o : Option NewList). IfSome o (IsNewList s moved edge dir)) is made)
+
+-- a list that was settled over the graph, by functions that are those meant
+pub list_by : (h : HierarchyValue) (graph : ChordalValue) → IsHierarchyOf graph h → (arcs : List (List ℕ)) (after g : NetworkValue) → after ≡ g → (given meant : List (Option (List Run))) → given ≡ meant
+    → (edge : ℕ) (dir : Dir) (found : Option SettledWords) (settled : SettledWords) → found ≡ Some settled
+    → ((ends : Ends) (roads : List ℕ) → slice_get graph.edges edge ≡ Some ends → slice_get arcs (list_number edge dir) ≡ Some roads
+    → IfSome found (λ (s : SettledWords). IsSettledList graph.edges roads (kept_state after given) (start_of ends dir) (end_of ends dir) s.ways))
+    → ((ends : Ends) → slice_get graph.edges edge ≡ Some ends
+    → IfSome found (λ (s : SettledWords). IsDayValueOf graph.edges (kept_state after given) (start_of ends dir) (end_of ends dir) s.ways s.function))
+    → IsListByWords h.edges arcs (kept_state g meant) edge dir settled
+list_by h graph of arcs after g same given meant equal edge dir found settled is ways value =
+    subst (λ (es : List Ends). IsListByWords es arcs (kept_state g meant) edge dir settled) (same_edges h graph of)
+    (subst (λ (fs : List (Option (List Run))). IsListByWords graph.edges arcs (kept_state g fs) edge dir settled) equal
+    (subst (λ (n : NetworkValue). IsListByWords graph.edges arcs (kept_state n given) edge dir settled) same (record {
+      ways = λ ends roads at there.
+          subst (λ (o : Option SettledWords). IfSome o (λ (s : SettledWords). IsSettledList graph.edges roads (kept_state after given) (start_of ends dir) (end_of ends dir) s.ways)) is
+          (ways ends roads at there);
+      value = λ ends at.
+          subst (λ (o : Option SettledWords). IfSome o (λ (s : SettledWords). IsDayValueOf graph.edges (kept_state after given) (start_of ends dir) (end_of ends dir) s.ways s.function)) is
+          (value ends at);
+    })))

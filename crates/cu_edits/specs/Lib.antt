@@ -1,3 +1,4 @@
+pub mod Customized
 pub mod EditLines
 pub mod Settling
 pub mod Steps

@@ -4,6 +4,7 @@ ghost use Rattle.std.specs.Prelude.{◌≡◌, ◌<◌, ◌++◌, ◌∷◌, [],
 ghost use Rattle.cu_model.specs.Edits.{IsEditInRange, edited};
 ghost use Rattle.cu_interval.specs.EdgeArcs.{AreEdgeArcs};
 ghost use Rattle.cu_interval.specs.Hierarchies.{IsHierarchyOf};
+ghost use Rattle.cu_edits.specs.Customized.{AreCustomized};
 ghost use Rattle.cu_edits.specs.Settling.{IsLowerSide, IsResettledEdge, SettlingValue, settled_so_far};
 ghost use Rattle.cu_edits.specs.Steps.Held.{Holds, IsBegun, IsPlain};
 ghost use Rattle.cu_edits.specs.Steps.Holding.{IsNext, IsSettledEdge, IsSettling, settling_of};
@@ -16,6 +17,7 @@ use crate::going_over::plain_of_words;
 use crate::held::{Held, HeldWords};
 use crate::known::{EdgeFunctions, KnownFunctions};
 use crate::learning::learn_sides;
+use crate::moved_lists::MovedLists;
 use crate::settler::Settler;
 use cu_chordal::Chordal;
 use cu_customize::{WordSettling, settle};
@@ -29,21 +31,24 @@ use std::marker::Model;
 mod tests;
 
 /// Settles the edges that an edit touches, by the roads of the edited network and by the functions of lower edges: of those
-/// that it settled, and of those that aren't touched, whose functions it rebuilds from their ways as they are needed. They
-/// are kept as words until a way takes longer than words can say. Room for them is made once an edge is settled. Contracts see
-/// the hierarchy before the edit, the edit, and the edges settled so far.
+/// that it settled, and of those whose lists stand, whose functions it rebuilds from their ways as they are needed. They
+/// are kept as words until a way takes longer than words can say. Where it is known that a list is what customization makes
+/// of the lists below it, and nothing of these has changed, the list stands and isn't settled anew. Room is made once an
+/// edge is settled. Contracts see the hierarchy before the edit, the edit, and the edges settled so far.
 #[derive(Drop)]
 pub struct EditSettler<'a, W: Ways> {
     ways: &'a W,
     edit: &'a Edit,
     graph: &'a Chordal,
     arcs: &'a EdgeArcs,
+    customized: &'a [bool],
     settled: Vec<TouchedEdge>,
     // The functions of edges whose lists won't change any more, as far as they are known.
     held: Held,
 }
 
 impl<'a, W: Ways> Model for EditSettler<'a, W> {
+    ghost use Rattle.cu_edits.specs.Customized.{AreCustomized};
     ghost use Rattle.cu_edits.specs.Settling.{SettlingValue};
     ghost use Rattle.cu_edits.specs.Steps.Held.{Holds};
 
@@ -61,7 +66,8 @@ impl<'a, W: Ways> Model for EditSettler<'a, W> {
           edit = settler.edit.now;
           settled = settler.settled.items;
         })
-        settler.graph.now settler.arcs.now settler.held };
+        settler.graph.now settler.arcs.now settler.held
+        × AreCustomized (W.hierarchy settler.ways.now) settler.customized.now };
 }
 
 impl<'a, W: Ways> EditSettler<'a, W> {
@@ -81,6 +87,26 @@ impl<'a, W: Ways> EditSettler<'a, W> {
         ensures { IfOk result (λ settler. settler
             ≡ record { before = W.hierarchy ways.now; edit = edit.now; settled = [] }) }
     {
+        EditSettler::over(alloc, ways, edit, graph, arcs, &[])
+    }
+
+    /// The same, where edges with a mark are known to have the lists that customization makes of the lists below them.
+    pub fn over(
+        alloc: Global,
+        ways: &'a W,
+        edit: &'a Edit,
+        graph: &'a Chordal,
+        arcs: &'a EdgeArcs,
+        customized: &'a [bool],
+    ) -> Result<EditSettler<'a, W>, NoMemory>
+        requires edit { IsEditInRange (W.hierarchy ways.now).network edit.now }
+        requires graph { IsHierarchyOf graph.now (W.hierarchy ways.now) }
+        requires arcs { AreEdgeArcs (W.hierarchy ways.now).network (W.hierarchy ways.now).order
+            graph.now.edges arcs.now }
+        requires customized { AreCustomized (W.hierarchy ways.now) customized.now }
+        ensures { IfOk result (λ settler. settler
+            ≡ record { before = W.hierarchy ways.now; edit = edit.now; settled = [] }) }
+    {
         read_edit(edit);
         let settled = Vec::new(alloc);
         Ok(EditSettler {
@@ -88,6 +114,7 @@ impl<'a, W: Ways> EditSettler<'a, W> {
             edit,
             graph,
             arcs,
+            customized,
             settled,
             held: Held::Nothing,
         })
@@ -103,6 +130,7 @@ impl<'a, W: Ways> Settler for EditSettler<'a, W> {
             edit: self.edit,
             graph: self.graph,
             arcs: self.arcs,
+            customized: self.customized,
         };
         settle_held(alloc, &parts, &mut self.held, &mut self.settled, edge)
     }
@@ -119,6 +147,7 @@ fn settle_held<W: Ways>(
     requires holds { Holds
         (settling_of (W.hierarchy parts.now.ways.now) parts.now.edit.now settled.old.items)
         parts.now.graph.now parts.now.arcs.now held.old }
+    requires customized { AreCustomized (W.hierarchy parts.now.ways.now) parts.now.customized.now }
     requires asked { IsNext
         (settling_of (W.hierarchy parts.now.ways.now) parts.now.edit.now settled.old.items) edge }
     ensures edge { IfOk result (λ touched. touched.edge ≡ edge) }
@@ -150,8 +179,10 @@ fn hold_words<W: Ways>(
         → Holds s parts.now.graph.now arcs held.old → Holds s parts.now.graph.now arcs held.new }
 {
     if let Held::Nothing = held {
+        let edges = parts.graph.edges();
         *held = Held::Words(HeldWords {
-            functions: WordFunctions::new(alloc, parts.graph.edges())?,
+            functions: WordFunctions::new(alloc, edges)?,
+            moved: MovedLists::new(alloc, edges)?,
             settling: WordSettling::new(alloc, parts.ways)?,
         });
     }
@@ -170,6 +201,7 @@ fn settle_in_words<W: Ways>(
     requires holds { Holds
         (settling_of (W.hierarchy parts.now.ways.now) parts.now.edit.now settled.old.items)
         parts.now.graph.now parts.now.arcs.now held.old }
+    requires customized { AreCustomized (W.hierarchy parts.now.ways.now) parts.now.customized.now }
     requires asked { IsNext
         (settling_of (W.hierarchy parts.now.ways.now) parts.now.edit.now settled.old.items) edge }
     ensures edge { IfOk result (λ found. IfSome found (λ touched. touched.edge ≡ edge)) }
@@ -209,7 +241,7 @@ fn go_over<W: Ways>(
     let Held::Words(words) = held else {
         return Ok(());
     };
-    let plain = plain_of_words(alloc, parts.graph.edges(), settled, &words.functions)?;
+    let plain = plain_of_words(alloc, parts, settled, &words.moved)?;
     *held = Held::Plain(plain);
     Ok(())
 }

@@ -1,13 +1,15 @@
 //! The functions of edges that a settler holds.
 
 use crate::known::EdgeFunctions;
+use crate::moved_lists::MovedLists;
 use cu_customize::WordSettling;
 use cu_unpack::{Rebuilt, WordFunctions};
 
-/// Functions as words, and the room that settling by them takes.
+/// Functions of the hierarchy before the edit as words, the lists that the edit moved, and the room that settling takes.
 #[derive(Debug, Drop)]
 pub struct HeldWords {
     pub functions: WordFunctions,
+    pub moved: MovedLists,
     pub settling: WordSettling,
 }
 

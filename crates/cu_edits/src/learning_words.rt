@@ -1,113 +1,199 @@
-//! Learning functions of edges that an edit leaves as they are, as words.
+//! Learning functions of lists of the hierarchy before an edit, as words.
 
-ghost use Rattle.std.specs.Prelude.{◌≡◌, ◌<◌, ℕ, IfOk, length, true};
-ghost use Rattle.cu_interval.specs.Hierarchies.{IsHierarchyOf, list_number};
+ghost use Rattle.std.specs.Prelude.{◌≡◌, ◌<◌, ◌*◌, ℕ, All, IfOk, Some, length, slice_get, true};
+ghost use Rattle.cu_chordal.specs.declared.graph.Ends.{Ends};
+ghost use Rattle.cu_interval.specs.declared.ways.Entry.{Entry};
+ghost use Rattle.cu_interval.specs.Hierarchies.{IsHierarchyOf, IsWellFormed, end_of, list_number, list_of, start_of};
 ghost use Rattle.cu_unpack.specs.RebuiltWords.{IsKnownList};
-ghost use Rattle.cu_edits.specs.Steps.ByWords.{AreKnown, LearnsWords, MayLearn};
-ghost use Rattle.cu_edits.specs.Steps.Known.{IsSide, IsSideOver};
+ghost use Rattle.cu_edits.specs.Steps.ByWords.{AreAtHandIfMoved, AreWordsOf, IsAtHand, IsWayAtHand, LearnsWords};
+ghost use Rattle.cu_edits.specs.Steps.Moving.{HalvesAre};
 
+use crate::both_halves::find_halves;
 use crate::edit_parts::EditParts;
+use crate::moved_lists::MovedLists;
+use crate::standing::are_both_unmoved;
 use cu_chordal::Ends;
-use cu_interval::{Dir, Ways};
+use cu_interval::{Dir, Way, Ways};
 use cu_model::NoMemory;
 use cu_unpack::WordFunctions;
 use std::alloc::Global;
 
-/// Makes sure that the functions of both lower sides of each lower triangle of an edge with these ends are known; those that
-/// aren't are learned. False where a way takes longer than words can say. What was learned stays after a refusal too.
-pub fn learn_sides<W: Ways>(
+/// Makes sure that both halves of each way by a middle of an edge with these ends in a direction are known, but for those that
+/// were moved; those that aren't are learned. False where a way takes longer than words can say. What was learned stays
+/// after a refusal too.
+pub fn learn_halves<W: Ways>(
     alloc: Global,
     parts: &EditParts<'_, W>,
+    moved: &MovedLists,
     ends: Ends,
+    dir: Dir,
     words: &mut WordFunctions,
 ) -> Result<bool, NoMemory>
     requires graph { IsHierarchyOf parts.now.graph.now (W.hierarchy parts.now.ways.now) }
-    requires ranks { (ends.low < parts.now.graph.now.ranks)
-        × (ends.high < parts.now.graph.now.ranks) }
-    requires may { MayLearn (W.hierarchy parts.now.ways.now) parts.now.edit.now
-        (IsSide parts.now.graph.now.edges ends) words.old }
-    ensures learns { LearnsWords (W.hierarchy parts.now.ways.now) parts.now.edit.now
-        words.old words.new }
-    ensures known { IfOk result (λ is_near. is_near ≡ true
-        → AreKnown (IsSide parts.now.graph.now.edges ends) words.new) }
+    requires ranks { ends.low < parts.now.graph.now.ranks }
+    requires moved { length moved.now.places ≡ 2 * length parts.now.graph.now.edges }
+    requires words { AreWordsOf (W.hierarchy parts.now.ways.now) words.old }
+    ensures learns { LearnsWords (W.hierarchy parts.now.ways.now) words.old words.new }
+    ensures known { IfOk result (λ is_near. is_near ≡ true → (middle : ℕ)
+        → HalvesAre (IsAtHand moved.now words.new) parts.now.graph.now.edges ends dir middle) }
 {
     for middle in parts.graph.down(ends.low) {
-        if !learn_triangle(alloc, parts, ends, *middle, words)? {
+        if !learn_both(alloc, parts, moved, ends, dir, *middle, words)? {
             return Ok(false);
         }
     }
     Ok(true)
 }
 
-// The same of the lower triangle over one rank, if there is one.
-fn learn_triangle<W: Ways>(
+/// The same of the halves by those middles alone of which a half was moved.
+pub fn learn_moved<W: Ways>(
     alloc: Global,
     parts: &EditParts<'_, W>,
+    moved: &MovedLists,
     ends: Ends,
+    dir: Dir,
+    words: &mut WordFunctions,
+) -> Result<bool, NoMemory>
+    requires graph { IsHierarchyOf parts.now.graph.now (W.hierarchy parts.now.ways.now) }
+    requires ranks { ends.low < parts.now.graph.now.ranks }
+    requires moved { length moved.now.places ≡ 2 * length parts.now.graph.now.edges }
+    requires words { AreWordsOf (W.hierarchy parts.now.ways.now) words.old }
+    ensures learns { LearnsWords (W.hierarchy parts.now.ways.now) words.old words.new }
+    ensures known { IfOk result (λ is_near. is_near ≡ true → (middle : ℕ)
+        → AreAtHandIfMoved moved.now words.new parts.now.graph.now.edges ends dir middle) }
+{
+    for middle in parts.graph.down(ends.low) {
+        if !learn_if_moved(alloc, parts, moved, ends, dir, *middle, words)? {
+            return Ok(false);
+        }
+    }
+    Ok(true)
+}
+
+// The same of one middle.
+fn learn_if_moved<W: Ways>(
+    alloc: Global,
+    parts: &EditParts<'_, W>,
+    moved: &MovedLists,
+    ends: Ends,
+    dir: Dir,
     middle: u32,
     words: &mut WordFunctions,
 ) -> Result<bool, NoMemory>
     requires graph { IsHierarchyOf parts.now.graph.now (W.hierarchy parts.now.ways.now) }
     requires middle { middle < parts.now.graph.now.ranks }
-    requires may { MayLearn (W.hierarchy parts.now.ways.now) parts.now.edit.now
-        (IsSideOver parts.now.graph.now.edges ends middle) words.old }
-    ensures learns { LearnsWords (W.hierarchy parts.now.ways.now) parts.now.edit.now
-        words.old words.new }
+    requires moved { length moved.now.places ≡ 2 * length parts.now.graph.now.edges }
+    requires words { AreWordsOf (W.hierarchy parts.now.ways.now) words.old }
+    ensures learns { LearnsWords (W.hierarchy parts.now.ways.now) words.old words.new }
     ensures known { IfOk result (λ is_near. is_near ≡ true
-        → AreKnown (IsSideOver parts.now.graph.now.edges ends middle) words.new) }
+        → AreAtHandIfMoved moved.now words.new parts.now.graph.now.edges ends dir middle) }
 {
-    let Some(first) = parts.graph.edge(middle, ends.low) else {
+    if are_both_unmoved(parts, moved, ends, dir, middle) {
         return Ok(true);
-    };
-    let Some(second) = parts.graph.edge(middle, ends.high) else {
-        return Ok(true);
-    };
-    if !learn_edge(alloc, parts, first, words)? {
-        return Ok(false);
     }
-    learn_edge(alloc, parts, second, words)
+    learn_both(alloc, parts, moved, ends, dir, middle, words)
 }
 
-// The same of one edge.
-fn learn_edge<W: Ways>(
+/// The same of the halves by the middles of the list of an edge in a direction, before the edit.
+pub fn learn_ways<W: Ways>(
     alloc: Global,
     parts: &EditParts<'_, W>,
+    moved: &MovedLists,
     edge: u32,
+    dir: Dir,
     words: &mut WordFunctions,
 ) -> Result<bool, NoMemory>
     requires graph { IsHierarchyOf parts.now.graph.now (W.hierarchy parts.now.ways.now) }
-    requires edge { edge < length (W.hierarchy parts.now.ways.now).edges }
-    requires may { MayLearn (W.hierarchy parts.now.ways.now) parts.now.edit.now
-        (λ (e : ℕ). e ≡ edge) words.old }
-    ensures learns { LearnsWords (W.hierarchy parts.now.ways.now) parts.now.edit.now
-        words.old words.new }
+    requires edge { edge < length parts.now.graph.now.edges }
+    requires moved { length moved.now.places ≡ 2 * length parts.now.graph.now.edges }
+    requires words { AreWordsOf (W.hierarchy parts.now.ways.now) words.old }
+    ensures learns { LearnsWords (W.hierarchy parts.now.ways.now) words.old words.new }
     ensures known { IfOk result (λ is_near. is_near ≡ true
-        → AreKnown (λ (e : ℕ). e ≡ edge) words.new) }
+        → (ends : Ends) → slice_get parts.now.graph.now.edges edge ≡ Some ends
+        → All (λ (entry : Entry). IsWayAtHand moved.now words.new parts.now.graph.now.edges ends
+        dir entry.way) (list_of (W.hierarchy parts.now.ways.now) edge dir)) }
 {
-    if !learn_list(alloc, parts, edge, Dir::Up, words)? {
+    let ends = parts.graph.ends(edge);
+    for index in 0..parts.ways.entries(edge, dir) {
+        let entry = parts.ways.entry(edge, dir, index);
+        if !learn_way(alloc, parts, moved, ends, dir, entry.way, words)? {
+            return Ok(false);
+        }
+    }
+    Ok(true)
+}
+
+// The same of one way.
+fn learn_way<W: Ways>(
+    alloc: Global,
+    parts: &EditParts<'_, W>,
+    moved: &MovedLists,
+    ends: Ends,
+    dir: Dir,
+    way: Way,
+    words: &mut WordFunctions,
+) -> Result<bool, NoMemory>
+    requires formed { IsWellFormed (W.hierarchy parts.now.ways.now)
+        (start_of ends dir) (end_of ends dir) way }
+    requires graph { IsHierarchyOf parts.now.graph.now (W.hierarchy parts.now.ways.now) }
+    requires ranks { (ends.low < parts.now.graph.now.ranks)
+        × (ends.high < parts.now.graph.now.ranks) }
+    requires moved { length moved.now.places ≡ 2 * length parts.now.graph.now.edges }
+    requires words { AreWordsOf (W.hierarchy parts.now.ways.now) words.old }
+    ensures learns { LearnsWords (W.hierarchy parts.now.ways.now) words.old words.new }
+    ensures known { IfOk result (λ is_near. is_near ≡ true
+        → IsWayAtHand moved.now words.new parts.now.graph.now.edges ends dir way) }
+{
+    match way {
+        Way::Road(_) => Ok(true),
+        Way::Via(middle) => learn_both(alloc, parts, moved, ends, dir, middle, words),
+    }
+}
+
+// The same of the halves by one middle, if there are such.
+fn learn_both<W: Ways>(
+    alloc: Global,
+    parts: &EditParts<'_, W>,
+    moved: &MovedLists,
+    ends: Ends,
+    dir: Dir,
+    middle: u32,
+    words: &mut WordFunctions,
+) -> Result<bool, NoMemory>
+    requires graph { IsHierarchyOf parts.now.graph.now (W.hierarchy parts.now.ways.now) }
+    requires middle { middle < parts.now.graph.now.ranks }
+    requires moved { length moved.now.places ≡ 2 * length parts.now.graph.now.edges }
+    requires words { AreWordsOf (W.hierarchy parts.now.ways.now) words.old }
+    ensures learns { LearnsWords (W.hierarchy parts.now.ways.now) words.old words.new }
+    ensures known { IfOk result (λ is_near. is_near ≡ true
+        → HalvesAre (IsAtHand moved.now words.new) parts.now.graph.now.edges ends dir middle) }
+{
+    let Some((first, second)) = find_halves(parts.graph, ends, dir, middle) else {
+        return Ok(true);
+    };
+    if !learn_list(alloc, parts, moved, first, Dir::Down, words)? {
         return Ok(false);
     }
-    learn_list(alloc, parts, edge, Dir::Down, words)
+    learn_list(alloc, parts, moved, second, Dir::Up, words)
 }
 
 // The same of one list.
 fn learn_list<W: Ways>(
     alloc: Global,
     parts: &EditParts<'_, W>,
+    moved: &MovedLists,
     edge: u32,
     dir: Dir,
     words: &mut WordFunctions,
 ) -> Result<bool, NoMemory>
-    requires graph { IsHierarchyOf parts.now.graph.now (W.hierarchy parts.now.ways.now) }
     requires edge { edge < length (W.hierarchy parts.now.ways.now).edges }
-    requires may { MayLearn (W.hierarchy parts.now.ways.now) parts.now.edit.now
-        (λ (e : ℕ). e ≡ edge) words.old }
-    ensures learns { LearnsWords (W.hierarchy parts.now.ways.now) parts.now.edit.now
-        words.old words.new }
+    requires moved { list_number edge dir < length moved.now.places }
+    requires words { AreWordsOf (W.hierarchy parts.now.ways.now) words.old }
+    ensures learns { LearnsWords (W.hierarchy parts.now.ways.now) words.old words.new }
     ensures known { IfOk result (λ is_near. is_near ≡ true
-        → IsKnownList words.new (list_number edge dir)) }
+        → IsAtHand moved.now words.new edge dir) }
 {
-    if words.knows(edge, dir) {
+    if !moved.is_unmoved(edge, dir) || words.knows(edge, dir) {
         return Ok(true);
     }
     words.learn(alloc, parts.ways, edge, dir)

@@ -11,6 +11,9 @@
 //! plain ones; once a way takes longer than words can say, as in a file that isn't built, it goes over to plain functions.
 //! [`copy_profile`] copies a profile of whatever stands for a network.
 //!
+//! [`CustomizedEdges`] tells which edges are known to be customized (`specs/Customized.antt`): all are in a built hierarchy, and
+//! an edit keeps those that are and adds those that it settles.
+//!
 //! A law speaks of the definitions alone, [`resettled_is_built`]: a built hierarchy that is resettled by an edit is the built one
 //! of the edited network.
 //!
@@ -18,9 +21,11 @@
 //! `cu_unpack`. Private are how touched edges spread, and what a settler holds. `specs/Steps` is cited by private functions alone.
 #![tactic(auto)]
 
+mod both_halves;
 mod by_words;
 mod copied_lists;
 mod copying;
+mod customized;
 mod edit_parts;
 mod edit_settler;
 mod edited_roads;
@@ -31,17 +36,21 @@ mod laws;
 mod learning;
 mod learning_words;
 mod lines;
+mod moved_lists;
+mod new_list;
 mod recustomizing;
 mod road_functions;
 mod settler;
+mod standing;
 #[cfg(test)]
 mod tests;
 mod touching;
 
 pub use copying::copy_profile;
+pub use customized::CustomizedEdges;
 pub use edit_settler::EditSettler;
 pub use laws::resettled_is_built;
 pub use lines::{EditLine, EditRefusal, MAX_EDIT_LINE, check_edit};
-pub use recustomizing::{Touched, recustomize, touch};
+pub use recustomizing::{Touched, recustomize, touch, touch_over};
 pub use settler::Settler;
 pub use touching::touched_edges;

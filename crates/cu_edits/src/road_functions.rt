@@ -33,8 +33,8 @@ pub fn road_function<W: Ways>(
     function_of_profile(alloc, profile)
 }
 
-// Whether an edit changes a road.
-fn is_changed<W: Ways>(ways: &W, edit: &Edit, arc: u32) -> bool
+/// Whether an edit changes a road, below the number of roads.
+pub fn is_changed<W: Ways>(ways: &W, edit: &Edit, arc: u32) -> bool
     requires { arc < length (W.hierarchy ways.now).network.arcs }
     ensures { IsTrue result ↔ IsChanged (W.hierarchy ways.now).network edit.now arc }
 {

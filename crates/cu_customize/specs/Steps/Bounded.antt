@@ -12,7 +12,7 @@ use Rattle.cu_customize.specs.declared.windows.Span.{Span}
 use Rattle.cu_customize.specs.declared.windows.Window.{Window}
 use Rattle.cu_customize.specs.declared.windows.Windows.{Windows}
 use Rattle.cu_customize.specs.Travels.{Takes, TakesAtLeast, TakesAtMost}
-use Rattle.cu_customize.specs.Words.{IsFunctionWords}
+use Rattle.cu_customize.specs.Words.{IsFunctionWords, composed}
 use Rattle.cu_customize.specs.Windows.{Reaches, TakesBetween, TakesUpToBetween, reach_end, reach_start, window_start}
 
 -- on one day all these seconds are within a reach, unless it's the whole day
@@ -71,6 +71,11 @@ IsWithinReach windows reach s = (reach_start windows reach ≤ s) × (s < reach_
 -- from one second until another it takes no more, where this is a limit
 abbrev pub IsUpper : (ℕ → ℕ) → ℕ → ℕ → ℕ → Type 0
 IsUpper f from until most = most < NO_LIMIT → TakesUpToBetween f from until most
+
+-- what is so, in a window, of a function together with one behind it, whichever two these are bounds of
+abbrev pub IsOfBoth : ((ℕ → ℕ) → ℕ → ℕ → Type 0) → Bounds → Bounds → ℕ → Type 0
+IsOfBoth Holds bounds second window = (first behind : List Run) → IsFunctionWords behind → AreBounds (arrival_value first) bounds → AreBounds (arrival_value behind) second
+    → Holds (composed first behind) (window_start bounds.windows window) (window_start bounds.windows (window + 1))
 
 -- a function with what it takes
 pub record IsTravelled (words : List Run) (least most : ℕ) (bounds : Option (Box Bounds)) : Type 0 where

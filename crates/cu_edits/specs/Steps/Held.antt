@@ -1,27 +1,20 @@
 -- What a settler holds: nothing yet, words, or plain functions.
 use Rattle.std.specs.Prelude.{ℕ, List, [], ◌≡◌}
-use Rattle.cu_model.specs.Edits.{IsEditInRange}
 use Rattle.cu_chordal.specs.Graphs.{ChordalValue}
-use Rattle.cu_interval.specs.EdgeArcs.{AreEdgeArcs}
-use Rattle.cu_interval.specs.Hierarchies.{IsHierarchyOf}
 use Rattle.cu_edits.specs.declared.held.Held as held
 use Rattle.cu_edits.specs.declared.held.Held.TheVariants.{Nothing, Words, Plain}
 use Rattle.cu_edits.specs.Settling.{SettlingValue}
-use Rattle.cu_edits.specs.Steps.ByWords.{IsSettlingByWords}
+use Rattle.cu_edits.specs.Steps.ByWords.{AreParts, IsSettlingByWords}
 use Rattle.cu_edits.specs.Steps.Holding.{IsSettling}
-use Rattle.cu_edits.specs.Steps.Known.{IsEditSound}
 
 -- no edge was settled
 pub record IsSettlingNone (s : SettlingValue) (graph : ChordalValue) (arcs : List (List ℕ)) : Type 0 where
   pub none : s.settled ≡ []
-  pub hierarchy : IsHierarchyOf graph s.before
-  pub roads : AreEdgeArcs s.before.network s.before.order s.before.edges arcs
-  pub range : IsEditInRange s.before.network s.edit
-  pub pieces : IsEditSound s.edit
+  pub parts : AreParts s.before s.edit graph arcs
 
 abbrev pub Holds : SettlingValue → ChordalValue → List (List ℕ) → held.Held → Type 0
 Holds s graph arcs Nothing = IsSettlingNone s graph arcs
-Holds s graph arcs (Words words) = IsSettlingByWords s graph arcs words.functions
+Holds s graph arcs (Words words) = IsSettlingByWords s graph arcs words.functions words.moved
 Holds s graph arcs (Plain plain) = IsSettling s graph arcs plain.rebuilt plain.known.items
 
 -- something is held

@@ -41,6 +41,7 @@ fn go_plain<W: Ways>(alloc: Global, settler: &mut EditSettler<'_, W>) -> Result<
         edit: settler.edit,
         graph: settler.graph,
         arcs: settler.arcs,
+        customized: settler.customized,
     };
     hold_words(alloc, &parts, &mut settler.held)?;
     go_over(alloc, &parts, &settler.settled, &mut settler.held)

@@ -1,4 +1,4 @@
-use Rattle.std.proofs.Common.{◌≡◌, ◌+◌, ◌++◌, ◌∷◌, [], List, Option, arith, refl, sym, subst}
+use Rattle.std.proofs.Common.{◌≡◌, ◌+◌, ◌∙◌, ◌++◌, ◌∷◌, [], List, Option, arith, refl, sym, subst}
 use Rattle.std.proofs.lemmas.Slice.{pushed}
 use Rattle.cu_arrival.specs.declared.runs.Run.{Run}
 use Rattle.cu_interval.specs.Hierarchies.{list_number}
@@ -19,21 +19,23 @@ arcs-requires c =
 pub gather-requires : goal.gather-requires
 gather-requires c =
     let p = c.requires.parts in
+    let same = c.of-functions.ensures ∙ c.deref.ensures.value in
     let (whole, built, keeps) = c.requires.built in
     next_task _ _ c.args.parts.now.order.now c.args.parts.now.arcs.now c.args.edge c.args.dir c.ends-ends.result p.network p.order p.chordal p.closed p.arcs c.ends-ends.ensures.there
     c.arcs.ensures.there
-    (c.requires.triangles c.ends-ends.result c.ends-ends.ensures.there) whole c.args.building.now.functions.items c.args.building.now.lists.items built keeps c.deref.ensures.value
+    (c.requires.triangles c.ends-ends.result c.ends-ends.ensures.there) whole c.args.building.now.functions.items c.args.building.now.lists.items built keeps same
     c.leg_of.ensures.from
     c.leg_of.ensures.to c.arcs.ensures.rising p.stays p.stay
 
 pub pull-requires-clause-task : goal.pull-requires-clause-task
 pull-requires-clause-task c =
     let p = c.requires.parts in
+    let same = c.of-functions.ensures ∙ c.deref.ensures.value in
     let (whole, built, keeps) = c.requires.built in (
       _,
       next_task _ _ c.args.parts.now.order.now c.args.parts.now.arcs.now c.args.edge c.args.dir c.ends-ends.result p.network p.order p.chordal p.closed p.arcs c.ends-ends.ensures.there
           c.arcs.ensures.there
-          (c.requires.triangles c.ends-ends.result c.ends-ends.ensures.there) whole c.args.building.now.functions.items c.args.building.now.lists.items built keeps c.deref.ensures.value
+          (c.requires.triangles c.ends-ends.result c.ends-ends.ensures.there) whole c.args.building.now.functions.items c.args.building.now.lists.items built keeps same
           c.leg_of.ensures.from
           c.leg_of.ensures.to c.arcs.ensures.rising p.stays p.stay,
     )
@@ -44,6 +46,7 @@ pull-requires-clause-held c = λ some. gathered_within _ _ _ _ c.in_ok-gather.en
 pub returns : goal.returns
 returns c =
     let p = c.requires.parts in
+    let same = c.of-functions.ensures ∙ c.deref.ensures.value in
     let (whole, built, keeps) = c.requires.built in
     let edges = c.args.parts.now.graph.now.edges in
     let functions = c.args.building.now.functions.items in
@@ -51,11 +54,11 @@ returns c =
     let ready =
     next_task _ _ c.args.parts.now.order.now c.args.parts.now.arcs.now c.args.edge c.args.dir c.ends-ends.result p.network p.order p.chordal p.closed p.arcs c.ends-ends.ensures.there
     c.arcs.ensures.there
-    (c.requires.triangles c.ends-ends.result c.ends-ends.ensures.there) whole functions lists built keeps c.deref.ensures.value c.leg_of.ensures.from c.leg_of.ensures.to c.arcs.ensures.rising
+    (c.requires.triangles c.ends-ends.result c.ends-ends.ensures.there) whole functions lists built keeps same c.leg_of.ensures.from c.leg_of.ensures.to c.arcs.ensures.rising
     p.stays p.stay in
     let next = next_step _ _ c.args.parts.now.order.now c.args.parts.now.arcs.now c.args.edge c.args.dir c.ends-ends.result p.network p.order p.chordal p.closed p.arcs c.ends-ends.ensures.there
     c.arcs.ensures.there
-    (c.requires.triangles c.ends-ends.result c.ends-ends.ensures.there) whole functions lists built keeps c.deref.ensures.value c.leg_of.ensures.from c.leg_of.ensures.to c.gather.new.self.merger
+    (c.requires.triangles c.ends-ends.result c.ends-ends.ensures.there) whole functions lists built keeps same c.leg_of.ensures.from c.leg_of.ensures.to c.gather.new.self.merger
     c.in_ok-pulled.pulled.ways c.in_ok-pulled.pulled.function ready c.in_ok-gather.ensures.gathered c.in_ok-pulled.ensures in
     let function = c.in_ok-pulled.pulled.function in
     let kept = keeps_pushed edges c.args.edge whole functions function keeps in

@@ -3,5 +3,5 @@ use Rattle.cu_customize.proofs.BoundLaws.{least_behind}
 use Rattle.cu_customize.proofs.windows.Bounds.least_with.Goals as goal
 
 pub returns : goal.returns
-returns c first behind function one two =
+returns c = λ first behind function one two.
     least_behind first behind function c.args.self.now c.args.second.now c.requires.same one two c.args.window c.requires.window _ (omega (arith, c.from.ensures, c.from-2.ensures))

@@ -1,0 +1,72 @@
+-- What is found over the graph of a hierarchy, said of the hierarchy.
+use Rattle.std.proofs.Common.{◌≡◌, ℕ, Bool, List, Some, ap, subst, inl, inr, true}
+use Rattle.std.specs.Prelude.{All, slice_get}
+use Rattle.cu_model.specs.declared.roads.Edit.{Edit}
+use Rattle.cu_chordal.specs.declared.graph.Ends.{Ends}
+use Rattle.cu_chordal.specs.Graphs.{ChordalValue}
+use Rattle.cu_interval.specs.declared.ways.Dir.{Dir}
+use Rattle.cu_interval.specs.declared.ways.Dir.TheVariants.{Up, Down}
+use Rattle.cu_interval.specs.declared.ways.Entry.{Entry}
+use Rattle.cu_interval.specs.declared.ways.Way.{Way}
+use Rattle.cu_interval.specs.declared.ways.Way.TheVariants.{Road, Via}
+use Rattle.cu_interval.specs.Hierarchies.{HierarchyValue, IsHierarchyOf, list_number, list_of}
+use Rattle.cu_interval.specs.Touching.{IsChanged}
+use Rattle.cu_unpack.specs.RebuiltWords.{WordsValue}
+use Rattle.cu_edits.specs.Steps.ByWords.{AreAtHandIfMoved, AreCandidatesAtHand, IsAtHand, IsWayAtHand, LearnsWords}
+use Rattle.cu_edits.specs.Steps.Moving.{AreWaysUnmoved, HalvesAre, IsUnmoved, IsUnmovedWay, KeepsWays, MayStand, MovedValue}
+
+module _ (h : HierarchyValue) (graph : ChordalValue) (of : IsHierarchyOf graph h) where
+  pub same_edges : graph.edges ≡ h.edges
+  same_edges = ap (λ (k : ChordalValue). k.edges) of.0
+
+  -- a fact of the ends of an edge of the graph is one of those of the hierarchy's
+  pub of_ends : (Fact : List Ends → Ends → Type 0) (edge : ℕ) (ends : Ends) → slice_get graph.edges edge ≡ Some ends → Fact graph.edges ends → (given : Ends) → slice_get h.edges edge ≡ Some given
+      → Fact h.edges given
+  of_ends Fact edge ends at fact given there =
+      let here : slice_get h.edges edge ≡ Some ends = subst (λ (es : List Ends). slice_get es edge ≡ Some ends) same_edges at in
+      let same : ends ≡ given = cc (here, there) in
+      subst (Fact h.edges) same (subst (λ (es : List Ends). Fact es ends) same_edges fact)
+
+  -- of all ends of an edge, too
+  pub of_all_ends : (Fact : List Ends → Ends → Type 0) (edge : ℕ) → ((ends : Ends) → slice_get graph.edges edge ≡ Some ends → Fact graph.edges ends) → (given : Ends)
+      → slice_get h.edges edge ≡ Some given → Fact h.edges given
+  of_all_ends Fact edge fact =
+      subst (λ (es : List Ends). (ends : Ends) → slice_get es edge ≡ Some ends → Fact es ends) same_edges fact
+
+  module _ (edit : Edit) (marks : List Bool) (moved : MovedValue) (edge : ℕ) (dir : Dir) where
+    -- a list may stand
+    pub may_stand : (arcs : List (List ℕ)) (ends : Ends) → slice_get marks edge ≡ Some true
+        → ((list : List ℕ) → slice_get arcs (list_number edge dir) ≡ Some list → All (λ a. IsChanged h.network edit a → ⊥) list) → slice_get graph.edges edge ≡ Some ends
+        → ((middle : ℕ) → HalvesAre (IsUnmoved moved) graph.edges ends dir middle) → MayStand h edit arcs marks moved edge dir
+    may_stand arcs ends marked roads at halves = record {
+      marked = marked;
+      roads = roads;
+      halves = of_ends (λ es given. (middle : ℕ) → HalvesAre (IsUnmoved moved) es given dir middle) edge ends at halves;
+    }
+
+    -- its ways are as they were
+    pub ways_unmoved : ((ends : Ends) → slice_get graph.edges edge ≡ Some ends
+        → All (λ (entry : Entry). IsUnmovedWay h.network edit graph.edges moved ends dir entry.way) (list_of h edge dir)) → AreWaysUnmoved h edit moved edge dir
+    ways_unmoved = of_all_ends (λ es ends. All (λ (entry : Entry). IsUnmovedWay h.network edit es moved ends dir entry.way) (list_of h edge dir)) edge
+
+    -- all halves are at hand
+    pub all_at_hand : (words : WordsValue) (ends : Ends) → slice_get graph.edges edge ≡ Some ends → ((middle : ℕ) → HalvesAre (IsAtHand moved words) graph.edges ends dir middle)
+        → AreCandidatesAtHand h edit marks moved words edge dir
+    all_at_hand words ends at halves = inl (of_ends (λ es given. (middle : ℕ) → HalvesAre (IsAtHand moved words) es given dir middle) edge ends at halves)
+
+    still_at_hand : (words learnt : WordsValue) → LearnsWords h words learnt → (es : List Ends) (ends : Ends) (way : Way) → IsWayAtHand moved words es ends dir way
+        → IsWayAtHand moved learnt es ends dir way
+    still_at_hand words learnt learns es ends (Road a) hand = hand
+    still_at_hand words learnt learns es ends (Via m) hand = λ first second are.
+        let both = hand first second are in (λ unmoved. learns.still first Down (both.0 unmoved), λ unmoved. learns.still second Up (both.1 unmoved))
+
+    -- those of some candidates are
+    pub some_at_hand : (words learnt : WordsValue) (ends : Ends) → slice_get graph.edges edge ≡ Some ends → KeepsWays h edit marks moved edge dir
+        → ((given : Ends) → slice_get graph.edges edge ≡ Some given → All (λ (entry : Entry). IsWayAtHand moved words graph.edges given dir entry.way) (list_of h edge dir)) → LearnsWords h words learnt
+        → ((middle : ℕ) → AreAtHandIfMoved moved learnt graph.edges ends dir middle) → AreCandidatesAtHand h edit marks moved learnt edge dir
+    some_at_hand words learnt ends at keeps ways learns halves = inr (
+      keeps,
+      of_all_ends (λ es given. All (λ (entry : Entry). IsWayAtHand moved learnt es given dir entry.way) (list_of h edge dir)) edge
+          (λ given there k d lt. still_at_hand words learnt learns graph.edges given _ (ways given there k d lt)),
+      of_ends (λ es given. (middle : ℕ) → AreAtHandIfMoved moved learnt es given dir middle) edge ends at halves,
+    )

@@ -1,0 +1,106 @@
+-- Lists that an edit moves, and lists that stand: their ways are those of before, and so is when they arrive.
+use Rattle.std.specs.Prelude.{ℕ, suc, List, [], ◌∷◌, ◌++◌, Bool, true, Option, Some, None, ◌≡◌, ◌≢◌, ◌<◌, All, length, slice_get}
+use Rattle.cu_model.specs.declared.roads.Edit.{Edit}
+use Rattle.cu_model.specs.Days.{day, IsOnward}
+use Rattle.cu_model.specs.Networks.{NetworkValue}
+use Rattle.cu_arrival.specs.declared.runs.Run.{Run}
+use Rattle.cu_arrival.specs.Runs.{arrival_value}
+use Rattle.cu_chordal.specs.declared.graph.Ends.{Ends}
+use Rattle.cu_interval.specs.declared.ways.Dir.{Dir}
+use Rattle.cu_interval.specs.declared.ways.Dir.TheVariants.{Up, Down}
+use Rattle.cu_interval.specs.declared.ways.Entry.{Entry}
+use Rattle.cu_interval.specs.declared.ways.Way.{Way}
+use Rattle.cu_interval.specs.declared.ways.Way.TheVariants.{Road, Via}
+use Rattle.cu_interval.specs.Hierarchies.{HierarchyValue, end_of, list_number, list_of, start_of}
+use Rattle.cu_interval.specs.Resettling.{IsResettledList, least_in, rebuilt, value_by}
+use Rattle.cu_interval.specs.Touching.{IsChanged}
+use Rattle.cu_customize.specs.Words.{IsFunctionWords}
+use Rattle.cu_customize.specs.declared.pulling.SettledWords.{SettledWords}
+use Rattle.cu_edits.specs.declared.new_list.Fate.{Fate}
+use Rattle.cu_edits.specs.declared.new_list.Fate.TheVariants.{Stands, Moves}
+use Rattle.cu_edits.specs.declared.new_list.NewList.{NewList}
+use Rattle.cu_edits.specs.Settling.{IsFinal, SettlingValue, settled_so_far}
+use Rattle.cu_edits.specs.Steps.Frames.{IsFramed, LeadsOver}
+
+-- for each list 0, or one more than where its function after the edit stands; and these functions
+pub record MovedValue : Type 0 where
+  pub places : List ℕ
+  pub functions : List (Option (List Run))
+
+-- the list of an edge in a direction wasn't moved
+abbrev pub IsUnmoved : MovedValue → ℕ → Dir → Type 0
+IsUnmoved moved edge dir = slice_get moved.places (list_number edge dir) ≡ Some 0
+
+-- it was, and has this function
+abbrev pub IsMovedTo : MovedValue → ℕ → Dir → Option (List Run) → Type 0
+IsMovedTo moved edge dir function =
+    (place : ℕ) × (slice_get moved.places (list_number edge dir) ≡ Some (suc place)) × (slice_get moved.functions place ≡ Some function)
+
+-- the edges that lead from the middle of a way to both ends of an edge: its first half is the one's list downwards, its second half the
+-- other's upwards
+pub record AreHalves (edges : List Ends) (ends : Ends) (dir : Dir) (middle first second : ℕ) : Type 0 where
+  pub to : slice_get edges first ≡ Some (record { low = middle; high = start_of ends dir })
+  pub on : slice_get edges second ≡ Some (record { low = middle; high = end_of ends dir })
+
+-- both halves of a way by this middle, if there are such, are like this
+abbrev pub HalvesAre : (ℕ → Dir → Type 0) → List Ends → Ends → Dir → ℕ → Type 0
+HalvesAre Good edges ends dir middle = (first second : ℕ) → AreHalves edges ends dir middle first second → Good first Down × Good second Up
+
+-- both edges, or none where one of them isn't there
+abbrev pub FindsHalves : List Ends → Ends → Dir → ℕ → Option (ℕ × ℕ) → Type 0
+FindsHalves edges ends dir middle None = (first second : ℕ) → AreHalves edges ends dir middle first second → ⊥
+FindsHalves edges ends dir middle (Some (first, second)) = AreHalves edges ends dir middle first second
+
+-- a way is as it was: its road isn't changed, or both its halves aren't moved
+abbrev pub IsUnmovedWay : NetworkValue → Edit → List Ends → MovedValue → Ends → Dir → Way → Type 0
+IsUnmovedWay g edit edges moved ends dir (Road a) = IsChanged g edit a → ⊥
+IsUnmovedWay g edit edges moved ends dir (Via m) = HalvesAre (IsUnmoved moved) edges ends dir m
+
+-- the lists that stand: of edges that won't change any more, and not moved
+abbrev pub StandingPair : SettlingValue → MovedValue → ℕ → ℕ → Type 0
+StandingPair s moved u v = (edge : ℕ) × (dir : Dir) × LeadsOver s.before.edges edge dir u v × IsFinal s edge × IsUnmoved moved edge dir
+
+-- words say when the ways of a list from u to v arrive; none where it is empty
+abbrev pub SayValue : HierarchyValue → ℕ → ℕ → List Entry → Option (List Run) → Type 0
+SayValue h u v entries None = entries ≡ []
+SayValue h u v entries (Some words) = (entries ≢ []) × IsFunctionWords words × IsOnward (arrival_value words)
+    × ((second : ℕ) → second < day → least_in (value_by h.network (rebuilt h) u v second) entries ≡ Some (arrival_value words second))
+
+-- what became of a list whose ways are these now
+abbrev pub IsFate : SettlingValue → MovedValue → ℕ → Dir → Ends → List Entry → Fate → Type 0
+IsFate s moved edge dir ends entries Stands = (entries ≡ list_of s.before edge dir)
+    × All (λ (entry : Entry). IsFramed s.before (settled_so_far s) (StandingPair s moved) (start_of ends dir) (end_of ends dir) entry.way) entries
+IsFate s moved edge dir ends entries (Moves function) = SayValue (settled_so_far s) (start_of ends dir) (end_of ends dir) entries function
+
+-- the list of an edge that is settled next
+pub record IsNewList (s : SettlingValue) (moved : MovedValue) (edge : ℕ) (dir : Dir) (list : NewList) : Type 0 where
+  pub resettled : (ends : Ends) → slice_get s.before.edges edge ≡ Some ends
+      → IsResettledList (settled_so_far s) (start_of ends dir) (end_of ends dir) list.ways
+  pub fate : (ends : Ends) → slice_get s.before.edges edge ≡ Some ends → IsFate s moved edge dir ends list.ways list.fate
+
+-- the list of an edge in a direction may stand: it is marked, no road of it is changed, and no half of a way by a middle was moved
+pub record MayStand (h : HierarchyValue) (edit : Edit) (arcs : List (List ℕ)) (marks : List Bool) (moved : MovedValue) (edge : ℕ) (dir : Dir) : Type 0 where
+  pub marked : slice_get marks edge ≡ Some true
+  pub roads : (list : List ℕ) → slice_get arcs (list_number edge dir) ≡ Some list → All (λ a. IsChanged h.network edit a → ⊥) list
+  pub halves : (ends : Ends) → slice_get h.edges edge ≡ Some ends → (middle : ℕ) → HalvesAre (IsUnmoved moved) h.edges ends dir middle
+
+-- the ways of the list of an edge in a direction before the edit are as they were
+abbrev pub AreWaysUnmoved : HierarchyValue → Edit → MovedValue → ℕ → Dir → Type 0
+AreWaysUnmoved h edit moved edge dir = (ends : Ends) → slice_get h.edges edge ≡ Some ends
+    → All (λ (entry : Entry). IsUnmovedWay h.network edit h.edges moved ends dir entry.way) (list_of h edge dir)
+
+-- the list of an edge in a direction is marked, and its ways are as they were
+pub record KeepsWays (h : HierarchyValue) (edit : Edit) (marks : List Bool) (moved : MovedValue) (edge : ℕ) (dir : Dir) : Type 0 where
+  pub marked : slice_get marks edge ≡ Some true
+  pub ways : AreWaysUnmoved h edit moved edge dir
+
+-- what became of a list that was settled: it stands where its ways are those of before and are as they were, else it has the function that
+-- settling gave
+abbrev pub IsFateOf : HierarchyValue → Edit → MovedValue → ℕ → Dir → SettledWords → Fate → Type 0
+IsFateOf h edit moved edge dir settled Stands = (settled.ways ≡ list_of h edge dir) × AreWaysUnmoved h edit moved edge dir
+IsFateOf h edit moved edge dir settled (Moves function) = function ≡ settled.function
+
+-- a fate is kept at a place: 0 where the list stands, else one more than where its function stands, behind all others
+abbrev pub KeepsFate : MovedValue → MovedValue → Fate → ℕ → Type 0
+KeepsFate old new Stands place = (place ≡ 0) × (new ≡ old)
+KeepsFate old new (Moves function) place = (place ≡ suc (length old.functions)) × (new ≡ record old { functions = old.functions ++ (function ∷ []) })

@@ -1,0 +1,121 @@
+//! The lists that an edit moved.
+
+ghost use Rattle.std.specs.Prelude.{◌≡◌, ◌≤◌, ◌<◌, ◌*◌, ◌↔◌, All, IfNone, IfOk, IfSome, IsTrue, OnErr, length, slice_set};
+ghost use Rattle.cu_chordal.specs.declared.graph.TheConstants.{MAX_EDGES};
+ghost use Rattle.cu_customize.specs.Layers.{layered};
+ghost use Rattle.cu_interval.specs.declared.ways.Dir.TheVariants.{Up, Down};
+ghost use Rattle.cu_interval.specs.Hierarchies.{list_number};
+ghost use Rattle.cu_edits.specs.Steps.Moving.{IsMovedTo, IsUnmoved, KeepsFate};
+
+use crate::new_list::Fate;
+use cu_chordal::MAX_EDGES;
+use cu_customize::{DayFunction, DayFunctions};
+use cu_interval::Dir;
+use cu_model::NoMemory;
+use std::alloc::Global;
+use std::marker::Model;
+
+/// Lists whose ways an edit changed, or when these arrive, with their functions after it. Contracts see where the function
+/// of each list stands, and the functions.
+#[derive(Debug, Drop)]
+pub struct MovedLists {
+    // By list number: 0, or one more than where the function stands.
+    places: Vec<u32>,
+    functions: Vec<Option<DayFunction>>,
+}
+
+impl Model for MovedLists {
+    ghost use Rattle.std.specs.Prelude.{◌≤◌, All, length};
+    ghost use Rattle.cu_edits.specs.Steps.Moving.{MovedValue};
+
+    ghost Value = { MovedValue };
+
+    ghost view = { λ moved. record {
+      places = moved.places.items;
+      functions = moved.functions.items;
+    } };
+
+    ghost invariant = { λ moved.
+        All (λ place. place ≤ length moved.functions.items) moved.places.items };
+}
+
+impl MovedLists {
+    /// Of the lists of so many edges none was moved.
+    pub fn new(alloc: Global, edges: u32) -> Result<MovedLists, NoMemory>
+        requires edges { edges ≤ MAX_EDGES }
+        ensures long { IfOk result (λ moved. length moved.places ≡ 2 * edges) }
+        ensures none { IfOk result (λ moved. All (λ place. place ≡ 0) moved.places) }
+    {
+        Ok(MovedLists {
+            places: vec![in alloc; 0; 2 * edges as usize]?,
+            functions: Vec::new(alloc),
+        })
+    }
+
+    /// Was the list of an edge in a direction not moved?
+    pub fn is_unmoved(&self, edge: u32, dir: Dir) -> bool
+        requires { list_number edge dir < length self.now.places }
+        ensures { IsTrue result ↔ IsUnmoved self.now edge dir }
+    {
+        self.places[list_index(edge, dir)] == 0
+    }
+
+    /// The function of the list of an edge in a direction, if it was moved.
+    pub fn function(&self, edge: u32, dir: Dir) -> Option<&Option<DayFunction>>
+        requires { list_number edge dir < length self.now.places }
+        ensures unmoved { IfNone result (IsUnmoved self.now edge dir) }
+        ensures moved { IfSome result (λ function. IsMovedTo self.now edge dir function.now) }
+    {
+        let place = self.places[list_index(edge, dir)];
+        if place == 0 {
+            return None;
+        }
+        Some(&self.functions[place as usize - 1])
+    }
+
+    /// These functions by list number, but those of moved lists in their place. Takes no memory.
+    pub fn over<'a>(&'a self, functions: &'a [Option<DayFunction>]) -> DayFunctions<'a>
+        ensures { result ≡ layered functions.now self.now.places self.now.functions }
+    {
+        DayFunctions::with_newer(functions, &self.places, &self.functions)
+    }
+
+    /// Keeps what became of a list, until [`place`] says which list it is. Answers where.
+    pub fn keep(&mut self, fate: Fate) -> Result<u32, NoMemory>
+        ensures kept { IfOk result (KeepsFate self.old self.new fate) }
+        ensures same { OnErr result (self.new ≡ self.old) }
+    {
+        let Fate::Moves(function) = fate else {
+            return Ok(0);
+        };
+        let place = self.functions.len();
+        if place >= u32::MAX as usize {
+            return Err(NoMemory);
+        }
+        self.functions.push(function)?;
+        Ok(place as u32 + 1)
+    }
+
+    /// Both lists of an edge have become what is kept at these places.
+    pub fn place(&mut self, edge: u32, up: u32, down: u32)
+        requires edge { list_number edge Down < length self.old.places }
+        requires up { up ≤ length self.old.functions }
+        requires down { down ≤ length self.old.functions }
+        ensures places { self.new.places ≡ slice_set (slice_set self.old.places
+            (list_number edge Up) up) (list_number edge Down) down }
+        ensures functions { self.new.functions ≡ self.old.functions }
+    {
+        self.places[list_index(edge, Dir::Up)] = up;
+        self.places[list_index(edge, Dir::Down)] = down;
+    }
+}
+
+// The number of the list of an edge in a direction.
+fn list_index(edge: u32, dir: Dir) -> usize
+    ensures { result ≡ list_number edge dir }
+{
+    match dir {
+        Dir::Up => 2 * edge as usize,
+        Dir::Down => 2 * edge as usize + 1,
+    }
+}
