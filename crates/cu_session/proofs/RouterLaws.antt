@@ -1,5 +1,6 @@
 -- What a router holds: its packed bytes spell one hierarchy, and its room stays fit for the hierarchy after an edit.
-use Rattle.std.proofs.Common.{◌≡◌, ◌<◌, ◌∙◌, ℕ, List, Option, Some, length, get_or, map, refl, sym, ap, subst, arith, All}
+use Rattle.std.proofs.Common.{◌≡◌, ◌<◌, ◌∙◌, ℕ, Bool, true, List, [], ◌∷◌, Option, Some, length, get_or, map, refl, sym, ap, subst, arith, All}
+use Rattle.std.specs.Prelude.{slice_set}
 use Rattle.std.proofs.lemmas.List.{get_or-map, length-map}
 use Rattle.std.proofs.lemmas.List.Elements.{Contains-get_or}
 use Rattle.std.proofs.lemmas.Option.{slice_get_within}
@@ -11,6 +12,9 @@ use Rattle.cu_chordal.specs.declared.graph.Ends.{Ends}
 use Rattle.cu_chordal.specs.Edges.{IsClosureOf}
 use Rattle.cu_chordal.specs.Graphs.{ChordalValue}
 use Rattle.cu_elimtree.specs.SweepArcs.{parents_in}
+use Rattle.cu_edits.specs.Customized.{AreCustomized, marked}
+use Rattle.cu_edits.specs.Settling.{numbers_of}
+use Rattle.cu_edits.proofs.EditCustomized.{edit_customized}
 use Rattle.cu_edits.proofs.Unmoved.{nodes_edited}
 use Rattle.cu_interval.specs.declared.ways.TouchedEdge.{TouchedEdge}
 use Rattle.cu_interval.specs.EdgeArcs.{AreArcsFrom, AreEdgeArcs}
@@ -19,14 +23,17 @@ use Rattle.cu_interval.specs.Replacing.{hierarchy_with}
 use Rattle.cu_interval.specs.Resettling.{IsResettled}
 use Rattle.cu_interval.specs.Touching.{NumbersTouched}
 use Rattle.cu_links.specs.Buckets.{BucketsValue}
-use Rattle.cu_pack.specs.Checks.{Spells}
+use Rattle.cu_links.proofs.Links.{set_long}
+use Rattle.cu_pack.specs.Checks.{Spells, sealed}
 use Rattle.cu_pack.specs.Reading.{decoded}
 use Rattle.cu_pack.specs.Spelling.{spelling}
 use Rattle.cu_pack.proofs.Again.{one_hierarchy, read_again}
+use Rattle.cu_pack.proofs.Bodies.{spelled_sealed}
 use Rattle.cu_pack.proofs.Views.{said_again}
 use Rattle.cu_recall.specs.Rooms.{RoomValue}
 use Rattle.cu_sweep.specs.Desks.{DeskValue}
-use Rattle.cu_session.specs.Steps.Routing.{FitsSome, HasRoom, IsEdited}
+use Rattle.cu_session.specs.declared.router.EditRoom.{EditRoom}
+use Rattle.cu_session.specs.Steps.Routing.{FitsSome, HasEditRoom, HasRoom, IsEdited, KnowsCustomized}
 use Rattle.cu_edits.proofs.ResettledBuilt.{resettled_built}
 use Rattle.cu_edits.proofs.Unchanged.{ranks_edited, ranks_kept}
 
@@ -38,14 +45,36 @@ same_hierarchy bytes h other one two = one_hierarchy h other one.sound two.sound
 pub decoded_is : (bytes : List ℕ) (h : HierarchyValue) → Spells bytes h → decoded bytes ≡ h
 decoded_is bytes h spells = ap decoded spells.spelled ∙ read_again h spells.sound
 
--- the room beside a hierarchy is beside the one that its packed bytes say
-pub held_new : (bytes : List ℕ) (h : HierarchyValue) → Spells bytes h
-    → (graph : ChordalValue) (parents : List (Option ℕ)) (arcs : List (List ℕ)) (queries : DeskValue) (known : Option RoomValue) (walks : Option ℕ) (buckets : BucketsValue)
-    → HasRoom h graph parents arcs queries known walks buckets → Spells bytes (decoded bytes) × HasRoom (decoded bytes) graph parents arcs queries known walks buckets
-held_new bytes h spells graph parents arcs queries known walks buckets room = (
-  said_again bytes h spells,
-  subst (λ (g : HierarchyValue). HasRoom g graph parents arcs queries known walks buckets) (sym (decoded_is bytes h spells)) room,
-)
+-- a packed file has its digest
+pub sealed_spells : (bytes : List ℕ) (h : HierarchyValue) → Spells bytes h → Spells (sealed bytes) h
+sealed_spells bytes h spells = subst (λ (bs : List ℕ). Spells bs h) (sym (spelled_sealed bytes h spells)) spells
+
+-- and says the hierarchy that it is the file of
+pub spells_sealed : (bytes : List ℕ) (h : HierarchyValue) → Spells bytes h → Spells bytes (decoded (sealed bytes))
+spells_sealed bytes h spells =
+    subst (λ (bs : List ℕ). Spells bs (decoded (sealed bytes))) (spelled_sealed bytes h spells) (said_again (sealed bytes) h (sealed_spells bytes h spells))
+
+-- marks for as many edges as a packed file has
+pub knows_of : (bytes : List ℕ) (view h : HierarchyValue) (marks : List Bool) → Spells bytes view → Spells bytes h → length marks ≡ length view.edges
+    → AreCustomized h marks → KnowsCustomized h marks
+knows_of bytes view h marks here spells long customized = record {
+  long = long ∙ ap (λ (g : HierarchyValue). length g.edges) (same_hierarchy bytes view h here spells);
+  customized = customized;
+}
+
+-- What stands beside a hierarchy stands beside the one that its packed bytes say, with its digest or without.
+module _ (bytes : List ℕ) (h : HierarchyValue) (spells : Spells (sealed bytes) h) where
+  pub held_new : (graph : ChordalValue) (parents : List (Option ℕ)) (queries : DeskValue) (known : Option RoomValue) (walks : Option ℕ) (editing : Option EditRoom)
+      (marks : List Bool) (has_digest : Bool) → HasRoom h graph parents queries known walks editing → KnowsCustomized h marks → (has_digest ≡ true → sealed bytes ≡ bytes)
+      → Spells (sealed bytes) (decoded (sealed bytes)) × HasRoom (decoded (sealed bytes)) graph parents queries known walks editing
+      × KnowsCustomized (decoded (sealed bytes)) marks × (has_digest ≡ true → sealed bytes ≡ bytes)
+  held_new graph parents queries known walks editing marks has_digest room knows digest =
+      let said = sym (decoded_is (sealed bytes) h spells) in (
+        said_again (sealed bytes) h spells,
+        subst (λ (g : HierarchyValue). HasRoom g graph parents queries known walks editing) said room,
+        subst (λ (g : HierarchyValue). KnowsCustomized g marks) said knows,
+        digest,
+      )
 
 -- a hierarchy's edges are the closure of its network
 pub closed_graph : (h : HierarchyValue) → IsHierarchy h → IsClosureOf h.network h.order (graph_of h)
@@ -84,19 +113,25 @@ module _ (old new : HierarchyValue) (edit : Edit) (resettled : IsResettled old e
       let order = subst (λ (o : OrderValue). AreEdgeArcs new.network o old.edges lists) (sym resettled.order) network in
       subst (λ (edges : List Ends). AreEdgeArcs new.network new.order edges lists) (sym resettled.edges) order
 
-  pub room_after : (graph : ChordalValue) (parents : List (Option ℕ)) (arcs : List (List ℕ)) (queries : DeskValue) (known later : Option RoomValue) (walks : Option ℕ) (buckets now : BucketsValue)
-      → HasRoom old graph parents arcs queries known walks buckets → (new.network.nodes ≡ old.network.nodes → length new.edges ≡ length old.edges → FitsSome new later)
-      → now.ranks ≡ buckets.ranks → length now.states ≡ length buckets.states
-      → HasRoom new graph parents arcs queries later walks now
-  room_after graph parents arcs queries known later walks buckets now room fits ranks edges = record {
-    chordal = room.chordal ∙ sym graph_same;
-    tree = subst (λ (g : ChordalValue). parents ≡ parents_in g) (sym graph_same) room.tree;
-    listed = arcs_same arcs room.listed;
-    desk = room.desk ∙ sym nodes_same;
+  edits_after : (room : EditRoom) (now : BucketsValue) → HasEditRoom old room → now.ranks ≡ room.buckets.ranks → length now.states ≡ length room.buckets.states
+      → HasEditRoom new (record { arcs = room.arcs; buckets = now })
+  edits_after room now fits ranks edges = record {
+    listed = arcs_same room.arcs fits.listed;
+    ranks = ranks ∙ fits.ranks ∙ sym nodes_same;
+    edges = edges ∙ fits.edges ∙ sym edges_same;
+  }
+
+  pub room_after : (graph : ChordalValue) (parents : List (Option ℕ)) (queries : DeskValue) (known later : Option RoomValue) (walks : Option ℕ) (editing : Option EditRoom) (room : EditRoom)
+      (now : BucketsValue) → HasRoom old graph parents queries known walks editing → (new.network.nodes ≡ old.network.nodes → length new.edges ≡ length old.edges → FitsSome new later)
+      → HasEditRoom old room → now.ranks ≡ room.buckets.ranks → length now.states ≡ length room.buckets.states
+      → HasRoom new graph parents queries later walks (Some (record { arcs = room.arcs; buckets = now }))
+  room_after graph parents queries known later walks editing room now beside fits edits ranks edges = record {
+    chordal = beside.chordal ∙ sym graph_same;
+    tree = subst (λ (g : ChordalValue). parents ≡ parents_in g) (sym graph_same) beside.tree;
+    desk = beside.desk ∙ sym nodes_same;
     room = fits nodes_same edges_same;
-    work = room.work ∙ ap (λ n. Some n) (sym nodes_same);
-    ranks = ranks ∙ room.ranks ∙ sym nodes_same;
-    edges = edges ∙ room.edges ∙ sym edges_same;
+    work = beside.work ∙ ap (λ n. Some n) (sym nodes_same);
+    edits = edits_after room now edits ranks edges;
   }
 
   -- the edit was made, and touches so many edges
@@ -111,24 +146,30 @@ module _ (old new : HierarchyValue) (edit : Edit) (resettled : IsResettled old e
     built = λ built. resettled_built old new edit built range after resettled;
   }
 
--- packed bytes of the hierarchy after an edit, with the room beside them
-module _ (old new : HierarchyValue) (edit : Edit) (resettled : IsResettled old edit new) (bytes : List ℕ) (spells : Spells bytes new) where
-  pub held_after : (graph : ChordalValue) (parents : List (Option ℕ)) (arcs : List (List ℕ)) (queries : DeskValue) (known later : Option RoomValue) (walks : Option ℕ) (buckets now : BucketsValue)
-      → HasRoom old graph parents arcs queries known walks buckets → (new.network.nodes ≡ old.network.nodes → length new.edges ≡ length old.edges → FitsSome new later)
-      → now.ranks ≡ buckets.ranks → length now.states ≡ length buckets.states
-      → Spells bytes (decoded bytes) × HasRoom (decoded bytes) graph parents arcs queries later walks now
-  held_after graph parents arcs queries known later walks buckets now room fits ranks edges =
-      held_new bytes new spells graph parents arcs queries later walks now (room_after old new edit resettled graph parents arcs queries known later walks buckets now room fits ranks edges)
+-- as many edges have a mark after an edit
+marked_long : (marks : List Bool) (lists : List TouchedEdge) → length (marked marks lists) ≡ length marks
+marked_long marks [] = refl
+marked_long marks (touched ∷ lists) = marked_long (slice_set marks touched.edge true) lists ∙ set_long marks touched.edge true
 
-  pub edited_after : (lists : List TouchedEdge) → IsHierarchy old → IsEditInRange old.network edit → NumbersTouched old edit (map (λ (touched : TouchedEdge). touched.edge) lists)
-      → IsEdited old edit (decoded bytes) (length lists)
-  edited_after lists sound range numbers =
-      let of : ℕ → HierarchyValue → Type 0 = λ count h. IsEdited old edit h count in
-      let counted = edit_counted old new edit resettled (map (λ (touched : TouchedEdge). touched.edge) lists) sound range numbers spells.sound in
-      subst (of (length lists)) (sym (decoded_is bytes new spells)) (subst (λ (count : ℕ). of count new) (length-map lists (λ (touched : TouchedEdge). touched.edge)) counted)
+-- an edge that is known to be customized is so after an edit, and so are those that the edit touched
+pub knows_after : (old : HierarchyValue) (edit : Edit) (lists : List TouchedEdge) (marks : List Bool) → IsHierarchy old → IsResettled old edit (hierarchy_with old edit lists)
+    → NumbersTouched old edit (numbers_of lists) → KnowsCustomized old marks → KnowsCustomized (hierarchy_with old edit lists) (marked marks lists)
+knows_after old edit lists marks sound resettled numbers knows = record {
+  long = marked_long marks lists ∙ knows.long ∙ sym (edges_same old (hierarchy_with old edit lists) edit resettled);
+  customized = edit_customized old edit lists marks sound resettled numbers knows.customized;
+}
+
+-- packed bytes of the hierarchy after an edit, without its digest, and the edit that was made
+pub edited_after : (old new : HierarchyValue) (edit : Edit) (bytes : List ℕ) → Spells bytes new → IsResettled old edit new
+    → (lists : List TouchedEdge) → IsHierarchy old → IsEditInRange old.network edit → NumbersTouched old edit (numbers_of lists)
+    → IsEdited old edit (decoded bytes) (length lists)
+edited_after old new edit bytes spells resettled lists sound range numbers =
+    let of : ℕ → HierarchyValue → Type 0 = λ count h. IsEdited old edit h count in
+    let counted = edit_counted old new edit resettled (numbers_of lists) sound range numbers spells.sound in
+    subst (of (length lists)) (sym (decoded_is bytes new spells)) (subst (λ (count : ℕ). of count new) (length-map lists (λ (touched : TouchedEdge). touched.edge)) counted)
 
 -- touched edges are below the number of edges
-pub touched_below : (h : HierarchyValue) (edit : Edit) (lists : List TouchedEdge) → NumbersTouched h edit (map (λ (touched : TouchedEdge). touched.edge) lists)
+pub touched_below : (h : HierarchyValue) (edit : Edit) (lists : List TouchedEdge) → NumbersTouched h edit (numbers_of lists)
     → All (λ (touched : TouchedEdge). touched.edge < length h.edges) lists
 touched_below h edit lists numbers k d lt =
     let number : TouchedEdge → ℕ = λ touched. touched.edge in

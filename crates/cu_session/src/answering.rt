@@ -1,7 +1,7 @@
 //! The lines of a source, each answered before the next is read.
 
 ghost use Rattle.std.specs.Prelude.{◌≡◌, ◌<◌, Ok, Option, true, false};
-ghost use Rattle.cu_interval.specs.Hierarchies.{HierarchyValue};
+ghost use Rattle.cu_interval.specs.Hierarchies.{HierarchyValue, IsBuilt};
 ghost use Rattle.cu_pack.specs.Checks.{Spells};
 ghost use Rattle.cu_session.specs.Replies.{line_limit};
 ghost use Rattle.cu_session.specs.declared.stops.SessionStop.{SessionStop};
@@ -38,7 +38,47 @@ pub fn answer_script<S: Source, K: Sink>(
         (K.state sink.old)
         (K.state sink.new) }
 {
-    let mut router = Router::new(alloc, bytes)?;
+    let router = Router::new(alloc, bytes)?;
+    answer_by(alloc, router, source, sink)
+}
+
+/// [`answer_script`], where the hierarchy is built.
+pub fn answer_built<S: Source, K: Sink>(
+    alloc: Global,
+    bytes: Vec<u8>,
+    source: &mut S,
+    sink: &mut K,
+) -> Result<(), SessionStop>
+    requires spelled { (h : HierarchyValue) × Spells bytes.items h }
+    requires built { (h : HierarchyValue) → Spells bytes.items h → IsBuilt h }
+    ensures ended { (h : HierarchyValue) → Spells bytes.items h → EndsSession
+        h
+        (stop_of result)
+        (S.state source.old)
+        (S.state source.new)
+        (K.state sink.old)
+        (K.state sink.new) }
+{
+    let router = Router::built(alloc, bytes)?;
+    answer_by(alloc, router, source, sink)
+}
+
+// Answers the lines of the source from a router.
+fn answer_by<S: Source, K: Sink>(
+    alloc: Global,
+    router: Router,
+    source: &mut S,
+    sink: &mut K,
+) -> Result<(), SessionStop>
+    ensures ended { EndsSession
+        router
+        (stop_of result)
+        (S.state source.old)
+        (S.state source.new)
+        (K.state sink.old)
+        (K.state sink.new) }
+{
+    let mut router = router;
     let mut reader = LineReader::open(alloc, LINE_LIMIT, TAKE_LIMIT)?;
     'lines: while answer_next(alloc, &mut router, &mut reader, source, sink)? {}
     Ok(())

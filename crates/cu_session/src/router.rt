@@ -6,25 +6,25 @@ ghost use Rattle.cu_model.specs.declared.limits.TheConstants.{DAY};
 ghost use Rattle.cu_model.specs.Answers.{arrive_text};
 ghost use Rattle.cu_model.specs.Edits.{IsEditInRange};
 ghost use Rattle.cu_elimtree.specs.SweepArcs.{parents_in};
-ghost use Rattle.cu_interval.specs.Hierarchies.{HierarchyValue, IsBuilt, IsHierarchy, IsHierarchyOf};
-ghost use Rattle.cu_pack.specs.Checks.{Spells};
+ghost use Rattle.cu_interval.specs.Hierarchies.{HierarchyValue, IsBuilt, IsHierarchy, IsHierarchyOf, graph_of};
+ghost use Rattle.cu_pack.specs.Checks.{Spells, sealed};
 ghost use Rattle.cu_pack.specs.Reading.{decoded};
 ghost use Rattle.cu_sweep.specs.Answers.{IsLeastWhereBuilt, IsReal};
 ghost use Rattle.cu_sweep.specs.Desks.{AreArriving, HoldsFound, roads_of};
 ghost use Rattle.cu_sweep.specs.Sweeps.{found};
 ghost use Rattle.cu_session.specs.Held.{IsHeldAnswer};
-ghost use Rattle.cu_session.specs.Steps.Routing.{FindsArrival, FitsSome, IsEdited};
+ghost use Rattle.cu_session.specs.Steps.Routing.{FindsArrival, FitsEdits, FitsSome, HasEditRoom, IsEdited, KnowsCustomized};
 ghost use Rattle.cu_session.specs.Swept.{swept_reply};
 
 use crate::writing::put_damage;
 use cu_chordal::Chordal;
-use cu_edits::touch;
+use cu_edits::{CustomizedEdges, touch_over};
 use cu_elimtree::Tree;
 use cu_interval::{EdgeArcs, Ways};
 use cu_io::{Sink, SinkFailed, put_all, put_number};
 use cu_links::RankBuckets;
 use cu_model::{Edit, NoMemory, Query, Roads};
-use cu_pack::{PackedView, chordal_of, order_of, repack};
+use cu_pack::{PackedView, chordal_of, order_of, repack_unsealed, seal};
 use cu_recall::{Recall, RecalledWays, Room};
 use cu_sweep::{Found, SweepDesk, route};
 use cu_unpack::{Unpacker, Work};
@@ -34,31 +34,45 @@ use std::marker::Model;
 /// The packed bytes of a hierarchy, built or not, and the room for its queries and edits. Contracts see the hierarchy.
 #[derive(Drop)]
 pub struct Router {
+    // The packed file, but that its last 32 bytes need not be its digest: an edit writes none.
     bytes: Vec<u8>,
+    has_digest: bool,
+    customized: CustomizedEdges,
     graph: Chordal,
     tree: Tree,
-    arcs: EdgeArcs,
     desk: SweepDesk,
     // Both are there but while a query is answered: what relaxes for it and what writes its walk own them. The room keeps
     // what queries learn of the hierarchy until the next edit.
     room: Option<Room>,
     work: Option<Work>,
+    // Made by the first edit, so that a session without edits pays nothing for it.
+    editing: Option<EditRoom>,
+}
+
+/// What an edit needs beside a hierarchy: the roads of each edge, and buckets for the edges that it touches.
+#[derive(Debug, Drop)]
+pub(crate) struct EditRoom {
+    arcs: EdgeArcs,
     buckets: RankBuckets,
 }
 
 impl Model for Router {
     ghost use Rattle.cu_interval.specs.Hierarchies.{HierarchyValue};
-    ghost use Rattle.cu_pack.specs.Checks.{Spells};
+    ghost use Rattle.std.specs.Prelude.{◌≡◌, true};
+    ghost use Rattle.cu_pack.specs.Checks.{Spells, sealed};
     ghost use Rattle.cu_pack.specs.Reading.{decoded};
-    ghost use Rattle.cu_session.specs.Steps.Routing.{HasRoom};
+    ghost use Rattle.cu_session.specs.Steps.Routing.{HasRoom, KnowsCustomized};
 
     ghost Value = { HierarchyValue };
 
-    ghost view = { λ router. decoded router.bytes.items };
+    ghost view = { λ router. decoded (sealed router.bytes.items) };
 
-    ghost invariant = { λ router. Spells router.bytes.items (decoded router.bytes.items)
-        × HasRoom (decoded router.bytes.items) router.graph router.tree router.arcs router.desk
-        router.room router.work router.buckets };
+    ghost invariant = { λ router.
+        Spells (sealed router.bytes.items) (decoded (sealed router.bytes.items))
+        × HasRoom (decoded (sealed router.bytes.items)) router.graph router.tree
+        router.desk router.room router.work router.editing
+        × KnowsCustomized (decoded (sealed router.bytes.items)) router.customized
+        × (router.has_digest ≡ true → sealed router.bytes.items ≡ router.bytes.items) };
 }
 
 impl Router {
@@ -67,38 +81,70 @@ impl Router {
         requires spelled { (h : HierarchyValue) × Spells bytes.items h }
         ensures held { IfOk result (λ router. Spells bytes.items router) }
     {
+        let edges = PackedView::adopt(&bytes).edges();
+        let customized = CustomizedEdges::none(alloc, edges)?;
+        Router::knowing(alloc, bytes, customized)
+    }
+
+    /// [`Router::new`], where the hierarchy is built: an edit settles the lists of an edge that it touches only where something
+    /// that they may be made of has changed.
+    pub fn built(alloc: Global, bytes: Vec<u8>) -> Result<Router, NoMemory>
+        requires spelled { (h : HierarchyValue) × Spells bytes.items h }
+        requires built { (h : HierarchyValue) → Spells bytes.items h → IsBuilt h }
+        ensures held { IfOk result (λ router. Spells bytes.items router) }
+    {
+        let edges = PackedView::adopt(&bytes).edges();
+        let customized = CustomizedEdges::all(alloc, edges)?;
+        Router::knowing(alloc, bytes, customized)
+    }
+
+    // Room for the hierarchy whose packed file these bytes are, where these of its edges are known to be customized.
+    fn knowing(
+        alloc: Global,
+        bytes: Vec<u8>,
+        customized: CustomizedEdges,
+    ) -> Result<Router, NoMemory>
+        requires spelled { (h : HierarchyValue) × Spells bytes.items h }
+        requires known { (h : HierarchyValue) → Spells bytes.items h
+            → KnowsCustomized h customized }
+        ensures held { IfOk result (λ router. Spells bytes.items router) }
+    {
         let view = PackedView::adopt(&bytes);
         let nodes = view.nodes();
         let edges = view.edges();
         let graph = chordal_of(alloc, &view)?;
-        let order = order_of(alloc, &view)?;
-        let arcs = EdgeArcs::of(alloc, &view, &order, &graph)?;
         let tree = Tree::of(alloc, &graph)?;
         Ok(Router {
             bytes,
+            has_digest: true,
+            customized,
             graph,
             tree,
-            arcs,
             desk: SweepDesk::new(alloc, nodes)?,
             room: Some(Room::new(alloc, nodes, edges)?),
             work: Some(Work::new(alloc, nodes)?),
-            buckets: RankBuckets::new(alloc, nodes, edges)?,
+            editing: None,
         })
     }
 
-    // The hierarchy over its bytes. Takes no memory.
-    pub(crate) fn view(&self) -> PackedView<'_>
+    /// The hierarchy over its bytes. Takes no memory.
+    pub fn view(&self) -> PackedView<'_>
         ensures same { result ≡ self.now }
         ensures sound { IsHierarchy self.now }
     {
         adopt(&self.bytes)
     }
 
-    /// The packed bytes of the hierarchy as it is now.
-    pub fn bytes(&self) -> &[u8]
-        ensures spelled { Spells result.now self.now }
+    /// The packed file of the hierarchy as it is now. Takes no memory.
+    pub fn into_file(self) -> Vec<u8>
+        ensures spelled { Spells result.items self }
     {
-        &self.bytes
+        if self.has_digest {
+            return self.bytes;
+        }
+        let mut bytes = self.bytes;
+        seal(bytes.as_mut_slice());
+        bytes
     }
 
     /// Writes the reply to a query between nodes below the number of nodes, leaving at a second of the day. Takes no memory.
@@ -168,27 +214,53 @@ impl Router {
         ensures kept { OnErr result (self.new ≡ self.old) }
     {
         let view = adopt(&self.bytes);
-        let touched = touch(
+        let mut room = edit_room(alloc, &view, &self.graph, self.editing.take())?;
+        let touched = touch_over(
             alloc,
             &view,
             edit,
             &self.graph,
-            &self.arcs,
-            &mut self.buckets,
+            &room.arcs,
+            &mut room.buckets,
+            &self.customized,
         )?;
-        let bytes = repack(alloc, &view, &touched.edit, &touched.lists)?;
+        let bytes = repack_unsealed(alloc, &view, &touched.edit, &touched.lists)?;
         self.bytes = bytes;
+        self.has_digest = false;
+        self.customized.mark(&touched.lists);
         forget(&mut self.room);
+        self.editing = Some(room);
         Ok(touched.lists.len())
     }
 }
 
-// The view of the packed bytes of a hierarchy: no two hierarchies have the same bytes.
+// The view of bytes that are a packed file but for its digest: no two hierarchies have the same.
 fn adopt(bytes: &[u8]) -> PackedView<'_>
-    requires spelled { Spells bytes.now (decoded bytes.now) }
-    ensures same { result ≡ decoded bytes.now }
+    requires spelled { Spells (sealed bytes.now) (decoded (sealed bytes.now)) }
+    ensures same { result ≡ decoded (sealed bytes.now) }
 {
-    PackedView::adopt(bytes)
+    PackedView::adopt_unsealed(bytes)
+}
+
+// Room for the edits of a hierarchy: what was kept, else made anew.
+fn edit_room(
+    alloc: Global,
+    view: &PackedView<'_>,
+    graph: &Chordal,
+    kept: Option<EditRoom>,
+) -> Result<EditRoom, NoMemory>
+    requires graph { graph.now ≡ graph_of view.now }
+    requires kept { FitsEdits view.now kept }
+    ensures room { IfOk result (HasEditRoom view.now) }
+{
+    if let Some(room) = kept {
+        return Ok(room);
+    }
+    let edges = view.edges();
+    let order = order_of(alloc, view)?;
+    let arcs = EdgeArcs::of(alloc, view, &order, graph)?;
+    let buckets = RankBuckets::new(alloc, view.nodes(), edges)?;
+    Ok(EditRoom { arcs, buckets })
 }
 
 // Forgets what was learnt of the hierarchy before an edit. Takes no memory.

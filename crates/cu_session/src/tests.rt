@@ -1,8 +1,15 @@
 //! Sessions and edits over a small packed file; replies worked out by hand.
 
+ghost use Rattle.std.specs.Prelude.{◌≡◌, IfOk};
+ghost use Rattle.cu_interval.specs.Hierarchies.{HierarchyValue, IsBuilt};
+ghost use Rattle.cu_pack.specs.Checks.{Spells};
+
 use crate::{Router, answer_edits, session};
+use cu_chordal::close;
+use cu_customize::customize;
 use cu_io::{MemorySink, MemorySource};
-use cu_pack::PackedView;
+use cu_model::{Network, Order, Piece, Profile, RoadArc, Rule};
+use cu_pack::{PackedView, pack};
 use std::alloc::Global;
 use std::test::Fail;
 
@@ -101,10 +108,59 @@ fn edit(alloc: Global, text: &str) -> Result<(Vec<u8>, Vec<u8>), Fail> {
     let mut router = Router::new(alloc, bytes)?;
     let mut sink = MemorySink::new(alloc, 4096, Vec::new(alloc))?;
     let _ended = answer_edits(alloc, &mut router, text.as_bytes(), &mut sink);
-    Ok((
-        Vec::from_slice(alloc, sink.bytes())?,
-        Vec::from_slice(alloc, router.bytes())?,
-    ))
+    Ok((Vec::from_slice(alloc, sink.bytes())?, router.into_file()))
+}
+
+fn road(tail: u32, head: u32, profile: u32) -> RoadArc
+    ensures { result ≡ record { tail = tail; head = head; profile = profile } }
+{
+    RoadArc {
+        tail,
+        head,
+        profile,
+    }
+}
+
+fn piece(from: u32, rule: Rule) -> Piece {
+    Piece { from, rule }
+}
+
+// The three nodes of the built file, and their roads.
+fn network(alloc: Global) -> Result<Network, Fail>
+    ensures { IfOk result (λ network. network.nodes ≡ 3) }
+{
+    let minute = Profile::of(vec![in alloc; piece(0, Rule::Travel(60))]?)?;
+    let slow = Profile::of(vec![in alloc;
+        piece(0, Rule::Travel(100)),
+        piece(28_800, Rule::Travel(300)),
+        piece(35_800, Rule::Until(36_100)),
+        piece(36_000, Rule::Travel(100)),
+    ]?)?;
+    let straight = Profile::of(vec![in alloc; piece(0, Rule::Travel(250))]?)?;
+    let arcs = vec![in alloc; road(0, 1, 0), road(1, 2, 1), road(0, 2, 2)]?;
+    Ok(Network::of(3, arcs, vec![in alloc; minute, slow, straight]?))
+}
+
+// The built file, where it is known to be that of a built hierarchy.
+fn build(alloc: Global) -> Result<Vec<u8>, Fail>
+    ensures spelled { IfOk result (λ bytes. (h : HierarchyValue) × Spells bytes.items h) }
+    ensures built { IfOk result
+        (λ bytes. (h : HierarchyValue) → Spells bytes.items h → IsBuilt h) }
+{
+    let network = network(alloc)?;
+    let order = Order::of(alloc, vec![in alloc; 1, 0, 2]?)?;
+    let graph = close(alloc, &network, &order)?;
+    let hierarchy = customize(alloc, network, order, graph)?;
+    Ok(pack(alloc, &hierarchy)?)
+}
+
+// The replies to two edits from a router, and its file after them.
+fn edit_twice(alloc: Global, router: Router) -> Result<(Vec<u8>, Vec<u8>), Fail> {
+    let mut router = router;
+    let mut sink = MemorySink::new(alloc, 4096, Vec::new(alloc))?;
+    let text = b"s,0,0,travel,200\na,2,0\n".as_slice();
+    let _ended = answer_edits(alloc, &mut router, text, &mut sink);
+    Ok((Vec::from_slice(alloc, sink.bytes())?, router.into_file()))
 }
 
 #[test]
@@ -154,5 +210,16 @@ fn edits_are_made(rt: HostRuntime) -> Result<(), Fail> {
         b"done 2\nrefused: line\ndone 2\n".as_slice()
     );
     assert_eq!(rt; bytes.as_slice(), BUILT.as_slice());
+    Ok(())
+}
+
+#[test]
+fn edits_are_the_same_where_edges_are_known(rt: HostRuntime) -> Result<(), Fail> {
+    let alloc = rt.alloc();
+    let (said, known) = edit_twice(alloc, Router::built(alloc, build(alloc)?)?)?;
+    assert_eq!(rt; said.as_slice(), b"done 2\ndone 1\n".as_slice());
+    let (said, unknown) = edit_twice(alloc, Router::new(alloc, build(alloc)?)?)?;
+    assert_eq!(rt; said.as_slice(), b"done 2\ndone 1\n".as_slice());
+    assert_eq!(rt; known.as_slice(), unknown.as_slice());
     Ok(())
 }

@@ -39,7 +39,8 @@ pub fn edit<H: Shelf, K: Sink>(
     let file = open_edited(alloc, asked, shelf)?;
     let mut router = Router::new(alloc, file.hierarchy)?;
     answer_edits(alloc, &mut router, &file.edits, sink)?;
-    let bytes = router.bytes();
+    let packed = router.into_file();
+    let bytes = packed.as_slice();
     let length = bytes.len() as u64;
     if length > shelf.limit() {
         return Err(Stop::TooLarge(length));

@@ -15,7 +15,7 @@ use crate::words::TableWords;
 use cu_customize::customize;
 use cu_io::{Shelf, Sink, Source};
 use cu_pack::pack;
-use cu_session::answer_script;
+use cu_session::answer_built;
 use std::alloc::Global;
 
 /// Packs the built hierarchy of the tables, and answers the script of the source over its bytes. All that a query needs
@@ -39,7 +39,7 @@ pub fn serve<H: Shelf, S: Source, K: Sink>(
         (K.state sink.new) }
 {
     let bytes = pack_tables(alloc, tables, shelf)?;
-    answer_script(alloc, bytes, source, sink)?;
+    answer_built(alloc, bytes, source, sink)?;
     Ok(())
 }
 

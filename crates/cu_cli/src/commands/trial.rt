@@ -71,7 +71,7 @@ pub fn trial<K: Sink>(alloc: Global, asked: TrialWords, sink: &mut K) -> Result<
         touched: 0,
     };
     take_turns(alloc, &mut router, &mut tally, asked.turns)?;
-    let view = PackedView::adopt(router.bytes());
+    let view = router.view();
     say_tried(sink, &view, asked.turns, &tally)?;
     Ok(())
 }
@@ -100,7 +100,7 @@ fn packed_router(alloc: Global, hierarchy: &Hierarchy) -> Result<Router, NoMemor
     ensures same { IfOk result (λ router. router ≡ hierarchy.now) }
 {
     let bytes = pack(alloc, hierarchy)?;
-    Router::new(alloc, bytes)
+    Router::built(alloc, bytes)
 }
 
 // Takes so many turns.
@@ -178,7 +178,7 @@ fn count_query(router: &mut Router, tally: &mut Tally)
 fn count_nodes(router: &Router) -> u32
     ensures { result ≡ router.now.network.nodes }
 {
-    PackedView::adopt(router.bytes()).nodes()
+    router.view().nodes()
 }
 
 // Draws a query between nodes below so many.

@@ -1,4 +1,4 @@
-use Rattle.std.proofs.Common.{◌≡◌, ◌<◌, ◌≤◌, ℕ, List, length, ap, arith, inl}
+use Rattle.std.proofs.Common.{◌≡◌, ◌∙◌, ◌<◌, ◌≤◌, ℕ, List, length, ap, arith, inl}
 use Rattle.cu_pack.specs.Spelling.{spelling}
 use Rattle.cu_cli.specs.declared.stops.Stop.TheVariants as stop
 use Rattle.cu_cli.specs.Opening.{OpensEdits}
@@ -40,7 +40,8 @@ returns-then-length-limit g c =
     let opens : OpensEdits (g.H.Shelf.state c.args.shelf.now) (editing_asked c.args.asked) h text =
     (c.in_ok-file.file.hierarchy.items, loaded, c.in_ok-router.ensures.held) in
     let done = rw c.deref.ensures.value at c.in_ok-answer_edits.ensures.ended in
-    let same : length c.bytes-bytes.result.now ≡ length (spelling after) = ap (λ (bytes : List ℕ). length bytes) c.bytes-bytes.ensures.spelled.spelled in
+    let file : c.as_slice-bytes.result.now ≡ spelling after = c.as_slice-bytes.ensures.value ∙ c.into_file-packed.ensures.spelled.spelled in
+    let same : length c.as_slice-bytes.result.now ≡ length (spelling after) = ap (λ (bytes : List ℕ). length bytes) file in
     let large : (g.H.Shelf.state c.args.shelf.now).most < length (spelling after) = omega (arith, same, c.limit.ensures, c.in_ok-file.ensures.loads.most, c.if-length-limit.true) in
     rw same (record { works = λ source. edits_large _ _ source _ _ (editing_asked c.args.asked) h after text c.in_ok-file.ensures.loads opens done large })
 
@@ -53,9 +54,10 @@ returns-in_err-store_file g c =
     let opens : OpensEdits (g.H.Shelf.state c.args.shelf.now) (editing_asked c.args.asked) h text =
     (c.in_ok-file.file.hierarchy.items, loaded, c.in_ok-router.ensures.held) in
     let done = rw c.deref.ensures.value at c.in_ok-answer_edits.ensures.ended in
-    let same : length c.bytes-bytes.result.now ≡ length (spelling after) = ap (λ (bytes : List ℕ). length bytes) c.bytes-bytes.ensures.spelled.spelled in
+    let file : c.as_slice-bytes.result.now ≡ spelling after = c.as_slice-bytes.ensures.value ∙ c.into_file-packed.ensures.spelled.spelled in
+    let same : length c.as_slice-bytes.result.now ≡ length (spelling after) = ap (λ (bytes : List ℕ). length bytes) file in
     let few : length (spelling after) ≤ (g.H.Shelf.state c.args.shelf.now).most = omega (arith, same, c.limit.ensures, c.in_ok-file.ensures.loads.most, c.if-length-limit.false) in
-    let stores = rw c.bytes-bytes.ensures.spelled.spelled at c.in_err-store_file.ensures.stores in
+    let stores = rw file at c.in_err-store_file.ensures.stores in
     rw (err_is c.from_residual-in_err-store_file.result c.in_err-store_file.field-0.0 c.from_residual-in_err-store_file.ensures.1)
     (record {
       works = λ source.
@@ -72,9 +74,10 @@ returns-in_err-say_stored g c =
     let opens : OpensEdits (g.H.Shelf.state c.args.shelf.now) (editing_asked c.args.asked) h text =
     (c.in_ok-file.file.hierarchy.items, loaded, c.in_ok-router.ensures.held) in
     let done = rw c.deref.ensures.value at c.in_ok-answer_edits.ensures.ended in
-    let same : length c.bytes-bytes.result.now ≡ length (spelling after) = ap (λ (bytes : List ℕ). length bytes) c.bytes-bytes.ensures.spelled.spelled in
+    let file : c.as_slice-bytes.result.now ≡ spelling after = c.as_slice-bytes.ensures.value ∙ c.into_file-packed.ensures.spelled.spelled in
+    let same : length c.as_slice-bytes.result.now ≡ length (spelling after) = ap (λ (bytes : List ℕ). length bytes) file in
     let few : length (spelling after) ≤ (g.H.Shelf.state c.args.shelf.now).most = omega (arith, same, c.limit.ensures, c.in_ok-file.ensures.loads.most, c.if-length-limit.false) in
-    let stores = rw c.bytes-bytes.ensures.spelled.spelled at c.in_ok-store_file.ensures.stores in
+    let stores = rw file at c.in_ok-store_file.ensures.stores in
     let said = rw same at c.in_err-say_stored.ensures.wrote in
     rw (err_is c.from_residual-in_err-say_stored.result stop.Sink c.from_residual-in_err-say_stored.ensures.1)
     (record {
@@ -92,9 +95,10 @@ returns g c =
     let opens : OpensEdits (g.H.Shelf.state c.args.shelf.now) (editing_asked c.args.asked) h text =
     (c.in_ok-file.file.hierarchy.items, loaded, c.in_ok-router.ensures.held) in
     let done = rw c.deref.ensures.value at c.in_ok-answer_edits.ensures.ended in
-    let same : length c.bytes-bytes.result.now ≡ length (spelling after) = ap (λ (bytes : List ℕ). length bytes) c.bytes-bytes.ensures.spelled.spelled in
+    let file : c.as_slice-bytes.result.now ≡ spelling after = c.as_slice-bytes.ensures.value ∙ c.into_file-packed.ensures.spelled.spelled in
+    let same : length c.as_slice-bytes.result.now ≡ length (spelling after) = ap (λ (bytes : List ℕ). length bytes) file in
     let few : length (spelling after) ≤ (g.H.Shelf.state c.args.shelf.now).most = omega (arith, same, c.limit.ensures, c.in_ok-file.ensures.loads.most, c.if-length-limit.false) in
-    let stores = rw c.bytes-bytes.ensures.spelled.spelled at c.in_ok-store_file.ensures.stores in
+    let stores = rw file at c.in_ok-store_file.ensures.stores in
     let said = rw same at c.in_ok-say_stored.ensures.wrote in
     record {
       works = λ source.

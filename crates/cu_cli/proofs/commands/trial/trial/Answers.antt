@@ -4,7 +4,7 @@ use Rattle.cu_cli.specs.Steps.Asks.{grid_asked, trial_asked}
 use Rattle.cu_session.proofs.SessionLaws.{err_is}
 use Rattle.cu_cli.proofs.LoadLaws.{only_nothing}
 use Rattle.cu_cli.proofs.StoreLaws.{said_alone, unsaid_alone}
-use Rattle.cu_cli.proofs.TrialLaws.{grid_drawable, grid_stopped, spelled_once, tried_all}
+use Rattle.cu_cli.proofs.TrialLaws.{grid_drawable, grid_stopped, tried_all}
 use Rattle.cu_cli.proofs.commands.trial.trial.Goals as goal
 
 pub take_turns-requires-clause-drawable : goal.take_turns-requires-clause-drawable
@@ -28,7 +28,7 @@ returns-in_err-say_tried g c =
     let last = c.take_turns.new.router in
     let turns = c.in_ok-take_turns.ensures in
     let is = tried_all (trial_asked c.args.asked) first last c.build_grid.new.draws c.take_turns.new.tally c.in_ok-router.ensures.order c.in_ok-router.ensures.network c.in_ok-router.ensures.behind turns.tried turns.order turns.built in
-    let same = spelled_once _ _ _ c.adopt-view.ensures.spells c.bytes.ensures.spelled in
+    let same = c.view-view.ensures.same in
     let line = rw same at c.in_err-say_tried.ensures.wrote in
     rw (err_is c.from_residual-in_err-say_tried.result stop.Sink c.from_residual-in_err-say_tried.ensures.1)
     (record { works = λ shelf source. unsaid_alone source (only_nothing shelf) line (λ work done. inl (_, is, done.0, done.1, done.2)) })
@@ -39,6 +39,6 @@ returns g c =
     let last = c.take_turns.new.router in
     let turns = c.in_ok-take_turns.ensures in
     let is = tried_all (trial_asked c.args.asked) first last c.build_grid.new.draws c.take_turns.new.tally c.in_ok-router.ensures.order c.in_ok-router.ensures.network c.in_ok-router.ensures.behind turns.tried turns.order turns.built in
-    let same = spelled_once _ _ _ c.adopt-view.ensures.spells c.bytes.ensures.spelled in
+    let same = c.view-view.ensures.same in
     let line = rw same at c.in_ok-say_tried.ensures.wrote in
     record { works = λ shelf source. said_alone source (only_nothing shelf) line (λ work done. inl (_, is, done.0, done.1, done.2)) }

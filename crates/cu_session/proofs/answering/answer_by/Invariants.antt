@@ -1,13 +1,11 @@
 use Rattle.std.proofs.Common.{◌≡◌, false}
-use Rattle.cu_interval.specs.Hierarchies.{HierarchyValue}
-use Rattle.cu_pack.specs.Checks.{Spells}
 use Rattle.cu_session.specs.Replies.{line_limit}
 use Rattle.cu_session.specs.Steps.Turns.{Session, left_to_read}
-use Rattle.cu_session.proofs.answering.answer_script.Given as goal
+use Rattle.cu_session.proofs.answering.answer_by.Given as goal
 
 abbrev pub invariant-lines : goal.invariant-lines
 invariant-lines g l = record {
-  session : (h : HierarchyValue) → Spells l.fn.bytes.items h → Session h l.router (g.S.Source.state l.fn.source) (g.K.Sink.state l.fn.sink) l.reader (g.S.Source.state l.source) (g.K.Sink.state l.sink);
+  session : Session l.fn.router l.router (g.S.Source.state l.fn.source) (g.K.Sink.state l.fn.sink) l.reader (g.S.Source.state l.source) (g.K.Sink.state l.sink);
   more : l.reader.over ≡ false;
   limit : l.reader.line_limit ≡ line_limit;
 }

@@ -1,0 +1,10 @@
+use Rattle.std.proofs.Common.{ℕ, List, arith, ap, length}
+use Rattle.cu_pack.proofs.Bodies.{unsealed_long}
+use Rattle.cu_session.proofs.router.Router.into_file.Goals as goal
+
+pub seal-requires : goal.seal-requires
+seal-requires c =
+    let (spelled, room, knows, digest) = c.self.invariant in
+    let long = unsealed_long c.self.inside.bytes.items _ spelled in
+    let same = ap (λ (bytes : List ℕ). length bytes) c.as_mut_slice.ensures.value in
+    record { long = omega (arith, long, same) }

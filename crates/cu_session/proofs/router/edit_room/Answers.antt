@@ -1,0 +1,31 @@
+use Rattle.std.proofs.Common.{◌∙◌, List, ap, length, subst, sym}
+use Rattle.std.proofs.lemmas.List.{length-replicate}
+use Rattle.cu_chordal.specs.declared.graph.Ends.{Ends}
+use Rattle.cu_chordal.specs.Edges.{IsClosureOf}
+use Rattle.cu_chordal.specs.Graphs.{ChordalValue}
+use Rattle.cu_interval.specs.EdgeArcs.{AreEdgeArcs}
+use Rattle.cu_links.specs.Buckets.{BucketsValue}
+use Rattle.cu_model.specs.Orders.{OrderValue}
+use Rattle.cu_session.proofs.RouterLaws.{closed_graph}
+use Rattle.cu_session.proofs.router.edit_room.Goals as goal
+
+pub of-requires-clause-same : goal.of-requires-clause-same
+of-requires-clause-same c = ap (λ (o : OrderValue). length o.node_at) c.in_ok-order.ensures.same ∙ c.edges-edges.ensures.sound.same
+
+pub of-requires-clause-graph : goal.of-requires-clause-graph
+of-requires-clause-graph c =
+    let h = c.args.view.now in
+    subst (λ (o : OrderValue). IsClosureOf h.network o c.args.graph.now) (sym c.in_ok-order.ensures.same)
+    (subst (IsClosureOf h.network h.order) (sym c.requires.graph) (closed_graph h c.edges-edges.ensures.sound))
+
+pub returns : goal.returns
+returns c =
+    let h = c.args.view.now in
+    let ordered = subst (λ (o : OrderValue). AreEdgeArcs h.network o c.args.graph.now.edges c.in_ok-arcs.arcs) c.in_ok-order.ensures.same c.in_ok-arcs.ensures in
+    record {
+      room = record {
+        listed = subst (λ (es : List Ends). AreEdgeArcs h.network h.order es c.in_ok-arcs.arcs) (ap (λ (g : ChordalValue). g.edges) c.requires.graph) ordered;
+        ranks = ap (λ (b : BucketsValue). b.ranks) c.in_ok-buckets.ensures ∙ c.nodes.ensures.count;
+        edges = ap (λ (b : BucketsValue). length b.states) c.in_ok-buckets.ensures ∙ length-replicate _ _ ∙ c.edges-edges.ensures.count;
+      };
+    }
