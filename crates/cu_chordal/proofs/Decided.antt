@@ -1,5 +1,5 @@
 -- Which ranks are joined is decided by search: what is not refuted holds.
-use Rattle.std.proofs.Common.{◌≡◌, ◌<◌, ◌+◌, ℕ, zero, suc, List, [], ◌∷◌, ◌++◌, Option, Some, None, length, get_or, min, refl, sym, ◌∙◌, ap, subst, arith, inl, inr, ◌⊎◌}
+use Rattle.std.proofs.Common.{◌≡◌, ◌<◌, ◌+◌, ℕ, zero, suc, List, [], ◌∷◌, ◌++◌, Option, Some, length, get_or, min, refl, sym, ◌∙◌, ap, subst, arith, inl, inr, ◌⊎◌}
 use Rattle.std.specs.Prelude.{slice_get}
 use Rattle.std.specs.List.{Contains}
 use Rattle.std.proofs.lemmas.Bool.{cases_eq, cases_lt}
@@ -7,6 +7,7 @@ use Rattle.std.proofs.lemmas.Option.{same_Some}
 use Rattle.cu_model.specs.declared.roads.RoadArc.{RoadArc}
 use Rattle.cu_model.specs.Networks.{NetworkValue}
 use Rattle.cu_model.specs.Orders.{OrderValue}
+use Rattle.cu_model.proofs.OptionLaws.{none_is_some, some_cases}
 use Rattle.cu_chordal.specs.Edges.{Adjacent, IsEdge, JoinedBelow, LinksRanks, PathBelow}
 use Rattle.cu_chordal.specs.WrongParts.{AreHigherNeighbours}
 use Rattle.cu_chordal.proofs.Joined.{cut_path, path_append, path_more}
@@ -30,13 +31,6 @@ member_decided (x ∷ xs) y =
         ])
       ]
     ]
-
-some_cases : {X : Type 0} (o : Option X) → (o ≡ None) ⊎ ((x : X) × (o ≡ Some x))
-some_cases None = inl refl
-some_cases (Some x) = inr (x, refl)
-
-none_is_some : {X : Type 0} (o : Option X) (x : X) → o ≡ None → o ≡ Some x → ⊥
-none_is_some o x e f = cc
 
 pub some_decided : (o : Option ℕ) (x : ℕ) → Decided (o ≡ Some x)
 some_decided o x =

@@ -1,5 +1,5 @@
 -- Which ranks the roads link.
-use Rattle.std.proofs.Common.{◌≡◌, ◌≤◌, ◌<◌, ◌+◌, ℕ, zero, suc, List, [], ◌∷◌, ◌++◌, Option, Some, length, get_or, min, max, refl, sym, ◌∙◌, ap, subst, arith, inl, inr}
+use Rattle.std.proofs.Common.{◌≡◌, ◌≤◌, ◌<◌, ◌+◌, ℕ, zero, suc, List, [], ◌∷◌, ◌++◌, Some, length, get_or, min, max, refl, sym, ◌∙◌, ap, subst, arith, inl, inr}
 use Rattle.std.specs.Prelude.{All, slice_get, cond}
 use Rattle.std.specs.List.{Contains}
 use Rattle.std.proofs.lemmas.Bool.{cases_eq, cases_lt, eq-eqb}
@@ -9,6 +9,7 @@ use Rattle.std.proofs.lemmas.Option.{slice_get_within, same_Some}
 use Rattle.cu_model.specs.declared.roads.RoadArc.{RoadArc}
 use Rattle.cu_model.specs.Networks.{NetworkValue}
 use Rattle.cu_model.specs.Orders.{OrderValue, IsOrder}
+use Rattle.cu_model.proofs.OptionLaws.{same_value}
 use Rattle.cu_chordal.specs.Edges.{LinksRanks, Adjacent}
 use Rattle.cu_chordal.specs.Groups.{AreGroups, group_of}
 use Rattle.cu_chordal.specs.Steps.Links.{AreLinks, AreRankEnds, HoldsLinks}
@@ -44,20 +45,17 @@ in_group (k ∷ keys) (v ∷ values) key y (suc i) h w e f =
     ]
 
 -- the ends of a road are what they are
-some_same : {X : Type 0} (o : Option X) (x y : X) → o ≡ Some x → o ≡ Some y → x ≡ y
-some_same o x y e f = same_Some x y (sym e ∙ f)
-
 one_low : (g : NetworkValue) (o : OrderValue) (a x y v w : ℕ) → LinksRanks g o a x y → LinksRanks g o a v w → x ≡ v
 one_low g o a x y v w p q =
-    let arc : p.2.0 ≡ q.2.0 = some_same (slice_get g.arcs a) p.2.0 q.2.0 p.2.1 q.2.1 in
+    let arc : p.2.0 ≡ q.2.0 = same_value (slice_get g.arcs a) p.2.0 q.2.0 p.2.1 q.2.1 in
     let tail : p.0 ≡ q.0 = sym p.2.2 ∙ ap (λ (r : RoadArc). r.tail) arc ∙ q.2.2 in
-    some_same (slice_get o.rank_of p.0) x v p.3 (ap (slice_get o.rank_of) tail ∙ q.3)
+    same_value (slice_get o.rank_of p.0) x v p.3 (ap (slice_get o.rank_of) tail ∙ q.3)
 
 one_high : (g : NetworkValue) (o : OrderValue) (a x y v w : ℕ) → LinksRanks g o a x y → LinksRanks g o a v w → y ≡ w
 one_high g o a x y v w p q =
-    let arc : p.2.0 ≡ q.2.0 = some_same (slice_get g.arcs a) p.2.0 q.2.0 p.2.1 q.2.1 in
+    let arc : p.2.0 ≡ q.2.0 = same_value (slice_get g.arcs a) p.2.0 q.2.0 p.2.1 q.2.1 in
     let head : p.1 ≡ q.1 = sym p.2.3 ∙ ap (λ (r : RoadArc). r.head) arc ∙ q.2.3 in
-    some_same (slice_get o.rank_of p.1) y w p.4 (ap (slice_get o.rank_of) head ∙ q.4)
+    same_value (slice_get o.rank_of p.1) y w p.4 (ap (slice_get o.rank_of) head ∙ q.4)
 
 pub road_within : (g : NetworkValue) (o : OrderValue) (a x y : ℕ) → LinksRanks g o a x y → a < length g.arcs
 road_within g o a x y p = slice_get_within g.arcs a p.2.0 p.2.1

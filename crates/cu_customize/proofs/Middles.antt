@@ -1,12 +1,13 @@
 -- A middle among the candidates of a list: both halves by the functions before the list.
 use Rattle.std.proofs.Common.{◌≡◌, ◌≤◌, ◌<◌, ◌+◌, ◌-◌, ◌^◌, ◌∙◌, ℕ, List, Option, Some, None, refl, ap, subst, arith, inl, inr, length, get_or, map, max, min}
-use Rattle.std.specs.Prelude.{IsSome, slice_get}
+use Rattle.std.specs.Prelude.{slice_get}
 use Rattle.std.specs.List.{Contains}
 use Rattle.std.specs.Option.{option_map}
 use Rattle.std.proofs.lemmas.Bool.{ltb-true}
 use Rattle.std.proofs.lemmas.List.Elements.{All-contains, Contains-append_right}
 use Rattle.cu_model.specs.Days.{day, IsOnward}
 use Rattle.cu_model.specs.Networks.{NetworkValue}
+use Rattle.cu_model.proofs.OptionLaws.{none_some}
 use Rattle.cu_arrival.specs.declared.runs.Run.{Run}
 use Rattle.cu_arrival.specs.Runs.{arrival_value}
 use Rattle.cu_chordal.specs.declared.graph.Ends.{Ends}
@@ -40,10 +41,6 @@ use Rattle.cu_customize.proofs.Halves.{both_some, first_is, knows_first, knows_s
 -- what may be settled has triangles
 pub task_triangles : (g : NetworkValue) (task : Task) → IsTask g task → HasTriangles g task
 task_triangles g task is = record { chordal = is.chordal; triangles = is.triangles; below = is.below; halves = is.halves }
-
-none_some : (f : Option (ℕ → ℕ)) → f ≡ None → IsSome f → ⊥
-none_some None e some = absurd (cc some)
-none_some (Some g) e some = absurd (cc e)
 
 module _ (g : NetworkValue) (task : Task) (is : HasTriangles g task) (m : ℕ) (below : (m < task.leg.from) × (m < task.leg.to)) where
   module _ (e d : ℕ) (one : FindsEdge task.graph.now.edges m task.leg.from (Some e)) (two : FindsEdge task.graph.now.edges m task.leg.to (Some d)) where

@@ -11,6 +11,7 @@ use Rattle.cu_model.specs.declared.profiles.PieceRefusal.TheVariants.{Kind, Faul
 use Rattle.cu_model.specs.declared.roads.Edit.TheVariants.{Set}
 use Rattle.cu_model.specs.Faults.{piece_fault}
 use Rattle.cu_model.specs.Numbers.{is_number_word}
+use Rattle.cu_model.proofs.OptionLaws.{map-none}
 use Rattle.cu_tables.specs.Tables.{kept_number}
 use Rattle.cu_profile.specs.ProfileTexts.{piece_of_fields}
 use Rattle.cu_edits.specs.declared.lines.EditRefusal.TheVariants.{Piece as BadPiece}
@@ -76,10 +77,6 @@ few_named [] = omega arith
 few_named (None ∷ named) = omega (arith, few_named named)
 few_named (Some piece ∷ named) = omega (arith, few_named named)
 
-unmapped : {X Y : Type 0} (f : X → Y) (o : Option X) → option_map f o ≡ None → o ≡ None
-unmapped f None e = refl
-unmapped f (Some x) e = absurd (cc e)
-
 -- pieces without a refusal are all named, and have no fault
 pub sound_named : (named : List (Option Piece)) → pieces_refusal (all_named named) ≡ None
     → (all_named named ≡ Some (those_named named)) × (piece_fault (those_named named) ≡ None)
@@ -87,7 +84,7 @@ sound_named named e = elim (all_named named) as (λ o. all_named named ≡ o →
     → (all_named named ≡ Some (those_named named)) × (piece_fault (those_named named) ≡ None)) [
       | None ↦ λ _ refused. absurd (cc refused)
       | Some pieces ↦ λ same sound. subst (λ ps. (all_named named ≡ Some ps) × (piece_fault ps ≡ None)) (sym (named_those named pieces same))
-          (same, unmapped Fault (piece_fault pieces) sound)
+          (same, map-none Fault (piece_fault pieces) sound)
     ] refl e
 
 three_more : (from kind value : List ℕ) (fields : List (List ℕ)) (words : List PieceWords) → (is_number_word from && is_number_word value) ≡ true

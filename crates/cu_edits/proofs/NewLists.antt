@@ -8,6 +8,7 @@ use Rattle.cu_model.specs.Edits.{edited}
 use Rattle.cu_model.specs.Networks.{NetworkValue}
 use Rattle.cu_model.specs.Roads.{arc_value, is_closed_arc}
 use Rattle.cu_model.proofs.RoadLaws.{all_at}
+use Rattle.cu_model.proofs.OptionLaws.{none_some}
 use Rattle.cu_arrival.specs.declared.runs.Run.{Run}
 use Rattle.cu_arrival.specs.Runs.{arrival_value}
 use Rattle.cu_chordal.specs.declared.graph.Ends.{Ends}
@@ -56,9 +57,6 @@ kept_values (Some words) = refl
 road_same : (g : NetworkValue) (a : ℕ) (closed : Bool) → road_if closed g a ≡ (if closed then None else Some (arc_value g a))
 road_same g a true = refl
 road_same g a false = refl
-
-no_function : (o : Option (ℕ → ℕ)) → o ≡ None → IsSome o → ⊥
-no_function o none some = cc (subst IsSome none some)
 
 -- which of three ways goes first
 first_of_three : (x y z : Way) → (x ≡ y) ⊎ GoesFirst x y → (y ≡ z) ⊎ GoesFirst y z → (x ≡ z) ⊎ GoesFirst x z
@@ -221,7 +219,7 @@ module _ (s : SettlingValue) (graph : ChordalValue) (arcs : List (List ℕ)) (wo
   half_there e d x y zero true l side there at_known some = half_before e d x y l side there at_known
   half_there e d x y zero false l side there at_known some =
       let none = holds.known.unknown (list_number e d) at_known in
-      absurd (no_function (function_from s.before.edges asked x y)
+      absurd (none_some (function_from s.before.edges asked x y)
       (function_at s.before holds.are.sound asked e d x y l ∙ ap value_kept (layered_older words.functions moved.places moved.functions (list_number e d) there ∙ none)) some)
 
   half_with : (e : ℕ) (d : Dir) (x y : ℕ) (l : LeadsOver s.before.edges e d x y) → IsLowerSide s.before.edges edge e → IsSome (function_from s.before.edges asked x y) → IsHalf now asked x y

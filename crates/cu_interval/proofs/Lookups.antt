@@ -7,6 +7,7 @@ use Rattle.std.specs.Option.{option_map}
 use Rattle.std.proofs.Math.Bool.{and-false}
 use Rattle.cu_model.specs.Begun.{later_of}
 use Rattle.cu_model.specs.Days.{day}
+use Rattle.cu_model.proofs.OptionLaws.{some_cases}
 use Rattle.cu_chordal.specs.declared.graph.Ends.{Ends}
 use Rattle.cu_chordal.specs.Graphs.{ComesBefore, FindsEdge, IsRising}
 use Rattle.cu_chordal.proofs.Members.{member_at, pairs_head, pairs_tail}
@@ -129,14 +130,10 @@ number_at n (x ∷ xs) (suc j) low high f e =
     let sum : suc n + j ≡ n + suc j = omega arith in
     rw (not_here x low high before) (rest ∙ ap Some sum)
 
-number_cases : (o : Option ℕ) → (o ≡ None) ⊎ ((k : ℕ) × (o ≡ Some k))
-number_cases None = inl refl
-number_cases (Some k) = inr (k, refl)
-
 -- what a look-up by the ends answers is the number that is found
 pub number_finds : (edges : List Ends) → IsRising edges → (low high : ℕ) (o : Option ℕ) → FindsEdge edges low high o → number_from 0 edges low high ≡ o
 number_finds edges f low high None none =
-    elim (number_cases (number_from 0 edges low high)) [
+    elim (some_cases (number_from 0 edges low high)) [
       | inl e ↦ e
       | inr k ↦ let (j, is, at) = number_found 0 edges low high k.0 k.1 in absurd (none (member_at edges (record { low = low; high = high }) j at))
     ]

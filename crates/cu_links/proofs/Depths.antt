@@ -5,9 +5,10 @@ use Rattle.std.specs.Prelude.{◌||◌}
 use Rattle.std.proofs.lemmas.Bool.{cases_Bool, eqb-true}
 use Rattle.std.proofs.lemmas.Map.Steps.{length-le_from_distinct_below}
 use Rattle.cu_model.proofs.OrderLaws.{none_pass}
+use Rattle.cu_model.proofs.OptionLaws.{same_value}
 use Rattle.cu_links.specs.Chains.{link_at}
 use Rattle.cu_links.specs.Steps.Kept.{IsDeep}
-use Rattle.cu_links.proofs.Links.{link_within, same_value}
+use Rattle.cu_links.proofs.Links.{link_within}
 
 pub same_from : (o : Option (ℕ × ℕ)) (a b c d : ℕ) → o ≡ Some (a, b) → o ≡ Some (c, d) → a ≡ c
 same_from o a b c d p q = ap (λ (l : ℕ × ℕ). l.0) (same_value o (a, b) (c, d) p q)

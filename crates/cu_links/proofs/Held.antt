@@ -8,10 +8,11 @@ use Rattle.std.proofs.lemmas.List.Elements.{All-replicate, Contains-append_right
 use Rattle.std.proofs.lemmas.Map.Made.{Contains-tail}
 use Rattle.std.proofs.lemmas.Option.{slice_get-get_or, slice_get_within}
 use Rattle.cu_model.proofs.RoadLaws.{all_at}
+use Rattle.cu_model.proofs.OptionLaws.{same_value}
 use Rattle.cu_links.specs.declared.buckets.EdgeState.{EdgeState}
 use Rattle.cu_links.specs.declared.buckets.EdgeState.TheVariants.{Free, Held, Done}
 use Rattle.cu_links.specs.Steps.Bucketed.{AreBuckets, AreLinked, FindsFirst, IsBucket, IsFirst}
-use Rattle.cu_links.proofs.Links.{get_here, get_other, same_value, set_long}
+use Rattle.cu_links.proofs.Links.{get_here, get_other, set_long}
 
 -- one state holds an edge at one rank
 pub same_rank : (a b : ℕ) (o : Option EdgeState) → o ≡ Some (Held a) → o ≡ Some (Held b) → a ≡ b

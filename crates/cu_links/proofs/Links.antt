@@ -3,11 +3,9 @@ use Rattle.std.proofs.Common.{◌≡◌, ◌≢◌, ◌≤◌, ◌<◌, ◌+◌,
 use Rattle.std.specs.Prelude.{All, true, false, is_some, slice_get, slice_set}
 use Rattle.std.proofs.lemmas.Bool.{cases_eq}
 use Rattle.std.proofs.lemmas.Option.{slice_get-get_or, slice_get_read}
+use Rattle.cu_model.proofs.OptionLaws.{same_value}
 use Rattle.cu_links.specs.Chains.{link_at, link_or_none}
 use Rattle.cu_links.specs.Steps.Kept.{IsNoted, linked}
-
-pub same_value : {X : Type 0} (o : Option X) (a b : X) → o ≡ Some a → o ≡ Some b → a ≡ b
-same_value o a b p q = cc (p, q)
 
 pub get_here : {X : Type 0} (xs : List X) (i : ℕ) (x : X) → i < length xs → slice_get (slice_set xs i x) i ≡ Some x
 get_here [] i x lt = absurd (omega (arith, lt))

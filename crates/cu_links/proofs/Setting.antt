@@ -3,10 +3,11 @@ use Rattle.std.proofs.Common.{◌≡◌, ◌≢◌, ◌<◌, ◌+◌, ◌∙◌,
 use Rattle.std.specs.Prelude.{All, false, Bool, slice_get, slice_set}
 use Rattle.std.proofs.lemmas.Bool.{cases_eq}
 use Rattle.std.proofs.Math.Seq.{take-append_seam}
+use Rattle.cu_model.proofs.OptionLaws.{same_value}
 use Rattle.cu_links.specs.Chains.{IsChain, IsOnChainTo, link_at}
 use Rattle.cu_links.specs.Steps.Kept.{IsDeep, IsGrounded, IsKept, IsNoted, MayGrow, Relinks, linked}
 use Rattle.cu_links.proofs.Depths.{same_from}
-use Rattle.cu_links.proofs.Links.{link_here, link_other, linked_few, linked_more, linked_same, noted_more, noted_new, places_more, same_value, set_long}
+use Rattle.cu_links.proofs.Links.{link_here, link_other, linked_few, linked_more, linked_same, noted_more, noted_new, places_more, set_long}
 
 chain_push : (links : List (Option (ℕ × ℕ))) (a : ℕ) (steps : List (ℕ × ℕ)) (b c label : ℕ) → IsChain links a steps b → link_at links c ≡ Some (b, label) → IsChain links a (steps ++ ((c, label) ∷ [])) c
 chain_push links a [] b c label same at = (at ∙ ap (λ (p : ℕ). Some (p, label)) (sym same), refl)

@@ -13,15 +13,12 @@ use Rattle.cu_model.specs.Days.{day}
 use Rattle.cu_model.specs.Profiles.{profile_value, is_closed_piece, is_in_limit, is_rule_in_limit, IsProfile}
 use Rattle.cu_model.specs.Faults.{starts_day, first_fallen, limit_fault, start_fault, rising_fault, closed_fault, early_fault, fifo_fault, piece_fault}
 use Rattle.cu_model.proofs.Firsts.{least-none, least_none_from}
+use Rattle.cu_model.proofs.OptionLaws.{map-none}
 
 -- two options of which neither is there
 or-none : {A : Type 0} (a b : Option A) → option_or a b ≡ None → (a ≡ None) × (b ≡ None)
 or-none None b e = (refl, e)
 or-none (Some x) b e = absurd (cc e)
-
-pub map-none : {A B : Type 0} (f : A → B) (o : Option A) → option_map f o ≡ None → o ≡ None
-map-none f None e = refl
-map-none f (Some x) e = absurd (cc e)
 
 pub piece_begins : (piece : Piece) → is_in_limit piece ≡ true → piece.from < day
 piece_begins piece e = ltb-true piece.from day (and_parts (ltb piece.from day) (is_rule_in_limit piece.rule) e).0

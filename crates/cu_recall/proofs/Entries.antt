@@ -12,10 +12,10 @@ use Rattle.cu_interval.specs.WayLists.{way_at}
 use Rattle.cu_interval.specs.Hierarchies.{HierarchyValue, IsHierarchy, start_of, end_of, list_from, list_of, way_from}
 use Rattle.cu_interval.proofs.Lookups.{well_formed}
 use Rattle.cu_model.proofs.RoadLaws.{leads_within}
+use Rattle.cu_model.proofs.OptionLaws.{same_value}
 use Rattle.cu_pack.specs.declared.way_slices.in_force.WayInForce.{WayInForce}
 use Rattle.cu_pack.specs.InForce.{FindsWayInForce}
 use Rattle.cu_unpack.specs.Steps.Legs.{IsMiddle}
-use Rattle.cu_unpack.proofs.Edges.{same_ends}
 use Rattle.cu_recall.specs.declared.pending.Asked.{Asked}
 use Rattle.cu_recall.specs.declared.spans.Driven.{Driven}
 use Rattle.cu_recall.specs.declared.spans.Met.{Met}
@@ -71,7 +71,7 @@ pub halves_at : (h : HierarchyValue) (edge m first second from to : ℕ) (dir : 
     → slice_get h.edges first ≡ Some (record { low = m; high = from }) → slice_get h.edges second ≡ Some (record { low = m; high = to })
     → HoldsPartsOf h edge dir m (part.Halves (2 * first + 1) (2 * second))
 halves_at h edge m first second from to dir ends at start stop one two = λ other there.
-    let same : ends ≡ other = same_ends h.edges edge ends other at there in
+    let same : ends ≡ other = same_value (slice_get h.edges edge) ends other at there in
     let low = list_of_edge h first Down (record { low = m; high = from }) one in
     let high = list_of_edge h second Up (record { low = m; high = to }) two in
     let from_is : from ≡ start_of other dir = start ∙ ap (λ (e : Ends). start_of e dir) same in

@@ -4,6 +4,7 @@ use Rattle.std.specs.Prelude.{All, flat_map}
 use Rattle.std.specs.List.{AllPairs, Contains}
 use Rattle.std.proofs.lemmas.Grind.{flat_map-append}
 use Rattle.std.proofs.lemmas.List.{append-nil}
+use Rattle.cu_model.proofs.OptionLaws.{some_cases}
 use Rattle.cu_chordal.proofs.Members.{here, there, member_cases, pairs_head, pairs_tail}
 use Rattle.cu_elimtree.specs.SweepArcs.{ancestors_in}
 use Rattle.cu_interval.specs.declared.relaxing.Call.{Call}
@@ -13,7 +14,7 @@ use Rattle.cu_sweep.specs.Sweeps.{AddsAll, first_long, until_long}
 use Rattle.cu_sweep.specs.Steps.Sweeping.{Question, up_after}
 use Rattle.cu_sweep.proofs.LabelLaws.{number_below, up_label-whole}
 use Rattle.cu_sweep.proofs.Telling.{adds_then, first_before, long_ends, until_before, until_none}
-use Rattle.cu_sweep.proofs.UpRows.{number_either, up_after_none}
+use Rattle.cu_sweep.proofs.UpRows.{up_after_none}
 
 pub all_parts : (P : ℕ → Type 0) (before : List ℕ) (x : ℕ) (rest : List ℕ) → All P (before ++ (x ∷ rest)) → P x
 all_parts P [] x rest all = all 0 x (omega arith)
@@ -37,7 +38,7 @@ up_after_rest : (h : HierarchyValue) → IsHierarchy h → (q : Question) (befor
 up_after_rest h f q before x [] late = ap (λ (xs : List ℕ). up_after h q xs x) (append-nil before)
 up_after_rest h f q before x (z ∷ rest) late =
     let le = late z (here z rest) in
-    let none : number_from 0 h.edges z x ≡ None = elim (number_either (number_from 0 h.edges z x)) [
+    let none : number_from 0 h.edges z x ≡ None = elim (some_cases (number_from 0 h.edges z x)) [
       | inl e ↦ e
       | inr k ↦ let lt = number_below h f z x k.0 k.1 in absurd (omega (arith, lt, le))
     ] in

@@ -1,7 +1,8 @@
 -- The upward labels after the calls of one rank after another.
-use Rattle.std.proofs.Common.{◌≡◌, ◌≢◌, ◌<◌, ◌+◌, ◌^◌, ◌∙◌, ℕ, true, List, [], ◌∷◌, ◌++◌, Option, Some, None, refl, sym, ap, subst, arith, inl, inr, ◌⊎◌, length, ltb}
+use Rattle.std.proofs.Common.{◌≡◌, ◌≢◌, ◌<◌, ◌+◌, ◌^◌, ◌∙◌, ℕ, true, List, [], ◌∷◌, ◌++◌, Option, Some, None, refl, sym, ap, subst, arith, inl, inr, length, ltb}
 use Rattle.std.specs.List.{Contains}
 use Rattle.std.proofs.lemmas.Bool.{cases_eq}
+use Rattle.cu_model.proofs.OptionLaws.{some_cases}
 use Rattle.cu_chordal.specs.Graphs.{up_of}
 use Rattle.cu_chordal.proofs.Members.{here, there, member_at, member_cases, none_in_nil, place_of}
 use Rattle.cu_chordal.proofs.Tables.{edge_from_up_of, up_of_from_edge}
@@ -96,15 +97,11 @@ up_more h q done x y edge part labels links f new lt within la li number there_ 
           )
     ]
 
-pub number_either : (o : Option ℕ) → (o ≡ None) ⊎ ((k : ℕ) × (o ≡ Some k))
-number_either None = inl refl
-number_either (Some k) = inr (k, refl)
-
 -- after all calls from a rank
 pub up_done : (h : HierarchyValue) → IsHierarchy h → (q : Question) (done : List ℕ) (x : ℕ) (labels : List (Option ℕ)) (links : List (Option (ℕ × ℕ)))
     → IsUpPart h q done x (up_of h.edges x) labels links → IsUpSwept h q (done ++ (x ∷ [])) labels links
 up_done h sound q done x labels links f y p =
-    elim (number_either (number_from 0 h.edges x y)) [
+    elim (some_cases (number_from 0 h.edges x y)) [
       | inr k ↦
           let (j, is, at) = number_found 0 h.edges x y k.0 k.1 in
           (f y p).0 (up_of_from_edge h.edges x y (member_at h.edges (record { low = x; high = y }) j at))

@@ -4,6 +4,7 @@ use Rattle.std.specs.Prelude.{slice_get, slice_set}
 use Rattle.std.proofs.lemmas.Option.{slice_get_within}
 use Rattle.cu_model.specs.Roads.{drive}
 use Rattle.cu_model.proofs.RoadLaws.{drive-append}
+use Rattle.cu_model.proofs.OptionLaws.{same_value}
 use Rattle.cu_chordal.specs.declared.graph.Ends.{Ends}
 use Rattle.cu_chordal.specs.Graphs.{HasEdge}
 use Rattle.cu_interval.specs.declared.ways.Dir.{Dir}
@@ -19,7 +20,7 @@ use Rattle.cu_interval.proofs.Lookups.{middles_fall, well_formed}
 use Rattle.cu_interval.proofs.EndsLaws.{below_low, ends_range}
 use Rattle.cu_unpack.specs.declared.unpacking.Spot.{Spot}
 use Rattle.cu_unpack.specs.Steps.Legs.{Leg, AreWaiting, FindsRoad, HasWay, IsAt, IsLegOf, IsMiddle, IsSomewhere, Parts, low_of, walk_on}
-use Rattle.cu_unpack.proofs.Edges.{leg_way, no_way, same_ends}
+use Rattle.cu_unpack.proofs.Edges.{leg_way, no_way}
 use Rattle.cu_unpack.proofs.Waiting.{waiting_kept}
 use Rattle.cu_unpack.proofs.Writes.{set_here}
 
@@ -108,7 +109,7 @@ module _ (h : HierarchyValue) (f : IsHierarchy h) where
   parted pending now spot next leg legs t m is long p way =
       let w = well_formed h f leg.from leg.to t (Via m) way in
       let (ends, at, from, to) = is.here in
-      let same : ends ≡ p.ends = same_ends h.edges spot.edge ends p.ends at p.at in
+      let same : ends ≡ p.ends = same_value (slice_get h.edges spot.edge) ends p.ends at p.at in
       let start : leg.from ≡ start_of p.ends spot.dir = from ∙ ap (λ (e : Ends). start_of e spot.dir) same in
       let stop : leg.to ≡ end_of p.ends spot.dir = to ∙ ap (λ (e : Ends). end_of e spot.dir) same in
       let mu = w.0 in

@@ -1,6 +1,5 @@
 -- Edges and lists of a hierarchy, as an unpacking looks them up.
-use Rattle.std.proofs.Common.{◌≡◌, ◌<◌, ◌∙◌, ℕ, List, [], ◌∷◌, Some, None, refl, ap, subst}
-use Rattle.std.specs.Prelude.{slice_get}
+use Rattle.std.proofs.Common.{◌≡◌, ◌<◌, ◌∙◌, ℕ, List, [], ◌∷◌, None, refl, ap, subst}
 use Rattle.cu_chordal.specs.declared.graph.Ends.{Ends}
 use Rattle.cu_chordal.specs.Graphs.{HasEdge}
 use Rattle.cu_interval.specs.declared.ways.Dir.{Dir}
@@ -31,7 +30,3 @@ empty_without_way (x ∷ es) f s e = let (way, is) = way_there (x ∷ es) f (λ 
 -- a list with no way in force is empty
 pub no_way : (h : HierarchyValue) → IsHierarchy h → (u v t : ℕ) → way_from h u v t ≡ None → list_from h u v ≡ []
 no_way h f u v t e = empty_without_way (list_from h u v) (list_from_spelled h f u v) _ e
-
--- the ends of an edge are those of its number
-pub same_ends : (edges : List Ends) (edge : ℕ) (a b : Ends) → slice_get edges edge ≡ Some a → slice_get edges edge ≡ Some b → a ≡ b
-same_ends edges edge a b p q = cc (p, q)

@@ -5,6 +5,7 @@ use Rattle.std.proofs.lemmas.List.{take_all, take_more}
 use Rattle.std.proofs.lemmas.List.Elements.{All-more}
 use Rattle.std.proofs.lemmas.Option.{get_or_from_slice_get, slice_get-get_or, slice_get_within}
 use Rattle.cu_model.proofs.RoadLaws.{all_at}
+use Rattle.cu_model.proofs.OptionLaws.{same_value}
 use Rattle.cu_arrival.specs.declared.runs.Run.{Run}
 use Rattle.cu_chordal.specs.declared.graph.Ends.{Ends}
 use Rattle.cu_interval.specs.declared.ways.Dir.{Dir}
@@ -18,7 +19,6 @@ use Rattle.cu_unpack.specs.declared.shortcuts.Shortcut.{Shortcut}
 use Rattle.cu_unpack.specs.RebuiltWords.{IsSide}
 use Rattle.cu_unpack.specs.Steps.Rebuilding.{AreHalves, FindsHalf, FindsMissing, HasHalves, HasWays, IsKept, IsLeastOf, IsMissingHalf, IsWayOf, KeepsOne, number_of, ways_of}
 use Rattle.cu_customize.proofs.Keeping.{number_below}
-use Rattle.cu_unpack.proofs.Edges.{same_ends}
 use Rattle.cu_unpack.proofs.WayFunctions.{least_rebuilt}
 
 module _ (h : HierarchyValue) (f : IsHierarchy h) where
@@ -44,7 +44,7 @@ module _ (h : HierarchyValue) (f : IsHierarchy h) where
   pub halves_lower : (whole first second : Shortcut) (m : ℕ) → IsWayOf h whole (Via m) → AreHalves h whole m first second
       → (HasWays h first × (first.edge < whole.edge)) × (HasWays h second × (second.edge < whole.edge))
   halves_lower whole first second m (ends, at, formed) halves =
-      let same : halves.ends ≡ ends = same_ends h.edges whole.edge halves.ends ends halves.at at in
+      let same : halves.ends ≡ ends = same_value (slice_get h.edges whole.edge) halves.ends ends halves.at at in
       let u = start_of ends whole.dir in
       let v = end_of ends whole.dir in
       let low : slice_get h.edges first.edge ≡ Some (record { low = m; high = u }) =
@@ -103,7 +103,7 @@ same_number h f i j low high at_i at_j =
 pub halves_there : (h : HierarchyValue) → IsHierarchy h → (IsThere : Shortcut → Type 0) (whole first second : Shortcut) (m : ℕ) → AreHalves h whole m first second
     → IsThere first → IsThere second → HasHalves h IsThere whole (Via m)
 halves_there h f IsThere whole first second m halves one two first_too second_too again =
-    let same : halves.ends ≡ again.ends = same_ends h.edges whole.edge halves.ends again.ends halves.at again.at in
+    let same : halves.ends ≡ again.ends = same_value (slice_get h.edges whole.edge) halves.ends again.ends halves.at again.at in
     let low : slice_get h.edges first.edge ≡ Some (record { low = m; high = start_of again.ends whole.dir }) =
     subst (λ (e : Ends). slice_get h.edges first.edge ≡ Some (record { low = m; high = start_of e whole.dir })) same halves.to in
     let high : slice_get h.edges second.edge ≡ Some (record { low = m; high = end_of again.ends whole.dir }) =

@@ -5,6 +5,7 @@ use Rattle.std.proofs.lemmas.Option.{get_or_from_slice_get, slice_get_within}
 use Rattle.std.specs.Prelude.{option_map, slice_get}
 use Rattle.cu_model.specs.Days.{day, RepeatsDaily}
 use Rattle.cu_model.specs.Roads.{arc_value}
+use Rattle.cu_model.proofs.OptionLaws.{same_value}
 use Rattle.cu_arrival.specs.declared.runs.Run.{Run}
 use Rattle.cu_arrival.specs.Runs.{arrival_value}
 use Rattle.cu_arrival.proofs.RunLaws.{arrival_value-repeats}
@@ -21,7 +22,6 @@ use Rattle.cu_interval.proofs.Rebuilding.{rebuilt-fuel}
 use Rattle.cu_unpack.specs.declared.shortcuts.Shortcut.{Shortcut}
 use Rattle.cu_unpack.specs.Rebuilds.{IsRebuiltFunction, Keeps}
 use Rattle.cu_unpack.specs.Steps.Rebuilding.{AreHalves, AreKept, HasValues, IsAmong, IsEarlier, IsLeastOf, IsWayFunction, IsWayOf, number_of, value_in, way_value, ways_of}
-use Rattle.cu_unpack.proofs.Edges.{same_ends}
 
 pub road_function : (h : HierarchyValue) (shortcut : Shortcut) (road : ℕ) (runs : List Run) → ((t : ℕ) → arrival_value runs t ≡ arc_value h.network road t)
     → IsWayFunction h shortcut (Road road) runs
@@ -60,8 +60,8 @@ pub via_function : (h : HierarchyValue) → IsHierarchy h → (kept : List (Opti
     → ((t : ℕ) → t < day → arrival_value runs t ≡ min (arrival_value on (arrival_value to t)) (2 ^ 62))
     → IsWayFunction h whole (Via m) runs
 via_function h f kept are whole first second m (ends, at, formed) halves to on runs to_kept on_kept value other other_at t lt =
-    let same : halves.ends ≡ ends = same_ends h.edges whole.edge halves.ends ends halves.at at in
-    let same_other : ends ≡ other = same_ends h.edges whole.edge ends other at other_at in
+    let same : halves.ends ≡ ends = same_value (slice_get h.edges whole.edge) halves.ends ends halves.at at in
+    let same_other : ends ≡ other = same_value (slice_get h.edges whole.edge) ends other at other_at in
     let u = start_of ends whole.dir in
     let v = end_of ends whole.dir in
     let low : slice_get h.edges first.edge ≡ Some (record { low = m; high = u }) =

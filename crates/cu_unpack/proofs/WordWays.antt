@@ -7,6 +7,7 @@ use Rattle.cu_model.specs.Networks.{NetworkValue, IsNetwork}
 use Rattle.cu_model.specs.Roads.{arc_value}
 use Rattle.cu_model.proofs.DayLaws.{onward_always}
 use Rattle.cu_model.proofs.RoadLaws.{arc_value-near, arc_value-onward}
+use Rattle.cu_model.proofs.OptionLaws.{same_value}
 use Rattle.cu_arrival.specs.declared.runs.Run.{Run}
 use Rattle.cu_arrival.specs.declared.runs.RunRule.{RunRule}
 use Rattle.cu_arrival.specs.declared.runs.RunRule.TheVariants.{Shift}
@@ -30,7 +31,6 @@ use Rattle.cu_unpack.specs.declared.shortcuts.Shortcut.{Shortcut}
 use Rattle.cu_unpack.specs.RebuiltWords.{IsFarWay, IsKnownList, IsNeeded, IsRebuiltWords, IsSized, KeepsWords, WordsValue}
 use Rattle.cu_unpack.specs.Steps.Rebuilding.{AreHalves, HasHalves, HasValues, IsAmong, IsWayOf, number_of, way_value, ways_of}
 use Rattle.cu_unpack.specs.Steps.WordRebuilding.{Adds, AddsWay, HasWords, HoldsLeast, IsInTime, IsKnown, IsLeastWords, IsStay}
-use Rattle.cu_unpack.proofs.Edges.{same_ends}
 use Rattle.cu_unpack.proofs.HalfEdges.{halves_lower, halves_sides}
 use Rattle.cu_unpack.proofs.KnownLists.{known_words}
 use Rattle.cu_unpack.proofs.Learning.{needs_itself, needs_side}
@@ -106,8 +106,8 @@ module _ (h : HierarchyValue) (f : IsHierarchy h) (value : WordsValue) (size : I
     composed to on,
     adds,
     λ ends at t lt.
-        let same : halves.ends ≡ ends = same_ends h.edges whole.edge halves.ends ends halves.at at in
-        let same_way : way.0 ≡ ends = same_ends h.edges whole.edge way.0 ends way.1 at in
+        let same : halves.ends ≡ ends = same_value (slice_get h.edges whole.edge) halves.ends ends halves.at at in
+        let same_way : way.0 ≡ ends = same_value (slice_get h.edges whole.edge) way.0 ends way.1 at in
         let formed = subst (λ (e : Ends). IsWellFormed h (start_of e whole.dir) (end_of e whole.dir) (Via m)) same_way way.2 in
         let u = start_of ends whole.dir in
         let v = end_of ends whole.dir in
