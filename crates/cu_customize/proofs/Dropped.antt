@@ -7,6 +7,7 @@ use Rattle.std.proofs.lemmas.Bool.Decides.{nat_tests}
 use Rattle.std.proofs.lemmas.List.{get_or_default, length-set, length_push}
 use Rattle.std.proofs.lemmas.Option.{slice_get-get_or, slice_get_past, slice_get_within}
 use Rattle.cu_model.specs.Networks.{NetworkValue}
+use Rattle.cu_model.proofs.ListLaws.{get_here, get_other}
 use Rattle.cu_arrival.specs.declared.runs.Run.{Run}
 use Rattle.cu_arrival.specs.Runs.{arrival_value}
 use Rattle.cu_chordal.specs.declared.graph.Ends.{Ends}
@@ -23,7 +24,6 @@ use Rattle.cu_interval.proofs.Lookups.{number_finds}
 use Rattle.cu_customize.specs.Functions.{FunctionsState, kept_state, value_kept}
 use Rattle.cu_customize.specs.Settling.{ArrivesBy, IsCandidateBy, IsSettledList, function_from, through, value_at}
 use Rattle.cu_customize.specs.Steps.Kept.{AreDropped, DropsEdge, Keeps}
-use Rattle.cu_customize.proofs.Filing.{get_set_other, get_set_same}
 use Rattle.cu_customize.proofs.Halves.{both_some, first_is, second_is}
 use Rattle.cu_customize.proofs.Keeping.{number_below, push_before, push_last}
 use Rattle.cu_customize.proofs.LowFunctions.{down_edge, runs_by, up_edge}
@@ -225,18 +225,18 @@ kept_alike g graph is edge dir ends whole kept at keeps =
 both_none : (edge : ℕ) (fs : List (Option (List Run))) → 2 * edge + 1 < length fs → (dir : Dir)
     → slice_get (set (set fs (2 * edge) None) (2 * edge + 1) None) (list_number edge dir) ≡ Some None
 both_none edge fs h Up =
-    get_set_other (set fs (2 * edge) None) (2 * edge + 1) (2 * edge) None (λ e. absurd (omega (arith, e)))
-    ∙ get_set_same fs (2 * edge) None (omega (arith, h))
-both_none edge fs h Down = let long = length-set fs (2 * edge) None in get_set_same (set fs (2 * edge) None) (2 * edge + 1) None (omega (arith, h, long))
+    get_other (set fs (2 * edge) None) (2 * edge + 1) (2 * edge) None (λ e. absurd (omega (arith, e)))
+    ∙ get_here fs (2 * edge) None (omega (arith, h))
+both_none edge fs h Down = let long = length-set fs (2 * edge) None in get_here (set fs (2 * edge) None) (2 * edge + 1) None (omega (arith, h, long))
 
 others_same : (edge : ℕ) (fs : List (Option (List Run))) (e : ℕ) (dir : Dir) → e ≢ edge
     → slice_get (set (set fs (2 * edge) None) (2 * edge + 1) None) (list_number e dir) ≡ slice_get fs (list_number e dir)
 others_same edge fs e Up apart =
-    get_set_other (set fs (2 * edge) None) (2 * edge + 1) (2 * e) None (λ q. absurd (omega (arith, q)))
-    ∙ get_set_other fs (2 * edge) (2 * e) None (λ q. apart (omega (arith, q)))
+    get_other (set fs (2 * edge) None) (2 * edge + 1) (2 * e) None (λ q. absurd (omega (arith, q)))
+    ∙ get_other fs (2 * edge) (2 * e) None (λ q. apart (omega (arith, q)))
 others_same edge fs e Down apart =
-    get_set_other (set fs (2 * edge) None) (2 * edge + 1) (2 * e + 1) None (λ q. apart (omega (arith, q)))
-    ∙ get_set_other fs (2 * edge) (2 * e + 1) None (λ q. absurd (omega (arith, q)))
+    get_other (set fs (2 * edge) None) (2 * edge + 1) (2 * e + 1) None (λ q. apart (omega (arith, q)))
+    ∙ get_other fs (2 * edge) (2 * e + 1) None (λ q. absurd (omega (arith, q)))
 
 pub edge_dropped : (edge : ℕ) (fs : List (Option (List Run))) → 2 * edge + 1 < length fs → DropsEdge edge fs (set (set fs (2 * edge) None) (2 * edge + 1) None)
 edge_dropped edge fs h = record { dropped = both_none edge fs h; same = others_same edge fs }

@@ -10,6 +10,7 @@ use Rattle.cu_model.specs.Networks.{NetworkValue, IsNetwork}
 use Rattle.cu_model.specs.Orders.{OrderValue, IsOrder}
 use Rattle.cu_model.specs.Roads.{is_closed_arc}
 use Rattle.cu_model.proofs.RoadLaws.{all_at, links_within}
+use Rattle.cu_model.proofs.ListLaws.{item_there}
 use Rattle.cu_arrival.specs.declared.runs.Run.{Run}
 use Rattle.cu_arrival.specs.Runs.{arrival_value}
 use Rattle.cu_chordal.specs.declared.graph.Ends.{Ends}
@@ -210,13 +211,6 @@ next_built g o graph arcs list functions lists edge dir ends function ways chord
     built_step g o graph.edges functions lists edge dir ends function ways at is (settled_low g o graph.edges list state u v setting apart has ways function settled value)
     (settled_built g o graph.edges list state u v setting ways settled)
 
-pub edge_there : (edges : List Ends) (edge : ℕ) → edge < length edges → (ends : Ends) × (slice_get edges edge ≡ Some ends)
-edge_there edges edge lt =
-    elim (slice_get_cases edges edge).1 [
-      | inl (ends, inside, at, same) ↦ (ends, at)
-      | inr past ↦ absurd (let over = past.0 in omega (arith, over, lt))
-    ]
-
 pub number_within : (edge count : ℕ) (dir : Dir) → edge < count → list_number edge dir < 2 * count
 number_within edge count Up lt = omega (arith, lt)
 number_within edge count Down lt = omega (arith, lt)
@@ -225,7 +219,4 @@ pub list_there : {A : Type 0} (edges : List Ends) (lists : List A) (edge : ℕ) 
     → (list : A) × (slice_get lists (list_number edge dir) ≡ Some list)
 list_there edges lists edge dir lt long =
     let inside = number_within edge (length edges) dir lt in
-    elim (slice_get_cases lists (list_number edge dir)).1 [
-      | inl (list, within, at, same) ↦ (list, at)
-      | inr past ↦ absurd (let over = past.0 in omega (arith, over, inside, long))
-    ]
+    item_there lists (list_number edge dir) (omega (arith, inside, long))

@@ -3,16 +3,16 @@ use Rattle.std.proofs.Common.{◌≡◌, ◌<◌, ◌+◌, ◌∙◌, ◌⊎◌,
 use Rattle.std.specs.Prelude.{Bool, IsTrue, ◌↔◌, false, true, max, min, slice_get, slice_set}
 use Rattle.std.specs.List.{Contains}
 use Rattle.std.proofs.lemmas.Bool.{cases_eq}
-use Rattle.std.proofs.lemmas.List.{get_or_default}
+use Rattle.std.proofs.lemmas.List.{get_or_default, length-set}
 use Rattle.std.proofs.lemmas.List.Elements.{All-contains, Contains-get_or}
 use Rattle.std.proofs.lemmas.Option.{slice_get_within}
 use Rattle.cu_model.specs.declared.roads.RoadArc.{RoadArc}
+use Rattle.cu_model.proofs.ListLaws.{get_here, get_other}
 use Rattle.cu_chordal.specs.declared.graph.Ends.{Ends}
 use Rattle.cu_chordal.specs.Graphs.{ChordalValue, HasEdge, IsChordal, IsRising}
 use Rattle.cu_chordal.proofs.Members.{member_at}
 use Rattle.cu_links.specs.declared.buckets.EdgeState.TheVariants.{Free, Held}
 use Rattle.cu_links.specs.Buckets.{BucketsValue, IsDone, IsFree}
-use Rattle.cu_links.proofs.Links.{get_here, get_other, set_long}
 use Rattle.cu_links.proofs.Held.{same_rank}
 use Rattle.cu_interval.specs.Hierarchies.{HierarchyValue}
 use Rattle.cu_interval.proofs.Lookups.{number_at}
@@ -123,7 +123,7 @@ adds_held edges rising first second edge old at free =
     record {
       ranks = refl;
       last = refl;
-      count = set_long old.states edge (Held low);
+      count = length-set old.states edge (Held low);
       each = λ e.
           elim (cases_eq edge e) [
             | inl same ↦ inr (subst (IsAdded edges (IsBetween edges first second) old (record old { states = slice_set old.states edge (Held low) })) same

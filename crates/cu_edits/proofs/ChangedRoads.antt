@@ -12,8 +12,8 @@ use Rattle.cu_model.specs.Edits.{IsEditInRange, edited, reassigned}
 use Rattle.cu_model.specs.Networks.{NetworkValue}
 use Rattle.cu_model.specs.Profiles.{is_closed, profile_value}
 use Rattle.cu_model.specs.Roads.{arc_value, is_closed_arc, is_closed_by, pieces_or_none, value_by, value_of}
+use Rattle.cu_model.proofs.ListLaws.{get_here}
 use Rattle.cu_arrival.specs.declared.runs.Run.{Run}
-use Rattle.cu_links.proofs.Links.{get_here}
 use Rattle.cu_customize.specs.Functions.{IsFunction}
 use Rattle.cu_interval.specs.Touching.{IsChanged}
 use Rattle.cu_edits.specs.Steps.Known.{IsNewProfile, profile_function, road_in}

@@ -4,8 +4,9 @@ use Rattle.std.specs.Prelude.{slice_get, slice_set}
 use Rattle.std.specs.List.{Contains}
 use Rattle.std.proofs.lemmas.Option.{slice_get_within}
 use Rattle.cu_model.specs.declared.roads.Edit.{Edit}
-use Rattle.cu_links.proofs.Links.{get_other}
+use Rattle.cu_model.proofs.ListLaws.{get_other}
 use Rattle.cu_chordal.proofs.Members.{here, there}
+use Rattle.cu_chordal.proofs.Decided.{member_decided}
 use Rattle.cu_interval.specs.declared.ways.TouchedEdge.{TouchedEdge}
 use Rattle.cu_interval.specs.Hierarchies.{HierarchyValue, IsHierarchy, end_of, list_of, start_of}
 use Rattle.cu_interval.specs.Replacing.{hierarchy_with}
@@ -15,7 +16,7 @@ use Rattle.cu_edits.specs.Customized.{AreCustomized, IsCustomizedEdge, marked}
 use Rattle.cu_edits.specs.Settling.{IsResettledEdge, SettlingValue, list_in, numbers_of}
 use Rattle.cu_edits.specs.Steps.Settled.{AreSettled}
 use Rattle.cu_edits.proofs.Frames.{runs_alike}
-use Rattle.cu_edits.proofs.Replaced.{among_or_not, list_replaced, number_among}
+use Rattle.cu_edits.proofs.Replaced.{list_replaced, number_among}
 use Rattle.cu_edits.proofs.SettledAll.{edges_differ}
 use Rattle.cu_edits.proofs.SettledFrames.{UntouchedPair, leads_touched, untouched_frame, untouched_sides}
 use Rattle.cu_edits.proofs.Sides.{halves_good, over}
@@ -49,7 +50,7 @@ module _ (before : HierarchyValue) (edit : Edit) (ts : List TouchedEdge) (sound 
   all_settled = record {
     sound = sound;
     touched = λ edge c. (numbers.exact edge).0 c;
-    sides = λ edge c side low. elim (among_or_not (numbers_of ts) side) [
+    sides = λ edge c side low. elim (member_decided (numbers_of ts) side) [
       | inl among ↦ inl among
       | inr off ↦ inr (λ touched. off ((numbers.exact side).1 touched))
     ];
@@ -69,7 +70,7 @@ module _ (before : HierarchyValue) (edit : Edit) (ts : List TouchedEdge) (sound 
       (runs_alike (IsCandidateIn before u v) (IsCandidateIn after u v) (ArrivesIn before u v) (ArrivesIn after u v) (list_of before edge dir) alike (customized dir ends at))
 
   pub edit_keeps : (marks : List Bool) → AreCustomized before marks → AreCustomized after (marked marks ts)
-  edit_keeps marks customized edge mark = elim (among_or_not (numbers_of ts) edge) [
+  edit_keeps marks customized edge mark = elim (member_decided (numbers_of ts) edge) [
     | inl among ↦ λ dir ends at. settled.resettled edge dir ends at ((numbers.exact edge).0 among)
     | inr off ↦ untouched_stays edge (λ touched. off ((numbers.exact edge).1 touched)) (customized edge (sym (marked_other marks ts edge off) ∙ mark))
   ]

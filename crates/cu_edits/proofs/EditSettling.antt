@@ -3,12 +3,13 @@ use Rattle.std.proofs.Common.{◌≡◌, ◌≢◌, ◌<◌, ◌∙◌, ℕ, Lis
 use Rattle.std.specs.Prelude.{slice_get, slice_set}
 use Rattle.std.proofs.lemmas.Bool.{cases_eq}
 use Rattle.std.proofs.lemmas.Option.{slice_get_within}
+use Rattle.std.proofs.lemmas.List.{length-set}
 use Rattle.cu_model.specs.Edits.{edited}
+use Rattle.cu_model.proofs.ListLaws.{get_here, get_other}
 use Rattle.cu_arrival.specs.declared.runs.Run.{Run}
 use Rattle.cu_arrival.specs.Runs.{arrival_value}
 use Rattle.cu_chordal.specs.declared.graph.Ends.{Ends}
 use Rattle.cu_chordal.specs.Graphs.{ChordalValue}
-use Rattle.cu_links.proofs.Links.{get_here, get_other, set_long}
 use Rattle.cu_interval.specs.declared.ways.Dir.{Dir}
 use Rattle.cu_interval.specs.declared.ways.Dir.TheVariants.{Up, Down}
 use Rattle.cu_interval.specs.declared.ways.Entry.{Entry}
@@ -175,7 +176,7 @@ settling_more s graph arcs rebuilt known t functions old touched fresh sides has
         pieces = old.pieces;
         size = old.size;
         keeps = old.keeps;
-        count = set_long known t.edge (Some functions) ∙ old.count;
+        count = length-set known t.edge (Some functions) ∙ old.count;
         functions = all_known s old.are arcs old.roads known old.functions t touched fresh sides has functions settled (omega (arith, inside, count));
         settled = λ e c none. elim (cases_eq t.edge e) [
           | inl same ↦

@@ -4,11 +4,12 @@ use Rattle.std.specs.Prelude.{All, slice_get, slice_set}
 use Rattle.std.specs.List.{Contains}
 use Rattle.std.proofs.lemmas.Bool.{cases_eq}
 use Rattle.std.proofs.lemmas.Option.{slice_get_within}
+use Rattle.std.proofs.lemmas.List.{length-set}
 use Rattle.cu_model.proofs.RoadLaws.{all_at}
+use Rattle.cu_model.proofs.ListLaws.{get_here, get_other}
 use Rattle.cu_arrival.specs.declared.runs.Run.{Run}
 use Rattle.cu_chordal.specs.Graphs.{ChordalValue}
 use Rattle.cu_chordal.proofs.Members.{member_at, place_of}
-use Rattle.cu_links.proofs.Links.{get_here, get_other, set_long}
 use Rattle.cu_interval.specs.declared.ways.Dir.{Dir}
 use Rattle.cu_interval.specs.declared.ways.TouchedEdge.{TouchedEdge}
 use Rattle.cu_interval.specs.Hierarchies.{HierarchyValue, end_of, start_of}
@@ -54,7 +55,7 @@ said_more h settled moved index known t functions old at inside says =
     let count = old.count in
     let here = get_here known t.edge (Some functions) (omega (arith, inside, count)) in
     record {
-      count = set_long known t.edge (Some functions) ∙ old.count;
+      count = length-set known t.edge (Some functions) ∙ old.count;
       functions = λ e given there. elim (cases_eq t.edge e) [
         | inl same ↦
             let now : slice_get (slice_set known t.edge (Some functions)) e ≡ Some (Some functions) =

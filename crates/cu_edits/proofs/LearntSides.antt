@@ -3,14 +3,14 @@ use Rattle.std.proofs.Common.{◌≡◌, ◌<◌, ◌+◌, ◌∙◌, ℕ, List,
 use Rattle.std.specs.Prelude.{Err, Ok, OnOk, Result, slice_get, slice_set}
 use Rattle.std.specs.List.{Contains}
 use Rattle.std.proofs.lemmas.Bool.{cases_eq}
-use Rattle.std.proofs.lemmas.List.{get_or_default}
+use Rattle.std.proofs.lemmas.List.{get_or_default, length-set}
 use Rattle.std.proofs.lemmas.Option.{slice_get_within}
+use Rattle.cu_model.proofs.ListLaws.{get_here, get_other}
 use Rattle.cu_chordal.specs.declared.graph.Ends.{Ends}
 use Rattle.cu_chordal.specs.Graphs.{HasEdge, IsRising}
 use Rattle.cu_chordal.proofs.Members.{member_at}
 use Rattle.cu_interval.specs.Hierarchies.{HierarchyValue}
 use Rattle.cu_interval.proofs.Lookups.{number_finds}
-use Rattle.cu_links.proofs.Links.{get_here, get_other, set_long}
 use Rattle.cu_edits.specs.declared.known.EdgeFunctions.{EdgeFunctions}
 use Rattle.cu_edits.specs.Steps.Known.{AreRebuilt, HasFunctions, IsSide, IsSideOver, Learns}
 
@@ -42,7 +42,7 @@ known_still h IsAsked old new e learns (f, at) = elim (learns.each e) [
 pub learns_one : (h : HierarchyValue) (known : List (Option EdgeFunctions)) (edge : ℕ) (f : EdgeFunctions) → slice_get known edge ≡ Some None → AreRebuilt h edge f
     → Learns h (λ (e : ℕ). e ≡ edge) known (slice_set known edge (Some f))
 learns_one h known edge f none are = record {
-  long = set_long known edge (Some f);
+  long = length-set known edge (Some f);
   each = λ e. elim (cases_eq edge e) [
     | inl same ↦ inr (record {
       asked = sym same;

@@ -1,12 +1,12 @@
 -- Words that are learned of lists of the hierarchy before an edit, one list after the other.
-use Rattle.std.proofs.Common.{◌≡◌, ◌<◌, ◌+◌, ◌*◌, ◌/◌, ◌%◌, ◌∙◌, ◌⊎◌, ℕ, List, [], ◌∷◌, Some, true, arith, get_or, inl, inr, length, subst, sym, take}
+use Rattle.std.proofs.Common.{◌≡◌, ◌<◌, ◌+◌, ◌*◌, ◌/◌, ◌%◌, ◌∙◌, ℕ, List, [], Some, true, arith, get_or, inl, inr, length, subst, sym, take}
 use Rattle.std.specs.Prelude.{All, slice_get}
 use Rattle.std.specs.List.{Contains}
 use Rattle.std.proofs.lemmas.Bool.{cases_eq}
 use Rattle.std.proofs.lemmas.List.Elements.{All-contains, All-more}
 use Rattle.cu_chordal.specs.declared.graph.Ends.{Ends}
 use Rattle.cu_chordal.specs.Graphs.{HasEdge}
-use Rattle.cu_chordal.proofs.Members.{here, member_cases, none_in_nil, there}
+use Rattle.cu_chordal.proofs.Decided.{member_decided}
 use Rattle.cu_interval.specs.declared.ways.Dir.{Dir}
 use Rattle.cu_interval.specs.declared.ways.Dir.TheVariants.{Up, Down}
 use Rattle.cu_interval.specs.declared.ways.Way.{Way}
@@ -82,24 +82,10 @@ pub learns_more : (Known Now : ℕ → Type 0) → ((x : ℕ) → Known x → No
     → All Now (take (i + 1) middles)
 learns_more Known Now still middles i inside all one = All-more Now middles i 0 inside (λ k d h. still (get_or (take i middles) k d) (all k d h)) one
 
--- a number is in a list, or it isn't
-member_or_not : (xs : List ℕ) (x : ℕ) → Contains xs x ⊎ (Contains xs x → ⊥)
-member_or_not [] x = inr (none_in_nil x)
-member_or_not (y ∷ ys) x = elim (cases_eq y x) [
-  | inl same ↦ inl (subst (λ (z : ℕ). Contains (y ∷ ys) z) same (here y ys))
-  | inr other ↦ elim (member_or_not ys x) [
-    | inl c ↦ inl (there y ys x c)
-    | inr apart ↦ inr (λ c. elim (member_cases y ys x c) [
-      | inl same ↦ other same
-      | inr c ↦ apart c
-    ])
-  ]
-]
-
 -- what is so of the halves by all middles that are joined to the lower end is so of any
 pub moved_by_any : (moved : MovedValue) (value : WordsValue) (edges : List Ends) (ends : Ends) (dir : Dir) (middles : List ℕ) → ((x : ℕ) → HasEdge edges x ends.low → Contains middles x)
     → All (AreAtHandIfMoved moved value edges ends dir) middles → (middle : ℕ) → AreAtHandIfMoved moved value edges ends dir middle
-moved_by_any moved value edges ends dir middles members all middle = elim (member_or_not middles middle) [
+moved_by_any moved value edges ends dir middles members all middle = elim (member_decided middles middle) [
   | inl c ↦ All-contains (AreAtHandIfMoved moved value edges ends dir) middles middle all c
   | inr apart ↦ inl (λ first second are. absurd (apart (members middle (joins_low edges ends dir middle first second are))))
 ]

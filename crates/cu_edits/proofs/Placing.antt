@@ -1,11 +1,12 @@
 -- What became of both lists of an edge, kept and put in their places.
 use Rattle.std.proofs.Common.{◌≡◌, ◌≤◌, ◌<◌, ◌∙◌, ℕ, zero, suc, List, [], ◌∷◌, ◌++◌, Option, Some, refl, ap, sym, subst, arith, length}
 use Rattle.std.specs.Prelude.{All, slice_get, slice_set}
+use Rattle.std.proofs.lemmas.List.{length-set}
+use Rattle.cu_model.proofs.ListLaws.{get_here, get_other}
 use Rattle.cu_arrival.specs.declared.runs.Run.{Run}
 use Rattle.cu_interval.specs.declared.ways.Dir.{Dir}
 use Rattle.cu_interval.specs.declared.ways.Dir.TheVariants.{Up, Down}
 use Rattle.cu_interval.specs.Hierarchies.{list_number}
-use Rattle.cu_links.proofs.Links.{get_here, get_other, set_long}
 use Rattle.cu_edits.specs.declared.new_list.Fate.{Fate}
 use Rattle.cu_edits.specs.declared.new_list.Fate.TheVariants.{Stands, Moves}
 use Rattle.cu_edits.specs.Steps.Moving.{KeepsFate, MovedValue}
@@ -114,7 +115,7 @@ module _ (old one two new : MovedValue) (edge : ℕ) (up down : Fate) (upwards d
   down_at =
       ap (λ (ps : List ℕ). slice_get ps (list_number edge Down)) places
       ∙ get_here (slice_set two.places (list_number edge Up) upwards) (list_number edge Down) downwards
-      (let long = set_long two.places (list_number edge Up) upwards in omega (arith, long_two, long))
+      (let long = length-set two.places (list_number edge Up) upwards in omega (arith, long_two, long))
 
   own : (dir : Dir) → IsPlacedAs new edge dir (fate_in up down dir)
   own Up = placed_as old one new edge Up up upwards first later up_at
@@ -122,7 +123,7 @@ module _ (old one two new : MovedValue) (edge : ℕ) (up down : Fate) (upwards d
 
   pub placed_both : ArePlaced old new edge (fate_in up down)
   placed_both = record {
-    long = ap length places ∙ set_long (slice_set two.places (list_number edge Up) upwards) (list_number edge Down) downwards ∙ set_long two.places (list_number edge Up) upwards ∙ ap length same_places;
+    long = ap length places ∙ length-set (slice_set two.places (list_number edge Up) upwards) (list_number edge Down) downwards ∙ length-set two.places (list_number edge Up) upwards ∙ ap length same_places;
     inside = all_inside;
     others = λ e dir ne.
         ap (λ (ps : List ℕ). slice_get ps (list_number e dir)) places

@@ -13,11 +13,11 @@ use Rattle.cu_interval.specs.Replacing.{hierarchy_with}
 use Rattle.cu_interval.specs.Resettling.{IsResettled}
 use Rattle.cu_interval.specs.Touching.{IsTouchedEdge, NumbersTouched}
 use Rattle.cu_links.specs.Buckets.{BucketsValue, IsHeld, cleared}
+use Rattle.cu_chordal.proofs.Decided.{member_decided}
 use Rattle.cu_edits.specs.Settling.{HasFinalSides, IsResettledEdge, IsSettled, SettlingValue, numbers_of, settled_so_far}
 use Rattle.cu_edits.specs.Steps.Known.{IsEditSound}
 use Rattle.cu_edits.specs.Steps.Settled.{AreSettled}
 use Rattle.cu_edits.specs.Steps.Spreading.{Adds, IsOfChanged, Takes}
-use Rattle.cu_edits.proofs.Replaced.{among_or_not}
 use Rattle.cu_edits.proofs.SettledAll.{AllSettled, all_resettled, all_sound, sorted_numbers, sorted_same}
 use Rattle.cu_edits.proofs.SettledFrames.{settled_more, settled_none}
 use Rattle.cu_edits.proofs.Spreading.{lower_first, spreading_end}
@@ -54,7 +54,7 @@ next_here h sound edit old new lists edge taken (rank, lowest, adds) =
     record {
       touched = taken.spreading.held edge rank lowest.held;
       fresh = λ c. absurd (cc ((taken.listed edge).0 c, lowest.held));
-      sides = λ side (same, m, there, lower, higher, which). elim (among_or_not (numbers_of lists) side) [
+      sides = λ side (same, m, there, lower, higher, which). elim (member_decided (numbers_of lists) side) [
         | inl c ↦ inl c
         | inr n ↦ inr (λ touched.
             let (given, place, is_touched) = touched in

@@ -1,12 +1,14 @@
 -- The lists of a hierarchy after those of some edges were replaced.
-use Rattle.std.proofs.Common.{◌≡◌, ◌≢◌, ◌<◌, ◌+◌, ◌*◌, ◌/◌, ◌%◌, ◌∙◌, ◌⊎◌, ℕ, suc, List, [], ◌∷◌, ◌++◌, Some, refl, ap, sym, subst, arith, inl, inr, length}
+use Rattle.std.proofs.Common.{◌≡◌, ◌≢◌, ◌<◌, ◌+◌, ◌*◌, ◌/◌, ◌%◌, ◌∙◌, ℕ, List, [], ◌∷◌, ◌++◌, Some, refl, ap, sym, subst, arith, inl, inr, length}
 use Rattle.std.specs.Prelude.{slice_get, slice_set}
 use Rattle.std.specs.List.{AllPairs, Contains}
 use Rattle.std.proofs.lemmas.Bool.{cases_eq}
 use Rattle.std.proofs.lemmas.List.Elements.{All-contains}
+use Rattle.std.proofs.lemmas.List.{length-set}
 use Rattle.cu_model.specs.declared.roads.Edit.{Edit}
-use Rattle.cu_links.proofs.Links.{get_here, get_other, set_long}
+use Rattle.cu_model.proofs.ListLaws.{get_here, get_other, same_items}
 use Rattle.cu_chordal.proofs.Members.{here, member_cases, none_in_nil, pairs_head, pairs_tail, there}
+use Rattle.cu_chordal.proofs.Decided.{member_decided}
 use Rattle.cu_interval.specs.declared.ways.Dir.{Dir}
 use Rattle.cu_interval.specs.declared.ways.Dir.TheVariants.{Up, Down}
 use Rattle.cu_interval.specs.declared.ways.Entry.{Entry}
@@ -26,7 +28,7 @@ numbers_apart e f Down Up ne same = omega (arith, same)
 numbers_apart e f Down Down ne same = ne (omega (arith, same))
 
 pub replaced_by_long : (lists : List (List Entry)) (t : TouchedEdge) → length (replaced_by lists t) ≡ length lists
-replaced_by_long lists t = set_long (slice_set lists (list_number t.edge Up) t.up) (list_number t.edge Down) t.down ∙ set_long lists (list_number t.edge Up) t.up
+replaced_by_long lists t = length-set (slice_set lists (list_number t.edge Up) t.up) (list_number t.edge Down) t.down ∙ length-set lists (list_number t.edge Up) t.up
 
 pub replaced_by_other : (lists : List (List Entry)) (t : TouchedEdge) (e : ℕ) (d : Dir) → t.edge ≢ e → slice_get (replaced_by lists t) (list_number e d) ≡ slice_get lists (list_number e d)
 replaced_by_other lists t e d ne =
@@ -38,7 +40,7 @@ replaced_by_here lists t Up lt =
     get_other (slice_set lists (list_number t.edge Up) t.up) (list_number t.edge Down) (list_number t.edge Up) t.down (λ same. omega (arith, same))
     ∙ get_here lists (list_number t.edge Up) t.up (omega (arith, lt))
 replaced_by_here lists t Down lt =
-    let long = set_long lists (list_number t.edge Up) t.up in
+    let long = length-set lists (list_number t.edge Up) t.up in
     get_here (slice_set lists (list_number t.edge Up) t.up) (list_number t.edge Down) t.down (omega (arith, lt, long))
 
 pub replaced_long : (edges : List TouchedEdge) (lists : List (List Entry)) → length (replaced lists edges) ≡ length lists
@@ -111,27 +113,6 @@ number_parts n = elim (cases_eq (n % 2) 0) [
   | inr odd ↦ (n / 2, Down, omega (arith, odd))
 ]
 
-same_items : {X : Type 0} (xs ys : List X) → ((i : ℕ) → slice_get xs i ≡ slice_get ys i) → xs ≡ ys
-same_items [] [] same = refl
-same_items [] (y ∷ ys) same = absurd (cc (same 0))
-same_items (x ∷ xs) [] same = absurd (cc (same 0))
-same_items {X} (x ∷ xs) (y ∷ ys) same =
-    let first : x ≡ y = cc (same 0) in
-    ap (λ (z : X). z ∷ xs) first ∙ ap (λ (zs : List X). y ∷ zs) (same_items xs ys (λ i. same (suc i)))
-
-pub among_or_not : (xs : List ℕ) (e : ℕ) → Contains xs e ⊎ (Contains xs e → ⊥)
-among_or_not [] e = inr (λ c. none_in_nil e c)
-among_or_not (x ∷ xs) e = elim (cases_eq x e) [
-  | inl same ↦ inl (subst (Contains (x ∷ xs)) same (here x xs))
-  | inr other ↦ elim (among_or_not xs e) [
-    | inl later ↦ inl (there x xs e later)
-    | inr not_later ↦ inr (λ c. elim (member_cases x xs e c) [
-      | inl same ↦ other same
-      | inr later ↦ not_later later
-    ])
-  ]
-]
-
 -- the order in which lists are replaced doesn't matter
 pub replaced_same : (first second : List TouchedEdge) (lists : List (List Entry)) → AreApart first → AreApart second → ((t : TouchedEdge) → Contains first t → Contains second t)
     → ((t : TouchedEdge) → Contains second t → Contains first t) → ((t : TouchedEdge) → Contains first t → 2 * t.edge + 1 < length lists)
@@ -140,7 +121,7 @@ replaced_same first second lists apart differ there_too back within =
     same_items (replaced lists first) (replaced lists second) (λ i.
     let (e, d, is) = number_parts i in
     subst (λ (n : ℕ). slice_get (replaced lists first) n ≡ slice_get (replaced lists second) n) is
-    (elim (among_or_not (numbers_of first) e) [
+    (elim (member_decided (numbers_of first) e) [
       | inl c ↦
           let (t, among, same) = number_of_one first e c in
           subst (λ (n : ℕ). slice_get (replaced lists first) (list_number n d) ≡ slice_get (replaced lists second) (list_number n d)) same

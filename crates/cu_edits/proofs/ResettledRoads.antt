@@ -9,7 +9,7 @@ use Rattle.cu_model.specs.Networks.{NetworkValue}
 use Rattle.cu_model.specs.Orders.{OrderValue}
 use Rattle.cu_model.specs.Profiles.{is_closed}
 use Rattle.cu_model.specs.Roads.{arc_value, is_closed_arc, is_closed_by, pieces_or_none, value_by, value_of}
-use Rattle.cu_links.proofs.Links.{get_other}
+use Rattle.cu_model.proofs.ListLaws.{get_other}
 use Rattle.cu_interval.specs.Low.{LeadsRanks}
 use Rattle.cu_interval.specs.Touching.{IsChanged}
 

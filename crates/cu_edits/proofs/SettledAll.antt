@@ -15,6 +15,7 @@ use Rattle.cu_model.proofs.RoadLaws.{all_at}
 use Rattle.cu_chordal.specs.declared.graph.Ends.{Ends}
 use Rattle.cu_chordal.specs.Graphs.{IsChordal}
 use Rattle.cu_chordal.proofs.Members.{flips}
+use Rattle.cu_chordal.proofs.Decided.{member_decided}
 use Rattle.cu_interval.specs.declared.ways.Dir.{Dir}
 use Rattle.cu_interval.specs.declared.ways.Way.{Way}
 use Rattle.cu_interval.specs.declared.ways.Way.TheVariants.{Road, Via}
@@ -30,7 +31,7 @@ use Rattle.cu_edits.specs.Steps.Known.{IsEditSound}
 use Rattle.cu_edits.specs.Steps.Settled.{AreSettled}
 use Rattle.cu_edits.specs.Steps.Frames.{LeadsOver}
 use Rattle.cu_edits.proofs.Frames.{candidates_alone}
-use Rattle.cu_edits.proofs.Replaced.{AreApart, among_or_not, number_among, number_of_one, number_parts, replaced_long, replaced_other, replaced_same}
+use Rattle.cu_edits.proofs.Replaced.{AreApart, number_among, number_of_one, number_parts, replaced_long, replaced_other, replaced_same}
 use Rattle.cu_edits.proofs.SettledFrames.{all_so, leads_touched, settled_list, untouched_frame, untouched_list, untouched_sides}
 use Rattle.cu_edits.proofs.Sides.{edge_down, edge_up, halves_good, over}
 use Rattle.cu_edits.proofs.Unchanged.{edited_network, leads_joins, leads_still}
@@ -57,7 +58,7 @@ all_resettled s are all = record {
 
 -- each list is a way list
 spelled_at : (s : SettlingValue) → AreSettled s → (e : ℕ) (d : Dir) (entries : List Entry) → slice_get (settled_so_far s).lists (list_number e d) ≡ Some entries → IsWayList entries
-spelled_at s are e d entries at = elim (among_or_not (numbers_of s.settled) e) [
+spelled_at s are e d entries at = elim (member_decided (numbers_of s.settled) e) [
   | inl c ↦
       let (t, among, same) = number_of_one s.settled e c in
       let (ends, there, touched) = are.touched e c in
@@ -100,7 +101,7 @@ formed_at s are all edge dir ends at =
     let now = settled_so_far s in
     let u = start_of ends dir in
     let v = end_of ends dir in
-    elim (among_or_not (numbers_of s.settled) edge) [
+    elim (member_decided (numbers_of s.settled) edge) [
       | inl c ↦
           let (t, among, same) = number_of_one s.settled edge c in
           let runs = are.lists t among dir ends (subst (λ (k : ℕ). slice_get s.before.edges k ≡ Some ends) (sym same) at) in

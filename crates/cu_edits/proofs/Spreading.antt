@@ -2,12 +2,13 @@
 use Rattle.std.proofs.Common.{◌≡◌, ◌≢◌, ◌≤◌, ◌<◌, ◌+◌, ◌∙◌, ◌⊎◌, ℕ, List, Option, Some, refl, ap, sym, subst, arith, inl, inr, length}
 use Rattle.std.specs.Prelude.{◌↔◌, max, min, replicate, slice_get}
 use Rattle.std.proofs.lemmas.Bool.{cases_eq, cases_lt}
-use Rattle.std.proofs.lemmas.List.{length-replicate}
+use Rattle.std.proofs.lemmas.List.{length-replicate, length-set}
 use Rattle.std.proofs.lemmas.List.Elements.{All-replicate}
 use Rattle.std.proofs.lemmas.Option.{slice_get_cases, slice_get_within}
 use Rattle.cu_model.proofs.RoadLaws.{all_at}
 use Rattle.cu_model.specs.declared.roads.Edit.{Edit}
 use Rattle.cu_model.proofs.OptionLaws.{same_value}
+use Rattle.cu_model.proofs.ListLaws.{get_here, get_other}
 use Rattle.cu_chordal.specs.declared.graph.Ends.{Ends}
 use Rattle.cu_chordal.specs.Graphs.{ChordalValue, HasEdge}
 use Rattle.cu_chordal.proofs.Members.{member_at, place_of}
@@ -17,7 +18,6 @@ use Rattle.cu_interval.proofs.EndsLaws.{ends_rise}
 use Rattle.cu_links.specs.declared.buckets.EdgeState.{EdgeState}
 use Rattle.cu_links.specs.declared.buckets.EdgeState.TheVariants.{Free, Held, Done}
 use Rattle.cu_links.specs.Buckets.{BucketsValue, IsDone, IsFree, IsHeld, IsLowestHeld, cleared, popped}
-use Rattle.cu_links.proofs.Links.{get_here, get_other, set_long}
 use Rattle.cu_edits.specs.Steps.Spreading.{Adds, AreBucketsOf, IsAbove, IsBetween, IsLowEnd, IsOfChanged, Takes}
 use Rattle.cu_edits.proofs.AddingEdges.{buckets_of_added, done_before, free_before}
 
@@ -131,7 +131,7 @@ module _ (buckets : BucketsValue) (edge rank : ℕ) (held : IsHeld buckets edge 
   pub buckets_of_popped : (graph : ChordalValue) → AreBucketsOf graph buckets → AreBucketsOf graph (popped buckets edge rank)
   buckets_of_popped graph fit = record {
     ranks = fit.ranks;
-    count = set_long buckets.states edge Done ∙ fit.count;
+    count = length-set buckets.states edge Done ∙ fit.count;
     held = λ e r at. fit.held e r (popped_other e (Held r) (λ x. absurd (cc x)) at);
   }
 

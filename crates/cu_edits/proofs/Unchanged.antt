@@ -3,6 +3,7 @@ use Rattle.std.proofs.Common.{◌≡◌, ◌≢◌, ◌<◌, ◌∙◌, ℕ, Lis
 use Rattle.std.specs.Prelude.{All, slice_get, slice_set}
 use Rattle.std.proofs.lemmas.Bool.{cases_eq}
 use Rattle.std.proofs.lemmas.Option.{slice_get-get_or}
+use Rattle.std.proofs.lemmas.List.{length-set}
 use Rattle.cu_model.specs.declared.profiles.Piece.{Piece}
 use Rattle.cu_model.specs.declared.roads.RoadArc.{RoadArc}
 use Rattle.cu_model.specs.declared.roads.Edit.{Edit}
@@ -13,7 +14,7 @@ use Rattle.cu_model.specs.Orders.{OrderValue}
 use Rattle.cu_model.specs.Profiles.{IsProfile, is_closed}
 use Rattle.cu_model.specs.Roads.{arc_value, is_closed_arc, is_closed_by, pieces_or_none, value_by, value_of}
 use Rattle.cu_model.proofs.RoadLaws.{all_at}
-use Rattle.cu_links.proofs.Links.{get_here, get_other, set_long}
+use Rattle.cu_model.proofs.ListLaws.{get_here, get_other}
 use Rattle.cu_chordal.specs.Edges.{LinksRanks}
 use Rattle.cu_interval.specs.Low.{LeadsRanks}
 use Rattle.cu_interval.specs.Touching.{IsChanged}
@@ -76,7 +77,7 @@ leads_still g o edit a x y not_changed leads =
 -- all elements of a list of which one is replaced
 pub all_set : {X : Type 0} (P : X → Type 0) (xs : List X) (i : ℕ) (x : X) → All P xs → P x → All P (slice_set xs i x)
 all_set {X} P xs i x all one = λ k d lt.
-    let long = set_long xs i x in
+    let long = length-set xs i x in
     elim (cases_eq i k) [
       | inl same ↦
           let at : slice_get (slice_set xs i x) k ≡ Some x = subst (λ (j : ℕ). slice_get (slice_set xs i x) j ≡ Some x) same (get_here xs i x (omega (arith, lt, long, same))) in
@@ -92,7 +93,7 @@ in_range_by g n same arc (tail, head, profile) = (tail, head, subst (λ (k : ℕ
 
 pub reassigned_long : (old : Option RoadArc) (a profile : ℕ) (arcs : List RoadArc) → length (reassigned old a profile arcs) ≡ length arcs
 reassigned_long None a profile arcs = refl
-reassigned_long (Some arc) a profile arcs = set_long arcs a (record arc { profile = profile })
+reassigned_long (Some arc) a profile arcs = length-set arcs a (record arc { profile = profile })
 
 reassigned_range : (g : NetworkValue) (old : Option RoadArc) (a profile : ℕ) → slice_get g.arcs a ≡ old → All (IsArcInRange g) g.arcs → profile < length g.profiles
     → All (IsArcInRange g) (reassigned old a profile g.arcs)
@@ -104,7 +105,7 @@ reassigned_range g (Some arc) a profile at all lt =
 -- a network after an edit is one
 pub edited_network : (g : NetworkValue) (edit : Edit) → IsNetwork g → IsEditInRange g edit → IsEditSound edit → IsNetwork (edited g edit)
 edited_network g (Set profile pieces) sound range sets =
-    let long = set_long g.profiles profile pieces in record {
+    let long = length-set g.profiles profile pieces in record {
       few_nodes = sound.few_nodes;
       few_arcs = sound.few_arcs;
       few_profiles = (let few = sound.few_profiles in omega (arith, few, long));

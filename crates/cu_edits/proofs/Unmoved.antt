@@ -10,7 +10,7 @@ use Rattle.cu_model.specs.Edits.{edited, reassigned}
 use Rattle.cu_model.specs.Networks.{NetworkValue}
 use Rattle.cu_model.specs.Orders.{OrderValue}
 use Rattle.cu_model.specs.Roads.{Links}
-use Rattle.cu_links.proofs.Links.{get_here, get_other}
+use Rattle.cu_model.proofs.ListLaws.{get_here, get_other}
 use Rattle.cu_chordal.specs.Edges.{Adjacent, IsClosureOf, IsEdge, LinksRanks, PathBelow}
 use Rattle.cu_chordal.specs.Graphs.{ChordalValue}
 

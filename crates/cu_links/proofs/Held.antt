@@ -3,16 +3,16 @@ use Rattle.std.proofs.Common.{◌≡◌, ◌≢◌, ◌≤◌, ◌<◌, ◌^◌,
 use Rattle.std.specs.Prelude.{All, ◌↔◌, replicate, slice_get, slice_set}
 use Rattle.std.specs.List.{Contains}
 use Rattle.std.proofs.lemmas.Bool.{cases_eq}
-use Rattle.std.proofs.lemmas.List.{length-replicate}
+use Rattle.std.proofs.lemmas.List.{length-replicate, length-set}
 use Rattle.std.proofs.lemmas.List.Elements.{All-replicate, Contains-append_right}
 use Rattle.std.proofs.lemmas.Map.Made.{Contains-tail}
 use Rattle.std.proofs.lemmas.Option.{slice_get-get_or, slice_get_within}
 use Rattle.cu_model.proofs.RoadLaws.{all_at}
 use Rattle.cu_model.proofs.OptionLaws.{same_value}
+use Rattle.cu_model.proofs.ListLaws.{get_here, get_other}
 use Rattle.cu_links.specs.declared.buckets.EdgeState.{EdgeState}
 use Rattle.cu_links.specs.declared.buckets.EdgeState.TheVariants.{Free, Held, Done}
 use Rattle.cu_links.specs.Steps.Bucketed.{AreBuckets, AreLinked, FindsFirst, IsBucket, IsFirst}
-use Rattle.cu_links.proofs.Links.{get_here, get_other, set_long}
 
 -- one state holds an edge at one rank
 pub same_rank : (a b : ℕ) (o : Option EdgeState) → o ≡ Some (Held a) → o ≡ Some (Held b) → a ≡ b
@@ -107,9 +107,9 @@ pub buckets_more : (firsts nexts : List (Option ℕ)) (states : List EdgeState) 
 buckets_more firsts nexts states last edge rank first f free at onward =
     let lt = slice_get_within states edge Free free in
     let inside = slice_get_within firsts rank first at in
-    let firsts_long = set_long firsts rank (Some edge) in
+    let firsts_long = length-set firsts rank (Some edge) in
     record {
-      long = set_long nexts edge first ∙ f.long ∙ sym (set_long states edge (Held rank));
+      long = length-set nexts edge first ∙ f.long ∙ sym (length-set states edge (Held rank));
       few = subst (λ (n : ℕ). n < 2 ^ 32) (sym firsts_long) f.few;
       within = λ e r h.
           elim (cases_eq edge e) [
@@ -172,11 +172,11 @@ module _ (firsts nexts : List (Option ℕ)) (states : List EdgeState) (last : �
   buckets_fewer edge rank next f first at =
       let held = first_held_at edge rank f first.there in
       let inside = slice_get_within firsts rank (Some edge) first.there in
-      let firsts_long = set_long firsts rank next in
+      let firsts_long = length-set firsts rank next in
       let away : (r : ℕ) → (rank ≡ r → ⊥) → (e : ℕ) → (slice_get states e ≡ Some (Held r)) ↔ (slice_get (slice_set states edge Done) e ≡ Some (Held r)) =
       λ r other. held_kept states edge r (Held rank) Done held (λ x. other (same_rank rank r (Some (Held rank)) refl (ap Some x))) (λ x. absurd (cc x)) in
       record {
-        long = f.long ∙ sym (set_long states edge Done);
+        long = f.long ∙ sym (length-set states edge Done);
         few = subst (λ (n : ℕ). n < 2 ^ 32) (sym firsts_long) f.few;
         within = λ e r h.
             let was : slice_get states e ≡ Some (Held r) = elim (cases_eq edge e) [

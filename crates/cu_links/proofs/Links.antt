@@ -3,26 +3,10 @@ use Rattle.std.proofs.Common.{◌≡◌, ◌≢◌, ◌≤◌, ◌<◌, ◌+◌,
 use Rattle.std.specs.Prelude.{All, true, false, is_some, slice_get, slice_set}
 use Rattle.std.proofs.lemmas.Bool.{cases_eq}
 use Rattle.std.proofs.lemmas.Option.{slice_get-get_or, slice_get_read}
+use Rattle.cu_model.proofs.ListLaws.{get_here, get_other}
 use Rattle.cu_model.proofs.OptionLaws.{same_value}
 use Rattle.cu_links.specs.Chains.{link_at, link_or_none}
 use Rattle.cu_links.specs.Steps.Kept.{IsNoted, linked}
-
-pub get_here : {X : Type 0} (xs : List X) (i : ℕ) (x : X) → i < length xs → slice_get (slice_set xs i x) i ≡ Some x
-get_here [] i x lt = absurd (omega (arith, lt))
-get_here (y ∷ ys) zero x lt = refl
-get_here (y ∷ ys) (suc i) x lt = get_here ys i x (omega (arith, lt))
-
-pub get_other : {X : Type 0} (xs : List X) (i j : ℕ) (x : X) → i ≢ j → slice_get (slice_set xs i x) j ≡ slice_get xs j
-get_other [] i j x ne = refl
-get_other (y ∷ ys) zero zero x ne = absurd (ne refl)
-get_other (y ∷ ys) zero (suc j) x ne = refl
-get_other (y ∷ ys) (suc i) zero x ne = refl
-get_other (y ∷ ys) (suc i) (suc j) x ne = get_other ys i j x (λ same. ne (ap (λ (n : ℕ). suc n) same))
-
-pub set_long : {X : Type 0} (xs : List X) (i : ℕ) (x : X) → length (slice_set xs i x) ≡ length xs
-set_long [] i x = refl
-set_long (y ∷ ys) zero x = refl
-set_long (y ∷ ys) (suc i) x = ap (λ (n : ℕ). suc n) (set_long ys i x)
 
 module _ (links : List (Option (ℕ × ℕ))) (place : ℕ) where
   pub link_here : (link : Option (ℕ × ℕ)) → place < length links → link_at (slice_set links place link) place ≡ link

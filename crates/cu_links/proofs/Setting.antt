@@ -3,11 +3,12 @@ use Rattle.std.proofs.Common.{◌≡◌, ◌≢◌, ◌<◌, ◌+◌, ◌∙◌,
 use Rattle.std.specs.Prelude.{All, false, Bool, slice_get, slice_set}
 use Rattle.std.proofs.lemmas.Bool.{cases_eq}
 use Rattle.std.proofs.Math.Seq.{take-append_seam}
+use Rattle.std.proofs.lemmas.List.{length-set}
 use Rattle.cu_model.proofs.OptionLaws.{same_value}
 use Rattle.cu_links.specs.Chains.{IsChain, IsOnChainTo, link_at}
 use Rattle.cu_links.specs.Steps.Kept.{IsDeep, IsGrounded, IsKept, IsNoted, MayGrow, Relinks, linked}
 use Rattle.cu_links.proofs.Depths.{same_from}
-use Rattle.cu_links.proofs.Links.{link_here, link_other, linked_few, linked_more, linked_same, noted_more, noted_new, places_more, set_long}
+use Rattle.cu_links.proofs.Links.{link_here, link_other, linked_few, linked_more, linked_same, noted_more, noted_new, places_more}
 
 chain_push : (links : List (Option (ℕ × ℕ))) (a : ℕ) (steps : List (ℕ × ℕ)) (b c label : ℕ) → IsChain links a steps b → link_at links c ≡ Some (b, label) → IsChain links a (steps ++ ((c, label) ∷ [])) c
 chain_push links a [] b c label same at = (at ∙ ap (λ (p : ℕ). Some (p, label)) (sym same), refl)
@@ -45,7 +46,7 @@ grow_set links count after place from label g lt inside apart is =
     record {
       grounded = λ q. let (m, e) = g.grounded q in regrounded links place from label lt reached m q e;
       within = λ q link e.
-          let long = set_long links place (Some (from, label)) in
+          let long = length-set links place (Some (from, label)) in
           elim (cases_eq place q) [
             | inl same ↦
                 let here : link_at (slice_set links place (Some (from, label))) q ≡ Some (from, label) = subst (λ (p : ℕ). link_at (slice_set links place (Some (from, label))) p ≡ Some (from, label)) same (link_here links place (Some (from, label)) lt) in
@@ -60,13 +61,13 @@ grow_set links count after place from label g lt inside apart is =
 
 noted_long : (links : List (Option (ℕ × ℕ))) (place : ℕ) (link : Option (ℕ × ℕ)) (noted : List ℕ) (count : ℕ) → ((i p : ℕ) → i < count → slice_get noted i ≡ Some p → p < length links)
     → (i p : ℕ) → i < count → slice_get noted i ≡ Some p → p < length (slice_set links place link)
-noted_long links place link noted count all i p lt e = let long = set_long links place link in let below = all i p lt e in omega (arith, long, below)
+noted_long links place link noted count all i p lt e = let long = length-set links place link in let below = all i p lt e in omega (arith, long, below)
 
 -- a place that has a link gets another
 pub kept_again : (links : List (Option (ℕ × ℕ))) (noted : List ℕ) (count place from label : ℕ) (other : ℕ × ℕ) → IsKept links noted count false → place < length links → from < length links → (IsOnChainTo links place from → ⊥)
     → link_at links place ≡ Some other → IsKept (slice_set links place (Some (from, label))) noted count false
 kept_again links noted count place from label other k lt inside apart at =
-    let long = set_long links place (Some (from, label)) in
+    let long = length-set links place (Some (from, label)) in
     let g = k.grow refl in
     let room = k.room in
     record {
@@ -87,8 +88,8 @@ kept_again links noted count place from label other k lt inside apart at =
 pub kept_new : (links : List (Option (ℕ × ℕ))) (noted : List ℕ) (count place from label : ℕ) → IsKept links noted count false → place < length links → from < length links → (IsOnChainTo links place from → ⊥)
     → link_at links place ≡ None → IsKept (slice_set links place (Some (from, label))) (slice_set noted count place) (count + 1) false
 kept_new links noted count place from label k lt inside apart at =
-    let long = set_long links place (Some (from, label)) in
-    let noted_ = set_long noted count place in
+    let long = length-set links place (Some (from, label)) in
+    let noted_ = length-set noted count place in
     let g = k.grow refl in
     let room = k.room in
     let few = linked_few links in
@@ -113,7 +114,7 @@ kept_new links noted count place from label k lt inside apart at =
 pub kept_turned : (links now : List (Option (ℕ × ℕ))) (noted : List ℕ) (count first : ℕ) (turned : Bool) → IsKept links noted count false → length now ≡ length links → first < length links → Relinks links now first
     → (turned ≡ false → ⊥) → IsKept now (slice_set noted count first) (count + 1) turned
 kept_turned links now noted count first turned k long lt relinks is =
-    let noted_ = set_long noted count first in
+    let noted_ = length-set noted count first in
     let g = k.grow refl in
     let room = k.room in
     let few = linked_few links in

@@ -2,10 +2,11 @@
 use Rattle.std.proofs.Common.{◌≡◌, ◌≢◌, ◌≤◌, ◌<◌, ◌∙◌, ℕ, zero, suc, List, [], ◌∷◌, Option, Some, None, refl, sym, subst, arith, inl, inr, length}
 use Rattle.std.specs.Prelude.{slice_set}
 use Rattle.std.proofs.lemmas.Bool.{cases_eq}
+use Rattle.std.proofs.lemmas.List.{length-set}
 use Rattle.cu_links.specs.Chains.{AreFollowed, IsChain, IsTurned, link_at}
 use Rattle.cu_links.specs.Steps.Kept.{AreWithin, IsDeep, IsGrounded, Relinks}
 use Rattle.cu_links.proofs.Depths.{deep_same, depth_by, depth_whole, same_from}
-use Rattle.cu_links.proofs.Links.{link_here, link_other, set_long}
+use Rattle.cu_links.proofs.Links.{link_here, link_other}
 
 -- the steps behind the place are turned, and the next of them is at hand
 abbrev pub IsNext : List (Option (ℕ × ℕ)) → Option (ℕ × ℕ) → List (ℕ × ℕ) → Type 0
@@ -63,7 +64,7 @@ step_by old now last place next from label (suc n) lt long d kept steps chain ah
     let there : link_at old place ≡ Some (from, label) = sym (kept place (suc n) d (omega arith)) ∙ at in
     let same = same_from (link_at old place) d.0 d.1 from label d.2 there in (
       record {
-        long = set_long now place next ∙ long;
+        long = length-set now place next ∙ long;
         depth = n;
         deep = subst (λ (p : ℕ). IsDeep old n p) same d.3;
         kept = λ q m e le.

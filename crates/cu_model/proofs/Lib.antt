@@ -1,4 +1,5 @@
 pub mod OptionLaws
+pub mod ListLaws
 pub mod DayLaws
 pub mod ProfileLaws
 pub mod RoadLaws

@@ -4,31 +4,14 @@ use Rattle.std.specs.Prelude.{All, slice_get, slice_range}
 use Rattle.std.specs.List.Sorted.{IsStrictlyIncreasing}
 use Rattle.std.specs.Option.{option_map}
 use Rattle.std.proofs.lemmas.Bool.{cases_lt}
-use Rattle.std.proofs.lemmas.List.{length-drop}
+use Rattle.std.proofs.lemmas.List.{length-drop, length-set}
 use Rattle.std.proofs.lemmas.List.Kept.{AllPairs-from_increasing}
 use Rattle.std.proofs.lemmas.Option.{get_or_from_slice_get, same_Some, slice_get-map, slice_get_within}
 use Rattle.cu_model.proofs.RoadLaws.{all_at}
+use Rattle.cu_model.proofs.ListLaws.{get_here, get_other}
 use Rattle.cu_interval.specs.declared.ways.Entry.{Entry}
 use Rattle.cu_interval.specs.declared.ways.TouchedEdge.{TouchedEdge}
 use Rattle.cu_interval.specs.Replacing.{replaced, replaced_by}
-
--- a list with an item set: that item, and the others
-pub set_there : {X : Type 0} (xs : List X) (i : ℕ) (x : X) → i < length xs → slice_get (set xs i x) i ≡ Some x
-set_there [] i x inside = absurd (omega (arith, inside))
-set_there (y ∷ xs) zero x inside = refl
-set_there (y ∷ xs) (suc i) x inside = set_there xs i x (omega (arith, inside))
-
-pub set_elsewhere : {X : Type 0} (xs : List X) (i j : ℕ) (x : X) → j ≢ i → slice_get (set xs i x) j ≡ slice_get xs j
-set_elsewhere [] i j x apart = refl
-set_elsewhere (y ∷ xs) zero zero x apart = absurd (apart refl)
-set_elsewhere (y ∷ xs) zero (suc j) x apart = refl
-set_elsewhere (y ∷ xs) (suc i) zero x apart = refl
-set_elsewhere (y ∷ xs) (suc i) (suc j) x apart = set_elsewhere xs i j x (λ same. apart (ap suc same))
-
-pub set_long : {X : Type 0} (xs : List X) (i : ℕ) (x : X) → length (set xs i x) ≡ length xs
-set_long [] i x = refl
-set_long (y ∷ xs) zero x = refl
-set_long (y ∷ xs) (suc i) x = ap suc (set_long xs i x)
 
 -- stretches with the same items are the same
 take_same : {X : Type 0} (n : ℕ) (xs ys : List X) → length xs ≡ length ys → ((k : ℕ) → k < n → slice_get xs k ≡ slice_get ys k) → take n xs ≡ take n ys
@@ -71,7 +54,7 @@ abbrev pub IsApart : List TouchedEdge → ℕ → Type 0
 IsApart touched k = (i : ℕ) (t : TouchedEdge) → slice_get touched i ≡ Some t → (k ≢ 2 * t.edge) × (k ≢ 2 * t.edge + 1)
 
 replaced_by_long : (lists : List (List Entry)) (t : TouchedEdge) → length (replaced_by lists t) ≡ length lists
-replaced_by_long lists t = set_long (set lists (2 * t.edge) t.up) (2 * t.edge + 1) t.down ∙ set_long lists (2 * t.edge) t.up
+replaced_by_long lists t = length-set (set lists (2 * t.edge) t.up) (2 * t.edge + 1) t.down ∙ length-set lists (2 * t.edge) t.up
 
 pub replaced_long : (lists : List (List Entry)) (touched : List TouchedEdge) → length (replaced lists touched) ≡ length lists
 replaced_long lists [] = refl
@@ -83,7 +66,7 @@ replaced_elsewhere lists [] k apart = refl
 replaced_elsewhere lists (t ∷ touched) k apart =
     let here = apart 0 t refl in
     replaced_elsewhere (replaced_by lists t) touched k (λ i u there. apart (suc i) u there)
-    ∙ set_elsewhere (set lists (2 * t.edge) t.up) (2 * t.edge + 1) k t.down here.1 ∙ set_elsewhere lists (2 * t.edge) k t.up here.0
+    ∙ get_other (set lists (2 * t.edge) t.up) (2 * t.edge + 1) k t.down (λ same. here.1 (sym same)) ∙ get_other lists (2 * t.edge) k t.up (λ same. here.0 (sym same))
 
 -- both lists of an edge are its own
 abbrev pub AreOwn : List (List Entry) → TouchedEdge → Type 0
@@ -92,9 +75,9 @@ AreOwn lists t = (slice_get lists (2 * t.edge) ≡ Some t.up) × (slice_get list
 own_first : (lists : List (List Entry)) (t : TouchedEdge) → 2 * t.edge + 1 < length lists → AreOwn (replaced_by lists t) t
 own_first lists t inside =
     let set_up = set lists (2 * t.edge) t.up in
-    let long = set_long lists (2 * t.edge) t.up in (
-      set_elsewhere set_up (2 * t.edge + 1) (2 * t.edge) t.down (λ same. absurd (omega (arith, same))) ∙ set_there lists (2 * t.edge) t.up (omega (arith, inside)),
-      set_there set_up (2 * t.edge + 1) t.down (omega (arith, inside, long)),
+    let long = length-set lists (2 * t.edge) t.up in (
+      get_other set_up (2 * t.edge + 1) (2 * t.edge) t.down (λ same. absurd (omega (arith, same))) ∙ get_here lists (2 * t.edge) t.up (omega (arith, inside)),
+      get_here set_up (2 * t.edge + 1) t.down (omega (arith, inside, long)),
     )
 
 own_kept : (lists : List (List Entry)) (touched : List TouchedEdge) (t : TouchedEdge) → ((i : ℕ) (u : TouchedEdge) → slice_get touched i ≡ Some u → t.edge < u.edge) → AreOwn lists t → AreOwn (replaced lists touched) t

@@ -3,13 +3,12 @@ use Rattle.std.proofs.Common.{◌≡◌, ◌≤◌, ◌<◌, ◌+◌, ◌-◌, �
 use Rattle.std.specs.Prelude.{slice_get, slice_range}
 use Rattle.std.specs.List.{range_with_len}
 use Rattle.std.proofs.lemmas.Grind.{flat_map-append}
-use Rattle.std.proofs.lemmas.List.{append_assoc, length-drop, set_split, take_all}
+use Rattle.std.proofs.lemmas.List.{append_assoc, length-drop, length-set, set_split, take_all}
 use Rattle.std.proofs.lemmas.List.Sums.{sum_by-set}
 use Rattle.std.proofs.lemmas.Option.{get_or_from_slice_get, slice_get_within}
 use Rattle.cu_pack.specs.Spelling.{long, starts_from, total}
 use Rattle.cu_pack.proofs.CountedStarts.{before_list, counted_same, first_starts, set_before, set_behind, starts_counted}
 use Rattle.cu_pack.proofs.Putting.{put_next}
-use Rattle.cu_pack.proofs.Replaced.{set_long}
 
 -- the first items, the last, and all
 pub first_items : {X : Type 0} (xs : List X) (n : ℕ) → slice_range xs 0 n ≡ take n xs
@@ -66,6 +65,6 @@ module _ {T : Type 0} (lists : List (List T)) (i : ℕ) (old new : List T) (ther
   pub set_starts_all : (k : ℕ) (start bytes : List ℕ) → k ≡ length lists + 1 → bytes ≡ start ++ flat_map long (map (before_list (set lists i new)) (range_with_len 0 k))
       → bytes ≡ start ++ flat_map long (starts_from 0 (set lists i new))
   set_starts_all k start bytes end put =
-      let size = set_long lists i new in
+      let size = length-set lists i new in
       let all : k ≡ suc (length (set lists i new)) = omega (arith, end, size) in
       put ∙ ap (λ (n : ℕ). start ++ flat_map long (map (before_list (set lists i new)) (range_with_len 0 n))) all ∙ ap (λ (ns : List ℕ). start ++ flat_map long ns) (starts_counted (set lists i new))

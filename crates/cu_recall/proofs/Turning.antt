@@ -4,8 +4,8 @@ use Rattle.std.specs.Prelude.{slice_get, slice_set}
 use Rattle.std.proofs.lemmas.Nat.{mod_below}
 use Rattle.std.proofs.lemmas.Option.{slice_get_within}
 use Rattle.cu_model.specs.Days.{day}
+use Rattle.cu_model.proofs.ListLaws.{get_here}
 use Rattle.cu_interval.specs.Hierarchies.{HierarchyValue, IsHierarchy}
-use Rattle.cu_unpack.proofs.Writes.{set_here}
 use Rattle.cu_recall.specs.declared.spans.Driven.{Driven}
 use Rattle.cu_recall.specs.declared.pending.Asked.{Asked}
 use Rattle.cu_recall.specs.declared.pending.Half.{Half}
@@ -91,7 +91,7 @@ module _ (h : HierarchyValue) (f : IsHierarchy h) (whole : Asked) (pending : Lis
           top.v,
           m,
           top.before,
-          set_here pending below made inside,
+          get_here pending below made inside,
           list,
           (refl, refl, refl, λ s near. let low = near.0 in let high = near.1 in done.takes s (omega (arith, low), omega (arith, high))),
           omega (arith, sum, none),

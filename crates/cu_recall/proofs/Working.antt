@@ -4,12 +4,12 @@ use Rattle.std.specs.Prelude.{slice_get, slice_set}
 use Rattle.std.proofs.lemmas.Nat.{div-add-mod'}
 use Rattle.cu_model.specs.Days.{day}
 use Rattle.cu_model.specs.Roads.{drive}
+use Rattle.cu_model.proofs.ListLaws.{get_here, get_other}
 use Rattle.cu_interval.specs.declared.ways.Way.TheVariants.{Via}
 use Rattle.cu_interval.specs.Hierarchies.{HierarchyValue, IsHierarchy, IsWellFormed}
 use Rattle.cu_interval.specs.Unpacking.{unpacked_walk}
 use Rattle.cu_interval.proofs.Fuel.{unpacked-via}
 use Rattle.cu_interval.proofs.Lookups.{middles_fall, well_formed}
-use Rattle.cu_unpack.proofs.Writes.{set_here, set_other}
 use Rattle.cu_recall.specs.declared.pending.Asked.{Asked}
 use Rattle.cu_recall.specs.declared.pending.Half.{Half}
 use Rattle.cu_recall.specs.declared.pending.Half.TheVariants as half
@@ -27,7 +27,7 @@ pub work_kept : (h : HierarchyValue) (whole : Asked) (pending : List Pending) (i
     → AreInWork h whole pending count x y second roads → AreInWork h whole (slice_set pending i p) count x y second roads
 work_kept h whole pending i p zero x y second roads le work = work
 work_kept h whole pending i p (suc below) x y second roads le (q, u, v, m, before, at, parted, half_, sum, rest) =
-    (q, u, v, m, before, set_other pending i below p (λ same. omega (arith, le, same)) ∙ at, parted, half_, sum, work_kept h whole pending i p below u v q.asked.second before (omega (arith, le)) rest)
+    (q, u, v, m, before, get_other pending i below p (λ same. omega (arith, le, same)) ∙ at, parted, half_, sum, work_kept h whole pending i p below u v q.asked.second before (omega (arith, le)) rest)
 
 -- the middle of a parted list is below both its ranks
 pub parted_formed : (h : HierarchyValue) → IsHierarchy h → (p : Pending) (u v m : ℕ) → IsParted h p u v m → IsWellFormed h u v (Via m)
@@ -107,7 +107,7 @@ module _ (h : HierarchyValue) (f : IsHierarchy h) where
       let there : Spot = record { whole = spot.whole; next = record { list = parted.first; second = spot.next.second }; depth = suc spot.depth; roads = spot.roads } in
       let room = work_room spot.whole pending spot.depth x y spot.next.second spot.roads is.below in
       let list : IsParted h made x y m = record { list = is.list; window = window; way = way } in
-      let at : slice_get (slice_set pending spot.depth made) spot.depth ≡ Some made = set_here pending spot.depth made (omega (arith, room, long)) in
+      let at : slice_get (slice_set pending spot.depth made) spot.depth ≡ Some made = get_here pending spot.depth made (omega (arith, room, long)) in
       let kept = work_kept h spot.whole pending spot.depth made spot.depth x y spot.next.second spot.roads (omega arith) is.below in
       let sum : spot.roads ≡ spot.roads + 0 = omega arith in
       let work : IsAt h (slice_set pending spot.depth made) there x m = record {

@@ -1,7 +1,7 @@
 -- What a router holds: its packed bytes spell one hierarchy, and its room stays fit for the hierarchy after an edit.
 use Rattle.std.proofs.Common.{◌≡◌, ◌<◌, ◌∙◌, ℕ, Bool, true, List, [], ◌∷◌, Option, Some, length, get_or, map, refl, sym, ap, subst, arith, All}
 use Rattle.std.specs.Prelude.{slice_set}
-use Rattle.std.proofs.lemmas.List.{get_or-map, length-map}
+use Rattle.std.proofs.lemmas.List.{get_or-map, length-map, length-set}
 use Rattle.std.proofs.lemmas.List.Elements.{Contains-get_or}
 use Rattle.std.proofs.lemmas.Option.{slice_get_within}
 use Rattle.cu_model.specs.declared.roads.Edit.{Edit}
@@ -23,7 +23,6 @@ use Rattle.cu_interval.specs.Replacing.{hierarchy_with}
 use Rattle.cu_interval.specs.Resettling.{IsResettled}
 use Rattle.cu_interval.specs.Touching.{NumbersTouched}
 use Rattle.cu_links.specs.Buckets.{BucketsValue}
-use Rattle.cu_links.proofs.Links.{set_long}
 use Rattle.cu_pack.specs.Checks.{Spells, sealed}
 use Rattle.cu_pack.specs.Reading.{decoded}
 use Rattle.cu_pack.specs.Spelling.{spelling}
@@ -149,7 +148,7 @@ module _ (old new : HierarchyValue) (edit : Edit) (resettled : IsResettled old e
 -- as many edges have a mark after an edit
 marked_long : (marks : List Bool) (lists : List TouchedEdge) → length (marked marks lists) ≡ length marks
 marked_long marks [] = refl
-marked_long marks (touched ∷ lists) = marked_long (slice_set marks touched.edge true) lists ∙ set_long marks touched.edge true
+marked_long marks (touched ∷ lists) = marked_long (slice_set marks touched.edge true) lists ∙ length-set marks touched.edge true
 
 -- an edge that is known to be customized is so after an edit, and so are those that the edit touched
 pub knows_after : (old : HierarchyValue) (edit : Edit) (lists : List TouchedEdge) (marks : List Bool) → IsHierarchy old → IsResettled old edit (hierarchy_with old edit lists)

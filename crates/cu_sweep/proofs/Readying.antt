@@ -6,8 +6,9 @@ use Rattle.cu_model.specs.declared.limits.TheConstants.{MAX_NODES}
 use Rattle.cu_model.specs.Days.{day}
 use Rattle.std.proofs.lemmas.Bool.{cases_eq}
 use Rattle.std.proofs.lemmas.Option.{same_Some}
+use Rattle.std.proofs.lemmas.List.{length-set}
 use Rattle.cu_links.specs.Chains.{ChainValue, IsChain, IsOnChainTo, link_at}
-use Rattle.cu_links.proofs.Links.{link_here, link_other, set_long}
+use Rattle.cu_links.proofs.Links.{link_here, link_other}
 use Rattle.cu_chordal.specs.declared.graph.TheConstants.{MAX_EDGES}
 use Rattle.cu_interval.specs.declared.ways.Dir.{Dir}
 use Rattle.cu_interval.specs.declared.relaxing.Relaxed.{Relaxed}
@@ -85,13 +86,13 @@ pub begun_ready : (n : ℕ) (labels : List (Option ℕ)) (chain now : ChainValue
     → second_at labels from ≡ o → now.links ≡ begun_links chain.links from into o → IsReady n (slice_set labels into o) now
 begun_ready n labels chain now from into None f unturned lf li up e is =
     let lt : into < length labels = let long = f.long in omega (arith, li, long) in
-    ready_with n labels (slice_set labels into None) chain now f (set_long labels into None) (ap length is) (near_unset n labels into lt f.near) (subst (Rises n) (sym is) (f.rises unturned))
+    ready_with n labels (slice_set labels into None) chain now f (length-set labels into None) (ap length is) (near_unset n labels into lt f.near) (subst (Rises n) (sym is) (f.rises unturned))
 begun_ready n labels chain now from into (Some s) f unturned lf li up e is =
     let lt : into < length labels = let long = f.long in omega (arith, li, long) in
     let lt2 : into < length chain.links = let long = f.places in omega (arith, li, long) in
     let near = f.near from s e in
     let le : s ≤ day - 1 + turn_of n into * 2 ^ 38 = omega (arith, near, up) in
-    ready_with n labels (slice_set labels into (Some s)) chain now f (set_long labels into (Some s)) (ap length is ∙ set_long chain.links into (Some (from, 0)))
+    ready_with n labels (slice_set labels into (Some s)) chain now f (length-set labels into (Some s)) (ap length is ∙ length-set chain.links into (Some (from, 0)))
     (near_set n labels into s lt le f.near) (subst (Rises n) (sym is) (rises_set n chain.links from 0 into lt2 up lf (omega arith) (f.rises unturned)))
 
 -- after a call
@@ -104,7 +105,7 @@ relaxed_by n labels chain now from edge into at arrival true f unturned lf li sm
     let lt2 : into < length chain.links = let long = f.places in omega (arith, li, long) in
     let before = f.near from at e in
     let le : arrival ≤ day - 1 + turn_of n into * 2 ^ 38 = omega (arith, before, up, near) in
-    ready_with n labels (slice_set labels into (Some arrival)) chain now f (set_long labels into (Some arrival)) (ap length is ∙ set_long chain.links into (Some (from, edge)))
+    ready_with n labels (slice_set labels into (Some arrival)) chain now f (length-set labels into (Some arrival)) (ap length is ∙ length-set chain.links into (Some (from, edge)))
     (near_set n labels into arrival lt le f.near) (subst (Rises n) (sym is) (rises_set n chain.links from edge into lt2 up lf small (f.rises unturned)))
 relaxed_by n labels chain now from edge into at arrival false f unturned lf li small up e near is =
     ready_with n labels labels chain now f refl (ap length is) f.near (subst (Rises n) (sym is) (f.rises unturned))

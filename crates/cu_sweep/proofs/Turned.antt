@@ -6,6 +6,7 @@ use Rattle.std.specs.List.{flat_map}
 use Rattle.std.proofs.lemmas.Bool.{cases_lt}
 use Rattle.std.proofs.lemmas.Grind.{flat_map-append}
 use Rattle.std.proofs.lemmas.List.{append-nil}
+use Rattle.cu_model.proofs.ListLaws.{item_there}
 use Rattle.cu_links.specs.Chains.{AreFollowed, IsChain, IsTurned, link_at}
 use Rattle.cu_io.specs.Sinks.{SinkState, Wrote, WroteAll}
 use Rattle.cu_io.proofs.Appending.{wrote_nothing, wrote_ok, wrote_same, wrote_stops, wrote_then}
@@ -21,7 +22,6 @@ use Rattle.cu_interval.proofs.Unpacked.{unpacked-low}
 use Rattle.cu_interval.proofs.EndsLaws.{ends_apart, ends_range}
 use Rattle.cu_unpack.specs.Answers.{walk_between, walk_over}
 use Rattle.cu_unpack.specs.Texts.{road_text, walk_text}
-use Rattle.cu_unpack.proofs.OnWay.{edge_at}
 use Rattle.cu_unpack.proofs.Texts.{first_after}
 use Rattle.cu_sweep.specs.Desks.{AreArriving, IsArrivingCall, roads_of}
 use Rattle.cu_sweep.specs.Steps.Places.{Rises, calls_after, calls_along, calls_found, calls_of_some, calls_over, calls_to, turn_of}
@@ -252,7 +252,7 @@ road_there h u (road ∷ walk) v low none = absurd (cc none)
 -- the walk of a call that arrives has a road
 pub arriving_road : (h : HierarchyValue) → IsHierarchy h → (call : Call) → IsArrivingCall h call → walk_over h call.edge call.dir call.second ≢ []
 arriving_road h f call c none =
-    let (ends, at) = edge_at h.edges call.edge c.edge in
+    let (ends, at) = item_there h.edges call.edge c.edge in
     let u = start_of ends call.dir in
     let v = end_of ends call.dir in
     let (arrival, answer) = c.answers in

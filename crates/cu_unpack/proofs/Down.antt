@@ -4,6 +4,7 @@ use Rattle.std.specs.Prelude.{slice_get, slice_set}
 use Rattle.std.proofs.lemmas.Option.{slice_get_within}
 use Rattle.cu_model.specs.Roads.{drive}
 use Rattle.cu_model.proofs.RoadLaws.{drive-append}
+use Rattle.cu_model.proofs.ListLaws.{get_here}
 use Rattle.cu_model.proofs.OptionLaws.{same_value}
 use Rattle.cu_chordal.specs.declared.graph.Ends.{Ends}
 use Rattle.cu_chordal.specs.Graphs.{HasEdge}
@@ -22,7 +23,6 @@ use Rattle.cu_unpack.specs.declared.unpacking.Spot.{Spot}
 use Rattle.cu_unpack.specs.Steps.Legs.{Leg, AreWaiting, FindsRoad, HasWay, IsAt, IsLegOf, IsMiddle, IsSomewhere, Parts, low_of, walk_on}
 use Rattle.cu_unpack.proofs.Edges.{leg_way, no_way}
 use Rattle.cu_unpack.proofs.Waiting.{waiting_kept}
-use Rattle.cu_unpack.proofs.Writes.{set_here}
 
 -- the legs went down so far: their walk is the same, and each look-up parted one
 pub record WentDown (h : HierarchyValue) (leg : Leg) (legs : List Leg) (t : ℕ) (pending : List ℕ) (spot : Spot) (before now : ℕ) : Type 0 where
@@ -120,7 +120,7 @@ module _ (h : HierarchyValue) (f : IsHierarchy h) where
       let inside : spot.waiting < length pending = omega (arith, room, long) in
       let kept = waiting_kept h pending spot.waiting p.half spot.waiting legs (omega arith) is.waiting in
       let rest : AreWaiting h (slice_set pending spot.waiting p.half) next.waiting (record { from = m; to = leg.to } ∷ legs) =
-      (spot.waiting, p.half, one, set_here pending spot.waiting p.half inside, (record { low = m; high = end_of p.ends spot.dir }, p.last, refl, stop), omega (arith, mu, mv, room), w.5, kept) in
+      (spot.waiting, p.half, one, get_here pending spot.waiting p.half inside, (record { low = m; high = end_of p.ends spot.dir }, p.last, refl, stop), omega (arith, mu, mv, room), w.5, kept) in
       record {
         here = subst (λ (d : Dir). IsLegOf h next.edge d (record { from = leg.from; to = m })) (sym p.down) down;
         room = omega (arith, mu, mv, room, one);

@@ -5,6 +5,7 @@ use Rattle.std.proofs.lemmas.Bool.{cases_eq}
 use Rattle.std.proofs.lemmas.List.{length-set}
 use Rattle.std.proofs.lemmas.List.Sums.{sum_by-set}
 use Rattle.std.proofs.lemmas.Option.{slice_get-get_or}
+use Rattle.cu_model.proofs.ListLaws.{get_here, get_other}
 use Rattle.cu_arrival.specs.declared.runs.Run.{Run}
 use Rattle.cu_interval.specs.declared.ways.Dir.{Dir}
 use Rattle.cu_interval.specs.Hierarchies.{HierarchyValue, list_number}
@@ -13,7 +14,6 @@ use Rattle.cu_customize.proofs.Keeping.{number_within}
 use Rattle.cu_unpack.specs.declared.shortcuts.Shortcut.{Shortcut}
 use Rattle.cu_unpack.specs.Rebuilds.{IsRebuiltFunction}
 use Rattle.cu_unpack.specs.Steps.Rebuilding.{AreKept, IsKept, IsMissing, KeepsOne, number_of}
-use Rattle.cu_unpack.proofs.Writes.{set_here, set_other}
 
 -- a shortcut's list has a place among those of all edges
 number_there : (h : HierarchyValue) (kept : List (Option (List Run))) (shortcut : Shortcut) → AreKept h kept → shortcut.edge < length h.edges → number_of shortcut < length kept
@@ -27,14 +27,14 @@ one_more h kept shortcut runs lt are is = (
       elim (cases_eq (list_number edge dir) (number_of shortcut)) [
         | inl same ↦
             let (edges, dirs) = number_parts edge shortcut.edge dir shortcut.dir same in
-            let here = set_here kept (number_of shortcut) (Some runs) (number_there h kept shortcut are lt) in
+            let here = get_here kept (number_of shortcut) (Some runs) (number_there h kept shortcut are lt) in
             let at_number : slice_get (slice_set kept (number_of shortcut) (Some runs)) (number_of shortcut) ≡ Some (Some other) =
             subst (λ (n : ℕ). slice_get (slice_set kept (number_of shortcut) (Some runs)) n ≡ Some (Some other)) same at in
             let both : runs ≡ other = cc (here, at_number) in
             subst (λ (e : ℕ). IsRebuiltFunction h e dir (Some other)) (sym edges)
             (subst (λ (d : Dir). IsRebuiltFunction h shortcut.edge d (Some other)) (sym dirs)
             (subst (λ (r : List Run). IsRebuiltFunction h shortcut.edge shortcut.dir (Some r)) both is))
-        | inr apart ↦ are.1 edge dir other (sym (set_other kept (number_of shortcut) (list_number edge dir) (Some runs) apart) ∙ at)
+        | inr apart ↦ are.1 edge dir other (sym (get_other kept (number_of shortcut) (list_number edge dir) (Some runs) (λ same. apart (sym same))) ∙ at)
       ],
 )
 
@@ -51,7 +51,7 @@ still_missing h shortcut other before now lt (runs, is, function) (ways, missing
       let apart : number_of other ≢ number_of shortcut = λ same. let edges = (number_parts other.edge shortcut.edge other.dir shortcut.dir same).0 in omega (arith, lt, edges) in
       let here : slice_get (slice_set before (number_of shortcut) (Some runs)) (number_of other) ≡ Some (Some kept.0) =
       subst (λ (xs : List (Option (List Run))). slice_get xs (number_of other) ≡ Some (Some kept.0)) is kept.1 in
-      missing (kept.0, sym (set_other before (number_of shortcut) (number_of other) (Some runs) apart) ∙ here),
+      missing (kept.0, sym (get_other before (number_of shortcut) (number_of other) (Some runs) (λ same. apart (sym same))) ∙ here),
 )
 
 -- how many functions aren't kept
@@ -82,4 +82,4 @@ fewer_missing h shortcut before now are (ways, missing) (runs, is, function) =
 pub kept_now : (h : HierarchyValue) (shortcut : Shortcut) (before now : List (Option (List Run))) → AreKept h before → shortcut.edge < length h.edges
     → KeepsOne h shortcut before now → IsKept now shortcut
 kept_now h shortcut before now are lt (runs, is, function) =
-    (runs, ap (λ (xs : List (Option (List Run))). slice_get xs (number_of shortcut)) is ∙ set_here before (number_of shortcut) (Some runs) (number_there h before shortcut are lt))
+    (runs, ap (λ (xs : List (Option (List Run))). slice_get xs (number_of shortcut)) is ∙ get_here before (number_of shortcut) (Some runs) (number_there h before shortcut are lt))

@@ -5,6 +5,7 @@ use Rattle.std.proofs.lemmas.Bool.{cases_eq}
 use Rattle.std.proofs.lemmas.List.{length-set}
 use Rattle.std.proofs.lemmas.List.Sums.{sum_by-set}
 use Rattle.std.proofs.lemmas.Option.{slice_get-get_or}
+use Rattle.cu_model.proofs.ListLaws.{get_here, get_other}
 use Rattle.cu_arrival.specs.declared.runs.Run.{Run}
 use Rattle.cu_customize.proofs.Keeping.{number_within}
 use Rattle.cu_interval.specs.declared.ways.Dir.{Dir}
@@ -14,7 +15,6 @@ use Rattle.cu_unpack.specs.declared.shortcuts.Shortcut.{Shortcut}
 use Rattle.cu_unpack.specs.RebuiltWords.{IsLearned, IsNeeded, IsSameList, IsSized, KeepsWords, Learns, WordsValue}
 use Rattle.cu_unpack.specs.Steps.Rebuilding.{HasWays, number_of}
 use Rattle.cu_unpack.specs.Steps.WordRebuilding.{HasWords, IsKnown, IsUnknown, LearnsOne}
-use Rattle.cu_unpack.proofs.Writes.{set_here, set_other}
 
 -- a shortcut's list has a place
 known_within : (edges : ℕ) (value : WordsValue) (shortcut : Shortcut) → IsSized edges value → shortcut.edge < edges → number_of shortcut < length value.known
@@ -50,18 +50,18 @@ module _ (h : HierarchyValue) (shortcut : Shortcut) (before now : WordsValue) (s
   -- the shortcut is known
   pub one_known : IsKnown now shortcut
   one_known =
-      ap (λ (ks : List Bool). slice_get ks (number_of shortcut)) now_known ∙ set_here before.known (number_of shortcut) true (known_within (length h.edges) before shortcut size lt)
+      ap (λ (ks : List Bool). slice_get ks (number_of shortcut)) now_known ∙ get_here before.known (number_of shortcut) true (known_within (length h.edges) before shortcut size lt)
 
   one_function : slice_get now.functions (number_of shortcut) ≡ Some one.0
   one_function =
       ap (λ (fs : List (Option (List Run))). slice_get fs (number_of shortcut)) now_functions
-      ∙ set_here before.functions (number_of shortcut) one.0 (function_within (length h.edges) before shortcut size lt)
+      ∙ get_here before.functions (number_of shortcut) one.0 (function_within (length h.edges) before shortcut size lt)
 
   -- other lists are as they were
   one_others : (number : ℕ) → number ≢ number_of shortcut → IsSameList before now number
   one_others number apart = (
-    ap (λ (ks : List Bool). slice_get ks number) now_known ∙ set_other before.known (number_of shortcut) number true apart,
-    ap (λ (fs : List (Option (List Run))). slice_get fs number) now_functions ∙ set_other before.functions (number_of shortcut) number one.0 apart,
+    ap (λ (ks : List Bool). slice_get ks number) now_known ∙ get_other before.known (number_of shortcut) number true (λ same. apart (sym same)),
+    ap (λ (fs : List (Option (List Run))). slice_get fs number) now_functions ∙ get_other before.functions (number_of shortcut) number one.0 (λ same. apart (sym same)),
   )
 
   -- so it is learned

@@ -1,5 +1,4 @@
 pub mod Edges
-pub mod Writes
 pub mod Waiting
 pub mod Down
 pub mod Driving

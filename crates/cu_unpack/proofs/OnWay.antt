@@ -2,12 +2,11 @@
 use Rattle.std.proofs.Common.{◌≡◌, ◌≢◌, ◌≤◌, ◌<◌, ◌+◌, ◌*◌, ◌^◌, ◌∙◌, ◌⊎◌, ℕ, List, [], ◌∷◌, ◌++◌}
 use Rattle.std.proofs.Common.{Option, Some, None, true, false, ltb, refl, sym, ap, subst, arith, inl, inr, length, append_assoc, length-append}
 use Rattle.std.proofs.lemmas.List.{append-nil, length_push}
-use Rattle.std.proofs.lemmas.Option.{slice_get-get_or}
-use Rattle.std.specs.Prelude.{slice_get}
 use Rattle.cu_model.specs.declared.limits.TheConstants.{MAX_UNTIL}
 use Rattle.cu_model.specs.Networks.{NetworkValue}
 use Rattle.cu_model.specs.Roads.{arc_value, drive}
 use Rattle.cu_model.proofs.RoadLaws.{drive-append}
+use Rattle.cu_model.proofs.ListLaws.{item_there}
 use Rattle.cu_chordal.specs.declared.graph.Ends.{Ends}
 use Rattle.cu_interval.specs.declared.ways.Dir.{Dir}
 use Rattle.cu_interval.specs.declared.ways.Entry.{Entry}
@@ -48,13 +47,10 @@ walk_by h edge dir t leg (ends, at, from, to) =
     ∙ ap (λ (u : ℕ). unpacked_walk h u (end_of ends dir) t) (sym from)
     ∙ ap (λ (v : ℕ). unpacked_walk h leg.from v t) (sym to)
 
-pub edge_at : (xs : List Ends) (i : ℕ) → i < length xs → (ends : Ends) × (slice_get xs i ≡ Some ends)
-edge_at xs i lt = let e = slice_get-get_or xs i (record { low = 0; high = 0 }) lt in (_, e)
-
 pub on_way_begin : (h : HierarchyValue) → IsHierarchy h → (edge : ℕ) (dir : Dir) (at : ℕ) (pending : List ℕ) (before : ℕ) → edge < length h.edges
     → (w : IsOnWay h edge dir at pending (record { edge = edge; dir = dir; second = at; waiting = 0 }) before before 1) × (w.done ≡ [])
 on_way_begin h f edge dir at pending before lt =
-    let (ends, e) = edge_at h.edges edge lt in
+    let (ends, e) = item_there h.edges edge lt in
     let range = ends_range h f edge ends e in
     let low = min_ends ends dir range.0 in
     let start : Leg = record { from = start_of ends dir; to = end_of ends dir } in (

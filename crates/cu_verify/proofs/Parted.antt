@@ -6,6 +6,7 @@ use Rattle.std.proofs.lemmas.Bool.{cases_lt, cases_eq}
 use Rattle.std.proofs.lemmas.Option.{slice_get-get_or, get_or_from_slice_get, slice_get_within, slice_get_past, same_Some}
 use Rattle.cu_model.specs.Days.{day}
 use Rattle.cu_model.proofs.Begun.{begun_until, gt_test, none_begun, rises_between}
+use Rattle.cu_model.proofs.ListLaws.{same_items}
 use Rattle.cu_interval.specs.declared.ways.Entry.{Entry}
 use Rattle.cu_interval.specs.WayLists.{IsWayList, entry_in, way_in}
 use Rattle.cu_interval.proofs.Spelled.{entries_rise, same_entry}
@@ -149,17 +150,10 @@ parted xs ys one two i s (Some x) (Some y) same at there (other, is) =
           subst (PartAt xs ys) begin (part_first xs ys one two i x (Some y) same at there other (omega (arith, ge)))
     ]
 
--- lists with the same entry at each index are equal
-pub same_entries : {A : Type 0} (xs ys : List A) → ((k : ℕ) → slice_get xs k ≡ slice_get ys k) → xs ≡ ys
-same_entries [] [] same = refl
-same_entries [] (y ∷ ys) same = absurd (cc (same 0))
-same_entries (x ∷ xs) [] same = absurd (cc (same 0))
-same_entries (x ∷ xs) (y ∷ ys) same = cc (same_Some x y (same 0), same_entries xs ys (λ k. same (suc k)))
-
 -- where both have ended, there is the same entry at each index
 pub ended : {A : Type 0} (xs ys : List A) (n : ℕ) → length xs ≤ n → length ys ≤ n → ((k : ℕ) → k < n → slice_get xs k ≡ slice_get ys k) → xs ≡ ys
 ended xs ys n one two same =
-    same_entries xs ys (λ k.
+    same_items xs ys (λ k.
     elim (cases_lt k n) [
       | inl lt ↦ same k lt
       | inr ge ↦ slice_get_past xs k (omega (arith, one, ge)) ∙ sym (slice_get_past ys k (omega (arith, two, ge)))

@@ -1,5 +1,5 @@
 use Rattle.std.proofs.Common.{arith}
-use Rattle.cu_links.proofs.Links.{get_here}
+use Rattle.cu_model.proofs.ListLaws.{get_here}
 use Rattle.cu_edits.proofs.learning.learn_edge.Goals as goal
 
 pub returns-clause-known : goal.returns-clause-known

@@ -1,7 +1,8 @@
 use Rattle.std.proofs.Common.{◌≡◌, Some, None, arith}
 use Rattle.std.specs.Prelude.{slice_set}
+use Rattle.std.proofs.lemmas.List.{length-set}
 use Rattle.cu_links.specs.Chains.{link_at}
-use Rattle.cu_links.proofs.Links.{link_of, set_long}
+use Rattle.cu_links.proofs.Links.{link_of}
 use Rattle.cu_links.proofs.Turning.{turning_begin, turning_end, turning_lower, turning_relinks, turning_step, turning_within}
 use Rattle.cu_links.proofs.chain.turn.Goals as goal
 
@@ -21,7 +22,7 @@ links-preserved c =
     let at : link_at c.links.links c.links.place ≡ Some (c.in-Some.from, c.in-Some.label) = link_of c.links.links c.links.place _ i.within c.in-Some.is in
     let (u, less) = turning_step c.args.links.now c.links.links c.args.place c.links.place c.links.next c.in-Some.from c.in-Some.label i.turning i.within at in
     let inside = turning_within c.args.links.now c.links.links c.args.place c.links.place c.links.next c.in-Some.from c.in-Some.label i.turning c.requires.within at in
-    let long = set_long c.links.links c.links.place c.links.next in
+    let long = length-set c.links.links c.links.place c.links.next in
     record { within = omega (arith, inside, long); turning = u }
 
 pub returns-clause-chain : goal.returns-clause-chain

@@ -1,7 +1,6 @@
 use Rattle.std.proofs.Common.{◌+◌, ◌∙◌, Bool, List, true, ap, sym, length, drop}
 use Rattle.std.specs.Prelude.{slice_set}
-use Rattle.std.proofs.lemmas.List.{at_drop_all, at_drop_more}
-use Rattle.cu_links.proofs.Links.{set_long}
+use Rattle.std.proofs.lemmas.List.{at_drop_all, at_drop_more, length-set}
 use Rattle.cu_interval.specs.declared.ways.TouchedEdge.{TouchedEdge}
 use Rattle.cu_edits.specs.Customized.{marked}
 use Rattle.cu_edits.proofs.customized.CustomizedEdges.mark.Goals as goal
@@ -21,7 +20,7 @@ edges-preserved c =
     let step = at_drop_more (marked marks) touched index settled c.edges-test.true in
     let same = ap (λ (t : TouchedEdge). marked (slice_set marks t.edge true) (drop (index + 1) touched)) (sym c.settled-item.is) in
     record {
-      long = set_long marks settled.edge true ∙ c.edges.invariant.long;
+      long = length-set marks settled.edge true ∙ c.edges.invariant.long;
       marked = sym (step ∙ same) ∙ c.edges.invariant.marked;
     }
 
