@@ -1,7 +1,7 @@
 -- A profile's pieces as words are a function with the profile's values.
 use Rattle.std.proofs.Common.{◌≡◌, ◌≤◌, ◌<◌, ◌+◌, ◌-◌, ◌++◌, ◌∙◌, ℕ, List, [], ◌∷◌, Option, Some, true, refl, sym, ap, subst, arith, inl, inr, ltb, map, get_or, length, take, append_assoc}
 use Rattle.std.specs.Prelude.{slice_get}
-use Rattle.std.proofs.lemmas.Bool.{and_parts, leb-true, ltb-true}
+use Rattle.std.proofs.lemmas.Bool.{and_parts, leb-true}
 use Rattle.std.proofs.lemmas.List.{map-append, take_more}
 use Rattle.std.proofs.lemmas.List.Elements.{All-map, All-push}
 use Rattle.std.proofs.lemmas.Option.{get_or_from_slice_get, slice_get_cases, slice_get_within}
@@ -16,6 +16,7 @@ use Rattle.cu_model.specs.Profiles.{profile_value, is_in_limit, is_rule_in_limit
 use Rattle.cu_model.specs.Roads.{arc_value, value_by, value_of, pieces_of, pieces_or_none}
 use Rattle.cu_model.proofs.Begun.{starts_begun}
 use Rattle.cu_model.proofs.RoadLaws.{all_at, profile_of_road}
+use Rattle.cu_model.proofs.FaultLaws.{piece_begins}
 use Rattle.cu_arrival.specs.declared.runs.Run.{Run}
 use Rattle.cu_arrival.specs.Runs.{run_at, run_value, rule_value, rule_number, arrival_value}
 use Rattle.cu_arrival.specs.Steps.OfPieces.{run_of, run_rule}
@@ -36,18 +37,14 @@ rule_small (Closed v) h = omega arith
 piece_small : (p : Piece) → is_in_limit p ≡ true → rule_number (run_of p).rule ≤ MAX_NUMBER
 piece_small p h = rule_small p.rule (and_parts (ltb p.from day) (is_rule_in_limit p.rule) h).1
 
--- a piece of a profile begins in the day
-pub piece_in_day : (p : Piece) → is_in_limit p ≡ true → p.from < day
-piece_in_day p h = ltb-true p.from day (and_parts (ltb p.from day) (is_rule_in_limit p.rule) h).0
-
--- so does each of a profile of a network
+-- each piece of a profile of a network begins in the day
 pub piece_from : (g : NetworkValue) (profile i : ℕ) (piece : Piece) → IsNetwork g → profile < length g.profiles → slice_get (pieces_of g profile) i ≡ Some piece → piece.from ≤ day
 piece_from g profile i piece n inside there =
     elim (slice_get_cases g.profiles profile).1 [
       | inl (pieces, within, at, same) ↦
           let valid = all_at IsProfile g.profiles profile pieces n.valid at in
           let here : slice_get pieces i ≡ Some piece = subst (λ (ps : List Piece). slice_get ps i ≡ Some piece) (ap pieces_or_none at) there in
-          let from = piece_in_day piece (all_at (λ (p : Piece). is_in_limit p ≡ true) pieces i piece valid.limits here) in
+          let from = piece_begins piece (all_at (λ (p : Piece). is_in_limit p ≡ true) pieces i piece valid.limits here) in
           omega (arith, from)
       | inr past ↦ absurd (let over = past.0 in omega (arith, over, inside))
     ]

@@ -1,10 +1,10 @@
 -- Roads that an edit doesn't change lead where they led, and arrive when they did.
-use Rattle.std.proofs.Common.{◌≡◌, ◌≢◌, ◌∙◌, ℕ, Option, Some, None, refl, sym, ap}
+use Rattle.std.proofs.Common.{◌≡◌, ◌∙◌, ℕ, Option, Some, None, refl, sym, ap}
 use Rattle.std.specs.Prelude.{slice_get}
 use Rattle.cu_model.specs.declared.roads.RoadArc.{RoadArc}
 use Rattle.cu_model.specs.declared.roads.Edit.{Edit}
 use Rattle.cu_model.specs.declared.roads.Edit.TheVariants.{Set, Assign}
-use Rattle.cu_model.specs.Edits.{edited, reassigned}
+use Rattle.cu_model.specs.Edits.{edited}
 use Rattle.cu_model.specs.Networks.{NetworkValue}
 use Rattle.cu_model.specs.Orders.{OrderValue}
 use Rattle.cu_model.specs.Profiles.{is_closed}
@@ -12,6 +12,7 @@ use Rattle.cu_model.specs.Roads.{arc_value, is_closed_arc, is_closed_by, pieces_
 use Rattle.cu_model.proofs.ListLaws.{get_other}
 use Rattle.cu_interval.specs.Low.{LeadsRanks}
 use Rattle.cu_interval.specs.Touching.{IsChanged}
+use Rattle.cu_edits.proofs.Unchanged.{other_road}
 
 -- the road is the same in both networks, and so is its profile
 pub record IsSameRoad (g h : NetworkValue) (a : ℕ) : Type 0 where
@@ -21,10 +22,6 @@ pub record IsSameRoad (g h : NetworkValue) (a : ℕ) : Type 0 where
 pub same_back : (g h : NetworkValue) (a : ℕ) → IsSameRoad g h a → IsSameRoad h g a
 same_back g h a same = record { arc = sym same.arc; profile = λ road at. sym (same.profile road (same.arc ∙ at)) }
 
-kept_assigned : (g : NetworkValue) (a b profile : ℕ) (old : Option RoadArc) → b ≢ a → slice_get g.arcs a ≡ slice_get (reassigned old b profile g.arcs) a
-kept_assigned g a b profile None other = refl
-kept_assigned g a b profile (Some road) other = sym (get_other g.arcs b a (record road { profile = profile }) other)
-
 -- what isn't changed is the same
 pub unchanged_same : (g : NetworkValue) (edit : Edit) (a : ℕ) → (IsChanged g edit a → ⊥) → IsSameRoad g (edited g edit) a
 unchanged_same g (Set profile pieces) a off = record {
@@ -32,7 +29,7 @@ unchanged_same g (Set profile pieces) a off = record {
   profile = λ road at. sym (get_other g.profiles profile road.profile pieces (λ same. off (road, at, sym same)));
 }
 unchanged_same g (Assign b profile) a off = record {
-  arc = kept_assigned g a b profile (slice_get g.arcs b) (λ same. off (sym same));
+  arc = sym (other_road g b profile a (slice_get g.arcs b) (λ same. off (sym same)));
   profile = λ road at. refl;
 }
 

@@ -12,6 +12,7 @@ use Rattle.std.proofs.lemmas.Map.Made.{IsDistinct-from_AllPairs}
 use Rattle.std.proofs.lemmas.Option.{slice_get-get_or, slice_get_within}
 use Rattle.cu_model.specs.Edits.{IsEditInRange, edited}
 use Rattle.cu_model.proofs.RoadLaws.{all_at}
+use Rattle.cu_model.proofs.EditLaws.{nodes_edited}
 use Rattle.cu_chordal.specs.declared.graph.Ends.{Ends}
 use Rattle.cu_chordal.specs.Graphs.{IsChordal}
 use Rattle.cu_chordal.proofs.Members.{flips}
@@ -35,7 +36,7 @@ use Rattle.cu_edits.proofs.Replaced.{AreApart, number_among, number_of_one, numb
 use Rattle.cu_edits.proofs.SettledFrames.{all_so, leads_touched, settled_list, untouched_frame, untouched_list, untouched_sides}
 use Rattle.cu_edits.proofs.Sides.{edge_down, edge_up, halves_good, over}
 use Rattle.cu_edits.proofs.Unchanged.{edited_network, leads_joins, leads_still}
-use Rattle.cu_edits.proofs.Unmoved.{closure_edited, nodes_edited}
+use Rattle.cu_edits.proofs.Unmoved.{closure_edited}
 
 -- every touched edge was settled
 abbrev pub AllSettled : SettlingValue → Type 0

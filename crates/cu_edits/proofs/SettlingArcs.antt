@@ -1,14 +1,14 @@
 -- What settling an edge asks of the roads and of its lower sides.
-use Rattle.std.proofs.Common.{◌≡◌, ◌<◌, ℕ, List, Option, Some, refl, ap, sym, subst, arith, inl, inr, length, true}
+use Rattle.std.proofs.Common.{◌≡◌, ◌<◌, ℕ, List, Option, Some, ap, sym, subst, arith, inl, inr, length, true}
 use Rattle.std.specs.Prelude.{All, slice_get}
 use Rattle.std.specs.List.Sorted.{IsStrictlyIncreasing}
 use Rattle.std.proofs.lemmas.Option.{slice_get-get_or}
 use Rattle.cu_model.specs.declared.roads.Edit.{Edit}
-use Rattle.cu_model.specs.declared.roads.Edit.TheVariants.{Set, Assign}
 use Rattle.cu_model.specs.Edits.{edited}
 use Rattle.cu_model.specs.Networks.{NetworkValue}
 use Rattle.cu_model.specs.Orders.{OrderValue}
 use Rattle.cu_model.proofs.RoadLaws.{links_within}
+use Rattle.cu_model.proofs.EditLaws.{arcs_edited}
 use Rattle.cu_arrival.specs.declared.runs.Run.{Run}
 use Rattle.cu_chordal.specs.declared.graph.Ends.{Ends}
 use Rattle.cu_chordal.proofs.Members.{all_from_members}
@@ -25,11 +25,6 @@ use Rattle.cu_edits.specs.declared.known.EdgeFunctions.{EdgeFunctions}
 use Rattle.cu_edits.specs.Settling.{IsLowerSide, list_in}
 use Rattle.cu_edits.specs.Steps.Holding.{IsSettledEdge}
 use Rattle.cu_edits.specs.Steps.Known.{HasFunctions, function_in, functions_of, is_known}
-use Rattle.cu_edits.proofs.Unchanged.{reassigned_long}
-
-arcs_long : (g : NetworkValue) (edit : Edit) → length (edited g edit).arcs ≡ length g.arcs
-arcs_long g (Set profile pieces) = refl
-arcs_long g (Assign a profile) = reassigned_long (slice_get g.arcs a) a profile g.arcs
 
 -- the roads of an edge are roads of the edited network
 pub arcs_within : (g : NetworkValue) (o : OrderValue) (edges : List Ends) (lists : List (List ℕ)) (edit : Edit) (edge : ℕ) (dir : Dir) → AreEdgeArcs g o edges lists → edge < length edges
@@ -39,7 +34,7 @@ arcs_within g o edges lists edit edge dir are inside list at =
     all_from_members (λ a. a < length (edited g edit).arcs) list (λ a c.
     let (u, v, links, from, to) = ((are.each edge dir _ list ends at).exact a).0 c in
     let lt = links_within g a u v links in
-    let long = arcs_long g edit in
+    let long = arcs_edited g edit in
     omega (arith, lt, long))
 
 -- so they are of a network that is the edited one, by rising number

@@ -15,6 +15,7 @@ use Rattle.cu_model.specs.Profiles.{IsProfile, is_closed}
 use Rattle.cu_model.specs.Roads.{arc_value, is_closed_arc, is_closed_by, pieces_or_none, value_by, value_of}
 use Rattle.cu_model.proofs.RoadLaws.{all_at}
 use Rattle.cu_model.proofs.ListLaws.{get_here, get_other}
+use Rattle.cu_model.proofs.EditLaws.{reassigned_long}
 use Rattle.cu_chordal.specs.Edges.{LinksRanks}
 use Rattle.cu_interval.specs.Low.{LeadsRanks}
 use Rattle.cu_interval.specs.Touching.{IsChanged}
@@ -42,7 +43,7 @@ other_profile g profile pieces a (Some arc) at other =
     }
 
 -- a road to which no profile is assigned
-other_road : (g : NetworkValue) (b profile a : ℕ) (old : Option RoadArc) → b ≢ a → slice_get (reassigned old b profile g.arcs) a ≡ slice_get g.arcs a
+pub other_road : (g : NetworkValue) (b profile a : ℕ) (old : Option RoadArc) → b ≢ a → slice_get (reassigned old b profile g.arcs) a ≡ slice_get g.arcs a
 other_road g b profile a None ne = refl
 other_road g b profile a (Some road) ne = get_other g.arcs b a (record road { profile = profile }) ne
 
@@ -90,10 +91,6 @@ all_set {X} P xs i x all one = λ k d lt.
 
 in_range_by : (g : NetworkValue) (n : ℕ) → length g.profiles ≡ n → (arc : RoadArc) → IsArcInRange g arc → (arc.tail < g.nodes) × (arc.head < g.nodes) × (arc.profile < n)
 in_range_by g n same arc (tail, head, profile) = (tail, head, subst (λ (k : ℕ). arc.profile < k) same profile)
-
-pub reassigned_long : (old : Option RoadArc) (a profile : ℕ) (arcs : List RoadArc) → length (reassigned old a profile arcs) ≡ length arcs
-reassigned_long None a profile arcs = refl
-reassigned_long (Some arc) a profile arcs = length-set arcs a (record arc { profile = profile })
 
 reassigned_range : (g : NetworkValue) (old : Option RoadArc) (a profile : ℕ) → slice_get g.arcs a ≡ old → All (IsArcInRange g) g.arcs → profile < length g.profiles
     → All (IsArcInRange g) (reassigned old a profile g.arcs)

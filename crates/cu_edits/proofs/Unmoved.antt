@@ -83,7 +83,3 @@ closure_edited g o edit graph nodes closed = record {
     );
   };
 }
-
-pub nodes_edited : (g : NetworkValue) (edit : Edit) → (edited g edit).nodes ≡ g.nodes
-nodes_edited g (Set profile pieces) = refl
-nodes_edited g (Assign b profile) = refl

@@ -3,6 +3,7 @@ pub mod ListLaws
 pub mod DayLaws
 pub mod ProfileLaws
 pub mod RoadLaws
+pub mod EditLaws
 pub mod Begun
 pub mod Tiling
 pub mod Growing

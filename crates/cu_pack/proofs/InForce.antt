@@ -1,16 +1,17 @@
 -- An item is in force from its own second until the next one's, or until the day ends.
-use Rattle.std.proofs.Common.{◌≡◌, ◌≤◌, ◌<◌, ◌+◌, ◌-◌, ◌*◌, ◌%◌, ◌∙◌, ℕ, suc, List, Option, Some, None, true, ltb, length, get_or, refl, sym, ap, subst, arith, inl, inr}
+use Rattle.std.proofs.Common.{◌≡◌, ◌≤◌, ◌<◌, ◌+◌, ◌-◌, ◌*◌, ◌%◌, ◌∙◌, ℕ, suc, List, Option, Some, None, true, length, get_or, refl, sym, ap, subst, arith, inl, inr}
 use Rattle.std.specs.Prelude.{slice_get}
 use Rattle.std.specs.Option.{option_map}
-use Rattle.std.proofs.lemmas.Bool.{and_parts, cases_lt, ltb-true}
+use Rattle.std.proofs.lemmas.Bool.{cases_lt}
 use Rattle.std.proofs.lemmas.Option.{get_or_from_slice_get, slice_get-get_or, slice_get_within}
 use Rattle.cu_model.specs.declared.profiles.Piece.{Piece}
 use Rattle.cu_model.specs.declared.roads.RoadArc.{RoadArc}
 use Rattle.cu_model.specs.Begun.{Rises, last_begun}
 use Rattle.cu_model.specs.Days.{day}
-use Rattle.cu_model.specs.Profiles.{is_in_limit, is_rule_in_limit}
+use Rattle.cu_model.specs.Profiles.{is_in_limit}
 use Rattle.cu_model.proofs.Begun.{begun_until}
 use Rattle.cu_model.proofs.RoadLaws.{all_at}
+use Rattle.cu_model.proofs.FaultLaws.{piece_begins}
 use Rattle.cu_interval.specs.declared.ways.Entry.{Entry}
 use Rattle.cu_interval.specs.WayLists.{IsWayList, way_in}
 use Rattle.cu_interval.proofs.Spelled.{entries_rise}
@@ -95,9 +96,6 @@ none_begins {A} from xs index past = go (slice_get xs index) refl
 some_begins : {A : Type 0} (from : A → ℕ) (xs : List A) (index : ℕ) (x : A) → slice_get xs index ≡ Some x → from x ≡ begin_of from (slice_get xs index)
 some_begins from xs index x there = sym (ap (begin_of from) there)
 
-in_day : (p : Piece) → is_in_limit p ≡ true → p.from < day
-in_day p e = let parts = and_parts (ltb p.from day) (is_rule_in_limit p.rule) e in ltb-true p.from day parts.0
-
 module _ (bytes : List ℕ) (profile : ℕ) (f : HasProfile bytes profile) where
   pub piece_in_force : (second number until : ℕ) (piece : Piece) → second < day
       → IsCountUpTo bytes (piece_place bytes (profile_start bytes profile)) 12 (profile_start bytes (suc profile) - profile_start bytes profile) second number
@@ -128,7 +126,7 @@ module _ (bytes : List ℕ) (profile : ℕ) (f : HasProfile bytes profile) where
       let spot : piece_place bytes (start + number) ≡ piece_place bytes start + 12 * number = omega arith in
       let begins : y.from ≡ word_at bytes (piece_place bytes start + 12 * number) = ap (λ (p : Piece). p.from) is_next ∙ ap (word_at bytes) spot in
       let above = counted.above number (omega arith) (omega (arith, inside, long)) in
-      (omega (arith, begins, above), in_day y (all_at (λ (p : Piece). is_in_limit p ≡ true) pieces number y f.valid.limits next))) is in
+      (omega (arith, begins, above), piece_begins y (all_at (λ (p : Piece). is_in_limit p ≡ true) pieces number y f.valid.limits next))) is in
       (found.0, λ t low high. ap (option_map (λ (p : Piece). p.rule)) (found.1 t low high))
 
 -- the rule of a road is that of its profile

@@ -8,6 +8,7 @@ use Rattle.cu_model.specs.declared.roads.Edit.{Edit}
 use Rattle.cu_model.specs.Edits.{edited, IsEditInRange}
 use Rattle.cu_model.specs.Networks.{NetworkValue}
 use Rattle.cu_model.specs.Orders.{OrderValue}
+use Rattle.cu_model.proofs.EditLaws.{nodes_edited}
 use Rattle.cu_chordal.specs.declared.graph.Ends.{Ends}
 use Rattle.cu_chordal.specs.Edges.{IsClosureOf}
 use Rattle.cu_chordal.specs.Graphs.{ChordalValue}
@@ -15,7 +16,6 @@ use Rattle.cu_elimtree.specs.SweepArcs.{parents_in}
 use Rattle.cu_edits.specs.Customized.{AreCustomized, marked}
 use Rattle.cu_edits.specs.Settling.{numbers_of}
 use Rattle.cu_edits.proofs.EditCustomized.{edit_customized}
-use Rattle.cu_edits.proofs.Unmoved.{nodes_edited}
 use Rattle.cu_interval.specs.declared.ways.TouchedEdge.{TouchedEdge}
 use Rattle.cu_interval.specs.EdgeArcs.{AreArcsFrom, AreEdgeArcs}
 use Rattle.cu_interval.specs.Hierarchies.{HierarchyValue, IsHierarchy, graph_of}
