@@ -9,7 +9,7 @@ use Rattle.std.proofs.lemmas.List.Elements.{All-head, All-tail, All-cons}
 use Rattle.std.proofs.lemmas.List.Kept.{AllPairs-cons}
 use Rattle.std.proofs.lemmas.Option.{same_Some}
 use Rattle.cu_chordal.specs.declared.graph.Ends.{Ends}
-use Rattle.cu_chordal.specs.Graphs.{ComesBefore, IsRising, HasEdge, one_if, up_of, down_of, first_edge_of}
+use Rattle.cu_chordal.specs.Graphs.{ChordalValue, ComesBefore, IsChordal, IsRising, HasEdge, one_if, up_of, down_of, first_edge_of}
 use Rattle.cu_chordal.specs.Groups.{group_of}
 use Rattle.cu_chordal.specs.Lists.{edges_to}
 use Rattle.cu_chordal.specs.Steps.Flat.{paired}
@@ -97,6 +97,11 @@ up_of_from_edge (e ∷ es) rank y c =
             | inr off ↦ subst (λ xs. Contains xs y) (sym (up_skip e es rank off)) deeper
           ]
     ]
+
+-- the ends of an edge of a chordal graph rise, and are ranks
+pub edge_within : (graph : ChordalValue) → IsChordal graph → (low high : ℕ) → HasEdge graph.edges low high → (low < high) × (high < graph.ranks)
+edge_within graph sound low high has =
+    subst (λ (e : Ends). (e.low < e.high) × (e.high < graph.ranks)) has.2 (sound.in_range has.0 (record { low = low; high = high }) has.1)
 
 pub after_first : (e : Ends) (es : List Ends) → IsRising (e ∷ es) → (x : Ends) → Contains es x → ComesBefore e x
 after_first e es f x c = subst (ComesBefore e) c.2 (pairs_head ComesBefore e es f c.0 x c.1)
@@ -233,6 +238,16 @@ pub first_none : (edges : List Ends) (rank : ℕ) → All (λ (e : Ends). rank �
 first_none [] rank f = refl
 first_none (e ∷ es) rank f =
     first_none_step e.low rank (first_edge_of es rank) (All-head (λ (x : Ends). rank ≤ x.low) e es f) (first_none es rank (All-tail (λ (x : Ends). rank ≤ x.low) e es f))
+
+-- the edges below the next rank are those below a rank and those up from it
+first_next_step : (low high rank next first : ℕ) (up : List ℕ) → next ≡ first + length up
+    → one_if (nat_lt low (rank + 1)) + next ≡ (one_if (nat_lt low rank) + first) + length (cond (low == rank) (high ∷ up) up)
+first_next_step low high rank next first up same = grind (arith, nat_tests)
+
+pub first_next : (edges : List Ends) (rank : ℕ) → first_edge_of edges (rank + 1) ≡ first_edge_of edges rank + length (up_of edges rank)
+first_next [] rank = refl
+first_next (e ∷ es) rank =
+    first_next_step e.low e.high rank (first_edge_of es (rank + 1)) (first_edge_of es rank) (up_of es rank) (first_next es rank)
 
 pub lows_of_edges_to : (rank : ℕ) (part : List ℕ) (P : Ends → Type 0) → ((y : ℕ) → Contains part y → P (record { low = rank; high = y })) → All P (edges_to rank part)
 lows_of_edges_to rank [] P f = λ k d h. absurd (omega (arith, h))

@@ -1,25 +1,13 @@
 -- The edges up from one rank after the other.
-use Rattle.std.proofs.Common.{◌≡◌, ◌<◌, ◌+◌, ℕ, Bool, true, false, List, [], ◌∷◌, Some, refl, subst, arith, cond, length, get_or}
-use Rattle.std.specs.Prelude.{slice_get, ◌==◌}
+use Rattle.std.proofs.Common.{◌≡◌, ◌<◌, ◌+◌, ℕ, List, [], ◌∷◌, Some, refl, subst, arith, length, get_or}
+use Rattle.std.specs.Prelude.{slice_get}
 use Rattle.std.proofs.lemmas.Option.{slice_get-get_or, slice_get_within}
 use Rattle.cu_chordal.specs.declared.graph.Ends.{Ends}
-use Rattle.cu_chordal.specs.Graphs.{ChordalValue, IsChordal, NumbersEdges, first_edge_of, one_if, up_of}
+use Rattle.cu_chordal.specs.Graphs.{ChordalValue, IsChordal, NumbersEdges, first_edge_of, up_of}
 use Rattle.cu_chordal.proofs.Tables.{first_all}
-use Rattle.cu_chordal.proofs.Grouping.{below_step, zero_step}
+use Rattle.cu_chordal.proofs.Grouping.{zero_step}
 use Rattle.cu_customize.specs.declared.triangles.Triangle.{Triangle}
 use Rattle.cu_customize.specs.Steps.Triangles.{AreTriangles, AreTrianglesOf, HoldsTriangles}
-
-length_if : (b : Bool) (y : ℕ) (ys : List ℕ) → length (cond b (y ∷ ys) ys) ≡ one_if b + length ys
-length_if true y ys = omega arith
-length_if false y ys = omega arith
-
--- the edges below the next rank are those below a rank and those up from it
-pub first_next : (edges : List Ends) (rank : ℕ) → first_edge_of edges (rank + 1) ≡ first_edge_of edges rank + length (up_of edges rank)
-first_next [] rank = refl
-first_next (e ∷ es) rank =
-    let more = length_if (e.low == rank) e.high (up_of es rank) in
-    let rest = below_step e.low rank (first_edge_of es (rank + 1)) (first_edge_of es rank) (length (up_of es rank)) (first_next es rank) in
-    omega (arith, more, rest)
 
 pub first_zero : (edges : List Ends) → first_edge_of edges 0 ≡ 0
 first_zero [] = refl

@@ -4,12 +4,12 @@ use Rattle.std.specs.Prelude.{Bool, IsTrue, ◌↔◌, false, true, max, min, sl
 use Rattle.std.specs.List.{Contains}
 use Rattle.std.proofs.lemmas.Bool.{cases_eq}
 use Rattle.std.proofs.lemmas.List.{get_or_default, length-set}
-use Rattle.std.proofs.lemmas.List.Elements.{All-contains, Contains-get_or}
+use Rattle.std.proofs.lemmas.List.Elements.{Contains-get_or}
 use Rattle.std.proofs.lemmas.Option.{slice_get_within}
 use Rattle.cu_model.specs.declared.roads.RoadArc.{RoadArc}
 use Rattle.cu_model.proofs.ListLaws.{get_here, get_other}
 use Rattle.cu_chordal.specs.declared.graph.Ends.{Ends}
-use Rattle.cu_chordal.specs.Graphs.{ChordalValue, HasEdge, IsChordal, IsRising}
+use Rattle.cu_chordal.specs.Graphs.{ChordalValue, HasEdge, IsRising}
 use Rattle.cu_chordal.proofs.Members.{member_at}
 use Rattle.cu_links.specs.declared.buckets.EdgeState.TheVariants.{Free, Held}
 use Rattle.cu_links.specs.Buckets.{BucketsValue, IsDone, IsFree}
@@ -172,10 +172,6 @@ to_first_more edges ranks rank count old mid new before more =
       ],
     ))
     (adds_then edges First Last old mid new before more)
-
--- an edge's ends are ranks, and they rise
-pub edge_within : (graph : ChordalValue) → IsChordal graph → (low high : ℕ) → HasEdge graph.edges low high → (low < high) × (high < graph.ranks)
-edge_within graph sound low high c = All-contains (λ (e : Ends). (e.low < e.high) × (e.high < graph.ranks)) graph.edges (record { low = low; high = high }) sound.in_range c
 
 -- all edges from the higher end to the other higher neighbours of the lower end
 pub to_all_above : (graph : ChordalValue) (edge : ℕ) (ends : Ends) (ups : List ℕ) (count : ℕ) (old new : BucketsValue) → slice_get graph.edges edge ≡ Some ends

@@ -6,11 +6,11 @@ use Rattle.std.proofs.lemmas.List.Elements.{Contains-get_or}
 use Rattle.cu_chordal.specs.declared.graph.Ends.{Ends}
 use Rattle.cu_chordal.specs.Graphs.{ChordalValue, HasEdge, IsChordal, IsRising}
 use Rattle.cu_chordal.proofs.Members.{member_at}
+use Rattle.cu_chordal.proofs.Tables.{edge_within}
 use Rattle.cu_interval.specs.declared.ways.Dir.{Dir}
 use Rattle.cu_interval.specs.declared.ways.Dir.TheVariants.{Up, Down}
 use Rattle.cu_interval.specs.Hierarchies.{end_of, start_of}
 use Rattle.cu_edits.specs.Steps.Moving.{AreHalves, HalvesAre}
-use Rattle.cu_edits.proofs.AddingEdges.{edge_within}
 use Rattle.cu_edits.proofs.LearntSides.{one_number}
 
 -- there are no others

@@ -9,10 +9,9 @@ use Rattle.std.proofs.lemmas.List.{length_push, get_or_push, get_or_append_left}
 use Rattle.std.proofs.lemmas.List.Kept.{AllPairs-cons, AllPairs-from_increasing}
 use Rattle.std.proofs.lemmas.List.Elements.{All-cons, All-contains, Contains-append_cases, Contains-append_right}
 use Rattle.std.proofs.lemmas.Option.{none-some, same_Some, slice_get-get_or, slice_get_within, get_or_from_slice_get}
-use Rattle.cu_chordal.specs.declared.graph.Ends.{Ends}
 use Rattle.cu_chordal.specs.Graphs.{ChordalValue, HasEdge, IsChordal, parent_of, up_of}
 use Rattle.cu_chordal.proofs.Members.{here, there, member_at, member_cases, none_in_nil, pairs_head, pairs_tail}
-use Rattle.cu_chordal.proofs.Tables.{edge_from_up_of, up_of_from_edge, increasing_from_pairs}
+use Rattle.cu_chordal.proofs.Tables.{edge_from_up_of, up_of_from_edge, increasing_from_pairs, edge_within}
 use Rattle.cu_chordal.proofs.Closed.{parent_least}
 use Rattle.cu_elimtree.specs.Trees.{HoldsAncestorNeighbours, HoldsHigherNeighbours, IsTree, IsTreeOf, Rises, ancestors_of, climb, flat}
 
@@ -51,9 +50,6 @@ parents_more graph rank parents grown parent f is e =
 pub parents_all : (graph : ChordalValue) (rank : ℕ) (parents : List (Option ℕ)) → rank ≡ graph.ranks → AreParents graph rank parents → IsTreeOf graph parents
 parents_all graph rank parents last f = record { long = f.long ∙ last; each = λ k lt. f.each k (omega (arith, lt, last)) }
 
-edge_range : (graph : ChordalValue) → IsChordal graph → (x y : ℕ) → HasEdge graph.edges x y → (x < y) × (y < graph.ranks)
-edge_range graph f x y c = subst (λ (e : Ends). (e.low < e.high) × (e.high < graph.ranks)) c.2 (f.in_range c.0 (record { low = x; high = y }) c.1)
-
 parent_edge : (graph : ChordalValue) (rank parent : ℕ) → parent_of graph.edges rank ≡ Some parent → HasEdge graph.edges rank parent
 parent_edge graph rank parent e = edge_from_up_of graph.edges rank parent (member_at (up_of graph.edges rank) parent 0 e)
 
@@ -74,19 +70,19 @@ module _ (graph : ChordalValue) (parents : List (Option ℕ)) (sound : IsChordal
   tree_of = record {
     few = omega (arith, f.long, sound.few_ranks);
     rises = λ rank parent e.
-        let range = edge_range graph sound rank parent (parent_edge graph rank parent (parent_read graph parents rank (Some parent) f e)) in
+        let range = edge_within graph sound rank parent (parent_edge graph rank parent (parent_read graph parents rank (Some parent) f e)) in
         (range.0, omega (arith, range.1, f.long));
   }
 
   -- a rank with a higher neighbour has a parent, which is that or is joined to it
   next_up : (rank high : ℕ) → HasEdge graph.edges rank high → (p : ℕ) × (flat (slice_get parents rank) ≡ Some p) × (rank < p) × (p < graph.ranks) × ((high ≡ p) ⊎ HasEdge graph.edges p high)
   next_up rank high edge =
-      let range = edge_range graph sound rank high edge in
+      let range = edge_within graph sound rank high edge in
       let member : Contains (up_of graph.edges rank) high = up_of_from_edge graph.edges rank high edge in
       let p : ℕ = get_or (up_of graph.edges rank) 0 0 in
       let is_parent : parent_of graph.edges rank ≡ Some p = slice_get-get_or (up_of graph.edges rank) 0 0 (omega (arith, member.1)) in
       let to_parent = parent_edge graph rank p is_parent in
-      let parent_range = edge_range graph sound rank p to_parent in
+      let parent_range = edge_within graph sound rank p to_parent in
       let least : p ≤ high = parent_least graph.edges rank p high sound.rising is_parent member in
       let read : flat (slice_get parents rank) ≡ Some p = ap flat (f.each rank (omega (arith, range.0, range.1))) ∙ is_parent in (
         p,
@@ -111,7 +107,7 @@ module _ (graph : ChordalValue) (parents : List (Option ℕ)) (sound : IsChordal
   -- the ancestors of a rank contain its higher neighbours
   pub holds_higher : HoldsHigherNeighbours graph parents
   holds_higher rank high edge =
-      let range = edge_range graph sound rank high edge in
+      let range = edge_within graph sound rank high edge in
       climbs (length parents) rank high (omega (arith, range.0, range.1)) (omega (arith, f.long)) (inr edge)
 
   -- and of each ancestor those of that ancestor
@@ -124,7 +120,7 @@ module _ (graph : ChordalValue) (parents : List (Option ℕ)) (sound : IsChordal
       elim (member_cases r above_r low c) [
         | inl same ↦
             let at : HasEdge graph.edges r high = subst (λ k. HasEdge graph.edges k high) (sym same) edge in
-            let range = edge_range graph sound r high at in
+            let range = edge_within graph sound r high at in
             climbs (suc fuel) r high (omega (arith, range.0, range.1)) (enough r refl) (inr at)
         | inr rest ↦
             let deeper = climb_upwards fuel (flat (slice_get parents r)) low high

@@ -1,19 +1,18 @@
 -- The edges of a hierarchy are those of two lists: where each rank's edges start, and the higher end of each edge.
-use Rattle.std.proofs.Common.{◌≡◌, ◌≤◌, ◌<◌, ◌+◌, ◌-◌, ◌∙◌, ℕ, suc, List, [], ◌∷◌, Some, None, length, get_or, drop, map, refl, sym, ap, subst, arith, inl, inr}
-use Rattle.std.specs.Prelude.{◌==◌, if◌then◌else◌, nat_lt, slice_get, slice_range}
+use Rattle.std.proofs.Common.{◌≡◌, ◌≤◌, ◌<◌, ◌+◌, ◌-◌, ◌∙◌, ℕ, suc, List, [], Some, None, length, get_or, drop, map, refl, sym, ap, subst, arith, inl, inr}
+use Rattle.std.specs.Prelude.{slice_get, slice_range}
 use Rattle.std.specs.Option.{option_map}
-use Rattle.std.proofs.lemmas.Bool.Decides.{nat_tests}
 use Rattle.std.proofs.lemmas.List.{ext_get_or, get_or-drop, get_or-take, length-map}
 use Rattle.std.proofs.lemmas.List.Edits.{length-between}
 use Rattle.std.proofs.lemmas.List.FromFn.{get_or-map-range_with_len, length-map-range_with_len}
 use Rattle.std.proofs.lemmas.Option.{get_or_from_slice_get, slice_get-get_or, slice_get-map}
 use Rattle.cu_chordal.specs.declared.graph.Ends.{Ends}
-use Rattle.cu_chordal.specs.Graphs.{IsRising, first_edge_of, one_if, up_of}
+use Rattle.cu_chordal.specs.Graphs.{IsRising, first_edge_of, up_of}
 use Rattle.cu_chordal.specs.Lists.{HoldGraph, edges_of_lists, part_at}
 use Rattle.cu_chordal.specs.WrongParts.{AreHigherNeighbours, IsFirstWrong, IsWrongPart}
 use Rattle.cu_chordal.proofs.Claims.{AreAdopted, adopted}
 use Rattle.cu_chordal.proofs.Layouts.{up_increasing, up_members}
-use Rattle.cu_chordal.proofs.Tables.{first_all, first_none, numbered}
+use Rattle.cu_chordal.proofs.Tables.{first_all, first_next, first_none, numbered}
 use Rattle.cu_chordal.proofs.Unique.{closure_unique}
 use Rattle.cu_interval.specs.Hierarchies.{HierarchyValue, IsHierarchy, graph_of}
 use Rattle.cu_pack.specs.Spelling.{edge_starts}
@@ -21,15 +20,6 @@ use Rattle.cu_pack.proofs.ReadBack.{first_edge_within}
 
 abbrev pub highs : List Ends → List ℕ
 highs edges = map (λ (ends : Ends). ends.high) edges
-
--- the edges of a rank end where those of the next one start
-more_step : (low high rank next first : ℕ) (up : List ℕ) → next ≡ first + length up
-    → one_if (nat_lt low (rank + 1)) + next ≡ (one_if (nat_lt low rank) + first) + length (if low == rank then high ∷ up else up)
-more_step low high rank next first up same = grind (arith, nat_tests)
-
-first_more : (edges : List Ends) (rank : ℕ) → first_edge_of edges (rank + 1) ≡ first_edge_of edges rank + length (up_of edges rank)
-first_more [] rank = omega arith
-first_more (e ∷ es) rank = more_step e.low e.high rank (first_edge_of es (rank + 1)) (first_edge_of es rank) (up_of es rank) (first_more es rank)
 
 module _ (edges : List Ends) (rank : ℕ) (rising : IsRising edges) where
   up_there : (i y : ℕ) → slice_get (up_of edges rank) i ≡ Some y → get_or (highs edges) (first_edge_of edges rank + i) 0 ≡ y
@@ -46,7 +36,7 @@ module _ (edges : List Ends) (rank : ℕ) (rising : IsRising edges) where
       let uppers = highs edges in
       let up = up_of edges rank in
       let many = length-map edges (λ (ends : Ends). ends.high) in
-      let more = first_more edges rank in
+      let more = first_next edges rank in
       let within = first_edge_within edges (rank + 1) in
       let long = length-between uppers start end (omega (arith, many, within)) in
       ext_get_or 0 (slice_range uppers start end) up (omega (arith, long, more)) (λ i lt.
@@ -85,7 +75,7 @@ module _ (h : HierarchyValue) (f : IsHierarchy h) where
   none_wrong rank (inr (inl (inside, inl falls))) =
       let one = start_there rank (omega (arith, inside)) in
       let two = start_there (rank + 1) (omega (arith, inside)) in
-      let more = first_more h.edges rank in
+      let more = first_next h.edges rank in
       omega (arith, falls, one, two, more)
   none_wrong rank (inr (inl (inside, inr (inl past)))) =
       let two = start_there (rank + 1) (omega (arith, inside)) in

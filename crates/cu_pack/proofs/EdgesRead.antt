@@ -1,13 +1,12 @@
 -- The edges of a file whose graph is right, read where they lie.
-use Rattle.std.proofs.Common.{◌≡◌, ◌≤◌, ◌<◌, ◌+◌, ◌-◌, ◌∙◌, ℕ, suc, true, false, List, [], ◌∷◌, Option, Some, None, length, get_or, refl, sym, ap, subst, arith, inl, inr, ltb, eqb}
+use Rattle.std.proofs.Common.{◌≡◌, ◌≤◌, ◌<◌, ◌+◌, ◌-◌, ◌∙◌, ℕ, suc, List, [], Option, Some, None, length, get_or, sym, ap, subst, arith}
 use Rattle.std.specs.Prelude.{slice_get}
-use Rattle.std.proofs.lemmas.Bool.{cases_order}
 use Rattle.std.proofs.lemmas.Option.{get_or_from_slice_get, slice_get-get_or, slice_get-map, slice_get_within}
 use Rattle.std.specs.Option.{option_map}
 use Rattle.cu_chordal.specs.declared.graph.Ends.{Ends}
 use Rattle.cu_chordal.specs.Graphs.{FindsEdge, HasEdge, first_edge_of, up_of}
 use Rattle.cu_chordal.proofs.Members.{place_of}
-use Rattle.cu_chordal.proofs.Tables.{numbered, up_of_from_edge, up_rising}
+use Rattle.cu_chordal.proofs.Tables.{first_next, numbered, up_of_from_edge, up_rising}
 use Rattle.cu_pack.specs.Checks.{IsGraph}
 use Rattle.cu_pack.specs.Reading.{counts_in, decoded, edge_start, upper_in, uppers_in}
 use Rattle.cu_pack.specs.Layouts.{uppers_at}
@@ -15,29 +14,6 @@ use Rattle.cu_pack.specs.Steps.Parts.{FindsUpper, HasPart}
 use Rattle.cu_pack.proofs.Adopted.{AreEdges, edges_known}
 use Rattle.cu_pack.proofs.ReadBack.{first_edge_within}
 use Rattle.cu_pack.proofs.Ordered.{words_at}
-
--- a rank has as many edges upwards as there are from its first to the next rank's
-pub up_count : (edges : List Ends) (rank : ℕ) → length (up_of edges rank) + first_edge_of edges rank ≡ first_edge_of edges (suc rank)
-up_count [] rank = refl
-up_count (e ∷ es) rank =
-    let rest = up_count es rank in
-    elim (cases_order e.low rank) [
-      | inl same ↦
-          let at : eqb e.low rank ≡ true = grind (arith, same) in
-          let here : ltb e.low rank ≡ false = grind (arith, same) in
-          let next : ltb e.low (suc rank) ≡ true = grind (arith, same) in
-          rw (at, here, next) (omega (arith, rest))
-      | inr (inl less) ↦
-          let at : eqb e.low rank ≡ false = grind (arith, less) in
-          let here : ltb e.low rank ≡ true = grind (arith, less) in
-          let next : ltb e.low (suc rank) ≡ true = grind (arith, less) in
-          rw (at, here, next) (omega (arith, rest))
-      | inr (inr more) ↦
-          let at : eqb e.low rank ≡ false = grind (arith, more) in
-          let here : ltb e.low rank ≡ false = grind (arith, more) in
-          let next : ltb e.low (suc rank) ≡ false = grind (arith, more) in
-          rw (at, here, next) (omega (arith, rest))
-    ]
 
 module _ (bytes : List ℕ) (f : IsGraph bytes) where
   pub known : AreEdges bytes (decoded bytes).edges
@@ -57,7 +33,8 @@ module _ (bytes : List ℕ) (f : IsGraph bytes) where
     start_on =
         let here = known.firsts low (omega (arith, rank)) in
         let next = known.firsts (suc low) (omega (arith, rank)) in
-        let count = up_count (decoded bytes).edges low in
+        let same : suc low ≡ low + 1 = omega arith in
+        let count = ap (first_edge_of (decoded bytes).edges) same ∙ first_next (decoded bytes).edges low in
         omega (arith, here, next, count)
 
     -- the edges from the rank upwards

@@ -1,18 +1,18 @@
 -- Edges and lists of a hierarchy, as an unpacking looks them up.
-use Rattle.std.proofs.Common.{◌≡◌, ◌<◌, ◌∙◌, ℕ, List, [], ◌∷◌, None, refl, ap, subst}
-use Rattle.cu_chordal.specs.declared.graph.Ends.{Ends}
+use Rattle.std.proofs.Common.{◌≡◌, ◌<◌, ◌∙◌, ℕ, List, [], ◌∷◌, None, refl, ap}
 use Rattle.cu_chordal.specs.Graphs.{HasEdge}
+use Rattle.cu_chordal.proofs.Tables.{edge_within}
 use Rattle.cu_interval.specs.declared.ways.Dir.{Dir}
 use Rattle.cu_interval.specs.declared.ways.Entry.{Entry}
 use Rattle.cu_interval.specs.WayLists.{IsWayList, way_at, way_in}
-use Rattle.cu_interval.specs.Hierarchies.{HierarchyValue, IsHierarchy, start_of, list_from, list_of, way_from}
+use Rattle.cu_interval.specs.Hierarchies.{HierarchyValue, IsHierarchy, start_of, list_from, list_of, way_from, graph_of}
 use Rattle.cu_interval.proofs.Lookups.{list_from-edge}
 use Rattle.cu_interval.proofs.Unpacked.{list_from_spelled, way_there}
 use Rattle.cu_unpack.specs.Steps.Legs.{Leg, IsLegOf}
 
 module _ (h : HierarchyValue) (f : IsHierarchy h) where
   pub edge_range : (x y : ℕ) → HasEdge h.edges x y → (x < y) × (y < h.network.nodes)
-  edge_range x y c = subst (λ (e : Ends). (e.low < e.high) × (e.high < h.network.nodes)) c.2 (f.graph.in_range c.0 (record { low = x; high = y }) c.1)
+  edge_range x y c = edge_within (graph_of h) f.graph x y c
 
   -- the leg's list is the edge's
   pub leg_list : (edge : ℕ) (dir : Dir) (leg : Leg) → IsLegOf h edge dir leg → list_from h leg.from leg.to ≡ list_of h edge dir

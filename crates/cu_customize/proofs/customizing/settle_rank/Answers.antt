@@ -2,8 +2,9 @@ use Rattle.std.proofs.Common.{◌≡◌, ◌<◌, ◌+◌, ◌*◌, ℕ, List, O
 use Rattle.std.proofs.lemmas.List.{take_at}
 use Rattle.cu_arrival.specs.declared.runs.Run.{Run}
 use Rattle.cu_chordal.specs.Graphs.{first_edge_of, up_of}
+use Rattle.cu_chordal.proofs.Tables.{first_next}
 use Rattle.cu_customize.specs.Steps.Kept.{IsBuilding, Keeps}
-use Rattle.cu_customize.proofs.Ranks.{first_next, group_here, group_there}
+use Rattle.cu_customize.proofs.Ranks.{group_here, group_there}
 use Rattle.cu_customize.proofs.customizing.settle_rank.Goals as goal
 
 pub loop-place-init : goal.loop-place-init

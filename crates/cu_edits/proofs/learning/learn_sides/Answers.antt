@@ -1,6 +1,6 @@
 use Rattle.std.proofs.Common.{◌∙◌, arith, get_or, refl}
 use Rattle.std.proofs.lemmas.List.Elements.{Contains-get_or}
-use Rattle.cu_edits.proofs.AddingEdges.{edge_within}
+use Rattle.cu_chordal.proofs.Tables.{edge_within}
 use Rattle.cu_edits.proofs.LearntSides.{learning_all, learning_more}
 use Rattle.cu_edits.proofs.learning.learn_sides.Goals as goal
 

@@ -2,7 +2,8 @@ use Rattle.std.proofs.Common.{◌≡◌, arith, length, get_or, subst}
 use Rattle.std.proofs.lemmas.List.Elements.{Contains-get_or}
 use Rattle.cu_chordal.specs.declared.graph.Ends.{Ends}
 use Rattle.cu_chordal.proofs.Members.{member_at}
-use Rattle.cu_edits.proofs.AddingEdges.{IsToFirst, adds_none, edge_within, to_all_above, to_first_more}
+use Rattle.cu_chordal.proofs.Tables.{edge_within}
+use Rattle.cu_edits.proofs.AddingEdges.{IsToFirst, adds_none, to_all_above, to_first_more}
 use Rattle.cu_edits.proofs.touching.add_above.Goals as goal
 
 pub loop-high-init : goal.loop-high-init
