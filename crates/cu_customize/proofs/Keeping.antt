@@ -24,7 +24,7 @@ use Rattle.cu_interval.specs.EdgeArcs.{AreEdgeArcs}
 use Rattle.cu_interval.specs.FirstWays.{IsBuiltList}
 use Rattle.cu_interval.specs.Hierarchies.{end_of, list_number, number_from, start_of}
 use Rattle.cu_interval.proofs.Lookups.{number_found}
-use Rattle.cu_interval.proofs.EndsLaws.{below_low}
+use Rattle.cu_interval.proofs.EndsLaws.{below_low, number_parts, number_within}
 use Rattle.cu_customize.specs.Functions.{AreFunctionsOf, IsLowFunction, IsRoadFunction, kept_state, road_if, value_kept}
 use Rattle.cu_customize.specs.Settling.{IsSettledList, KnowsHalves}
 use Rattle.cu_customize.specs.Steps.Kept.{IsBuiltTo}
@@ -103,8 +103,8 @@ kept_least g o edges functions lists edge dir ends listed is at x y t w lt l =
     ]
 
 -- each list number is that of an edge and a direction
-pub number_parts : (edges : List Ends) (k : ℕ) → k < 2 * length edges → (edge : ℕ) × (dir : Dir) × (ends : Ends) × (k ≡ list_number edge dir) × (slice_get edges edge ≡ Some ends)
-number_parts edges k h =
+pub number_edge : (edges : List Ends) (k : ℕ) → k < 2 * length edges → (edge : ℕ) × (dir : Dir) × (ends : Ends) × (k ≡ list_number edge dir) × (slice_get edges edge ≡ Some ends)
+number_edge edges k h =
     let edge = k / 2 in
     elim (slice_get_cases edges edge).1 [
       | inl (ends, inside, at, same) ↦ elim (cases_eq (k % 2) 0) [
@@ -118,7 +118,7 @@ number_parts edges k h =
 pub arcs_in : (g : NetworkValue) (o : OrderValue) (edges : List Ends) (lists : List (List ℕ)) → AreEdgeArcs g o edges lists → All (λ (list : List ℕ). All (λ (a : ℕ). a < length g.arcs) list) lists
 arcs_in g o edges lists f k d h =
     let long = f.long in
-    let (edge, dir, ends, is, at) = number_parts edges k (omega (arith, h, long)) in
+    let (edge, dir, ends, is, at) = number_edge edges k (omega (arith, h, long)) in
     let there : slice_get lists (list_number edge dir) ≡ Some (get_or lists k d) = subst (λ (n : ℕ). slice_get lists n ≡ Some (get_or lists k d)) is (slice_get-get_or lists k d h) in
     let from = f.each edge dir ends (get_or lists k d) at there in
     all_from_members (λ (a : ℕ). a < length g.arcs) (get_or lists k d) (λ a held. let l = (from.exact a).0 held in links_within g a l.0 l.1 l.2)
@@ -134,12 +134,6 @@ push_before {A} xs x n lt =
     let size = length_push xs x in
     let inside : n < length (xs ++ x ∷ []) = omega (arith, size, lt) in
     slice_get-get_or (xs ++ x ∷ []) n x inside ∙ ap Some (get_or_append_left xs (x ∷ []) x n lt) ∙ sym (slice_get-get_or xs n x lt)
-
-pub same_number : (edge e : ℕ) (dir d : Dir) → list_number e d ≡ list_number edge dir → (edge ≡ e) × (dir ≡ d)
-same_number edge e Up Up h = (omega (arith, h), refl)
-same_number edge e Up Down h = absurd (omega (arith, h))
-same_number edge e Down Up h = absurd (omega (arith, h))
-same_number edge e Down Down h = (omega (arith, h), refl)
 
 -- one list and one function more
 pub built_step : (g : NetworkValue) (o : OrderValue) (edges : List Ends) (functions : List (Option (List Run))) (lists : List (List Entry)) (edge : ℕ) (dir : Dir) (ends : Ends)
@@ -160,7 +154,7 @@ built_step g o edges functions lists edge dir ends function ways at is low built
                 subst (λ (x : Option (Option (List Run))). IsLowFunction g o (start_of other d) (end_of other d) (value_kept x))
                 (sym (push_before functions function (list_number e d) (omega (arith, less, long)))) (is.low e d other there less)
             | inr more ↦
-                let (same, same_dir) = same_number edge e dir d (omega (arith, more, lt)) in
+                let (same, same_dir) = number_parts edge e dir d (omega (arith, more, lt)) in
                 let same_ends : ends ≡ other = let here = subst (λ (x : ℕ). slice_get edges x ≡ Some ends) same at in cc (here, there) in
                 let last = push_last functions function (list_number e d) (omega (arith, more, lt, long)) in
                 subst (λ (x : Option (Option (List Run))). IsLowFunction g o (start_of other d) (end_of other d) (value_kept x)) (sym last)
@@ -171,7 +165,7 @@ built_step g o edges functions lists edge dir ends function ways at is low built
           elim (cases_lt (list_number e d) (list_number edge dir)) [
             | inl less ↦ is.built e d other entries there less (sym (push_before lists ways (list_number e d) (omega (arith, less, lists_long))) ∙ found)
             | inr more ↦
-                let (same, same_dir) = same_number edge e dir d (omega (arith, more, lt)) in
+                let (same, same_dir) = number_parts edge e dir d (omega (arith, more, lt)) in
                 let same_ends : ends ≡ other = let here = subst (λ (x : ℕ). slice_get edges x ≡ Some ends) same at in cc (here, there) in
                 let last = push_last lists ways (list_number e d) (omega (arith, more, lt, lists_long)) in
                 let same_ways : ways ≡ entries = cc (last, found) in
@@ -210,10 +204,6 @@ next_built g o graph arcs list functions lists edge dir ends function ways chord
     let has = subst (λ (m : ℕ). HasLeastBelow g o m) (sym lower) (kept_least g o graph.edges functions lists edge dir ends closed.edges is at) in
     built_step g o graph.edges functions lists edge dir ends function ways at is (settled_low g o graph.edges list state u v setting apart has ways function settled value)
     (settled_built g o graph.edges list state u v setting ways settled)
-
-pub number_within : (edge count : ℕ) (dir : Dir) → edge < count → list_number edge dir < 2 * count
-number_within edge count Up lt = omega (arith, lt)
-number_within edge count Down lt = omega (arith, lt)
 
 pub list_there : {A : Type 0} (edges : List Ends) (lists : List A) (edge : ℕ) (dir : Dir) → edge < length edges → length lists ≡ 2 * length edges
     → (list : A) × (slice_get lists (list_number edge dir) ≡ Some list)

@@ -23,9 +23,10 @@ use Rattle.cu_interval.specs.Low.{HasLowWalk}
 use Rattle.cu_interval.specs.WayLists.{IsWayList, way_in}
 use Rattle.cu_interval.proofs.Lookups.{number_at}
 use Rattle.cu_interval.proofs.Spelled.{entries_rise}
+use Rattle.cu_interval.proofs.EndsLaws.{number_within}
 use Rattle.cu_customize.specs.Functions.{value_kept}
 use Rattle.cu_customize.specs.Steps.Kept.{IsBuiltTo}
-use Rattle.cu_customize.proofs.Keeping.{list_there, number_parts, number_within}
+use Rattle.cu_customize.proofs.Keeping.{list_there, number_edge}
 use Rattle.cu_customize.proofs.LowFunctions.{least_low, low_edge, low_edge_back}
 use Rattle.cu_customize.proofs.Lows.{HasLeastBelow, built_some}
 
@@ -111,7 +112,7 @@ module _ (g : NetworkValue) (o : OrderValue) (graph : ChordalValue) (functions :
           lists = is.lists_long;
           spelled = λ k d h.
               let long = is.lists_long in
-              let (edge, dir, ends, number, at) = number_parts graph.edges k (omega (arith, h, long)) in
+              let (edge, dir, ends, number, at) = number_edge graph.edges k (omega (arith, h, long)) in
               let there : slice_get lists (list_number edge dir) ≡ Some (get_or lists k d) = subst (λ (i : ℕ). slice_get lists i ≡ Some (get_or lists k d)) number (slice_get-get_or lists k d h) in
               (is.built edge dir ends (get_or lists k d) at (omega (arith, h, long, number)) there).spelled;
           formed = λ edge dir ends at k d h.

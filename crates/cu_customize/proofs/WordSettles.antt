@@ -20,6 +20,7 @@ use Rattle.cu_interval.specs.declared.ways.Entry.{Entry}
 use Rattle.cu_interval.specs.declared.ways.Way.TheVariants.{Via}
 use Rattle.cu_interval.specs.Hierarchies.{end_of, list_number, number_from, start_of}
 use Rattle.cu_interval.proofs.Lookups.{number_found}
+use Rattle.cu_interval.proofs.EndsLaws.{number_within}
 use Rattle.cu_customize.specs.declared.task.Task.{Task}
 use Rattle.cu_customize.specs.declared.triangles.Triangle.{Triangle}
 use Rattle.cu_customize.specs.Functions.{FunctionsState, kept_state}
@@ -29,7 +30,6 @@ use Rattle.cu_customize.specs.Steps.Gathering.{AreNear, HasTriangles, IsGathered
 use Rattle.cu_customize.specs.Steps.Triangles.{AreTriangles, AreTrianglesBy, middles_in}
 use Rattle.cu_customize.specs.Words.{IsFunctionWords}
 use Rattle.cu_customize.proofs.EdgeTasks.{all_below, common_found, leads, task_settled, triangles_between}
-use Rattle.cu_customize.proofs.Keeping.{number_within}
 use Rattle.cu_customize.proofs.LowFunctions.{down_edge, up_edge}
 use Rattle.cu_customize.proofs.Halves.{both_some}
 use Rattle.cu_customize.proofs.Nexts.{pulled_runs}

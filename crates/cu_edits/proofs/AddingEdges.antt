@@ -15,7 +15,7 @@ use Rattle.cu_links.specs.declared.buckets.EdgeState.TheVariants.{Free, Held}
 use Rattle.cu_links.specs.Buckets.{BucketsValue, IsDone, IsFree}
 use Rattle.cu_links.proofs.Held.{same_rank}
 use Rattle.cu_interval.specs.Hierarchies.{HierarchyValue}
-use Rattle.cu_interval.proofs.Lookups.{number_at}
+use Rattle.cu_interval.proofs.Lookups.{one_number}
 use Rattle.cu_edits.specs.Steps.Spreading.{Adds, AreBucketsOf, IsAbove, IsAdded, IsBetween, IsLowEnd, IsOfProfile, IsOfRoad}
 
 -- no edge is added
@@ -86,13 +86,6 @@ adds_then edges IsFirst IsSecond old mid new first second = record {
   all = λ e is free. either is (λ f. first.all e f (free_before edges IsSecond mid new second e free)) (λ s. second.all e s free);
 }
 
--- two edges with the same ends have one number
-same_number : (edges : List Ends) → IsRising edges → (e f low high : ℕ) → slice_get edges e ≡ Some (record { low = low; high = high })
-    → slice_get edges f ≡ Some (record { low = low; high = high }) → e ≡ f
-same_number edges rising e f low high p q =
-    let sums : 0 + e ≡ 0 + f = cc (number_at 0 edges e low high rising p, number_at 0 edges f low high rising q) in
-    omega (arith, sums)
-
 -- no edge joins the two ranks
 pub adds_no_edge : (edges : List Ends) (first second low high : ℕ) (buckets : BucketsValue) → low ≡ min first second → high ≡ max first second
     → (HasEdge edges low high → ⊥) → Adds edges (IsBetween edges first second) buckets buckets
@@ -110,7 +103,7 @@ adds_kept edges rising first second edge buckets at there = record {
   last = refl;
   count = refl;
   each = λ e. inl refl;
-  all = λ e is free. there (subst (IsFree buckets) (same_number edges rising e edge (min first second) (max first second) is at) free);
+  all = λ e is free. there (subst (IsFree buckets) (one_number edges rising e edge (min first second) (max first second) is at) free);
 }
 
 -- the edge of two ranks is held now
@@ -131,7 +124,7 @@ adds_held edges rising first second edge old at free =
             | inr other ↦ inl (get_other old.states edge e (Held low) other)
           ];
       all = λ e is unheld.
-          let same : e ≡ edge = same_number edges rising e edge low (max first second) is at in
+          let same : e ≡ edge = one_number edges rising e edge low (max first second) is at in
           absurd (cc (subst (λ (k : ℕ). slice_get (slice_set old.states edge (Held low)) k ≡ Some Free) same unheld, here));
     }
 

@@ -10,15 +10,15 @@ use Rattle.cu_chordal.proofs.Tables.{edge_within}
 use Rattle.cu_interval.specs.declared.ways.Dir.{Dir}
 use Rattle.cu_interval.specs.declared.ways.Dir.TheVariants.{Up, Down}
 use Rattle.cu_interval.specs.Hierarchies.{end_of, start_of}
+use Rattle.cu_interval.proofs.Lookups.{one_number}
 use Rattle.cu_edits.specs.Steps.Moving.{AreHalves, HalvesAre}
-use Rattle.cu_edits.proofs.LearntSides.{one_number}
 
 -- there are no others
 pub halves_are : (Good : ℕ → Dir → Type 0) (edges : List Ends) → IsRising edges → (ends : Ends) (dir : Dir) (middle first second : ℕ) → AreHalves edges ends dir middle first second
     → Good first Down → Good second Up → HalvesAre Good edges ends dir middle
 halves_are Good edges rising ends dir middle first second are one two e f halves = (
-  subst (λ (k : ℕ). Good k Down) (one_number edges rising middle (start_of ends dir) first e are.to halves.to) one,
-  subst (λ (k : ℕ). Good k Up) (one_number edges rising middle (end_of ends dir) second f are.on halves.on) two,
+  subst (λ (k : ℕ). Good k Down) (one_number edges rising first e middle (start_of ends dir) are.to halves.to) one,
+  subst (λ (k : ℕ). Good k Up) (one_number edges rising second f middle (end_of ends dir) are.on halves.on) two,
 )
 
 -- the middle is joined to the lower end

@@ -12,6 +12,7 @@ use Rattle.std.proofs.lemmas.Option.{slice_get-get_or, slice_get_within}
 use Rattle.cu_interval.specs.declared.ways.TouchedEdge.{TouchedEdge}
 use Rattle.cu_interval.specs.EdgeArcs.{AreEdgeArcs}
 use Rattle.cu_interval.specs.Hierarchies.{HierarchyValue, IsHierarchyOf, list_number}
+use Rattle.cu_interval.proofs.EndsLaws.{number_within}
 use Rattle.cu_unpack.specs.RebuiltWords.{IsSized, WordsValue}
 use Rattle.cu_edits.specs.Settling.{IsSettled, SettlingValue}
 use Rattle.cu_edits.specs.Steps.ByWords.{AreWordsOf, IsSettlingByWords}
@@ -20,7 +21,6 @@ use Rattle.cu_edits.specs.Steps.Holding.{settling_of}
 use Rattle.cu_edits.specs.Steps.Known.{IsEditSound}
 use Rattle.cu_edits.specs.Steps.Moving.{MovedValue}
 use Rattle.cu_edits.specs.Steps.Settled.{AreSettled}
-use Rattle.cu_edits.proofs.LearntWords.{number_within}
 use Rattle.cu_edits.proofs.Replaced.{number_among}
 use Rattle.cu_edits.proofs.SettledFrames.{settled_none}
 use Rattle.cu_edits.proofs.StandingLists.{stands_none}
@@ -72,7 +72,7 @@ holds_words s graph arcs edges words moved count old size unknown none long zero
       places = places;
       inside = λ k d lt. let zero = zeros k d lt in omega (arith, zero);
       stands = stands_none s are moved old.none (λ e dir ends at.
-          let inside = number_within (length s.before.edges) e dir (slice_get_within s.before.edges e ends at) in
+          let inside = number_within e (length s.before.edges) dir (slice_get_within s.before.edges e ends at) in
           slice_get-get_or moved.places (list_number e dir) 0 (omega (arith, inside, places)) ∙ ap Some (zeros (list_number e dir) 0 (omega (arith, inside, places)))) (no_edge s old.none);
       moves = λ e dir function (place, at, there). let zero = all_at (λ (k : ℕ). k ≡ 0) moved.places (list_number e dir) (suc place) zeros at in absurd (cc zero);
     }

@@ -10,7 +10,7 @@ use Rattle.cu_chordal.specs.declared.graph.Ends.{Ends}
 use Rattle.cu_chordal.specs.Graphs.{HasEdge, IsRising}
 use Rattle.cu_chordal.proofs.Members.{member_at}
 use Rattle.cu_interval.specs.Hierarchies.{HierarchyValue}
-use Rattle.cu_interval.proofs.Lookups.{number_finds}
+use Rattle.cu_interval.proofs.Lookups.{one_number}
 use Rattle.cu_edits.specs.declared.known.EdgeFunctions.{EdgeFunctions}
 use Rattle.cu_edits.specs.Steps.Known.{AreRebuilt, HasFunctions, IsSide, IsSideOver, Learns}
 
@@ -101,12 +101,7 @@ second_side edges ends rank first second e to on same =
     subst (IsSideOver edges ends rank) (sym same)
     (member_at edges (record { low = rank; high = ends.low }) first to, member_at edges (record { low = rank; high = ends.high }) second on, inr on)
 
-pub one_number : (edges : List Ends) → IsRising edges → (low high e f : ℕ) → slice_get edges e ≡ Some (record { low = low; high = high }) → slice_get edges f ≡ Some (record { low = low; high = high }) → e ≡ f
-one_number edges rising low high e f at there =
-    let same : Some e ≡ Some f = sym (number_finds edges rising low high (Some e) at) ∙ number_finds edges rising low high (Some f) there in
-    cc same
-
 pub both_known : (edges : List Ends) → IsRising edges → (ends : Ends) (rank first second : ℕ) (known : List (Option EdgeFunctions)) → slice_get edges first ≡ Some (record { low = rank; high = ends.low })
     → slice_get edges second ≡ Some (record { low = rank; high = ends.high }) → HasFunctions known first → HasFunctions known second → (side : ℕ) → IsSideOver edges ends rank side → HasFunctions known side
-both_known edges rising ends rank first second known to on one two side (low, high, inl at) = subst (HasFunctions known) (one_number edges rising rank ends.low first side to at) one
-both_known edges rising ends rank first second known to on one two side (low, high, inr at) = subst (HasFunctions known) (one_number edges rising rank ends.high second side on at) two
+both_known edges rising ends rank first second known to on one two side (low, high, inl at) = subst (HasFunctions known) (one_number edges rising first side rank ends.low to at) one
+both_known edges rising ends rank first second known to on one two side (low, high, inr at) = subst (HasFunctions known) (one_number edges rising second side rank ends.high on at) two

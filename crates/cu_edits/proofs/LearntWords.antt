@@ -1,8 +1,7 @@
 -- Words that are learned of lists of the hierarchy before an edit, one list after the other.
-use Rattle.std.proofs.Common.{◌≡◌, ◌<◌, ◌+◌, ◌*◌, ◌/◌, ◌%◌, ◌∙◌, ℕ, List, [], Some, true, arith, get_or, inl, inr, length, subst, sym, take}
+use Rattle.std.proofs.Common.{◌≡◌, ◌<◌, ◌+◌, ◌∙◌, ℕ, List, [], Some, true, get_or, inl, inr, length, subst, sym, take}
 use Rattle.std.specs.Prelude.{All, slice_get}
 use Rattle.std.specs.List.{Contains}
-use Rattle.std.proofs.lemmas.Bool.{cases_eq}
 use Rattle.std.proofs.lemmas.List.Elements.{All-contains, All-more}
 use Rattle.cu_chordal.specs.declared.graph.Ends.{Ends}
 use Rattle.cu_chordal.specs.Graphs.{HasEdge}
@@ -12,23 +11,13 @@ use Rattle.cu_interval.specs.declared.ways.Dir.TheVariants.{Up, Down}
 use Rattle.cu_interval.specs.declared.ways.Way.{Way}
 use Rattle.cu_interval.specs.declared.ways.Way.TheVariants.{Road, Via}
 use Rattle.cu_interval.specs.declared.ways.Entry.{Entry}
-use Rattle.cu_interval.specs.Hierarchies.{HierarchyValue, list_number}
+use Rattle.cu_interval.specs.Hierarchies.{HierarchyValue}
+use Rattle.cu_interval.proofs.EndsLaws.{each_number}
 use Rattle.cu_unpack.specs.RebuiltWords.{IsKnownList, IsSameList, IsSized, Learns, WordsValue}
 use Rattle.cu_unpack.proofs.Learning.{learned_keeps, learned_still}
 use Rattle.cu_edits.specs.Steps.ByWords.{AreAtHandIfMoved, AreWordsOf, IsAtHand, IsWayAtHand, LearnsWords}
 use Rattle.cu_edits.specs.Steps.Moving.{HalvesAre, MovedValue}
 use Rattle.cu_edits.proofs.BothHalves.{joins_low}
-
-pub number_within : (edges edge : ℕ) (dir : Dir) → edge < edges → list_number edge dir < 2 * edges
-number_within edges edge Up lt = omega (arith, lt)
-number_within edges edge Down lt = omega (arith, lt)
-
--- each number is that of a list
-number_is : (number : ℕ) → (edge : ℕ) × (dir : Dir) × (list_number edge dir ≡ number)
-number_is number = elim (cases_eq (number % 2) 0) [
-  | inl even ↦ (number / 2, Up, omega (arith, even))
-  | inr odd ↦ (number / 2, Down, omega (arith, odd))
-]
 
 -- one list was learned, and those that it needs
 pub learns_list : (h : HierarchyValue) (edge : ℕ) (before now : WordsValue) → AreWordsOf h before → IsSized (length h.edges) now → Learns h edge before now → LearnsWords h before now
@@ -37,7 +26,7 @@ learns_list h edge before now are size learns = record {
     size = size;
     keeps = learned_keeps h (λ e. Unit {0}) edge before now learns are.keeps;
     unknown = λ number unknown.
-        let (e, d, is) = number_is number in
+        let (e, d, is) = each_number number in
         elim (learns e d) [
           | inl same ↦ (let (known, functions) = subst (IsSameList before now) is same in functions ∙ are.unknown number (sym known ∙ unknown))
           | inr learned ↦

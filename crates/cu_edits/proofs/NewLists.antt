@@ -25,6 +25,7 @@ use Rattle.cu_interval.specs.Resettling.{ArrivesIn, IsCandidateIn, IsResettledLi
 use Rattle.cu_interval.specs.Touching.{IsChanged}
 use Rattle.cu_interval.specs.WayLists.{GoesFirst, IsFirstEarliest}
 use Rattle.cu_interval.proofs.Lookups.{way_held}
+use Rattle.cu_interval.proofs.EndsLaws.{number_within}
 use Rattle.cu_customize.specs.Functions.{FunctionsState, kept_state, road_if, value_kept}
 use Rattle.cu_customize.specs.Layers.{layered}
 use Rattle.cu_customize.specs.Settling.{ArrivesBy, IsCandidateBy, IsDayValueOf, IsSettledList, function_from}
@@ -38,7 +39,6 @@ use Rattle.cu_edits.specs.Steps.Known.{values_of}
 use Rattle.cu_edits.specs.Steps.Moving.{HalvesAre, IsUnmoved, IsUnmovedWay, MayStand, MovedValue, SayValue, StandingPair}
 use Rattle.cu_edits.proofs.Frames.{candidates_alone, runs_alike, via_same}
 use Rattle.cu_edits.proofs.Halves.{HasValues, IsHalf, KnowsWay, arrives_by, arrives_in, by_ranks, candidate_by, candidate_in, function_at}
-use Rattle.cu_edits.proofs.LearntWords.{number_within}
 use Rattle.cu_edits.proofs.SettledOnce.{listed}
 use Rattle.cu_edits.proofs.SettledValues as values
 use Rattle.cu_edits.proofs.Sides.{halves_at, edge_down, edge_up, list_at, over}
@@ -148,7 +148,7 @@ module _ (s : SettlingValue) (graph : ChordalValue) (arcs : List (List ℕ)) (wo
   half_before : (e : ℕ) (d : Dir) (x y : ℕ) (l : LeadsOver s.before.edges e d x y) → IsLowerSide s.before.edges edge e → IsUnmoved moved e d → IsKnownList words (list_number e d)
       → IsHalf now asked x y
   half_before e d x y l side unmoved known =
-      let inside = number_within (length s.before.edges) e d (slice_get_within s.before.edges e l.ends l.at) in
+      let inside = number_within e (length s.before.edges) d (slice_get_within s.before.edges e l.ends l.at) in
       let long = holds.known.size.functions in
       let function = get_or words.functions (list_number e d) None in
       let there : slice_get words.functions (list_number e d) ≡ Some function = slice_get-get_or words.functions (list_number e d) None (omega (arith, inside, long)) in
@@ -167,7 +167,7 @@ module _ (s : SettlingValue) (graph : ChordalValue) (arcs : List (List ℕ)) (wo
   -- of one that was moved
   half_moved : (e : ℕ) (d : Dir) (x y place : ℕ) (l : LeadsOver s.before.edges e d x y) → slice_get moved.places (list_number e d) ≡ Some (suc place) → IsHalf now asked x y
   half_moved e d x y place l there =
-      let inside = number_within (length s.before.edges) e d (slice_get_within s.before.edges e l.ends l.at) in
+      let inside = number_within e (length s.before.edges) d (slice_get_within s.before.edges e l.ends l.at) in
       let long = holds.known.size.functions in
       let within = all_at (λ (k : ℕ). k ≤ length moved.functions) moved.places (list_number e d) (suc place) holds.inside there in
       let function = get_or moved.functions place None in
@@ -188,7 +188,7 @@ module _ (s : SettlingValue) (graph : ChordalValue) (arcs : List (List ℕ)) (wo
 
   placed : (e : ℕ) (d : Dir) (x y : ℕ) → LeadsOver s.before.edges e d x y → slice_get moved.places (list_number e d) ≡ Some (get_or moved.places (list_number e d) 0)
   placed e d x y l =
-      let inside = number_within (length s.before.edges) e d (slice_get_within s.before.edges e l.ends l.at) in
+      let inside = number_within e (length s.before.edges) d (slice_get_within s.before.edges e l.ends l.at) in
       let long = holds.places in
       slice_get-get_or moved.places (list_number e d) 0 (omega (arith, inside, long))
 
@@ -224,7 +224,7 @@ module _ (s : SettlingValue) (graph : ChordalValue) (arcs : List (List ℕ)) (wo
 
   half_with : (e : ℕ) (d : Dir) (x y : ℕ) (l : LeadsOver s.before.edges e d x y) → IsLowerSide s.before.edges edge e → IsSome (function_from s.before.edges asked x y) → IsHalf now asked x y
   half_with e d x y l side some =
-      let inside = number_within (length s.before.edges) e d (slice_get_within s.before.edges e l.ends l.at) in
+      let inside = number_within e (length s.before.edges) d (slice_get_within s.before.edges e l.ends l.at) in
       let long = holds.known.size.known in
       half_there e d x y (get_or moved.places (list_number e d) 0) (get_or words.known (list_number e d) false) l side (placed e d x y l)
       (slice_get-get_or words.known (list_number e d) false (omega (arith, inside, long))) some

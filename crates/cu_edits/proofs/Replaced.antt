@@ -1,8 +1,7 @@
 -- The lists of a hierarchy after those of some edges were replaced.
-use Rattle.std.proofs.Common.{◌≡◌, ◌≢◌, ◌<◌, ◌+◌, ◌*◌, ◌/◌, ◌%◌, ◌∙◌, ℕ, List, [], ◌∷◌, ◌++◌, Some, refl, ap, sym, subst, arith, inl, inr, length}
+use Rattle.std.proofs.Common.{◌≡◌, ◌≢◌, ◌<◌, ◌+◌, ◌*◌, ◌∙◌, ℕ, List, [], ◌∷◌, ◌++◌, Some, refl, ap, sym, subst, arith, inl, inr, length}
 use Rattle.std.specs.Prelude.{slice_get, slice_set}
 use Rattle.std.specs.List.{AllPairs, Contains}
-use Rattle.std.proofs.lemmas.Bool.{cases_eq}
 use Rattle.std.proofs.lemmas.List.Elements.{All-contains}
 use Rattle.std.proofs.lemmas.List.{length-set}
 use Rattle.cu_model.specs.declared.roads.Edit.{Edit}
@@ -15,6 +14,7 @@ use Rattle.cu_interval.specs.declared.ways.Entry.{Entry}
 use Rattle.cu_interval.specs.declared.ways.TouchedEdge.{TouchedEdge}
 use Rattle.cu_interval.specs.Hierarchies.{HierarchyValue, entries_or_none, list_number, list_of}
 use Rattle.cu_interval.specs.Replacing.{hierarchy_with, replaced, replaced_by}
+use Rattle.cu_interval.proofs.EndsLaws.{each_number}
 use Rattle.cu_edits.specs.Settling.{list_in, numbers_of}
 
 -- different edges
@@ -106,20 +106,13 @@ module _ (h : HierarchyValue) (edit : Edit) (edges : List TouchedEdge) where
       ap (λ (lists : List (List Entry)). entries_or_none (slice_get lists (list_number e d))) (replaced_push edges h.lists t)
       ∙ ap entries_or_none (replaced_by_other (replaced h.lists edges) t e d ne)
 
--- every list has the number of some edge and direction
-pub number_parts : (n : ℕ) → (e : ℕ) × (d : Dir) × (list_number e d ≡ n)
-number_parts n = elim (cases_eq (n % 2) 0) [
-  | inl even ↦ (n / 2, Up, omega (arith, even))
-  | inr odd ↦ (n / 2, Down, omega (arith, odd))
-]
-
 -- the order in which lists are replaced doesn't matter
 pub replaced_same : (first second : List TouchedEdge) (lists : List (List Entry)) → AreApart first → AreApart second → ((t : TouchedEdge) → Contains first t → Contains second t)
     → ((t : TouchedEdge) → Contains second t → Contains first t) → ((t : TouchedEdge) → Contains first t → 2 * t.edge + 1 < length lists)
     → replaced lists first ≡ replaced lists second
 replaced_same first second lists apart differ there_too back within =
     same_items (replaced lists first) (replaced lists second) (λ i.
-    let (e, d, is) = number_parts i in
+    let (e, d, is) = each_number i in
     subst (λ (n : ℕ). slice_get (replaced lists first) n ≡ slice_get (replaced lists second) n) is
     (elim (member_decided (numbers_of first) e) [
       | inl c ↦

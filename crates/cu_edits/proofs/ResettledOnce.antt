@@ -14,8 +14,8 @@ use Rattle.cu_interval.specs.Hierarchies.{HierarchyValue, IsHierarchy, end_of, e
 use Rattle.cu_interval.specs.Resettling.{ArrivesIn, IsCandidateIn, IsResettled, IsResettledList, rebuilt, value_by}
 use Rattle.cu_interval.proofs.Unique.{runs_unique}
 use Rattle.cu_interval.proofs.EndsLaws.{below_low}
-use Rattle.cu_customize.proofs.Keeping.{number_parts}
 use Rattle.cu_customize.proofs.LowFunctions.{runs_by}
+use Rattle.cu_customize.proofs.Keeping.{number_edge}
 use Rattle.cu_edits.proofs.RebuiltBelow.{AgreesBelow, agrees_below, lists_from_both, rebuilt_below, then_alike}
 use Rattle.cu_edits.proofs.ResettledBuilt.{after, kept_list, resettled_after}
 use Rattle.cu_edits.proofs.ResettledDecided.{touched_decided}
@@ -99,7 +99,7 @@ module _ (old : HierarchyValue) (edit : Edit) (lists more : List (List Entry)) (
   pub same_lists : length lists ≡ 2 * length old.edges → lists ≡ more
   same_lists count =
       ext_get_or [] lists more (first.lists ∙ sym second.lists) (λ k lt.
-      let (edge, dir, ends, number, at) = number_parts old.edges k (omega (arith, count, lt)) in
+      let (edge, dir, ends, number, at) = number_edge old.edges k (omega (arith, count, lt)) in
       let same : list_of (after old edit lists) edge dir ≡ list_of (after old edit more) edge dir = same_below (suc ends.low) edge dir ends at (omega arith) in
       list_at lists k ∙ subst (λ (n : ℕ). entries_or_none (slice_get lists n) ≡ entries_or_none (slice_get more n)) (sym number) same ∙ sym (list_at more k))
 

@@ -27,12 +27,13 @@ use Rattle.cu_interval.specs.Replacing.{hierarchy_with}
 use Rattle.cu_interval.specs.Resettling.{ArrivesIn, IsCandidateIn, IsResettled, IsResettledList}
 use Rattle.cu_interval.specs.Touching.{IsTouchedEdge}
 use Rattle.cu_interval.specs.WayLists.{IsWayList}
+use Rattle.cu_interval.proofs.EndsLaws.{each_number}
 use Rattle.cu_edits.specs.Settling.{IsSettled, SettlingValue, list_in, numbers_of, settled_so_far}
 use Rattle.cu_edits.specs.Steps.Known.{IsEditSound}
 use Rattle.cu_edits.specs.Steps.Settled.{AreSettled}
 use Rattle.cu_edits.specs.Steps.Frames.{LeadsOver}
 use Rattle.cu_edits.proofs.Frames.{candidates_alone}
-use Rattle.cu_edits.proofs.Replaced.{AreApart, number_among, number_of_one, number_parts, replaced_long, replaced_other, replaced_same}
+use Rattle.cu_edits.proofs.Replaced.{AreApart, number_among, number_of_one, replaced_long, replaced_other, replaced_same}
 use Rattle.cu_edits.proofs.SettledFrames.{all_so, leads_touched, settled_list, untouched_frame, untouched_list, untouched_sides}
 use Rattle.cu_edits.proofs.Sides.{edge_down, edge_up, halves_good, over}
 use Rattle.cu_edits.proofs.Unchanged.{edited_network, leads_joins, leads_still}
@@ -72,7 +73,7 @@ spelled_at s are e d entries at = elim (member_decided (numbers_of s.settled) e)
 all_spelled : (s : SettlingValue) → AreSettled s → All IsWayList (settled_so_far s).lists
 all_spelled s are = λ k d lt.
     let lists = (settled_so_far s).lists in
-    let (e, dir, is) = number_parts k in
+    let (e, dir, is) = each_number k in
     spelled_at s are e dir (get_or lists k d) (subst (λ (n : ℕ). slice_get lists n ≡ Some (get_or lists k d)) (sym is) (slice_get-get_or lists k d lt))
 
 -- each way is well formed

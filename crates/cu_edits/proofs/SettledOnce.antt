@@ -15,6 +15,7 @@ use Rattle.cu_interval.specs.Hierarchies.{HierarchyValue, end_of, list_from, lis
 use Rattle.cu_interval.specs.Resettling.{ArrivesIn, IsCandidateIn, IsResettledList, least_in, rebuilt, value_by}
 use Rattle.cu_interval.specs.Touching.{IsTouchedEdge}
 use Rattle.cu_interval.specs.WayLists.{way_in}
+use Rattle.cu_interval.proofs.EndsLaws.{number_within}
 use Rattle.cu_customize.specs.Functions.{FunctionsState}
 use Rattle.cu_customize.specs.Settling.{ArrivesBy, IsCandidateBy, IsSettledList}
 use Rattle.cu_edits.specs.Settling.{HasFinalSides, IsFinal, IsResettledEdge, IsSettled, SettlingValue, list_in, settled_so_far}
@@ -22,7 +23,6 @@ use Rattle.cu_edits.specs.Steps.Settled.{AreSettled}
 use Rattle.cu_edits.specs.Steps.Frames.{LeadsOver}
 use Rattle.cu_edits.proofs.Frames.{ChoosesAlike, candidates_alone, runs_alike}
 use Rattle.cu_edits.proofs.Halves.{KnowsAll, knows_way, settled_alike}
-use Rattle.cu_edits.proofs.LearntWords.{number_within}
 use Rattle.cu_edits.proofs.SettledFrames.{FinalPair, resettled_stays, settled_list, settled_more, settled_with, stays_frame}
 use Rattle.cu_edits.proofs.SettledValues.{least_stays, values_least, way_arrives}
 use Rattle.cu_edits.proofs.Sides.{halves_good, list_at, over}
@@ -36,7 +36,7 @@ HasSettledLists edges arcs f lists = (dir : Dir) (ends : Ends) (roads : List ℕ
 pub listed : (h : HierarchyValue) (arcs : List (List ℕ)) → AreEdgeArcs h.network h.order h.edges arcs → (edge : ℕ) (dir : Dir) (ends : Ends) → slice_get h.edges edge ≡ Some ends
     → (list : List ℕ) × (slice_get arcs (list_number edge dir) ≡ Some list)
 listed h arcs roads edge dir ends at =
-    let inside = number_within (length h.edges) edge dir (slice_get_within h.edges edge ends at) in
+    let inside = number_within edge (length h.edges) dir (slice_get_within h.edges edge ends at) in
     let long = roads.long in
     (get_or arcs (list_number edge dir) [], slice_get-get_or arcs (list_number edge dir) [] (omega (arith, inside, long)))
 

@@ -24,7 +24,7 @@ use Rattle.cu_interval.specs.EdgeArcs.{AreArcsFrom, AreEdgeArcs}
 use Rattle.cu_interval.specs.Hierarchies.{end_of, list_number, start_of}
 use Rattle.cu_interval.specs.Steps.ArcLists.{AreArcsUntil, AreListed, IsListOf}
 use Rattle.cu_interval.proofs.EndsLaws.{ends_apart, number_parts}
-use Rattle.cu_interval.proofs.Lookups.{number_at}
+use Rattle.cu_interval.proofs.Lookups.{one_number}
 
 -- a road has one pair of ends
 pub links_same : (g : NetworkValue) (o : OrderValue) (a x y p q : ℕ) → LinksRanks g o a x y → LinksRanks g o a p q → (x ≡ p) × (y ≡ q)
@@ -40,21 +40,13 @@ links_same g o a x y p q l k =
 rising_ends : (graph : ChordalValue) → IsChordal graph → (edge : ℕ) (ends : Ends) → slice_get graph.edges edge ≡ Some ends → ends.low < ends.high
 rising_ends graph f edge ends e = (all_at (λ (x : Ends). (x.low < x.high) × (x.high < graph.ranks)) graph.edges edge ends f.in_range e).0
 
--- two edges with the same ends have one number
-one_number : (graph : ChordalValue) → IsChordal graph → (e f low high : ℕ) → slice_get graph.edges e ≡ Some (record { low = low; high = high }) → slice_get graph.edges f ≡ Some (record { low = low; high = high }) → e ≡ f
-one_number graph c e f low high p q =
-    let first = number_at 0 graph.edges e low high c.rising p in
-    let second = number_at 0 graph.edges f low high c.rising q in
-    let sums : 0 + e ≡ 0 + f = cc (first, second) in
-    omega (arith, sums)
-
 ends_by : (xs : List Ends) (e : ℕ) (ends : Ends) (low high : ℕ) → slice_get xs e ≡ Some ends → ends.low ≡ low → ends.high ≡ high → slice_get xs e ≡ Some (record { low = low; high = high })
 ends_by xs e ends low high at l h = at ∙ ap Some (same_ends ends low high l h)
 
 -- two lists with the same ends are one
 same_list_number : (graph : ChordalValue) → IsChordal graph → (e f : ℕ) (d k : Dir) (x y : Ends) → slice_get graph.edges e ≡ Some x → slice_get graph.edges f ≡ Some y → start_of x d ≡ start_of y k → end_of x d ≡ end_of y k → list_number e d ≡ list_number f k
-same_list_number graph c e f Up Up x y p q s t = let n = one_number graph c e f y.low y.high (ends_by graph.edges e x y.low y.high p s t) q in omega (arith, n)
-same_list_number graph c e f Down Down x y p q s t = let n = one_number graph c e f y.low y.high (ends_by graph.edges e x y.low y.high p t s) q in omega (arith, n)
+same_list_number graph c e f Up Up x y p q s t = let n = one_number graph.edges c.rising e f y.low y.high (ends_by graph.edges e x y.low y.high p s t) q in omega (arith, n)
+same_list_number graph c e f Down Down x y p q s t = let n = one_number graph.edges c.rising e f y.low y.high (ends_by graph.edges e x y.low y.high p t s) q in omega (arith, n)
 same_list_number graph c e f Up Down x y p q s t = let l = rising_ends graph c e x p in let m = rising_ends graph c f y q in absurd (omega (arith, l, m, s, t))
 same_list_number graph c e f Down Up x y p q s t = let l = rising_ends graph c e x p in let m = rising_ends graph c f y q in absurd (omega (arith, l, m, s, t))
 

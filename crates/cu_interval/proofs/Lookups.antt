@@ -130,6 +130,13 @@ number_at n (x ∷ xs) (suc j) low high f e =
     let sum : suc n + j ≡ n + suc j = omega arith in
     rw (not_here x low high before) (rest ∙ ap Some sum)
 
+-- so two edges with the same ends have one number
+pub one_number : (edges : List Ends) → IsRising edges → (e f low high : ℕ) → slice_get edges e ≡ Some (record { low = low; high = high })
+    → slice_get edges f ≡ Some (record { low = low; high = high }) → e ≡ f
+one_number edges rising e f low high p q =
+    let sums : 0 + e ≡ 0 + f = cc (number_at 0 edges e low high rising p, number_at 0 edges f low high rising q) in
+    omega (arith, sums)
+
 -- what a look-up by the ends answers is the number that is found
 pub number_finds : (edges : List Ends) → IsRising edges → (low high : ℕ) (o : Option ℕ) → FindsEdge edges low high o → number_from 0 edges low high ≡ o
 number_finds edges f low high None none =

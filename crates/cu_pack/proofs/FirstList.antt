@@ -5,12 +5,11 @@ use Rattle.cu_chordal.proofs.Tables.{first_all, first_none}
 use Rattle.cu_interval.specs.declared.ways.Dir.{Dir}
 use Rattle.cu_interval.specs.declared.ways.Dir.TheVariants.{Up, Down}
 use Rattle.cu_interval.specs.Hierarchies.{list_number}
-use Rattle.cu_interval.proofs.EndsLaws.{number_parts}
+use Rattle.cu_interval.proofs.EndsLaws.{number_parts, number_within}
 use Rattle.cu_pack.specs.Checks.{AreEntriesWrong, FindsFirst, IsGraph, IsWrongList}
 use Rattle.cu_pack.specs.Reading.{counts_in, decoded, edge_start, way_start}
 use Rattle.cu_pack.specs.Steps.Ways.{AreBothRight, IsFirstDir, IsWrongWay}
 use Rattle.cu_pack.proofs.EdgesRead.{known}
-use Rattle.cu_pack.proofs.ListNumbers.{list_inside}
 
 twice_most : (e : ℕ) (d : Dir) → 2 * e ≤ list_number e d
 twice_most e Up = omega arith
@@ -71,7 +70,7 @@ module _ (bytes : List ℕ) (first : way_start bytes 0 ≡ 0) where
       where
         last_right : way_start bytes (2 * (counts_in bytes).edges) ≡ (counts_in bytes).entries → IsWrongList bytes (2 * (counts_in bytes).edges) → ⊥
         last_right last (inl (zero, other)) = other first
-        last_right last (inr (inl (e, dir, inside, number, wrong))) = absurd (omega (arith, inside, number, list_inside e (counts_in bytes).edges dir inside))
+        last_right last (inr (inl (e, dir, inside, number, wrong))) = absurd (omega (arith, inside, number, number_within e (counts_in bytes).edges dir inside))
         last_right last (inr (inr (at, other))) = other last
 
 module _ (bytes : List ℕ) (f : IsGraph bytes) where

@@ -5,9 +5,10 @@ use Rattle.cu_model.specs.Profiles.{IsProfile}
 use Rattle.cu_interval.specs.declared.ways.Dir.{Dir}
 use Rattle.cu_interval.specs.Hierarchies.{list_number}
 use Rattle.cu_interval.specs.WayLists.{IsWayList}
+use Rattle.cu_interval.proofs.EndsLaws.{number_within}
 use Rattle.cu_pack.specs.Checks.{AreEntriesWrong, ArePiecesWrong, IsWrongList, IsWrongProfile, NoneWrong}
 use Rattle.cu_pack.specs.Reading.{counts_in, entry_from, entry_kind, entry_place, list_in, piece_from, piece_kind, piece_place, profile_in, profile_start, way_start}
-use Rattle.cu_pack.proofs.ListNumbers.{list_inside, list_parts}
+use Rattle.cu_pack.proofs.ListNumbers.{list_parts}
 use Rattle.cu_pack.proofs.Runs.{LeadOn}
 use Rattle.cu_pack.proofs.Unrefuted.{least_else, less_else, profile_unrefuted, same_unrefuted, way_list_unrefuted}
 
@@ -55,7 +56,7 @@ module _ (bytes : List ℕ) (none : NoneWrong (IsWrongList bytes) (suc (2 * (cou
   -- the entries of an edge in a direction
   pub right_entries : (list edge : ℕ) (dir : Dir) → edge < (counts_in bytes).edges → list ≡ list_number edge dir → AreEntriesWrong bytes list edge dir → ⊥
   right_entries list edge dir inside number wrong =
-      let within = list_inside edge (counts_in bytes).edges dir inside in
+      let within = number_within edge (counts_in bytes).edges dir inside in
       none list (omega (arith, number, within)) (inr (inl (edge, dir, inside, number, wrong)))
 
   module _ (list : ℕ) (inside : list < 2 * (counts_in bytes).edges) where

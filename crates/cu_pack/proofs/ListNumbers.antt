@@ -12,7 +12,3 @@ list_parts number count inside =
       | inl even ↦ (number / 2, Up, omega (arith, inside), omega (arith, even))
       | inr odd ↦ (number / 2, Down, omega (arith, inside), omega (arith, odd))
     ]
-
-pub list_inside : (edge count : ℕ) (dir : Dir) → edge < count → list_number edge dir < 2 * count
-list_inside edge count Up inside = omega (arith, inside)
-list_inside edge count Down inside = omega (arith, inside)

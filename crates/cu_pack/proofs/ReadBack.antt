@@ -19,12 +19,12 @@ use Rattle.cu_chordal.specs.declared.graph.Ends.{Ends}
 use Rattle.cu_chordal.specs.Graphs.{first_edge_of}
 use Rattle.cu_chordal.proofs.Grouping.{one_step}
 use Rattle.cu_interval.specs.declared.ways.Dir.{Dir}
-use Rattle.cu_interval.specs.declared.ways.Dir.TheVariants.{Up, Down}
 use Rattle.cu_interval.specs.declared.ways.Entry.{Entry}
 use Rattle.cu_interval.specs.declared.ways.Way.{Way}
 use Rattle.cu_interval.specs.declared.ways.Way.TheVariants.{Road, Via}
 use Rattle.cu_interval.specs.WayLists.{IsWayList}
 use Rattle.cu_interval.specs.Hierarchies.{HierarchyValue, IsHierarchy, IsWellFormed, end_of, list_number, list_of, start_of}
+use Rattle.cu_interval.proofs.EndsLaws.{start_below}
 use Rattle.cu_pack.specs.Layouts.{rank_of_at, arcs_at, profile_starts_at, pieces_at, edge_starts_at, uppers_at, way_starts_at, entries_at, file_length}
 use Rattle.cu_pack.specs.Places.{ReadsRow, ReadsRule, ReadsWay, StandsAt, long_at, word_at}
 use Rattle.cu_pack.specs.Spelling.{arc_bytes, counts_of, edge_starts, entry_bytes, header, long, piece_bytes, rule_bytes, spelling, starts_from, total, way_bytes, word}
@@ -38,10 +38,6 @@ use Rattle.cu_pack.proofs.Totals.{entries_in_limit, in_limits, list_there, piece
 pub first_edge_within : (edges : List Ends) (rank : ℕ) → first_edge_of edges rank ≤ length edges
 first_edge_within [] rank = omega arith
 first_edge_within (e ∷ es) rank = one_step (nat_lt e.low rank) (first_edge_of es rank) (length es) (first_edge_within es rank)
-
-start_below : (nodes : ℕ) (ends : Ends) (dir : Dir) → ends.low < ends.high → ends.high < nodes → start_of ends dir < nodes
-start_below nodes ends Up low high = omega (arith, low, high)
-start_below nodes ends Down low high = high
 
 pub nowhere : Ends
 nowhere = record { low = 0; high = 0 }
@@ -187,7 +183,7 @@ module _ (h : HierarchyValue) (f : IsHierarchy h) where
       let begins = all_at (λ (e : Entry). e.from < day) (list_of h edge dir) index entry valid.within there in
       let formed = all_at (λ (e : Entry). IsWellFormed h (start_of ends dir) (end_of ends dir) e.way) (list_of h edge dir) index entry (f.formed edge dir ends edge_there) there in
       let range = all_at (λ (e : Ends). (e.low < e.high) × (e.high < h.network.nodes)) h.edges edge ends f.graph.in_range edge_there in
-      way_read (spelling h) at entry.from (start_of ends dir) (end_of ends dir) entry.way (start_below h.network.nodes ends dir range.0 range.1)
+      way_read (spelling h) at entry.from (start_of ends dir) (end_of ends dir) entry.way (start_below ends dir h.network.nodes range.0 range.1)
       (stands_jth entry_bytes 12 entry_long (spelling h) (entries_at (counts_of h)) h.lists (list_number edge dir) index (list_of h edge dir) entry (entries_stand h f) list there) (omega (arith, begins)) formed
 
   -- the same, by the list's number

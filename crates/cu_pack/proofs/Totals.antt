@@ -16,10 +16,10 @@ use Rattle.cu_interval.specs.declared.ways.Dir.{Dir}
 use Rattle.cu_interval.specs.declared.ways.Dir.TheVariants.{Up, Down}
 use Rattle.cu_interval.specs.Hierarchies.{HierarchyValue, IsHierarchy, entries_or_none, list_number, list_of}
 use Rattle.cu_interval.proofs.Spelled.{few_entries}
+use Rattle.cu_interval.proofs.EndsLaws.{number_within}
 use Rattle.cu_pack.specs.Layouts.{AreInLimits}
 use Rattle.cu_pack.specs.declared.layout.Counts.{Counts}
 use Rattle.cu_pack.specs.Spelling.{counts_of, total}
-use Rattle.cu_pack.proofs.ListNumbers.{list_inside}
 
 module _ {T : Type 0} (lists : List (List T)) (i : ℕ) (list : List T) (there : slice_get lists i ≡ Some list) where
   -- one list more
@@ -85,7 +85,7 @@ pieces_there g profile inside =
 -- the list of an edge in a direction
 pub list_there : (h : HierarchyValue) (edge : ℕ) (dir : Dir) → IsHierarchy h → edge < length h.edges → slice_get h.lists (list_number edge dir) ≡ Some (list_of h edge dir)
 list_there h edge dir f inside =
-    let there = slice_get-get_or h.lists (list_number edge dir) [] (omega (arith, f.lists, list_inside edge (length h.edges) dir inside)) in
+    let there = slice_get-get_or h.lists (list_number edge dir) [] (omega (arith, f.lists, number_within edge (length h.edges) dir inside)) in
     there ∙ ap Some (sym (ap entries_or_none there))
 
 -- both lists of an edge

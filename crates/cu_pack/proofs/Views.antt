@@ -8,6 +8,7 @@ use Rattle.cu_chordal.specs.Graphs.{first_edge_of}
 use Rattle.cu_interval.specs.declared.ways.Dir.{Dir}
 use Rattle.cu_interval.specs.Hierarchies.{HierarchyValue, entries_or_none, list_number, list_of}
 use Rattle.cu_interval.specs.WayLists.{IsWayList}
+use Rattle.cu_interval.proofs.EndsLaws.{number_within}
 use Rattle.cu_pack.specs.declared.layout.Counts.{Counts}
 use Rattle.cu_pack.specs.Checks.{IsGraph, Spells}
 use Rattle.cu_pack.specs.Layouts.{AreInLimits, edge_starts_at, file_length, rank_of_at, uppers_at}
@@ -19,7 +20,6 @@ use Rattle.cu_pack.proofs.Accepted.{graph_right}
 use Rattle.cu_pack.proofs.Again.{counts_again, list_again, network_again, order_again, placed, read_again, starts_again, uppers_again, way_start_said}
 use Rattle.cu_pack.proofs.EdgeLists.{highs}
 use Rattle.cu_pack.proofs.Items.{lead_on, lead_within}
-use Rattle.cu_pack.proofs.ListNumbers.{list_inside}
 use Rattle.cu_pack.proofs.Parts.{file_long}
 use Rattle.cu_pack.proofs.ReadBack.{edge_start_read, node_read, rank_read, upper_read}
 use Rattle.cu_pack.proofs.Totals.{in_limits}
@@ -123,9 +123,9 @@ module _ (bytes : List ℕ) (h : HierarchyValue) (f : Spells bytes h) where
 
   -- the list of an edge in a direction
   pub has_ways : (edge : ℕ) (dir : Dir) → edge < length h.edges → HasList bytes (list_number edge dir)
-  has_ways edge dir inside = let within = list_inside edge (length h.edges) dir inside in has_list (list_number edge dir) (omega (arith, within, f.sound.lists))
+  has_ways edge dir inside = let within = number_within edge (length h.edges) dir inside in has_list (list_number edge dir) (omega (arith, within, f.sound.lists))
 
   pub ways_known : (edge : ℕ) (dir : Dir) → edge < length h.edges → list_in bytes (list_number edge dir) ≡ list_of h edge dir
   ways_known edge dir inside =
-      let within = list_inside edge (length h.edges) dir inside in
+      let within = number_within edge (length h.edges) dir inside in
       sym (ap entries_or_none (list_known (list_number edge dir) (omega (arith, within, f.sound.lists))))

@@ -17,6 +17,7 @@ use Rattle.cu_interval.specs.Hierarchies.{HierarchyValue, IsWellFormed, end_of, 
 use Rattle.cu_interval.specs.Low.{LeadsRanks}
 use Rattle.cu_interval.specs.WayLists.{BeginsAtZero, IsWayList, Turns}
 use Rattle.cu_interval.proofs.Lookups.{number_finds}
+use Rattle.cu_interval.proofs.EndsLaws.{number_within}
 use Rattle.cu_pack.specs.Checks.{AreEntriesWrong, HasRoads, IsGraph, IsWrongArc}
 use Rattle.cu_pack.specs.Layouts.{rank_of_at}
 use Rattle.cu_pack.specs.Places.{word_at}
@@ -25,7 +26,6 @@ use Rattle.cu_pack.specs.Steps.Entries.{HasWay, HasWrongEntry, IsOutOfTurn, entr
 use Rattle.cu_pack.proofs.Columns.{made_there}
 use Rattle.cu_pack.proofs.Driven.{arc_there, arcs_long}
 use Rattle.cu_pack.proofs.EdgesRead.{known}
-use Rattle.cu_pack.proofs.ListNumbers.{list_inside}
 use Rattle.cu_pack.proofs.Unrefuted.{leads_from, less_else}
 
 begins_first : (entries : List Entry) (entry : Entry) → BeginsAtZero entries → slice_get entries 0 ≡ Some entry → entry.from ≡ 0
@@ -103,7 +103,7 @@ module _ (bytes : List ℕ) where
   pub list_read : (edge : ℕ) (dir : Dir) → edge < (counts_in bytes).edges → list_of (decoded bytes) edge dir ≡ list_in bytes (list_number edge dir)
   unfolding decoded
   list_read edge dir inside =
-      ap entries_or_none (made_there (list_in bytes) 0 (2 * (counts_in bytes).edges) (list_number edge dir) (list_inside edge (counts_in bytes).edges dir inside)
+      ap entries_or_none (made_there (list_in bytes) 0 (2 * (counts_in bytes).edges) (list_number edge dir) (number_within edge (counts_in bytes).edges dir inside)
       ∙ ap (λ (k : ℕ). Some (list_in bytes k)) (omega arith))
 
   module _ (f : IsGraph bytes) where

@@ -2,7 +2,6 @@
 use Rattle.std.proofs.Common.{◌≡◌, ◌≢◌, ◌<◌, ◌∙◌, ℕ, List, [], ◌∷◌, Option, ltb, true, refl, sym, ap, subst, arith, length}
 use Rattle.cu_chordal.specs.declared.graph.Ends.{Ends}
 use Rattle.cu_interval.specs.declared.ways.Dir.{Dir}
-use Rattle.cu_interval.specs.declared.ways.Dir.TheVariants.{Up, Down}
 use Rattle.cu_interval.specs.declared.ways.Entry.{Entry}
 use Rattle.cu_interval.specs.declared.relaxing.Relaxed.{Relaxed}
 use Rattle.cu_interval.specs.Low.{HasLowWalk}
@@ -11,16 +10,8 @@ use Rattle.cu_interval.specs.Unpacking.{answer_by, relaxed, relaxed_ends, relaxe
 use Rattle.cu_interval.proofs.BuiltWalks.{built_least}
 use Rattle.cu_interval.proofs.SimpleWalks.{built_short}
 use Rattle.cu_interval.proofs.Unpacked.{unpacked-low}
-use Rattle.cu_interval.proofs.EndsLaws.{ends_apart, ends_range}
+use Rattle.cu_interval.proofs.EndsLaws.{end_below, ends_apart, ends_range, start_below}
 use Rattle.cu_unpack.specs.Answers.{IsLowAnswer, IsLowWhereBuilt}
-
-start_below : (ends : Ends) (dir : Dir) (n : ℕ) → ends.low < ends.high → ends.high < n → start_of ends dir < n
-start_below ends Up n a b = omega (arith, a, b)
-start_below ends Down n a b = b
-
-end_below : (ends : Ends) (dir : Dir) (n : ℕ) → ends.low < ends.high → ends.high < n → end_of ends dir < n
-end_below ends Up n a b = b
-end_below ends Down n a b = omega (arith, a, b)
 
 -- the answer by the list: where it is empty no low walk leads, and where it isn't the unpacked walk is the least and is short
 answer_low : (h : HierarchyValue) → IsBuilt h → (u v t : ℕ) → u ≢ v → u < h.network.nodes → v < h.network.nodes → (es : List Entry) → list_from h u v ≡ es

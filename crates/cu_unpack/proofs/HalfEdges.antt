@@ -1,5 +1,5 @@
 -- The ways of a shortcut and the edges of their halves, which are lower.
-use Rattle.std.proofs.Common.{◌≡◌, ◌≢◌, ◌≤◌, ◌<◌, ◌+◌, ◌∙◌, ℕ, List, [], ◌∷◌, ◌++◌, get_or, Option, Some, None, refl, sym, ap, subst, arith, inl, inr, length, take}
+use Rattle.std.proofs.Common.{◌≡◌, ◌≢◌, ◌≤◌, ◌<◌, ◌+◌, ◌∙◌, ℕ, List, [], ◌∷◌, ◌++◌, get_or, Option, Some, None, refl, sym, ap, subst, inl, inr, length, take}
 use Rattle.std.specs.Prelude.{◌↔◌, IsTrue, is_some, slice_get, slice_set}
 use Rattle.std.proofs.lemmas.List.{take_all, take_more}
 use Rattle.std.proofs.lemmas.List.Elements.{All-more}
@@ -13,7 +13,7 @@ use Rattle.cu_interval.specs.declared.ways.Dir.TheVariants.{Up, Down}
 use Rattle.cu_interval.specs.declared.ways.Way.TheVariants.{Via}
 use Rattle.cu_interval.specs.declared.ways.Entry.{Entry}
 use Rattle.cu_interval.specs.Hierarchies.{HierarchyValue, IsHierarchy, IsWellFormed, list_from, list_of, start_of, end_of}
-use Rattle.cu_interval.proofs.Lookups.{list_from-edge, number_at}
+use Rattle.cu_interval.proofs.Lookups.{list_from-edge, one_number}
 use Rattle.cu_interval.proofs.EndsLaws.{below_low}
 use Rattle.cu_unpack.specs.declared.shortcuts.Shortcut.{Shortcut}
 use Rattle.cu_unpack.specs.RebuiltWords.{IsSide}
@@ -90,15 +90,6 @@ module _ (h : HierarchyValue) (f : IsHierarchy h) (IsThere : Shortcut → Type 0
       let (ways, lower) = (halves_lower h f whole first second m way halves).1 in
       record { missing = (ways, lacks); lower = lower; side = (halves_sides h whole first second m halves).1 }
 
-same_number : (h : HierarchyValue) → IsHierarchy h → (i j low high : ℕ) → slice_get h.edges i ≡ Some (record { low = low; high = high })
-    → slice_get h.edges j ≡ Some (record { low = low; high = high }) → i ≡ j
-same_number h f i j low high at_i at_j =
-    let one = number_at 0 h.edges i low high f.graph.rising at_i in
-    let two = number_at 0 h.edges j low high f.graph.rising at_j in
-    let sums : Some (0 + i) ≡ Some (0 + j) = sym one ∙ two in
-    let same : 0 + i ≡ 0 + j = cc sums in
-    omega (arith, same)
-
 -- the halves at a middle are determined, so where these are there all are
 pub halves_there : (h : HierarchyValue) → IsHierarchy h → (IsThere : Shortcut → Type 0) (whole first second : Shortcut) (m : ℕ) → AreHalves h whole m first second
     → IsThere first → IsThere second → HasHalves h IsThere whole (Via m)
@@ -108,8 +99,8 @@ halves_there h f IsThere whole first second m halves one two first_too second_to
     subst (λ (e : Ends). slice_get h.edges first.edge ≡ Some (record { low = m; high = start_of e whole.dir })) same halves.to in
     let high : slice_get h.edges second.edge ≡ Some (record { low = m; high = end_of again.ends whole.dir }) =
     subst (λ (e : Ends). slice_get h.edges second.edge ≡ Some (record { low = m; high = end_of e whole.dir })) same halves.onward in
-    let first_edge = same_number h f first.edge first_too.edge m (start_of again.ends whole.dir) low again.to in
-    let second_edge = same_number h f second.edge second_too.edge m (end_of again.ends whole.dir) high again.onward in (
+    let first_edge = one_number h.edges f.graph.rising first.edge first_too.edge m (start_of again.ends whole.dir) low again.to in
+    let second_edge = one_number h.edges f.graph.rising second.edge second_too.edge m (end_of again.ends whole.dir) high again.onward in (
       subst IsThere (same_shortcut first first_too first_edge (halves.down ∙ sym again.down)) one,
       subst IsThere (same_shortcut second second_too second_edge (halves.up ∙ sym again.up)) two,
     )

@@ -9,8 +9,7 @@ use Rattle.cu_model.proofs.ListLaws.{get_here, get_other}
 use Rattle.cu_arrival.specs.declared.runs.Run.{Run}
 use Rattle.cu_interval.specs.declared.ways.Dir.{Dir}
 use Rattle.cu_interval.specs.Hierarchies.{HierarchyValue, list_number}
-use Rattle.cu_interval.proofs.EndsLaws.{number_parts}
-use Rattle.cu_customize.proofs.Keeping.{number_within}
+use Rattle.cu_interval.proofs.EndsLaws.{number_parts, number_within}
 use Rattle.cu_unpack.specs.declared.shortcuts.Shortcut.{Shortcut}
 use Rattle.cu_unpack.specs.Rebuilds.{IsRebuiltFunction}
 use Rattle.cu_unpack.specs.Steps.Rebuilding.{AreKept, IsKept, IsMissing, KeepsOne, number_of}

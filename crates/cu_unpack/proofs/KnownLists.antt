@@ -7,10 +7,9 @@ use Rattle.std.proofs.lemmas.List.Sums.{sum_by-set}
 use Rattle.std.proofs.lemmas.Option.{slice_get-get_or}
 use Rattle.cu_model.proofs.ListLaws.{get_here, get_other}
 use Rattle.cu_arrival.specs.declared.runs.Run.{Run}
-use Rattle.cu_customize.proofs.Keeping.{number_within}
 use Rattle.cu_interval.specs.declared.ways.Dir.{Dir}
 use Rattle.cu_interval.specs.Hierarchies.{HierarchyValue, list_number}
-use Rattle.cu_interval.proofs.EndsLaws.{number_parts}
+use Rattle.cu_interval.proofs.EndsLaws.{number_parts, number_within}
 use Rattle.cu_unpack.specs.declared.shortcuts.Shortcut.{Shortcut}
 use Rattle.cu_unpack.specs.RebuiltWords.{IsLearned, IsNeeded, IsSameList, IsSized, KeepsWords, Learns, WordsValue}
 use Rattle.cu_unpack.specs.Steps.Rebuilding.{HasWays, number_of}

@@ -6,7 +6,7 @@ use Rattle.cu_interval.specs.declared.ways.Entry.{Entry}
 use Rattle.cu_interval.specs.FirstWays.{IsCandidate, Arrives}
 use Rattle.cu_interval.specs.Hierarchies.{HierarchyValue, IsBuilt, end_of, entries_or_none, list_of, start_of}
 use Rattle.cu_interval.proofs.Unique.{runs_unique}
-use Rattle.cu_customize.proofs.Keeping.{number_parts}
+use Rattle.cu_customize.proofs.Keeping.{number_edge}
 use Rattle.cu_edits.proofs.ResettledOnce.{list_at}
 use Rattle.cu_verify.specs.Verdicts.{with_lists}
 
@@ -14,7 +14,7 @@ module _ (h : HierarchyValue) (lists : List (List Entry)) (first : IsBuilt h) (s
   -- at each number stands the same list
   same_at : (k : ℕ) → k < 2 * length h.edges → get_or h.lists k [] ≡ get_or lists k []
   same_at k lt =
-      let (edge, dir, ends, number, at) = number_parts h.edges k lt in
+      let (edge, dir, ends, number, at) = number_edge h.edges k lt in
       let u = start_of ends dir in
       let v = end_of ends dir in
       let same : list_of h edge dir ≡ list_of (with_lists h lists) edge dir = runs_unique (IsCandidate h.network h.order u v) (Arrives h.network h.order u v)

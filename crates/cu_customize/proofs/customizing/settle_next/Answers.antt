@@ -3,9 +3,9 @@ use Rattle.std.proofs.lemmas.Slice.{pushed}
 use Rattle.cu_arrival.specs.declared.runs.Run.{Run}
 use Rattle.cu_interval.specs.Hierarchies.{list_number}
 use Rattle.cu_interval.specs.declared.ways.Entry.{Entry}
+use Rattle.cu_interval.proofs.EndsLaws.{number_within}
 use Rattle.cu_customize.specs.Steps.Kept.{IsBuiltTo, Keeps}
 use Rattle.cu_customize.proofs.Gathers.{gathered_within}
-use Rattle.cu_customize.proofs.Keeping.{number_within}
 use Rattle.cu_customize.proofs.Dropped.{keeps_pushed}
 use Rattle.cu_customize.proofs.Nexts.{next_step, next_task}
 use Rattle.cu_customize.proofs.customizing.settle_next.Goals as goal

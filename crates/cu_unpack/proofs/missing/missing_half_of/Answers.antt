@@ -1,5 +1,5 @@
 use Rattle.std.proofs.Common.{◌≡◌, true, false, length, sym, subst, rules}
-use Rattle.cu_customize.proofs.Keeping.{number_within}
+use Rattle.cu_interval.proofs.EndsLaws.{number_within}
 use Rattle.cu_unpack.specs.Steps.Rebuilding.{HasHalves, IsWayOf}
 use Rattle.cu_unpack.proofs.HalfEdges.{first_missing, halves_lower, halves_there, second_missing}
 use Rattle.cu_unpack.proofs.missing.missing_half_of.Goals as goal

@@ -1,6 +1,6 @@
 use Rattle.std.proofs.Common.{◌∙◌, arith, ap, length, sym}
 use Rattle.cu_interval.specs.Hierarchies.{entries_or_none, list_number}
-use Rattle.cu_customize.proofs.Keeping.{number_within}
+use Rattle.cu_interval.proofs.EndsLaws.{number_within}
 use Rattle.cu_verify.proofs.Agreeing.{take_list}
 use Rattle.cu_verify.proofs.comparing.compare_list.Goals as goal
 

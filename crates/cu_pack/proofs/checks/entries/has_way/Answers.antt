@@ -1,6 +1,6 @@
 use Rattle.std.proofs.Common.{◌<◌, ℕ, suc, subst, sym, arith}
+use Rattle.cu_interval.proofs.EndsLaws.{number_within}
 use Rattle.cu_pack.specs.Reading.{counts_in, way_start}
-use Rattle.cu_pack.proofs.ListNumbers.{list_inside}
 use Rattle.cu_pack.proofs.WayEntries.{number_inside, way_what, way_where}
 use Rattle.cu_pack.proofs.checks.entries.has_way.Goals as goal
 
@@ -14,7 +14,7 @@ pub has_entries-requires-clause-list : goal.has_entries-requires-clause-list
 has_entries-requires-clause-list c =
     let bytes = c.args.sections.now in
     let inside = number_inside bytes c.requires.graph c.in-Some.edge c.args.ends c.in-Some.ensures.found in
-    let within = list_inside c.in-Some.edge (counts_in bytes).edges c.args.dir inside in
+    let within = number_within c.in-Some.edge (counts_in bytes).edges c.args.dir inside in
     omega (arith, within, c.list_number.ensures)
 
 pub returns-in-Some : goal.returns-in-Some

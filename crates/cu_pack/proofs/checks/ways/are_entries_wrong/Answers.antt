@@ -1,9 +1,9 @@
 use Rattle.std.proofs.Common.{ℕ, ap, subst, sym, arith}
+use Rattle.cu_interval.proofs.EndsLaws.{number_within}
 use Rattle.cu_pack.specs.declared.layout.Counts.{Counts}
 use Rattle.cu_pack.specs.Reading.{counts_in}
 use Rattle.cu_pack.specs.Steps.Cursors.{AreCursors}
 use Rattle.cu_pack.proofs.Cursors.{cursors_more, lesser_end}
-use Rattle.cu_pack.proofs.ListNumbers.{list_inside}
 use Rattle.cu_pack.proofs.WayEntries.{ends_inside, entries_decided, number_inside, start_inside}
 use Rattle.cu_pack.proofs.checks.ways.are_entries_wrong.Goals as goal
 
@@ -17,14 +17,14 @@ pub way_start-start-requires : goal.way_start-start-requires
 way_start-start-requires c =
     let bytes = c.args.sections.now in
     let inside = number_inside bytes c.requires.graph c.args.edge c.args.ends c.requires.ends in
-    let within = list_inside c.args.edge (counts_in bytes).edges c.args.dir inside in
+    let within = number_within c.args.edge (counts_in bytes).edges c.args.dir inside in
     record { list = omega (arith, within, c.list_number-list.ensures) }
 
 pub overflow_add-list : goal.overflow_add-list
 overflow_add-list c =
     let bytes = c.args.sections.now in
     let inside = number_inside bytes c.requires.graph c.args.edge c.args.ends c.requires.ends in
-    let within = list_inside c.args.edge (counts_in bytes).edges c.args.dir inside in
+    let within = number_within c.args.edge (counts_in bytes).edges c.args.dir inside in
     let limits = c.requires.graph.roads.joined.ordered.sized.limited.limits in
     omega (arith, within, c.list_number-list.ensures, limits.edges)
 
@@ -32,7 +32,7 @@ pub way_start-end-requires : goal.way_start-end-requires
 way_start-end-requires c =
     let bytes = c.args.sections.now in
     let inside = number_inside bytes c.requires.graph c.args.edge c.args.ends c.requires.ends in
-    let within = list_inside c.args.edge (counts_in bytes).edges c.args.dir inside in
+    let within = number_within c.args.edge (counts_in bytes).edges c.args.dir inside in
     record { list = omega (arith, within, c.list_number-list.ensures) }
 
 pub has_wrong_entry-requires-clause-from : goal.has_wrong_entry-requires-clause-from
