@@ -17,7 +17,7 @@ use Rattle.cu_interval.specs.declared.ways.Way.TheVariants.{Road, Via}
 use Rattle.cu_interval.specs.FirstWays.{Arrives, IsBuiltList, IsCandidate, IsFirstWay}
 use Rattle.cu_interval.specs.Low.{HasLowWalk, IsLeastLowDrive, IsLowWalk, WalkBelow}
 use Rattle.cu_interval.specs.WayLists.{way_in}
-use Rattle.cu_interval.proofs.BuiltWalks.{least_unique}
+use Rattle.cu_interval.proofs.BuiltWalks.{arrives_once}
 use Rattle.cu_interval.proofs.Candidates.{candidate_below}
 use Rattle.cu_interval.proofs.Days.{least-days}
 use Rattle.cu_interval.proofs.Middles.{first_least}
@@ -36,13 +36,6 @@ IsDailyValueOf edges f u v entries (Some runs) = (entries ≢ []) × RepeatsDail
 -- wherever a low walk joins two ranks of which one is below this, there is a least one
 abbrev pub HasLeastBelow : NetworkValue → OrderValue → ℕ → Type 0
 HasLeastBelow g o m = (x y t : ℕ) (w : List ℕ) → min x y < m → IsLowWalk g o x w y → (a : ℕ) × IsLeastLowDrive g o x y t a
-
--- a way arrives at one second
-arrives_once : (g : NetworkValue) (o : OrderValue) (u v t : ℕ) (way : Way) (a b : ℕ) → Arrives g o u v t way a → Arrives g o u v t way b → a ≡ b
-arrives_once g o u v t (Road r) a b p q = sym p ∙ q
-arrives_once g o u v t (Via m) a b p q =
-    let one : p.0 ≡ q.0 = least_unique g o u m t p.0 q.0 p.1 q.1 in
-    least_unique g o m v q.0 a b (subst (λ (x : ℕ). IsLeastLowDrive g o m v x a) one p.2) q.2
 
 -- a candidate's arrival is that of a low walk
 pub candidate_walk : (g : NetworkValue) (o : OrderValue) (u v t : ℕ) (way : Way) (a : ℕ) → u ≢ v → IsCandidate g o u v way → Arrives g o u v t way a

@@ -1,5 +1,5 @@
 -- Rebuilt values read no more than the lists from which they come: two hierarchies that agree on these have the same.
-use Rattle.std.proofs.Common.{◌≡◌, ◌<◌, ◌+◌, ◌*◌, ◌/◌, ◌%◌, ◌^◌, ◌∙◌, ℕ, zero, suc, List, [], ◌∷◌, Option, Some, None, refl, ap, sym, subst, arith, inl, inr, min, get_or}
+use Rattle.std.proofs.Common.{◌≡◌, ◌<◌, ◌+◌, ◌*◌, ◌/◌, ◌%◌, ◌∙◌, ℕ, zero, suc, List, [], Option, Some, ap, sym, subst, arith, inl, inr, min, get_or}
 use Rattle.std.specs.Prelude.{All, option_map, slice_get}
 use Rattle.std.proofs.lemmas.Bool.{cases_eq}
 use Rattle.std.proofs.lemmas.Option.{get_or_from_slice_get, slice_get-get_or, slice_get_within}
@@ -11,20 +11,11 @@ use Rattle.cu_interval.specs.declared.ways.Way.{Way}
 use Rattle.cu_interval.specs.declared.ways.Way.TheVariants.{Road, Via}
 use Rattle.cu_interval.specs.declared.ways.Entry.{Entry}
 use Rattle.cu_interval.specs.Hierarchies.{HierarchyValue, end_of, list_from, start_of}
-use Rattle.cu_interval.specs.Resettling.{least_in, lesser_of, rebuilt, rebuilt_by, then_at, value_by}
+use Rattle.cu_interval.specs.Resettling.{least_in, rebuilt, rebuilt_by, value_by}
 use Rattle.cu_interval.specs.WayLists.{IsRunsOf, IsWayList, entry_in, way_in}
 use Rattle.cu_interval.proofs.Spelled.{entries_rise}
+use Rattle.cu_interval.proofs.Rebuilding.{least_in-same, then_at-same}
 use Rattle.cu_edits.specs.Steps.Frames.{IsFrame, IsFramed}
-
-pub then_at-same : (a b : Option ℕ) (f g : ℕ → Option ℕ) → a ≡ b → ((x : ℕ) → f x ≡ g x) → then_at a f ≡ then_at b g
-then_at-same None b f g e same = ap (λ (o : Option ℕ). then_at o g) e
-then_at-same (Some x) b f g e same = ap (λ (o : Option ℕ). option_map (λ (y : ℕ). min y (2 ^ 62)) o) (same x) ∙ ap (λ (o : Option ℕ). then_at o g) e
-
-pub least_in-same : (f g : Way → Option ℕ) (es : List Entry) → All (λ (e : Entry). f e.way ≡ g e.way) es → least_in f es ≡ least_in g es
-least_in-same f g [] same = refl
-least_in-same f g (e ∷ es) same =
-    let rest = least_in-same f g es (λ k d h. same (suc k) d (omega (arith, h))) in
-    ap (λ (o : Option ℕ). lesser_of o (least_in f es)) (same 0 e (omega arith)) ∙ ap (λ (o : Option ℕ). lesser_of (g e.way) o) rest
 
 value_by-same : (a b : HierarchyValue) (Pair : ℕ → ℕ → Type 0) (half more : ℕ → ℕ → ℕ → Option ℕ) (u v t : ℕ) (way : Way) → IsFramed a b Pair u v way
     → ((x y s : ℕ) → Pair x y → min x y < min u v → half x y s ≡ more x y s) → value_by a.network half u v t way ≡ value_by b.network more u v t way

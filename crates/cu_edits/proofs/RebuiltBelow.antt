@@ -1,5 +1,5 @@
 -- What a rebuilt value reads: lists from lower ends no higher than its own, and when their roads arrive.
-use Rattle.std.proofs.Common.{◌≡◌, ◌≤◌, ◌<◌, ◌+◌, ◌*◌, ◌/◌, ◌%◌, ◌^◌, ◌∙◌, ℕ, zero, suc, List, [], ◌∷◌, Option, Some, None, refl, ap, subst, arith, inl, inr, min, ltb, true, false, if◌then◌else◌}
+use Rattle.std.proofs.Common.{◌≡◌, ◌≤◌, ◌<◌, ◌+◌, ◌*◌, ◌/◌, ◌%◌, ◌∙◌, ℕ, zero, suc, List, [], Option, Some, None, refl, ap, subst, arith, inl, inr, min, ltb, true, false, if◌then◌else◌}
 use Rattle.std.specs.Prelude.{All, option_map, slice_get}
 use Rattle.std.proofs.lemmas.Bool.{cases_lt}
 use Rattle.cu_model.specs.Days.{day}
@@ -11,8 +11,9 @@ use Rattle.cu_interval.specs.declared.ways.Way.{Way}
 use Rattle.cu_interval.specs.declared.ways.Way.TheVariants.{Road, Via}
 use Rattle.cu_interval.specs.declared.ways.Entry.{Entry}
 use Rattle.cu_interval.specs.Hierarchies.{HierarchyValue, IsHierarchy, IsWellFormed, end_of, list_from, list_of, list_of_some, number_from, start_of}
-use Rattle.cu_interval.specs.Resettling.{least_in, lesser_of, rebuilt, rebuilt_by, then_at, value_by}
+use Rattle.cu_interval.specs.Resettling.{least_in, rebuilt, rebuilt_by, value_by}
 use Rattle.cu_interval.proofs.Lookups.{number_found}
+use Rattle.cu_interval.proofs.Rebuilding.{least_in-same, then_at-same}
 
 -- the list from u to v among edges that are given
 abbrev list_in : HierarchyValue → List Ends → ℕ → ℕ → List Entry
@@ -55,29 +56,18 @@ pub record AreReadAlike (h k : HierarchyValue) (IsRead : ℕ → ℕ → Type 0)
   pub lists : (u v : ℕ) → IsRead u v → list_from h u v ≡ list_from k u v
   pub ways : (u v : ℕ) → IsRead u v → All (λ (entry : Entry). IsReadAlike h k IsRead u v entry.way) (list_from h u v)
 
-pub then_alike : (a b : Option ℕ) (f g : ℕ → Option ℕ) → a ≡ b → ((x : ℕ) → f x ≡ g x) → then_at a f ≡ then_at b g
-then_alike None b f g e same = ap (λ (o : Option ℕ). then_at o g) e
-then_alike (Some x) b f g e same = ap (λ (o : Option ℕ). option_map (λ (y : ℕ). min y (2 ^ 62)) o) (same x) ∙ ap (λ (o : Option ℕ). then_at o g) e
-
-pub least_alike : (f g : Way → Option ℕ) (entries : List Entry) → All (λ (entry : Entry). f entry.way ≡ g entry.way) entries
-    → least_in f entries ≡ least_in g entries
-least_alike f g [] same = refl
-least_alike f g (e ∷ es) same =
-    let rest = least_alike f g es (λ k d lt. same (suc k) d (omega (arith, lt))) in
-    ap (λ (o : Option ℕ). lesser_of o (least_in f es)) (same 0 e (omega arith)) ∙ ap (λ (o : Option ℕ). lesser_of (g e.way) o) rest
-
 module _ (h k : HierarchyValue) (IsRead : ℕ → ℕ → Type 0) (alike : AreReadAlike h k IsRead) where
   value_alike : (half more : ℕ → ℕ → ℕ → Option ℕ) (u v t : ℕ) (way : Way) → IsReadAlike h k IsRead u v way
       → ((x y s : ℕ) → IsRead x y → half x y s ≡ more x y s)
       → value_by h.network half u v t way ≡ value_by k.network more u v t way
   value_alike half more u v t (Road a) same halves = ap (λ (x : ℕ). Some x) (same t)
-  value_alike half more u v t (Via m) (to, on) halves = then_alike (half u m t) (more u m t) (half m v) (more m v) (halves u m t to) (λ x. halves m v x on)
+  value_alike half more u v t (Via m) (to, on) halves = then_at-same (half u m t) (more u m t) (half m v) (more m v) (halves u m t to) (λ x. halves m v x on)
 
   rebuilt_by_alike : (fuel u v t : ℕ) → IsRead u v → rebuilt_by h fuel u v t ≡ rebuilt_by k fuel u v t
   rebuilt_by_alike zero u v t read = refl
   rebuilt_by_alike (suc fuel) u v t read =
       let ways = alike.ways u v read in
-      let same = least_alike (value_by h.network (rebuilt_by h fuel) u v (t % day)) (value_by k.network (rebuilt_by k fuel) u v (t % day)) (list_from h u v)
+      let same = least_in-same (value_by h.network (rebuilt_by h fuel) u v (t % day)) (value_by k.network (rebuilt_by k fuel) u v (t % day)) (list_from h u v)
       (λ i d lt. value_alike (rebuilt_by h fuel) (rebuilt_by k fuel) u v (t % day) _ (ways i d lt) (λ x y s inner. rebuilt_by_alike fuel x y s inner)) in
       ap (option_map (λ (value : ℕ). day * (t / day) + value))
       (same ∙ ap (least_in (value_by k.network (rebuilt_by k fuel) u v (t % day))) (alike.lists u v read))

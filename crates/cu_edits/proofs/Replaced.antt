@@ -15,6 +15,7 @@ use Rattle.cu_interval.specs.declared.ways.TouchedEdge.{TouchedEdge}
 use Rattle.cu_interval.specs.Hierarchies.{HierarchyValue, entries_or_none, list_number, list_of}
 use Rattle.cu_interval.specs.Replacing.{hierarchy_with, replaced, replaced_by}
 use Rattle.cu_interval.proofs.EndsLaws.{each_number}
+use Rattle.cu_interval.proofs.Replacing.{replaced_by_long}
 use Rattle.cu_edits.specs.Settling.{list_in, numbers_of}
 
 -- different edges
@@ -26,9 +27,6 @@ numbers_apart e f Up Up ne same = ne (omega (arith, same))
 numbers_apart e f Up Down ne same = omega (arith, same)
 numbers_apart e f Down Up ne same = omega (arith, same)
 numbers_apart e f Down Down ne same = ne (omega (arith, same))
-
-pub replaced_by_long : (lists : List (List Entry)) (t : TouchedEdge) → length (replaced_by lists t) ≡ length lists
-replaced_by_long lists t = length-set (slice_set lists (list_number t.edge Up) t.up) (list_number t.edge Down) t.down ∙ length-set lists (list_number t.edge Up) t.up
 
 pub replaced_by_other : (lists : List (List Entry)) (t : TouchedEdge) (e : ℕ) (d : Dir) → t.edge ≢ e → slice_get (replaced_by lists t) (list_number e d) ≡ slice_get lists (list_number e d)
 replaced_by_other lists t e d ne =
@@ -42,10 +40,6 @@ replaced_by_here lists t Up lt =
 replaced_by_here lists t Down lt =
     let long = length-set lists (list_number t.edge Up) t.up in
     get_here (slice_set lists (list_number t.edge Up) t.up) (list_number t.edge Down) t.down (omega (arith, lt, long))
-
-pub replaced_long : (edges : List TouchedEdge) (lists : List (List Entry)) → length (replaced lists edges) ≡ length lists
-replaced_long [] lists = refl
-replaced_long (t ∷ edges) lists = replaced_long edges (replaced_by lists t) ∙ replaced_by_long lists t
 
 pub replaced_push : (edges : List TouchedEdge) (lists : List (List Entry)) (t : TouchedEdge) → replaced lists (edges ++ (t ∷ [])) ≡ replaced_by (replaced lists edges) t
 replaced_push [] lists t = refl

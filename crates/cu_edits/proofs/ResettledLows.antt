@@ -9,20 +9,13 @@ use Rattle.cu_interval.specs.declared.ways.Way.TheVariants.{Road, Via}
 use Rattle.cu_interval.specs.declared.ways.Entry.{Entry}
 use Rattle.cu_interval.specs.FirstWays.{Arrives, IsBuiltList, IsCandidate, IsFirstWay}
 use Rattle.cu_interval.specs.Low.{HasLowWalk, IsLeastLowDrive, LeadsRanks}
-use Rattle.cu_interval.proofs.BuiltWalks.{least_unique}
+use Rattle.cu_interval.proofs.BuiltWalks.{arrives_once, least_unique}
 use Rattle.cu_interval.proofs.Days.{least-days}
 use Rattle.cu_interval.proofs.Middles.{first_least}
 use Rattle.cu_interval.proofs.Unpacked.{way_there}
 use Rattle.cu_customize.proofs.LowFunctions.{runs_by}
 use Rattle.cu_customize.proofs.Lows.{HasLeastBelow, built_some, candidate_walk}
 use Rattle.cu_edits.proofs.ResettledRoads.{IsSameRoad, same_arrives, same_leads}
-
--- a way arrives at one second
-pub arrives_once : (g : NetworkValue) (o : OrderValue) (u v t : ℕ) (way : Way) (a b : ℕ) → Arrives g o u v t way a → Arrives g o u v t way b → a ≡ b
-arrives_once g o u v t (Road r) a b p q = sym p ∙ q
-arrives_once g o u v t (Via m) a b p q =
-    let one : p.0 ≡ q.0 = least_unique g o u m t p.0 q.0 p.1 q.1 in
-    least_unique g o m v q.0 a b (subst (λ (x : ℕ). IsLeastLowDrive g o m v x a) one p.2) q.2
 
 -- a first way arrives at the least low drive
 pub first_is_least : (g : NetworkValue) (o : OrderValue) → IsNetwork g → (u v t : ℕ) → u ≢ v → HasLeastBelow g o (min u v) → (way : Way)

@@ -14,9 +14,10 @@ use Rattle.cu_interval.specs.Hierarchies.{HierarchyValue, IsHierarchy, end_of, e
 use Rattle.cu_interval.specs.Resettling.{ArrivesIn, IsCandidateIn, IsResettled, IsResettledList, rebuilt, value_by}
 use Rattle.cu_interval.proofs.Unique.{runs_unique}
 use Rattle.cu_interval.proofs.EndsLaws.{below_low}
+use Rattle.cu_interval.proofs.Rebuilding.{then_at-same}
 use Rattle.cu_customize.proofs.LowFunctions.{runs_by}
 use Rattle.cu_customize.proofs.Keeping.{number_edge}
-use Rattle.cu_edits.proofs.RebuiltBelow.{AgreesBelow, agrees_below, lists_from_both, rebuilt_below, then_alike}
+use Rattle.cu_edits.proofs.RebuiltBelow.{AgreesBelow, agrees_below, lists_from_both, rebuilt_below}
 use Rattle.cu_edits.proofs.ResettledBuilt.{after, kept_list, resettled_after}
 use Rattle.cu_edits.proofs.ResettledDecided.{touched_decided}
 
@@ -55,7 +56,7 @@ module _ (old : HierarchyValue) (edit : Edit) (lists more : List (List Entry)) (
       let h = after old edit lists in
       let k = after old edit more in
       let agree = agrees m (below m mu mv) in
-      then_alike (rebuilt h u m s) (rebuilt k u m s) (rebuilt h m v) (rebuilt k m v) (rebuilt_below h k m agree u m s (omega arith))
+      then_at-same (rebuilt h u m s) (rebuilt k u m s) (rebuilt h m v) (rebuilt k m v) (rebuilt_below h k m agree u m s (omega arith))
       (λ x. rebuilt_below h k m agree m v x (omega arith))
 
   -- what is resettled in one of them is so in the other

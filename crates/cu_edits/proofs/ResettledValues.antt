@@ -15,14 +15,14 @@ use Rattle.cu_interval.specs.Low.{HasLowWalk, IsLeastLowDrive}
 use Rattle.cu_interval.specs.Resettling.{ArrivesIn, IsCandidateIn, IsResettledList, least_in, lesser_of, rebuilt, rebuilt_by, then_at, value_by}
 use Rattle.cu_interval.proofs.Days.{least-days}
 use Rattle.cu_interval.proofs.Lookups.{list_formed, way_held}
-use Rattle.cu_interval.proofs.Rebuilding.{rebuilt-fuel}
+use Rattle.cu_interval.proofs.Rebuilding.{least_in-same, rebuilt-fuel, then_at-same}
 use Rattle.cu_interval.proofs.Unpacked.{unpacked-low, way_there}
 use Rattle.cu_interval.specs.Unpacking.{unpacked_walk}
+use Rattle.cu_interval.proofs.BuiltWalks.{arrives_once}
 use Rattle.cu_customize.proofs.Bounds.{least-near}
 use Rattle.cu_customize.proofs.LowFunctions.{runs_by}
 use Rattle.cu_customize.proofs.Lows.{HasLeastBelow, built_some}
-use Rattle.cu_edits.proofs.RebuiltBelow.{least_alike, then_alike}
-use Rattle.cu_edits.proofs.ResettledLows.{arrives_once, first_is_least}
+use Rattle.cu_edits.proofs.ResettledLows.{first_is_least}
 
 -- where a low walk leads, the list isn't empty, and the rebuilt value is the least low drive
 pub record IsRebuilt (h : HierarchyValue) (u v : ℕ) : Type 0 where
@@ -78,7 +78,7 @@ value_by_fuel : (h : HierarchyValue) → IsHierarchy h → (u v s : ℕ) (way : 
     → value_by h.network (rebuilt_by h (min u v)) u v s way ≡ value_by h.network (rebuilt h) u v s way
 value_by_fuel h sound u v s (Road r) formed = refl
 value_by_fuel h sound u v s (Via m) (mu, mv, one, two, some, other) =
-    then_alike (rebuilt_by h (min u v) u m s) (rebuilt h u m s) (rebuilt_by h (min u v) m v) (rebuilt h m v)
+    then_at-same (rebuilt_by h (min u v) u m s) (rebuilt h u m s) (rebuilt_by h (min u v) m v) (rebuilt h m v)
     (rebuilt-fuel h sound (min u v) (suc (min u m)) u m s (omega (arith, mu, mv)) (omega arith))
     (λ x. rebuilt-fuel h sound (min u v) (suc (min m v)) m v x (omega (arith, mu, mv)) (omega arith))
 
@@ -86,7 +86,7 @@ value_by_fuel h sound u v s (Via m) (mu, mv, one, two, some, other) =
 pub rebuilt_is : (h : HierarchyValue) → IsHierarchy h → (u v t : ℕ)
     → rebuilt h u v t ≡ option_map (λ (value : ℕ). day * (t / day) + value) (least_in (value_by h.network (rebuilt h) u v (t % day)) (list_from h u v))
 rebuilt_is h sound u v t =
-    ap (option_map (λ (value : ℕ). day * (t / day) + value)) (least_alike
+    ap (option_map (λ (value : ℕ). day * (t / day) + value)) (least_in-same
     (value_by h.network (rebuilt_by h (min u v)) u v (t % day)) (value_by h.network (rebuilt h) u v (t % day)) (list_from h u v)
     (λ i d lt. value_by_fuel h sound u v (t % day) _ (list_formed h sound u v i d lt)))
 

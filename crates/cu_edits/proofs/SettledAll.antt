@@ -28,12 +28,13 @@ use Rattle.cu_interval.specs.Resettling.{ArrivesIn, IsCandidateIn, IsResettled, 
 use Rattle.cu_interval.specs.Touching.{IsTouchedEdge}
 use Rattle.cu_interval.specs.WayLists.{IsWayList}
 use Rattle.cu_interval.proofs.EndsLaws.{each_number}
+use Rattle.cu_interval.proofs.Replacing.{replaced_long}
 use Rattle.cu_edits.specs.Settling.{IsSettled, SettlingValue, list_in, numbers_of, settled_so_far}
 use Rattle.cu_edits.specs.Steps.Known.{IsEditSound}
 use Rattle.cu_edits.specs.Steps.Settled.{AreSettled}
 use Rattle.cu_edits.specs.Steps.Frames.{LeadsOver}
 use Rattle.cu_edits.proofs.Frames.{candidates_alone}
-use Rattle.cu_edits.proofs.Replaced.{AreApart, number_among, number_of_one, replaced_long, replaced_other, replaced_same}
+use Rattle.cu_edits.proofs.Replaced.{AreApart, number_among, number_of_one, replaced_other, replaced_same}
 use Rattle.cu_edits.proofs.SettledFrames.{all_so, leads_touched, settled_list, untouched_frame, untouched_list, untouched_sides}
 use Rattle.cu_edits.proofs.Sides.{edge_down, edge_up, halves_good, over}
 use Rattle.cu_edits.proofs.Unchanged.{edited_network, leads_joins, leads_still}
@@ -48,7 +49,7 @@ all_resettled s are all = record {
   network = refl;
   order = refl;
   edges = refl;
-  lists = replaced_long s.settled s.before.lists;
+  lists = replaced_long s.before.lists s.settled;
   kept = λ e d untouched. untouched_list s are e d untouched;
   resettled = λ e d ends at touched.
       let now = settled_so_far s in
@@ -129,7 +130,7 @@ all_sound s are all range sets =
       same = sound.same ∙ sym nodes;
       graph = subst (λ (n : ℕ). IsChordal (record { ranks = n; edges = s.before.edges })) (sym nodes) sound.graph;
       edges = (closure_edited g s.before.order s.edit (graph_of s.before) nodes (record { ranks = refl; edges = sound.edges })).edges;
-      lists = replaced_long s.settled s.before.lists ∙ sound.lists;
+      lists = replaced_long s.before.lists s.settled ∙ sound.lists;
       spelled = all_spelled s are;
       formed = λ edge dir ends at. formed_at s are all edge dir ends at;
     }

@@ -13,12 +13,13 @@ use Rattle.cu_interval.specs.declared.ways.Way.TheVariants.{Road, Via}
 use Rattle.cu_interval.specs.declared.ways.Entry.{Entry}
 use Rattle.cu_interval.specs.Hierarchies.{HierarchyValue, list_from}
 use Rattle.cu_interval.specs.Resettling.{ArrivesIn, IsCandidateIn, IsResettledList, least_in, lesser_of, rebuilt, rebuilt_by, then_at, value_by}
-use Rattle.cu_interval.specs.WayLists.{IsWayList, entry_in, way_in}
+use Rattle.cu_interval.specs.WayLists.{entry_in, way_in}
 use Rattle.cu_interval.proofs.Lookups.{entry_held, entry_of_way}
-use Rattle.cu_interval.proofs.Unique.{some_way}
+use Rattle.cu_interval.proofs.Unpacked.{way_there}
+use Rattle.cu_interval.proofs.Rebuilding.{least_in-same, then_at-same}
 use Rattle.cu_customize.specs.Functions.{FunctionsState}
 use Rattle.cu_edits.specs.Steps.Frames.{IsFrame}
-use Rattle.cu_edits.proofs.Frames.{candidates_alone, least_in-same, rebuilt_same, then_at-same}
+use Rattle.cu_edits.proofs.Frames.{candidates_alone, rebuilt_same}
 use Rattle.cu_edits.proofs.Halves.{HasRebuilt, KnowsWay}
 use Rattle.cu_edits.proofs.Sides.{edge_down, edge_up}
 
@@ -106,10 +107,6 @@ values_stay a b Pair frame same u v s halves (Via m) (to, on, first, second) =
     (sym (rebuilt_same a b Pair frame (suc (min u m)) (min u v) u m s pairs.0 (omega arith) (omega (arith, to, on))))
     (λ x. sym (rebuilt_same a b Pair frame (suc (min m v)) (min u v) m v x pairs.1 (omega arith) (omega (arith, to, on))))
 
-pub in_force_at : (es : List Entry) → IsWayList es → es ≢ [] → (s : ℕ) → (w : Way) × (way_in es s ≡ Some w)
-in_force_at [] spelled full s = absurd (full refl)
-in_force_at (e ∷ es) spelled full s = some_way e es s spelled
-
 -- the rebuilt value of a new list, once it stands in the hierarchy
 pub least_stays : (a b : HierarchyValue) (Pair : ℕ → ℕ → Type 0) → IsFrame a b Pair → a.network ≡ b.network → (u v : ℕ) (es : List Entry) (runs : List Run)
     → ((m : ℕ) → HasEdge a.edges m u → HasEdge a.edges m v → Pair u m × Pair m v) → IsResettledList a u v es → list_from b u v ≡ es → option_map (λ (run : Run). run.from) (slice_get runs 0) ≡ Some 0
@@ -133,5 +130,5 @@ pub values_least : (h : HierarchyValue) (u v : ℕ) (es : List Entry) (runs : Li
     → ((s : ℕ) (way : Way) → s < day → way_in es s ≡ Some way → ArrivesIn h u v s way (arrival_value runs s)) → (s : ℕ) → s < day
     → least_in (value_by h.network (rebuilt h) u v s) es ≡ Some (arrival_value runs s)
 values_least h u v es runs all resettled some arrives s lt =
-    let (way, at) = in_force_at es resettled.spelled some s in
+    let (way, at) = way_there es resettled.spelled some s in
     runs_least h u v es all resettled s (arrival_value runs s) way lt at (arrives s way lt at)

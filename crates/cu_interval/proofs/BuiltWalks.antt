@@ -74,6 +74,13 @@ least_unique g o u v t a b f i =
     let q = i.least w l in
     omega (arith, p, q, e, e2)
 
+-- a way arrives at one second
+pub arrives_once : (g : NetworkValue) (o : OrderValue) (u v t : ℕ) (way : Way) (a b : ℕ) → Arrives g o u v t way a → Arrives g o u v t way b → a ≡ b
+arrives_once g o u v t (Road r) a b p q = sym p ∙ q
+arrives_once g o u v t (Via m) a b p q =
+    let one : p.0 ≡ q.0 = least_unique g o u m t p.0 q.0 p.1 q.1 in
+    least_unique g o m v q.0 a b (subst (λ (x : ℕ). IsLeastLowDrive g o m v x a) one p.2) q.2
+
 abbrev pub IsRight : HierarchyValue → ℕ → ℕ → Type 0
 IsRight h u v = (list_from h u v ≢ []) × ((t : ℕ) → IsLeastLowDrive h.network h.order u v t (drive h.network (unpacked_walk h u v t) t))
 

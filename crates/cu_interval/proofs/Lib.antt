@@ -13,6 +13,7 @@ pub mod Lookups
 pub mod Middles
 pub mod Near
 pub mod Rebuilding
+pub mod Replacing
 pub mod Simple
 pub mod SimpleWalks
 pub mod Spelled

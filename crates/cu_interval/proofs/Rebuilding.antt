@@ -9,11 +9,12 @@ use Rattle.cu_interval.specs.Hierarchies.{HierarchyValue, IsHierarchy, IsWellFor
 use Rattle.cu_interval.specs.Resettling.{least_in, lesser_of, rebuilt_by, then_at, value_by}
 use Rattle.cu_interval.proofs.Lookups.{list_formed}
 
-then_at-same : (a b : Option ℕ) (f g : ℕ → Option ℕ) → a ≡ b → ((x : ℕ) → f x ≡ g x) → then_at a f ≡ then_at b g
+-- steps from the same to the same, and the least of the same values
+pub then_at-same : (a b : Option ℕ) (f g : ℕ → Option ℕ) → a ≡ b → ((x : ℕ) → f x ≡ g x) → then_at a f ≡ then_at b g
 then_at-same None b f g e same = ap (λ (o : Option ℕ). then_at o g) e
 then_at-same (Some x) b f g e same = ap (λ (o : Option ℕ). option_map (λ (y : ℕ). min y (2 ^ 62)) o) (same x) ∙ ap (λ (o : Option ℕ). then_at o g) e
 
-least_in-same : (f g : Way → Option ℕ) (es : List Entry) → All (λ (e : Entry). f e.way ≡ g e.way) es → least_in f es ≡ least_in g es
+pub least_in-same : (f g : Way → Option ℕ) (es : List Entry) → All (λ (e : Entry). f e.way ≡ g e.way) es → least_in f es ≡ least_in g es
 least_in-same f g [] same = refl
 least_in-same f g (e ∷ es) same =
     let rest = least_in-same f g es (λ k d h. same (suc k) d (omega (arith, h))) in

@@ -12,6 +12,7 @@ use Rattle.cu_model.proofs.ListLaws.{get_here, get_other}
 use Rattle.cu_interval.specs.declared.ways.Entry.{Entry}
 use Rattle.cu_interval.specs.declared.ways.TouchedEdge.{TouchedEdge}
 use Rattle.cu_interval.specs.Replacing.{replaced, replaced_by}
+use Rattle.cu_interval.proofs.Replacing.{replaced_by_long, replaced_long}
 
 -- stretches with the same items are the same
 take_same : {X : Type 0} (n : ℕ) (xs ys : List X) → length xs ≡ length ys → ((k : ℕ) → k < n → slice_get xs k ≡ slice_get ys k) → take n xs ≡ take n ys
@@ -52,13 +53,6 @@ edges_rise touched rising i j s t less here there =
 -- a number that is none of an edge's lists
 abbrev pub IsApart : List TouchedEdge → ℕ → Type 0
 IsApart touched k = (i : ℕ) (t : TouchedEdge) → slice_get touched i ≡ Some t → (k ≢ 2 * t.edge) × (k ≢ 2 * t.edge + 1)
-
-replaced_by_long : (lists : List (List Entry)) (t : TouchedEdge) → length (replaced_by lists t) ≡ length lists
-replaced_by_long lists t = length-set (set lists (2 * t.edge) t.up) (2 * t.edge + 1) t.down ∙ length-set lists (2 * t.edge) t.up
-
-pub replaced_long : (lists : List (List Entry)) (touched : List TouchedEdge) → length (replaced lists touched) ≡ length lists
-replaced_long lists [] = refl
-replaced_long lists (t ∷ touched) = replaced_long (replaced_by lists t) touched ∙ replaced_by_long lists t
 
 -- the other lists stay
 pub replaced_elsewhere : (lists : List (List Entry)) (touched : List TouchedEdge) (k : ℕ) → IsApart touched k → slice_get (replaced lists touched) k ≡ slice_get lists k

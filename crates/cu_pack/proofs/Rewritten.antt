@@ -6,11 +6,12 @@ use Rattle.std.proofs.lemmas.List.{append_assoc, take_all}
 use Rattle.cu_interval.specs.declared.ways.Entry.{Entry}
 use Rattle.cu_interval.specs.declared.ways.TouchedEdge.{TouchedEdge}
 use Rattle.cu_interval.specs.Replacing.{replaced}
+use Rattle.cu_interval.proofs.Replacing.{replaced_long}
 use Rattle.cu_pack.specs.Spelling.{entry_bytes, long, starts_from, total}
 use Rattle.cu_pack.specs.Steps.Starts.{starts_between}
 use Rattle.cu_pack.proofs.CountedStarts.{before_list, put_starts_on, starts_counted, starts_moved}
 use Rattle.cu_pack.proofs.Putting.{put_more, put_next}
-use Rattle.cu_pack.proofs.Replaced.{AreRising, IsUpTo, gap_before, gap_last, own_there, replaced_long}
+use Rattle.cu_pack.proofs.Replaced.{AreRising, IsUpTo, gap_before, gap_last, own_there}
 use Rattle.cu_pack.proofs.Stretches.{put_stretch, total_on}
 use Rattle.cu_pack.proofs.Totals.{total_more}
 
