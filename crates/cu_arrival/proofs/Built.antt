@@ -35,7 +35,7 @@ built_push f old new run t end built pushed at more in_day limit meant = record 
   limits = all_pushed (λ (r : Run). r.rule) IsRunInLimit old new run pushed built.limits (omega (arith, at, more, in_day), limit);
 }
 
-arrives-value : (rule : RunRule) (s : ℕ) → rule_value rule 0 s ≡ arrives rule s
+pub arrives-value : (rule : RunRule) (s : ℕ) → rule_value rule 0 s ≡ arrives rule s
 arrives-value (Shift d) s = omega arith
 arrives-value (Fixed c) s = omega arith
 

@@ -7,11 +7,11 @@ use Rattle.std.proofs.lemmas.Option.{slice_get-map}
 use Rattle.cu_model.specs.Begun.{later_of, last_begun, Rises}
 use Rattle.cu_model.proofs.Begun.{IsLastBegun}
 
-later_map : {A B : Type 0} (f : A → B) (a b : Option A) → later_of (option_map f a) (option_map f b) ≡ option_map f (later_of a b)
+pub later_map : {A B : Type 0} (f : A → B) (a b : Option A) → later_of (option_map f a) (option_map f b) ≡ option_map f (later_of a b)
 later_map f a None = refl
 later_map f a (Some b) = refl
 
-if_map : {A B : Type 0} (f : A → B) (b : Bool) (a : A) → (if b then Some (f a) else None) ≡ option_map f (if b then Some a else None)
+pub if_map : {A B : Type 0} (f : A → B) (b : Bool) (a : A) → (if b then Some (f a) else None) ≡ option_map f (if b then Some a else None)
 if_map f true a = refl
 if_map f false a = refl
 

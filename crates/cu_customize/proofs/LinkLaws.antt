@@ -12,6 +12,7 @@ use Rattle.cu_arrival.specs.Runs.{run_at, run_value, rule_value, rule_number, ar
 use Rattle.cu_arrival.proofs.RunLaws.{value_in_day}
 use Rattle.cu_arrival.specs.Steps.Stretches.{arrives}
 use Rattle.cu_model.proofs.Tiling.{IsTiled, tiled_push}
+use Rattle.cu_arrival.proofs.Built.{arrives-value}
 use Rattle.cu_customize.specs.declared.linking.Reached.{Reached}
 use Rattle.cu_customize.specs.Words.{IsDayList, end_run, after_shift, after_arrival, is_fixed}
 use Rattle.cu_customize.specs.declared.words.TheConstants.{MAX_NUMBER}
@@ -137,10 +138,6 @@ last_pushed (y ∷ ys) x =
     let place : length ((y ∷ ys) ++ x ∷ []) - 1 ≡ suc (length (ys ++ x ∷ []) - 1) = omega (arith, size) in
     subst (λ (i : ℕ). slice_get ((y ∷ ys) ++ x ∷ []) i ≡ Some x) (sym place) (last_pushed ys x)
 
-pub rule_at_once : (r : RunRule) (t : ℕ) → rule_value r 0 t ≡ arrives r t
-rule_at_once (Shift d) t = omega arith
-rule_at_once (Fixed c) t = omega arith
-
 -- runs that say a function over the day, with their end
 pub closed : (f : ℕ → ℕ) (xs : List Run) → IsSaid f xs day → IsDayList (xs ++ end_run ∷ []) × ((t : ℕ) → t < day → arrival_value (xs ++ end_run ∷ []) t ≡ f t)
 closed f xs said =
@@ -153,5 +150,5 @@ closed f xs said =
       λ t h.
           let (run, last, says) = tiled.holds t (omega (arith, h)) in
           let of_run : run_value (run_at (xs ++ end_run ∷ []) t) 0 t ≡ rule_value run.rule 0 t = rw last refl in
-          value_in_day (xs ++ end_run ∷ []) t h ∙ of_run ∙ rule_at_once run.rule t ∙ says h,
+          value_in_day (xs ++ end_run ∷ []) t h ∙ of_run ∙ arrives-value run.rule t ∙ says h,
     )

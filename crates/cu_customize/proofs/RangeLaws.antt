@@ -12,6 +12,7 @@ use Rattle.cu_arrival.specs.declared.runs.RunRule.TheVariants.{Shift}
 use Rattle.cu_arrival.specs.Runs.{run_at, run_value, rule_value, arrival_value}
 use Rattle.cu_arrival.proofs.RunLaws.{value_in_day}
 use Rattle.cu_arrival.specs.Steps.Stretches.{arrives}
+use Rattle.cu_arrival.proofs.Built.{arrives-value}
 use Rattle.cu_customize.specs.declared.linking.Reached.{Reached}
 use Rattle.cu_customize.specs.Words.{IsDayList, IsFunctionWords, composed, end_run}
 use Rattle.cu_customize.specs.Steps.Linking.{Begins, Continues, IsReached, IsSaid, Says}
@@ -19,7 +20,7 @@ use Rattle.cu_customize.specs.Steps.Bounded.{IsAt}
 use Rattle.cu_customize.proofs.DayLists.{item_from}
 use Rattle.cu_customize.proofs.MergeLaws.{read_there}
 use Rattle.cu_customize.proofs.CompareLaws.{at_next, at_stepped, at_value}
-use Rattle.cu_customize.proofs.LinkLaws.{last_pushed, place_later, rule_at_once, tiled_closed}
+use Rattle.cu_customize.proofs.LinkLaws.{last_pushed, place_later, tiled_closed}
 
 -- the composition from a second on, where before it nobody is on the way
 abbrev pub composed_from : ℕ → List Run → List Run → ℕ → ℕ
@@ -72,7 +73,7 @@ closed_until f xs until some in_day said =
           let in_time : t < day = omega (arith, h, in_day) in
           let (run, last, value) = tiled.holds t (omega (arith, in_time)) in
           let of_run : run_value (run_at (xs ++ end_run ∷ []) t) 0 t ≡ rule_value run.rule 0 t = rw last refl in
-          value_in_day (xs ++ end_run ∷ []) t in_time ∙ of_run ∙ rule_at_once run.rule t ∙ value in_time h,
+          value_in_day (xs ++ end_run ∷ []) t in_time ∙ of_run ∙ arrives-value run.rule t ∙ value in_time h,
     )
 
 -- what the composition has come to at a second

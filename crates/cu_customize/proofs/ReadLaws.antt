@@ -1,12 +1,11 @@
 -- What is read of a merger: its least arrivals as a function, and the numbers of its candidates.
-use Rattle.std.proofs.Common.{◌≡◌, ◌≤◌, ◌<◌, ◌+◌, ◌-◌, ◌*◌, ◌++◌, ◌∙◌, ℕ, Bool, List, [], ◌∷◌, Option, Some, None, refl, sym, ap, subst, arith, inl, inr, length, get_or, true, false}
+use Rattle.std.proofs.Common.{◌≡◌, ◌≤◌, ◌<◌, ◌+◌, ◌-◌, ◌*◌, ◌++◌, ◌∙◌, ℕ, List, [], ◌∷◌, Option, Some, None, refl, sym, ap, subst, arith, inl, inr, length, get_or}
 use Rattle.std.specs.Prelude.{slice_get, nat_le, if◌then◌else◌, All}
 use Rattle.std.specs.Option.{option_map}
 use Rattle.std.specs.List.{zip}
 use Rattle.std.proofs.lemmas.Bool.{cases_lt}
 use Rattle.std.proofs.lemmas.List.{length_push, get_or_append_left}
 use Rattle.std.proofs.lemmas.Option.{get_or_from_slice_get, slice_get-get_or}
-use Rattle.cu_model.specs.Begun.{later_of}
 use Rattle.cu_model.specs.Days.{day, KeepsOrder}
 use Rattle.cu_model.proofs.Begun.{starts_begun}
 use Rattle.cu_arrival.specs.declared.runs.Run.{Run}
@@ -17,6 +16,8 @@ use Rattle.cu_model.specs.Growing.{IsPushed}
 use Rattle.cu_arrival.proofs.RunLaws.{value_in_day}
 use Rattle.cu_arrival.specs.Steps.Stretches.{arrives}
 use Rattle.cu_model.proofs.Growing.{IsGrown, grown_none, grown_push}
+use Rattle.cu_arrival.proofs.Built.{arrives-value}
+use Rattle.cu_arrival.proofs.Mapped.{if_map, later_map}
 use Rattle.cu_customize.specs.declared.merging.Least.{Least}
 use Rattle.cu_customize.specs.declared.merging.WayRun.{WayRun}
 use Rattle.cu_customize.specs.Words.{IsDayList, IsFunctionWords, IsCompactDay, end_run}
@@ -24,7 +25,7 @@ use Rattle.cu_customize.specs.declared.words.TheConstants.{MAX_NUMBER}
 use Rattle.cu_customize.specs.Least.{Held, held_at, least_arrival, least_way, arrival_of, KeepsDayOrder, IsWayRuns}
 use Rattle.cu_customize.specs.Steps.Merging.{least_held, IsHeld}
 use Rattle.cu_customize.proofs.DayLists.{repeats, two_words, from_in_day, next_from, value_in_force}
-use Rattle.cu_customize.proofs.LinkLaws.{get_or-same, rule_at_once, closed, last_pushed}
+use Rattle.cu_customize.proofs.LinkLaws.{get_or-same, closed, last_pushed}
 use Rattle.cu_customize.proofs.MergeLaws.{old_at, read_there}
 use Rattle.cu_customize.proofs.TravelLaws.{begin_of, begin_start, begin_end, begin_next, begin_read, begin_value}
 
@@ -34,26 +35,18 @@ SaysRule f rule s = arrives rule s ≡ f s
 abbrev pub SaysWay : List Held → ℕ → ℕ → Type 0
 SaysWay held way s = way ≡ least_way held s
 
-map_later : {A B : Type 0} (f : A → B) (a b : Option A) → option_map f (later_of a b) ≡ later_of (option_map f a) (option_map f b)
-map_later f a None = refl
-map_later f a (Some b) = refl
-
-map_if : {A B : Type 0} (f : A → B) (b : Bool) (x : A) → option_map f (if b then Some x else None) ≡ (if b then Some (f x) else None)
-map_if f true x = refl
-map_if f false x = refl
-
 -- the pairs in force are those of the runs in force
 pub zip_begun : (xs : List Run) (ys : List ℕ) (s : ℕ) → length ys ≡ length xs → option_map (λ (h : Held). h.0) (held_at (zip xs ys) s) ≡ run_at xs s
 zip_begun [] ys s e = refl
 zip_begun (x ∷ xs) [] s e = absurd (omega (arith, e))
 zip_begun (x ∷ xs) (y ∷ ys) s e =
     let rest = zip_begun xs ys s (omega (arith, e)) in
-    let head = map_if (λ (h : Held). h.0) (nat_le x.from s) (x, y) in
-    map_later (λ (h : Held). h.0) (if nat_le x.from s then Some (x, y) else None) (held_at (zip xs ys) s) ∙ (rw (rest, head) refl)
+    let head = sym (if_map (λ (h : Held). h.0) (nat_le x.from s) (x, y)) in
+    sym (later_map (λ (h : Held). h.0) (if nat_le x.from s then Some (x, y) else None) (held_at (zip xs ys) s)) ∙ (rw (rest, head) refl)
 
 said_by : (o : Option Held) (runs : Option Run) (t : ℕ) (run : Run) → option_map (λ (h : Held). h.0) o ≡ runs → runs ≡ Some run → arrival_of o t ≡ run_value runs 0 t
 said_by None runs t run e f = absurd (cc (e, f))
-said_by (Some h) runs t run e f = rw (← e) (sym (rule_at_once h.0.rule t))
+said_by (Some h) runs t run e f = rw (← e) (sym (arrives-value h.0.rule t))
 
 -- the least arrivals are the value of the runs
 pub least_value : (l : Least) → IsHeld l → (t : ℕ) → t < day → arrival_value l.words.items t ≡ least_arrival (least_held l) t

@@ -22,11 +22,12 @@ use Rattle.cu_arrival.specs.Runs.{run_at, run_value, rule_value, rule_number, ar
 use Rattle.cu_arrival.specs.Steps.OfPieces.{run_of, run_rule}
 use Rattle.cu_arrival.proofs.PieceLaws.{value_map, profile_function}
 use Rattle.cu_arrival.proofs.RunLaws.{arrival_value-next_day, value_in_day}
+use Rattle.cu_arrival.proofs.Built.{arrives-value}
 use Rattle.cu_customize.specs.declared.words.TheConstants.{MAX_NUMBER}
 use Rattle.cu_customize.specs.Least.{KeepsDayOrder}
 use Rattle.cu_customize.specs.Words.{IsFunctionWords, end_run}
 use Rattle.cu_customize.specs.Steps.Linking.{IsSaid}
-use Rattle.cu_customize.proofs.LinkLaws.{closed, rule_at_once}
+use Rattle.cu_customize.proofs.LinkLaws.{closed}
 use Rattle.cu_customize.proofs.ReadLaws.{day_order}
 
 rule_small : (r : Rule) → is_rule_in_limit r ≡ true → rule_number (run_rule r) ≤ MAX_NUMBER
@@ -73,7 +74,7 @@ module _ (ps : List Piece) (is : IsProfile ps) where
         holds = λ s h.
             let (run, there) = starts_begun (λ (r : Run). r.from) runs s f.starts in
             let of_run : run_value (run_at runs s) 0 s ≡ rule_value run.rule 0 s = rw there refl in
-            (run, there, sym (rule_at_once run.rule s) ∙ sym of_run ∙ sym (value_in_day runs s h) ∙ value_map ps s);
+            (run, there, sym (arrives-value run.rule s) ∙ sym of_run ∙ sym (value_in_day runs s h) ∙ value_map ps s);
       }
 
   pieces_order : KeepsDayOrder (profile_value ps)
