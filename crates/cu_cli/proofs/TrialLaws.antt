@@ -28,7 +28,6 @@ use Rattle.cu_interval.specs.WayLists.{IsWayList}
 use Rattle.cu_interval.proofs.Spelled.{few_entries}
 use Rattle.cu_pack.specs.Checks.{Spells}
 use Rattle.cu_pack.specs.Spelling.{spelling}
-use Rattle.cu_pack.proofs.Again.{one_hierarchy}
 use Rattle.cu_roads.specs.Draws.{after, drawn, stepped}
 use Rattle.cu_roads.specs.Grids.{IsSide, behind_grid, grid_network}
 use Rattle.cu_roads.proofs.DrawSteps.{after_two, drawn_below}
@@ -43,10 +42,6 @@ use Rattle.cu_cli.specs.Words.{GridAsked, TrialAsked, grid_read}
 use Rattle.cu_cli.specs.Steps.Outcomes.{Works}
 use Rattle.cu_cli.specs.Steps.Trials.{IsDrawable, StopsGrid, standing}
 use Rattle.cu_cli.proofs.WorkLaws.{stopped_before}
-
--- bytes are the packed file of one hierarchy
-pub spelled_once : (bytes : List ℕ) (h other : HierarchyValue) → Spells bytes h → Spells bytes other → h ≡ other
-spelled_once bytes h other one two = one_hierarchy h other one.sound two.sound (sym one.spelled ∙ two.spelled)
 
 -- and that of a built one is its own
 pub spells_built : (bytes : List ℕ) (h : HierarchyValue) → IsBuilt h → bytes ≡ spelling h → Spells bytes h

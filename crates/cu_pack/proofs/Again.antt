@@ -24,6 +24,7 @@ use Rattle.cu_pack.specs.Layouts.{arcs_at, edge_starts_at, entries_at, pieces_at
 use Rattle.cu_pack.specs.Places.{ReadsRow, ReadsRule, ReadsWay, long_at, word_at}
 use Rattle.cu_pack.specs.Reading.{arc_from, arc_in, counts_in, decoded, edge_starts_in, entry_from, entry_place, list_in, network_in, order_in, piece_from, piece_place, profile_in, profile_start, rule_of, uppers_in, way_of, way_start, words_in}
 use Rattle.cu_pack.specs.Spelling.{counts_of, edge_starts, spelling, total}
+use Rattle.cu_pack.specs.Checks.{Spells}
 use Rattle.cu_pack.proofs.EdgeLists.{edges_again, highs}
 use Rattle.cu_pack.proofs.Items.{counted_there, list_made, made_again}
 use Rattle.cu_pack.proofs.ReadBack.{arc_read, arcs_read, edge_start_read, edges_read, entries_read, listed_read, node_read, nodes_read, nowhere, piece_read, pieces_read, profile_start_read, profiles_read, rank_read, upper_read, way_start_read}
@@ -185,3 +186,7 @@ module _ (h : HierarchyValue) (f : IsHierarchy h) where
 -- and so hierarchies with the same bytes are the same
 pub one_hierarchy : (h other : HierarchyValue) → IsHierarchy h → IsHierarchy other → spelling h ≡ spelling other → h ≡ other
 one_hierarchy h other f g same = sym (read_again h f) ∙ ap decoded same ∙ read_again other g
+
+-- the same bytes spell the same hierarchy
+pub same_hierarchy : (bytes : List ℕ) (h other : HierarchyValue) → Spells bytes h → Spells bytes other → h ≡ other
+same_hierarchy bytes h other one two = one_hierarchy h other one.sound two.sound (sym one.spelled ∙ two.spelled)

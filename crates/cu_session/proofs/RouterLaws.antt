@@ -26,7 +26,7 @@ use Rattle.cu_links.specs.Buckets.{BucketsValue}
 use Rattle.cu_pack.specs.Checks.{Spells, sealed}
 use Rattle.cu_pack.specs.Reading.{decoded}
 use Rattle.cu_pack.specs.Spelling.{spelling}
-use Rattle.cu_pack.proofs.Again.{one_hierarchy, read_again}
+use Rattle.cu_pack.proofs.Again.{read_again, same_hierarchy}
 use Rattle.cu_pack.proofs.Bodies.{spelled_sealed}
 use Rattle.cu_pack.proofs.Views.{said_again}
 use Rattle.cu_recall.specs.Rooms.{RoomValue}
@@ -35,10 +35,6 @@ use Rattle.cu_session.specs.declared.router.EditRoom.{EditRoom}
 use Rattle.cu_session.specs.Steps.Routing.{FitsSome, HasEditRoom, HasRoom, IsEdited, KnowsCustomized}
 use Rattle.cu_edits.proofs.ResettledBuilt.{resettled_built}
 use Rattle.cu_edits.proofs.Unchanged.{ranks_edited, ranks_kept}
-
--- the same bytes spell the same hierarchy
-pub same_hierarchy : (bytes : List ℕ) (h other : HierarchyValue) → Spells bytes h → Spells bytes other → h ≡ other
-same_hierarchy bytes h other one two = one_hierarchy h other one.sound two.sound (sym one.spelled ∙ two.spelled)
 
 -- bytes say the hierarchy that they spell
 pub decoded_is : (bytes : List ℕ) (h : HierarchyValue) → Spells bytes h → decoded bytes ≡ h

@@ -5,7 +5,7 @@ use Rattle.std.proofs.lemmas.List.Kept.{AllPairs-cons}
 use Rattle.std.proofs.lemmas.Map.Made.{IsDistinct-from_AllPairs}
 use Rattle.cu_model.specs.Orders.{ListsEachNodeOnce}
 use Rattle.cu_interval.specs.Hierarchies.{IsBuilt}
-use Rattle.cu_session.proofs.RouterLaws.{same_hierarchy}
+use Rattle.cu_pack.proofs.Again.{same_hierarchy}
 use Rattle.cu_session.proofs.tests.build.Goals as goal
 
 pub of-requires : goal.of-requires

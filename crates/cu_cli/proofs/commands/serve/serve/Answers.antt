@@ -1,9 +1,9 @@
 use Rattle.std.proofs.Common.{subst}
 use Rattle.std.specs.Prelude.{Some, None}
 use Rattle.cu_interval.specs.Hierarchies.{IsBuilt}
+use Rattle.cu_pack.proofs.Again.{same_hierarchy}
 use Rattle.cu_cli.specs.Steps.Asks.{tables_asked}
 use Rattle.cu_session.proofs.SessionLaws.{err_is}
-use Rattle.cu_cli.proofs.TrialLaws.{spelled_once}
 use Rattle.cu_cli.proofs.StopLaws.{stop_is}
 use Rattle.cu_cli.proofs.WorkLaws.{served, stopped}
 use Rattle.cu_cli.proofs.commands.serve.serve.Goals as goal
@@ -16,7 +16,7 @@ returns-in_err-bytes g c =
 pub answer_built-requires : goal.answer_built-requires
 answer_built-requires g c =
     let (h, has, spells) = c.in_ok-bytes.ensures.ok in
-    record { spelled = (h, spells); built = λ other same. subst IsBuilt (spelled_once _ h other spells same) has.built }
+    record { spelled = (h, spells); built = λ other same. subst IsBuilt (same_hierarchy _ h other spells same) has.built }
 
 pub returns-in_err-answer_built : goal.returns-in_err-answer_built
 returns-in_err-answer_built g c =
