@@ -32,7 +32,8 @@ pub sorted_part : (gathered part : List ℕ) → IsDistinct eqb gathered → IsP
 sorted_part gathered part once moved sorted = IsStrictlyIncreasing-from_distinct part (IsNonDecreasingBy-from_sort (λ (x : ℕ). x) part sorted)
     (IsDistinct-IsPermutation eqb flips gathered part moved once)
 
-pub source_range : (edges : List Ends) (links : List ℕ) (ranks rank y : ℕ) → AreClosed edges ranks rank → All (λ z. (rank ≤ z) × (z < ranks)) links → IsSource edges links rank y → (rank < y) × (y < ranks)
+pub source_range : (edges : List Ends) (links : List ℕ) (ranks rank y : ℕ) → AreClosed edges ranks rank → All (λ z. (rank ≤ z) × (z < ranks)) links
+    → IsSource edges links rank y → (rank < y) × (y < ranks)
 source_range edges links ranks rank y f linked (ne, inl c) = let both = All-contains (λ z. (rank ≤ z) × (z < ranks)) links y linked c in (omega (arith, both.0, ne), both.1)
 source_range edges links ranks rank y f linked (ne, inr child) =
     let least = parent_least edges child.0 rank y f.rising child.2 child.3 in

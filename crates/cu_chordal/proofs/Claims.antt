@@ -147,7 +147,8 @@ right_below_none g o ranks starts uppers checking first f = record {
   right = λ k lt. absurd (omega (arith, lt));
 }
 
-module _ (g : NetworkValue) (o : OrderValue) (starts uppers links : List ℕ) (rank : ℕ) (rising : IsRising (edges_below starts uppers rank)) (ups : AreUps g o rank (edges_below starts uppers rank)) (linked : AreLinks g o rank links) where
+module _ (g : NetworkValue) (o : OrderValue) (starts uppers links : List ℕ) (rank : ℕ) (rising : IsRising (edges_below starts uppers rank))
+    (ups : AreUps g o rank (edges_below starts uppers rank)) (linked : AreLinks g o rank links) where
   -- what was checked of a rank's part says whether it is wrong
   neighbours_from_sources : IsSourcePart starts uppers links rank → AreHigherNeighbours g o rank (part_at starts uppers rank)
   neighbours_from_sources f = record {

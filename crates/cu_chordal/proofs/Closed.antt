@@ -49,7 +49,8 @@ parent_least edges k rank y rising p c =
     let read = get_or_from_slice_get (up_of edges k) 0 rank 0 p in
     omega (arith, least, read)
 
-module _ (g : NetworkValue) (o : OrderValue) (edges : List Ends) (links : List ℕ) (rank y : ℕ) (rising : IsRising edges) (f : AreUps g o rank edges) (linked : ((z : ℕ) → Contains links z ↔ ((rank ≤ z) × Adjacent g o rank z))) where
+module _ (g : NetworkValue) (o : OrderValue) (edges : List Ends) (links : List ℕ) (rank y : ℕ) (rising : IsRising edges) (f : AreUps g o rank edges)
+    (linked : ((z : ℕ) → Contains links z ↔ ((rank ≤ z) × Adjacent g o rank z))) where
   source_is_up : IsSource edges links rank y → IsUp g o rank y
   source_is_up (ne, inl c) = let both = (linked y).0 c in (omega (arith, both.0, ne), ([], both.1))
   source_is_up (ne, inr child) =

@@ -96,7 +96,8 @@ composed_order first second f g =
           let step : arrival_value first 86399 ≤ arrival_value first (86399 + 1) = f.fifo 86399 (omega arith) in
           let over : arrival_value first (day + 0) ≡ day + arrival_value first 0 = next_day (arrival_value first) (repeats first f.over_day) 0 in
           let more = rises (arrival_value first 86399) (arrival_value first (day + 0)) step in
-          let next : arrival_value second (arrival_value first (day + 0)) ≡ day + composed first second 0 = ap (arrival_value second) over ∙ next_day (arrival_value second) (repeats second g.over_day) (arrival_value first 0) in
+          let next : arrival_value second (arrival_value first (day + 0)) ≡ day + composed first second 0 =
+          ap (arrival_value second) over ∙ next_day (arrival_value second) (repeats second g.over_day) (arrival_value first 0) in
           omega (arith, more, next);
     }
 

@@ -96,7 +96,12 @@ best_only edges f u v ways way old list runs is (free, sound, arrives) made =
             subst (λ (x : Way). IsFirstEarliest (IsOpenAmong edges f u v (ways ++ way ∷ [])) (ArrivesBy edges f u v s) x) same (first_only edges f u v ways way runs none free s (arrives s lt));
         none = λ empty. absurd (cc empty);
       };
-      value = (λ empty. absurd (cc empty), sound, λ t w lt e. let same : way ≡ w = cc (e, one_way_in way t) in subst (λ (x : Way). ArrivesBy edges f u v t x (arrival_value runs t)) same (arrives t lt));
+      value = (
+        λ empty. absurd (cc empty),
+        sound,
+        λ t w lt e. let same : way ≡ w = cc (e, one_way_in way t) in
+            subst (λ (x : Way). ArrivesBy edges f u v t x (arrival_value runs t)) same (arrives t lt),
+      );
     } in
     subst (λ (es : List Entry). IsBestOf edges f u v (ways ++ way ∷ []) (record { ways = es; function = Some runs })) (sym made) claim
 
@@ -106,7 +111,8 @@ told None b standing way e = absurd (cc e)
 told (Some choice) b standing way e = let same : choice.second ≡ b = cc e in ap (λ (x : Bool). side x standing way) same
 
 chosen_cases : (entries : List Entry) (choices : List Choice) (way : Way) (first second : List Run) (s : ℕ) → IsChoices first second choices → s < day
-    → ((arrival_value second s < arrival_value first s) × (chosen entries choices way s ≡ Some way)) ⊎ ((arrival_value first s ≤ arrival_value second s) × (chosen entries choices way s ≡ way_in entries s))
+    → ((arrival_value second s < arrival_value first s) × (chosen entries choices way s ≡ Some way))
+    ⊎ ((arrival_value first s ≤ arrival_value second s) × (chosen entries choices way s ≡ way_in entries s))
 chosen_cases entries choices way first second s are lt =
     let said = told (choice_at choices s) (is_second first second s) (way_in entries s) way (are.earlier s lt) in
     elim (cases_lt (arrival_value second s) (arrival_value first s)) [

@@ -114,7 +114,8 @@ module _ (windows : Windows) (f : ℕ → ℕ) where
   ]
 
 -- what is known of both functions is known of their composition
-module _ (first behind : List Run) (function : IsFunctionWords behind) (one two : Bounds) (same : two.windows ≡ one.windows) (are : AreBounds (arrival_value first) one) (next : AreBounds (arrival_value behind) two) (window : ℕ) (inside : window < WINDOWS) where
+module _ (first behind : List Run) (function : IsFunctionWords behind) (one two : Bounds) (same : two.windows ≡ one.windows)
+    (are : AreBounds (arrival_value first) one) (next : AreBounds (arrival_value behind) two) (window : ℕ) (inside : window < WINDOWS) where
   abbrev reach : ℕ
   reach = get_or one.reach window 0
 

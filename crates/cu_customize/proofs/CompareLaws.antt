@@ -73,7 +73,8 @@ module _ (words : List Run) (is : IsDayList words) where
       let is_read : get_or words i read ≡ read = get_or_from_slice_get words i read read there in
       let is_next = ap (λ (r : Run). r.from) (get_or_from_slice_get words (i + 1) next read after) in
       let begun = ap (λ (r : Run). r.from) is_read in
-      value_in_force words is i s read (slice_get_within words (i + 1) next after) (omega (arith, begun, read_from, late)) (omega (arith, is_next, until, early)) ∙ ap (λ (r : Run). arrives r.rule s) is_read
+      value_in_force words is i s read (slice_get_within words (i + 1) next after) (omega (arith, begun, read_from, late))
+      (omega (arith, is_next, until, early)) ∙ ap (λ (r : Run). arrives r.rule s) is_read
 
 -- and in the old list it is the one in force, with the number beside it
 at_held : (l : Least) (i t end s : ℕ) (read next : Run) (way : ℕ) → IsHeld l → IsAt l.words.items i t → slice_get l.words.items i ≡ Some read → slice_get l.words.items (i + 1) ≡ Some next
@@ -140,7 +141,8 @@ merging_none l arrival way n none empty =
     }
 
 module _ (l : Least) (candidate : List Run) (way : ℕ) (first n : Next) (from until index other at end : ℕ) (run run_next held held_next : Run) (is : IsHeld l) (over_day : IsDayList candidate)
-    (in_day : until ≤ day) (comparing : IsComparing l candidate way first n from until index other at) (before : at < until) (is_run : run ≡ get_or candidate index run) (is_run_next : run_next ≡ get_or candidate (index + 1) run_next)
+    (in_day : until ≤ day) (comparing : IsComparing l candidate way first n from until index other at) (before : at < until)
+    (is_run : run ≡ get_or candidate index run) (is_run_next : run_next ≡ get_or candidate (index + 1) run_next)
     (is_held : held ≡ get_or l.words.items other held) (is_held_next : held_next ≡ get_or l.words.items (other + 1) held_next) (is_end : end ≡ min (min run_next.from held_next.from) until) where
   -- another run follows in both lists
   pub more_runs : (index + 1 < length candidate) × (other + 1 < length l.words.items)
@@ -189,10 +191,13 @@ module _ (l : Least) (candidate : List Run) (way : ℕ) (first n : Next) (from u
       record {
         order = (omega (arith, later, order.0), order.1);
         done = done;
-        run = at_stepped candidate over_day index at end index_after run_next comparing.run run_next_there (omega (arith, order.0)) (omega (arith, is_end)) (omega (arith, order.1, in_day)) ended lasts;
-        held = at_stepped l.words.items is.over_day other at end other_after held_next comparing.held held_next_there (omega (arith, order.0)) (omega (arith, is_end)) (omega (arith, order.1, in_day)) held_ended held_lasts;
+        run = at_stepped candidate over_day index at end index_after run_next comparing.run run_next_there (omega (arith, order.0)) (omega (arith, is_end))
+            (omega (arith, order.1, in_day)) ended lasts;
+        held = at_stepped l.words.items is.over_day other at end other_after held_next comparing.held held_next_there (omega (arith, order.0))
+            (omega (arith, is_end)) (omega (arith, order.1, in_day)) held_ended held_lasts;
         next = next;
         merging = λ arrival same is_before. merges arrival
-            (λ s late early. same s (omega (arith, later, late)) early ∙ at_value candidate over_day index at end s run run_next comparing.run run_there run_next_there (omega (arith, is_end)) late early)
+            (λ s late early. same s (omega (arith, later, late)) early
+            ∙ at_value candidate over_day index at end s run run_next comparing.run run_there run_next_there (omega (arith, is_end)) late early)
             (comparing.merging arrival (λ s late early. same s late (omega (arith, early, order.0))) is_before);
       }

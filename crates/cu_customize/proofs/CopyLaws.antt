@@ -17,7 +17,8 @@ use Rattle.cu_customize.proofs.MergeLaws.{old_at, says_old, tiled_put}
 abbrev pub CopiesTo : Least → ℕ → ℕ → Next → Next → ℕ → Type 0
 CopiesTo least first until old new index = (arrival : ℕ → ℕ) (way : ℕ) (next after : Run) → slice_get least.words.items (first + 1) ≡ Some next → slice_get least.words.items (index + 1) ≡ Some after
     → ((s : ℕ) → next.from ≤ s → s < until → least_arrival (least_held least) s + tie_with (least_held least) way s ≤ arrival s)
-    → IsTiled held_from (SaysMerged least arrival way) (next_held old) (min next.from until) → (next.from ≤ after.from) × IsTiled held_from (SaysMerged least arrival way) (next_held new) (min after.from until)
+    → IsTiled held_from (SaysMerged least arrival way) (next_held old) (min next.from until)
+    → (next.from ≤ after.from) × IsTiled held_from (SaysMerged least arrival way) (next_held new) (min after.from until)
 
 -- the run of the next index is from later
 pub next_later : (words : List Run) (i : ℕ) (run next : Run) → IsDayList words → slice_get words i ≡ Some run → slice_get words (i + 1) ≡ Some next → run.from < next.from
@@ -43,7 +44,8 @@ pub copied_more : (l : Least) (first until : ℕ) (old mid new : Next) (index : 
 copied_more l first until old mid new index read beside is copied there with before puts arrival way next after follows behind later tiled =
     let (order, said) = copied arrival way next read follows there later tiled in
     let rises = next_later l.words.items (index + 1) read after is.over_day there behind in
-    let at_read : IsTiled held_from (SaysMerged l arrival way) (next_held mid) read.from = subst (λ (t : ℕ). IsTiled held_from (SaysMerged l arrival way) (next_held mid) t) (omega (arith, before)) said in (
+    let at_read : IsTiled held_from (SaysMerged l arrival way) (next_held mid) read.from =
+    subst (λ (t : ℕ). IsTiled held_from (SaysMerged l arrival way) (next_held mid) t) (omega (arith, before)) said in (
       omega (arith, order, rises),
       tiled_put l arrival way (next_held mid) (next_held new) (read, beside) read.from (min after.from until) at_read puts refl (omega (arith, rises, before))
           (λ s late early.

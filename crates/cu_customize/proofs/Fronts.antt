@@ -91,7 +91,8 @@ next_front entries choices old new list turns front in_day entry_end choice_end 
     record {
       front = record {
         within = omega (arith, limit, entry_is, at_is);
-        entry = λ more. moved_force (λ (e : Entry). e.from) entries old.entry new.entry old.at entry_end (entries_rise entries list) entry entry_is new.at later (omega (arith, at_is)) more entry_moved;
+        entry = λ more. moved_force (λ (e : Entry). e.from) entries old.entry new.entry old.at entry_end (entries_rise entries list) entry entry_is new.at later
+            (omega (arith, at_is)) more entry_moved;
         choice = λ more. moved_force (λ (c : Choice). c.from) choices old.choice new.choice old.at choice_end turns.rises choice choice_is new.at later (omega (arith, at_is)) more choice_moved;
       };
       later = later;
@@ -134,7 +135,8 @@ list_starts : (entries : List Entry) → IsWayList entries → entries ≢ [] �
 list_starts [] list some = absurd (some refl)
 list_starts (e ∷ es) list some = ap Some list.begins
 
-pub first_front : (entries : List Entry) (choices : List Choice) (front : Front) → IsWayList entries → entries ≢ [] → AreTurns choices → front ≡ record { at = 0; entry = 0; choice = 0 } → IsFront entries choices front
+pub first_front : (entries : List Entry) (choices : List Choice) (front : Front) → IsWayList entries → entries ≢ [] → AreTurns choices
+    → front ≡ record { at = 0; entry = 0; choice = 0 } → IsFront entries choices front
 first_front entries choices front list some turns is =
     let claim : IsFront entries choices (record { at = 0; entry = 0; choice = 0 }) = record {
       within = omega arith;
@@ -177,7 +179,8 @@ pub chosen_some : (entries : List Entry) (choices : List Choice) (way : Way) (me
 chosen_some entries choices way [] t over grown = λ e. let s = grown.tiled.starts (omega (arith, over)) in absurd (cc s)
 chosen_some entries choices way (x ∷ xs) t over grown = λ e. absurd (cc e)
 
-pub chosen_at : (entries : List Entry) (choices : List Choice) (way : Way) (merged : List Entry) (t s : ℕ) → day ≤ t → s < day → IsChosenTo entries choices way merged t → way_in merged s ≡ chosen entries choices way s
+pub chosen_at : (entries : List Entry) (choices : List Choice) (way : Way) (merged : List Entry) (t s : ℕ) → day ≤ t → s < day
+    → IsChosenTo entries choices way merged t → way_in merged s ≡ chosen entries choices way s
 chosen_at entries choices way merged t s over lt grown =
     let (x, last, said) = grown.tiled.holds s (omega (arith, lt, over)) in
     ap (option_map (λ (e : Entry). e.way)) last ∙ sym said

@@ -230,7 +230,8 @@ gathers_one g task is way number old new arrival there free near order arrives l
     gathers_at g task is way number old new arrival t lt there free near order arrives record { least = least_is t lt; chosen = way_is t lt }
 
 -- all that may be the least are gathered where each of the others is beaten
-pub gathered_fewer : (g : NetworkValue) (task : Task) (ways all : List Way) (held : List Held) → ((t : ℕ) (w : Way) → t < day → IsRival g task all t w → Contains ways w) → IsGatheredBut g task ways held
+pub gathered_fewer : (g : NetworkValue) (task : Task) (ways all : List Way) (held : List Held)
+    → ((t : ℕ) (w : Way) → t < day → IsRival g task all t w → Contains ways w) → IsGatheredBut g task ways held
     → IsGatheredBut g task all held
 gathered_fewer g task ways all held kept is t lt =
     stays_least g task ways all held held t record { least = refl; chosen = refl } (λ w rival. ((kept t w lt rival, rival.0.1), rival.1)) (is t lt)
@@ -261,7 +262,8 @@ module _ (g : NetworkValue) (network : IsNetwork g) (task : Task) (is : IsTask g
   road_onward t lt = let on = arc_value-onward g network a (road_inside g task is a held) t in let says = value t lt in omega (arith, on, says)
 
   -- one that isn't closed arrives as these words say, where nobody goes anywhere else first
-  pub gathers_road : (number : ℕ) (old new : List Held) → slice_get (ways_of task) number ≡ Some (Road a) → IsFunctionWords words → ((t : ℕ) → t < day → least_arrival new t ≡ min (least_arrival old t) (composed task.stay.now words t))
+  pub gathers_road : (number : ℕ) (old new : List Held) → slice_get (ways_of task) number ≡ Some (Road a) → IsFunctionWords words
+      → ((t : ℕ) → t < day → least_arrival new t ≡ min (least_arrival old t) (composed task.stay.now words t))
       → ((t : ℕ) → t < day → least_way new t ≡ way_with old (composed task.stay.now words t) number t) → Gathers g task (Road a) old new
   gathers_road number old new there function least_is way_is =
       let inside = road_inside g task is a held in

@@ -187,7 +187,8 @@ lower_end ends Up lt = (omega (arith, lt), λ e. absurd (omega (arith, lt, e)))
 lower_end ends Down lt = (omega (arith, lt), λ e. absurd (omega (arith, lt, e)))
 
 -- what settling the next list by the functions that are kept gives
-pub next_built : (g : NetworkValue) (o : OrderValue) (graph : ChordalValue) (arcs : List (List ℕ)) (list : List ℕ) (functions : List (Option (List Run))) (lists : List (List Entry)) (edge : ℕ) (dir : Dir) (ends : Ends)
+pub next_built : (g : NetworkValue) (o : OrderValue) (graph : ChordalValue) (arcs : List (List ℕ)) (list : List ℕ) (functions : List (Option (List Run)))
+    (lists : List (List Entry)) (edge : ℕ) (dir : Dir) (ends : Ends)
     (function : Option (List Run)) (ways : List Entry) → IsChordal graph → IsNetwork g → IsOrder o → IsClosureOf g o graph → AreEdgeArcs g o graph.edges arcs
     → slice_get graph.edges edge ≡ Some ends → slice_get arcs (list_number edge dir) ≡ Some list → IsBuiltTo g o graph.edges (list_number edge dir) functions lists
     → IsSettledList graph.edges list (kept_state g functions) (start_of ends dir) (end_of ends dir) ways

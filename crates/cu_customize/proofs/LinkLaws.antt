@@ -101,7 +101,8 @@ fixed_pushed second old new (Fixed c) place arrival from until word read over is
     let same : arrival + 0 ≡ arrival = omega arith in
     let value = place_value second place arrival arrival 0 read over is (omega arith) (omega (arith, before)) in
     let here = subst (λ (n : ℕ). arrival_value second n ≡ arrives (after_shift (get_or second place.index read).rule 0 place.midnight) arrival) same value in
-    ap (λ (r : RunRule). arrives r s) rule ∙ arrival_word (get_or second place.index read).rule arrival place.midnight s ∙ sym here ∙ ap (arrival_value second) arrives_at ∙ sym (means s late early)) in
+    ap (λ (r : RunRule). arrives r s) rule ∙ arrival_word (get_or second place.index read).rule arrival place.midnight s ∙ sym here
+    ∙ ap (arrival_value second) arrives_at ∙ sym (means s late early)) in
     subst (λ (ys : List Run). IsSaid f ys until) (sym is_new) longer
 
 -- a rule that isn't fixed takes the seconds of its number

@@ -75,7 +75,8 @@ pub up_function : (edges : List Ends) (f : FunctionsState) (m v : ℕ) → m < v
 up_function edges f m v lt = let test : ltb m v ≡ true = grind (arith, lt) in rw test refl
 
 -- only an edge has a function
-pub some_edge : (edges : List Ends) (f : FunctionsState) (low high : ℕ) (dir : Dir) (number : Option ℕ) → number_from 0 edges low high ≡ number → IsSome (shortcut_of f number dir) → HasEdge edges low high
+pub some_edge : (edges : List Ends) (f : FunctionsState) (low high : ℕ) (dir : Dir) (number : Option ℕ) → number_from 0 edges low high ≡ number
+    → IsSome (shortcut_of f number dir) → HasEdge edges low high
 some_edge edges f low high dir None e some = absurd (cc some)
 some_edge edges f low high dir (Some k) e some =
     let (j, same, at) = number_found 0 edges low high k e in

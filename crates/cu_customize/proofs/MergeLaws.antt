@@ -128,7 +128,8 @@ pub put_none : (n : Next) (word last : Run) (way beside count : ℕ) → length 
 put_none n word last way beside count even is_count some is_last is_beside rule same =
     let words = n.words.items in
     let ways = n.ways.items in
-    let there = zip_there words ways (count - 1) last beside (read_there words (count - 1) last (omega (arith, is_count, some)) is_last) (read_there ways (count - 1) beside (omega (arith, is_count, some, even)) is_beside) in
+    let there = zip_there words ways (count - 1) last beside (read_there words (count - 1) last (omega (arith, is_count, some)) is_last)
+    (read_there ways (count - 1) beside (omega (arith, is_count, some, even)) is_beside) in
     let size = length_zip words ways even in
     let place : count - 1 ≡ length (zip words ways) - 1 = omega (arith, size, is_count) in
     inl ((last, beside), subst (λ (i : ℕ). slice_get (zip words ways) i ≡ Some (last, beside)) place there, rule, same, refl)

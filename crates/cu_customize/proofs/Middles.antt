@@ -95,7 +95,8 @@ pub near_some : (g : NetworkValue) (task : Task) (m one two most : ℕ) (a b : L
     → IsFunctionWords b → IsOnward (arrival_value a) → IsOnward (arrival_value b) → TakesAtMost a one → TakesAtMost b two
     → most ≡ min (one + two) (2 ^ 64 - 1) → most ≤ MAX_NUMBER - day → IsNear g task (Via m)
 near_some g task m one two most a b halves good late early soon quick is_most few t arrival lt at =
-    let capped : through (function_from task.graph.now.edges (state_of g task) task.leg.from m) (function_from task.graph.now.edges (state_of g task) m task.leg.to) t ≡ Some (min (composed a b t) (2 ^ 62)) =
+    let capped : through (function_from task.graph.now.edges (state_of g task) task.leg.from m)
+    (function_from task.graph.now.edges (state_of g task) m task.leg.to) t ≡ Some (min (composed a b t) (2 ^ 62)) =
     rw (halves.0, halves.1) refl in
     let same : min (composed a b t) (2 ^ 62) ≡ arrival = cc (capped, at) in
     let to = late t lt in
@@ -202,7 +203,8 @@ pub triangle_middle : (task : Task) (triangle : Triangle) → Contains task.tria
 triangle_middle task triangle held = member_map (λ (t : Triangle). t.middle) task.triangles.now triangle held
 
 -- and below both ends
-pub triangle_below : (g : NetworkValue) (task : Task) → HasTriangles g task → (triangle : Triangle) → Contains task.triangles.now triangle → (triangle.middle < task.leg.from) × (triangle.middle < task.leg.to)
+pub triangle_below : (g : NetworkValue) (task : Task) → HasTriangles g task → (triangle : Triangle) → Contains task.triangles.now triangle
+    → (triangle.middle < task.leg.from) × (triangle.middle < task.leg.to)
 triangle_below g task is triangle held =
     All-contains (λ (x : ℕ). (x < task.leg.from) × (x < task.leg.to)) (middles_in task.triangles.now) triangle.middle is.below (triangle_middle task triangle held)
 

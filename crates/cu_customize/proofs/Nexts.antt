@@ -42,7 +42,8 @@ use Rattle.cu_customize.proofs.LowFunctions.{IsSetting, down_edge, halves_at, up
 use Rattle.cu_customize.proofs.Lows.{IsDailyValueOf}
 
 -- there are fewer candidates than numbers
-pub few_ways : (g : NetworkValue) (task : Task) → IsTask g task → (length task.arcs.now + length task.triangles.now < NOBODY) × (length (ways_of task) ≡ length task.arcs.now + length task.triangles.now)
+pub few_ways : (g : NetworkValue) (task : Task) → IsTask g task
+    → (length task.arcs.now + length task.triangles.now < NOBODY) × (length (ways_of task) ≡ length task.arcs.now + length task.triangles.now)
 few_ways g task is =
     let few = is.arcs_few in
     let middles = few_rising (middles_in task.triangles.now) task.leg.from is.middles_rise (λ k d h. (is.below k d h).0) in

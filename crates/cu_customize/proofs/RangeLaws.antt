@@ -141,7 +141,8 @@ module _ (first second : List Run) (f : IsFunctionWords first) (from until : ℕ
             order = (omega (arith, order.0, from_first), order.1);
             run = λ more.
                 let here : next.from ≡ end = omega (arith, is_end, more) in
-                at_stepped first f.over_day index at end (index + 1) next (is.run before) next_there (omega (arith, order.0)) (omega (arith, here)) (omega (arith, order.1, in_day)) (λ e. refl) (λ ne. absurd (ne here));
+                at_stepped first f.over_day index at end (index + 1) next (is.run before) next_there (omega (arith, order.0)) (omega (arith, here))
+                (omega (arith, order.1, in_day)) (λ e. refl) (λ ne. absurd (ne here));
             place = place_later second last (arrives run.rule (end - 1)) (arrival_value first end) arrived (omega (arith, value, never_falls));
             said = continued (composed_from from first second) is.said
                 (λ s late early. composed_late from first second s (omega (arith, late, from_first)) ∙ ap (arrival_value second) (linking_value s late early));

@@ -140,7 +140,8 @@ rules_all words xs list i end is last is_end is_list grown =
     subst (λ (ys : List Run). IsCompacted words ys) (sym same) all
 
 -- what is read of a merger is a function
-pub least_function : (l : Least) (list : List Run) → IsHeld l → KeepsDayOrder (least_arrival (least_held l)) → IsCompacted l.words.items list → ((t : ℕ) → t < day → least_arrival (least_held l) t ≤ MAX_NUMBER)
+pub least_function : (l : Least) (list : List Run) → IsHeld l → KeepsDayOrder (least_arrival (least_held l)) → IsCompacted l.words.items list
+    → ((t : ℕ) → t < day → least_arrival (least_held l) t ≤ MAX_NUMBER)
     → IsFunctionWords list × ((t : ℕ) → t < day → arrival_value list t ≡ least_arrival (least_held l) t)
 least_function l list is order compacted within =
     let value : (t : ℕ) → t < day → arrival_value list t ≡ least_arrival (least_held l) t = λ t h. compacted.value t h ∙ least_value l is t h in (
@@ -200,7 +201,9 @@ pub least_read : (l : Least) (now : List Held) (list words : List Run) → IsHel
     → ((t : ℕ) → t < day → least_arrival now t ≤ MAX_NUMBER) → IsFunctionWords list × ((t : ℕ) → t < day → arrival_value list t ≡ least_arrival now t)
 least_read l now list words is order view same compacted within =
     subst (λ (hs : List Held). IsFunctionWords list × ((t : ℕ) → t < day → arrival_value list t ≡ least_arrival hs t)) view
-    (least_function l list is (subst (λ (hs : List Held). KeepsDayOrder (least_arrival hs)) (sym view) order) (subst (λ (ws : List Run). IsCompacted ws list) same compacted) (λ t h. subst (λ (hs : List Held). least_arrival hs t ≤ MAX_NUMBER) (sym view) (within t h)))
+    (least_function l list is (subst (λ (hs : List Held). KeepsDayOrder (least_arrival hs)) (sym view) order)
+    (subst (λ (ws : List Run). IsCompacted ws list) same compacted)
+    (λ t h. subst (λ (hs : List Held). least_arrival hs t ≤ MAX_NUMBER) (sym view) (within t h)))
 
 -- the first number is that of second 0
 pub first_way : (l : Least) (now : List Held) (way : ℕ) → IsHeld l → least_held l ≡ now → way ≡ get_or l.ways.items 0 way → least_way now 0 ≡ way

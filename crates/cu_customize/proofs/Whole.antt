@@ -45,7 +45,8 @@ built_candidates : (g : NetworkValue) (o : OrderValue) (u v : ℕ) (entries : Li
 built_candidates g o u v entries built k d inside =
     (built.first (get_or entries k d).from (get_or entries k d).way (built.spelled.within k d inside) (own_second entries built.spelled k d inside)).candidate
 
-module _ (g : NetworkValue) (o : OrderValue) (graph : ChordalValue) (functions : List (Option (List Run))) (lists : List (List Entry)) (n : IsNetwork g) (order : IsOrder o) (same : length o.node_at ≡ g.nodes)
+module _ (g : NetworkValue) (o : OrderValue) (graph : ChordalValue) (functions : List (Option (List Run))) (lists : List (List Entry)) (n : IsNetwork g)
+    (order : IsOrder o) (same : length o.node_at ≡ g.nodes)
     (chordal : IsChordal graph) (closed : IsClosureOf g o graph) (is : IsBuiltTo g o graph.edges (2 * length graph.edges) functions lists) where
   abbrev made : HierarchyValue
   made = record { network = g; order = o; edges = graph.edges; lists = lists }
@@ -56,12 +57,16 @@ module _ (g : NetworkValue) (o : OrderValue) (graph : ChordalValue) (functions :
       elim (cases_lt x y) [
         | inl less ↦
             let (j, there) = place_of graph.edges (record { low = x; high = y }) (low_edge g o graph.edges closed.edges x y (w, l) less) in
-            least_low g o x y t (value_kept (slice_get functions (list_number j Up))) (is.low j Up (record { low = x; high = y }) there (number_within j (length graph.edges) Up (slice_get_within graph.edges j (record { low = x; high = y }) there))) (w, l)
+            least_low g o x y t (value_kept (slice_get functions (list_number j Up)))
+            (is.low j Up (record { low = x; high = y }) there
+            (number_within j (length graph.edges) Up (slice_get_within graph.edges j (record { low = x; high = y }) there))) (w, l)
         | inr more ↦
             let apart = l.0 in
             let less : y < x = omega (arith, more, apart) in
             let (j, there) = place_of graph.edges (record { low = y; high = x }) (low_edge_back g o graph.edges closed.edges x y (w, l) less) in
-            least_low g o x y t (value_kept (slice_get functions (list_number j Down))) (is.low j Down (record { low = y; high = x }) there (number_within j (length graph.edges) Down (slice_get_within graph.edges j (record { low = y; high = x }) there))) (w, l)
+            least_low g o x y t (value_kept (slice_get functions (list_number j Down)))
+            (is.low j Down (record { low = y; high = x }) there
+            (number_within j (length graph.edges) Down (slice_get_within graph.edges j (record { low = y; high = x }) there))) (w, l)
       ]
 
   list_built : (edge : ℕ) (dir : Dir) (ends : Ends) → slice_get graph.edges edge ≡ Some ends → IsBuiltList g o (start_of ends dir) (end_of ends dir) (list_of made edge dir)

@@ -41,7 +41,8 @@ travelling_none words from until index least most some held = record {
   faster = λ t late early. absurd (omega (arith, late, early));
 }
 
-module _ (words : List Run) (is : IsDayList words) (from until index at least most : ℕ) (in_day : until ≤ day) (travelling : IsTravelling words from until index at least most) (before : at < until) where
+module _ (words : List Run) (is : IsDayList words) (from until index at least most : ℕ) (in_day : until ≤ day)
+    (travelling : IsTravelling words from until index at least most) (before : at < until) where
   pub travelling_next : index + 1 < length words
   travelling_next =
       let (next, after, later, last, inside) = at_next words is index at travelling.held (omega (arith, before, in_day)) in
@@ -207,7 +208,8 @@ lowered_same windows f g old new same are window inside = elim (are window insid
 ]
 
 -- a second at which a function arrives who leaves in a window, with its day
-module _ (windows : Windows) (first second : List Run) (function : IsFunctionWords second) (from until reach : ℕ) (is_reach : reach ≤ 2 * WINDOWS) (reaches : reach < 2 * WINDOWS → Reaches windows (arrival_value first) from until reach) where
+module _ (windows : Windows) (first second : List Run) (function : IsFunctionWords second) (from until reach : ℕ) (is_reach : reach ≤ 2 * WINDOWS)
+    (reaches : reach < 2 * WINDOWS → Reaches windows (arrival_value first) from until reach) where
   arrives_at : (t : ℕ) → from ≤ t → t < until → (days s : ℕ) × IsWithinReach windows reach s × (arrival_value first t ≡ days * day + s)
   arrives_at t late early = elim (cases_lt reach (2 * WINDOWS)) [
     | inl lt ↦
@@ -251,7 +253,8 @@ lowered_one f from until old upper new is small same = elim (cases_lt upper old)
 
 -- who leaves in a window arrives within the reach of the seconds between which they arrive
 pub window_taken : (windows : Windows) (f : ℕ → ℕ) (number least most reach : ℕ) (window : Window) → TakesBetween f (window_start windows number) (window_start windows (number + 1)) least
-    → TakesUpToBetween f (window_start windows number) (window_start windows (number + 1)) most → IsSpan f (window_start windows number) (window_start windows (number + 1)) window.span → window.reach ≡ reach
+    → TakesUpToBetween f (window_start windows number) (window_start windows (number + 1)) most
+    → IsSpan f (window_start windows number) (window_start windows (number + 1)) window.span → window.reach ≡ reach
     → IsReach windows (min (window_start windows number + least) (2 ^ 64 - 1)) (min (window_start windows (number + 1) + most) (2 ^ 64 - 1)) reach → IsWindow windows f number window
 window_taken windows f number least most reach window takes takes_up span is_reach reaches = record {
   span = span;

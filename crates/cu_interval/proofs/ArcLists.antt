@@ -44,7 +44,8 @@ ends_by : (xs : List Ends) (e : ℕ) (ends : Ends) (low high : ℕ) → slice_ge
 ends_by xs e ends low high at l h = at ∙ ap Some (same_ends ends low high l h)
 
 -- two lists with the same ends are one
-same_list_number : (graph : ChordalValue) → IsChordal graph → (e f : ℕ) (d k : Dir) (x y : Ends) → slice_get graph.edges e ≡ Some x → slice_get graph.edges f ≡ Some y → start_of x d ≡ start_of y k → end_of x d ≡ end_of y k → list_number e d ≡ list_number f k
+same_list_number : (graph : ChordalValue) → IsChordal graph → (e f : ℕ) (d k : Dir) (x y : Ends) → slice_get graph.edges e ≡ Some x
+    → slice_get graph.edges f ≡ Some y → start_of x d ≡ start_of y k → end_of x d ≡ end_of y k → list_number e d ≡ list_number f k
 same_list_number graph c e f Up Up x y p q s t = let n = one_number graph.edges c.rising e f y.low y.high (ends_by graph.edges e x y.low y.high p s t) q in omega (arith, n)
 same_list_number graph c e f Down Down x y p q s t = let n = one_number graph.edges c.rising e f y.low y.high (ends_by graph.edges e x y.low y.high p t s) q in omega (arith, n)
 same_list_number graph c e f Up Down x y p q s t = let l = rising_ends graph c e x p in let m = rising_ends graph c f y q in absurd (omega (arith, l, m, s, t))

@@ -40,7 +40,8 @@ walk_path g o m u (a ∷ b ∷ w) v h =
     (x ∷ rest.0, (leads-adjacent g o a u x j, lt, rest.1))
 
 -- a low walk joins the ends of an edge
-pub edge_under : (h : HierarchyValue) → IsBuilt h → (u v : ℕ) (w : List ℕ) → IsLowWalk h.network h.order u w v → (edge : ℕ) × (dir : Dir) × (ends : Ends) × (slice_get h.edges edge ≡ Some ends) × (start_of ends dir ≡ u) × (end_of ends dir ≡ v)
+pub edge_under : (h : HierarchyValue) → IsBuilt h → (u v : ℕ) (w : List ℕ) → IsLowWalk h.network h.order u w v
+    → (edge : ℕ) × (dir : Dir) × (ends : Ends) × (slice_get h.edges edge ≡ Some ends) × (start_of ends dir ≡ u) × (end_of ends dir ≡ v)
 edge_under h f u v w l =
     let path = walk_path h.network h.order (min u v) u w v l.1 in
     elim (cases_lt u v) [

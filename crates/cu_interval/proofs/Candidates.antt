@@ -56,5 +56,12 @@ candidate_below g o f u v has (suc m) mu mv (a ∷ w) t h =
           let r = below-fifo g o f m m c.second v one.0 (drive g c.first t) c.on p in
           let e = drive-append g c.first c.second t in
           let n = c.no_later t in
-          record { way = Via m; arrival = two.0; candidate = (omega arith, omega arith, (c.first, walk_u), (c.second, walk_v)); value = (one.0, one.1, two.1); early = omega (arith, q, r, e, n); before = omega arith }
+          record {
+            way = Via m;
+            arrival = two.0;
+            candidate = (omega arith, omega arith, (c.first, walk_u), (c.second, walk_v));
+            value = (one.0, one.1, two.1);
+            early = omega (arith, q, r, e, n);
+            before = omega arith;
+          }
     ]

@@ -88,7 +88,8 @@ module _ (g : NetworkValue) (o : OrderValue) (n : IsNetwork g) where
         ];
   }
 
-first_by : (h : HierarchyValue) → IsBuilt h → (u v low high : ℕ) (dir : Dir) → start_of (record { low = low; high = high }) dir ≡ u → end_of (record { low = low; high = high }) dir ≡ v → (o : Option ℕ) → number_from 0 h.edges low high ≡ o
+first_by : (h : HierarchyValue) → IsBuilt h → (u v low high : ℕ) (dir : Dir) → start_of (record { low = low; high = high }) dir ≡ u
+    → end_of (record { low = low; high = high }) dir ≡ v → (o : Option ℕ) → number_from 0 h.edges low high ≡ o
     → (s : ℕ) (way : Way) → s < day → way_in (list_of_some h o dir) s ≡ Some way → IsFirstWay h.network h.order u v s way
 first_by h f u v low high dir su sv None e s way lt is = absurd (cc is)
 first_by h f u v low high dir su sv (Some edge) e s way lt is =

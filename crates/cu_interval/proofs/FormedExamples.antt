@@ -24,7 +24,8 @@ by_middle : IsWellFormed three_built 1 2 (Via 0)
 by_middle = (omega arith, omega arith, member_at three_built.edges (ends 0 1) 0 refl, member_at three_built.edges (ends 0 2) 1 refl, (λ e. cc e), λ e. cc e)
 
 -- an edge's ends, once read, are these
-at_ends : (low high : ℕ) (dir : Dir) (entries : List Entry) (e : Ends) → ends low high ≡ e → Formed (start_of (ends low high) dir) (end_of (ends low high) dir) entries → Formed (start_of e dir) (end_of e dir) entries
+at_ends : (low high : ℕ) (dir : Dir) (entries : List Entry) (e : Ends) → ends low high ≡ e
+    → Formed (start_of (ends low high) dir) (end_of (ends low high) dir) entries → Formed (start_of e dir) (end_of e dir) entries
 at_ends low high dir entries e same f = subst (λ (x : Ends). Formed (start_of x dir) (end_of x dir) entries) same f
 
 formed : EachList three_built Formed
@@ -35,6 +36,8 @@ formed (suc zero) Up e at = at_ends 0 2 Up (list_of three_built 1 Up) e (cc at)
     (one_more 0 2 (entry 0 (Road 1)) [] (1, 2, ((record { tail = 1; head = 2; profile = 1 }, refl, refl, refl), refl), refl, refl) (none 0 2))
 formed (suc zero) Down e at = at_ends 0 2 Down [] e (cc at) (none 2 0)
 formed (suc (suc zero)) Up e at = at_ends 1 2 Up (list_of three_built 2 Up) e (cc at)
-    (one_more 1 2 (entry 0 (Via 0)) (entry 28740 (Road 2) ∷ entry 35851 (Via 0) ∷ []) by_middle (one_more 1 2 (entry 28740 (Road 2)) (entry 35851 (Via 0) ∷ []) (0, 2, ((record { tail = 0; head = 2; profile = 2 }, refl, refl, refl), refl), refl, refl) (one_more 1 2 (entry 35851 (Via 0)) [] by_middle (none 1 2))))
+    (one_more 1 2 (entry 0 (Via 0)) (entry 28740 (Road 2) ∷ entry 35851 (Via 0) ∷ []) by_middle
+    (one_more 1 2 (entry 28740 (Road 2)) (entry 35851 (Via 0) ∷ []) (0, 2, ((record { tail = 0; head = 2; profile = 2 }, refl, refl, refl), refl), refl, refl)
+    (one_more 1 2 (entry 35851 (Via 0)) [] by_middle (none 1 2))))
 formed (suc (suc zero)) Down e at = at_ends 1 2 Down [] e (cc at) (none 2 1)
 formed (suc (suc (suc n))) dir e at = absurd (cc at)

@@ -93,14 +93,18 @@ well_formed h f u v t way e =
     elim (cases_lt u v) [
       | inl lt ↦
           let up : ltb u v ≡ true = grind (arith, lt) in
-          let at : way_at (list_of_some h (number_from 0 h.edges u v) Up) t ≡ Some way = subst (λ (b : Bool). way_at (if b then list_of_some h (number_from 0 h.edges u v) Up else list_of_some h (number_from 0 h.edges v u) Down) t ≡ Some way) up e in
+          let at : way_at (list_of_some h (number_from 0 h.edges u v) Up) t ≡ Some way =
+          subst (λ (b : Bool). way_at (if b then list_of_some h (number_from 0 h.edges u v) Up else list_of_some h (number_from 0 h.edges v u) Down) t
+          ≡ Some way) up e in
           of_some h (IsWellFormed h u v) u v Up (number_from 0 h.edges u v) t way (λ edge g.
           let (j, is, there) = number_found 0 h.edges u v edge g in
           let same : j ≡ edge = omega (arith, is) in
           f.formed edge Up (record { low = u; high = v }) (subst (λ (n : ℕ). slice_get h.edges n ≡ Some (record { low = u; high = v })) same there)) at
       | inr ge ↦
           let down : ltb u v ≡ false = grind (arith, ge) in
-          let at : way_at (list_of_some h (number_from 0 h.edges v u) Down) t ≡ Some way = subst (λ (b : Bool). way_at (if b then list_of_some h (number_from 0 h.edges u v) Up else list_of_some h (number_from 0 h.edges v u) Down) t ≡ Some way) down e in
+          let at : way_at (list_of_some h (number_from 0 h.edges v u) Down) t ≡ Some way =
+          subst (λ (b : Bool). way_at (if b then list_of_some h (number_from 0 h.edges u v) Up else list_of_some h (number_from 0 h.edges v u) Down) t
+          ≡ Some way) down e in
           of_some h (IsWellFormed h u v) u v Down (number_from 0 h.edges v u) t way (λ edge g.
           let (j, is, there) = number_found 0 h.edges v u edge g in
           let same : j ≡ edge = omega (arith, is) in

@@ -20,7 +20,8 @@ least_in-same f g (e ∷ es) same =
     let rest = least_in-same f g es (λ k d h. same (suc k) d (omega (arith, h))) in
     ap (λ (o : Option ℕ). lesser_of o (least_in f es)) (same 0 e (omega arith)) ∙ ap (λ (o : Option ℕ). lesser_of (g e.way) o) rest
 
-value_by-same : (h : HierarchyValue) (half more : ℕ → ℕ → ℕ → Option ℕ) (u v t : ℕ) (way : Way) → IsWellFormed h u v way → ((x y s : ℕ) → min x y < min u v → half x y s ≡ more x y s) → value_by h.network half u v t way ≡ value_by h.network more u v t way
+value_by-same : (h : HierarchyValue) (half more : ℕ → ℕ → ℕ → Option ℕ) (u v t : ℕ) (way : Way) → IsWellFormed h u v way
+    → ((x y s : ℕ) → min x y < min u v → half x y s ≡ more x y s) → value_by h.network half u v t way ≡ value_by h.network more u v t way
 value_by-same h half more u v t (Road a) formed same = refl
 value_by-same h half more u v t (Via m) formed same =
     let to = formed.0 in

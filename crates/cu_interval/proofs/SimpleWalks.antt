@@ -79,7 +79,8 @@ through_more g o m n u (a ∷ []) xs v le h = h
 through_more g o m n u (a ∷ b ∷ w) [] v le h = h
 through_more g o m n u (a ∷ b ∷ w) (x ∷ xs) v le h = let lt = h.1 in (h.0, omega (arith, lt, le), through_more g o m n x (b ∷ w) xs v le h.2)
 
-through_append : (g : NetworkValue) (o : OrderValue) (n u x : ℕ) (w xs : List ℕ) (w2 ys : List ℕ) (v : ℕ) → x < n → Through g o n u w xs x → Through g o n x w2 ys v → Through g o n u (w ++ w2) (xs ++ (x ∷ ys)) v
+through_append : (g : NetworkValue) (o : OrderValue) (n u x : ℕ) (w xs : List ℕ) (w2 ys : List ℕ) (v : ℕ) → x < n → Through g o n u w xs x
+    → Through g o n x w2 ys v → Through g o n u (w ++ w2) (xs ++ (x ∷ ys)) v
 through_append g o n u x [] xs w2 ys v lt h k = absurd h
 through_append g o n u x (a ∷ []) [] [] ys v lt h k = absurd k
 through_append g o n u x (a ∷ []) [] (b ∷ w2) ys v lt h k = (h.0, lt, k)
@@ -116,7 +117,8 @@ inner_by h f u v t lower (Via m) e first =
     let apart = halves_apart h.network h.order f.sound.network u v m t (has_least h (min u v) (right_below h f (min u v))) mu mv first w1 xs w2 ys one two value in
     let lt : m < min u v = omega (arith, mu, mv) in
     let le : m ≤ min u v = omega (arith, lt) in
-    let joined = through_append h.network h.order (min u v) u m w1 xs w2 ys v lt (through_more h.network h.order m (min u v) u w1 xs m le one) (through_more h.network h.order m (min u v) m w2 ys v le two) in (
+    let joined = through_append h.network h.order (min u v) u m w1 xs w2 ys v lt (through_more h.network h.order m (min u v) u w1 xs m le one)
+    (through_more h.network h.order m (min u v) m w2 ys v le two) in (
       xs ++ (m ∷ ys),
       subst (λ (w : List ℕ). Through h.network h.order (min u v) u w (xs ++ (m ∷ ys)) v) (sym walk) joined,
       distinct_join m xs ys dx dy (λ z i. inner_below h.network h.order m u w1 xs m z one i) (λ z i. inner_below h.network h.order m m w2 ys v z two i) apart,

@@ -17,7 +17,8 @@ IsSpelledFrom least [] = Unit {0}
 IsSpelledFrom least (e ∷ []) = (least ≤ e.from) × (e.from < day)
 IsSpelledFrom least (e ∷ f ∷ es) = (least ≤ e.from) × (e.from < day) × (e.way ≢ f.way) × IsSpelledFrom (suc e.from) (f ∷ es)
 
-pub spelled_from : (least : ℕ) (e : Entry) (es : List Entry) → least ≤ e.from → All (λ (x : Entry). x.from < day) (e ∷ es) → AllAdjacentBelow Turns (e ∷ es) (length (e ∷ es)) → IsSpelledFrom least (e ∷ es)
+pub spelled_from : (least : ℕ) (e : Entry) (es : List Entry) → least ≤ e.from → All (λ (x : Entry). x.from < day) (e ∷ es)
+    → AllAdjacentBelow Turns (e ∷ es) (length (e ∷ es)) → IsSpelledFrom least (e ∷ es)
 spelled_from least e [] le all turns = (le, all 0 e (omega arith))
 spelled_from least e (f ∷ es) le all turns =
     let here = turns 0 e (omega arith) in (

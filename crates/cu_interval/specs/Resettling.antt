@@ -65,4 +65,5 @@ pub record IsResettled (old : HierarchyValue) (edit : Edit) (new : HierarchyValu
   pub edges : new.edges ≡ old.edges
   pub lists : length new.lists ≡ length old.lists
   pub kept : (edge : ℕ) (dir : Dir) → (IsTouchedEdge old edit edge → ⊥) → list_of new edge dir ≡ list_of old edge dir
-  pub resettled : (edge : ℕ) (dir : Dir) (ends : Ends) → slice_get new.edges edge ≡ Some ends → IsTouchedEdge old edit edge → IsResettledList new (start_of ends dir) (end_of ends dir) (list_of new edge dir)
+  pub resettled : (edge : ℕ) (dir : Dir) (ends : Ends) → slice_get new.edges edge ≡ Some ends → IsTouchedEdge old edit edge
+      → IsResettledList new (start_of ends dir) (end_of ends dir) (list_of new edge dir)

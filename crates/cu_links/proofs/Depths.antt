@@ -31,7 +31,8 @@ unfolding deep_places
 places_long links zero place d = refl
 places_long links (suc n) place d = ap (λ (k : ℕ). suc k) (places_long links n d.0 d.3)
 
-member_deep : (links : List (Option (ℕ × ℕ))) (n place : ℕ) (d : IsDeep links n place) (q : ℕ) → list_any (eqb q) (deep_places links n place d) ≡ true → (k : ℕ) × (k ≤ n) × IsDeep links k q × (q < length links)
+member_deep : (links : List (Option (ℕ × ℕ))) (n place : ℕ) (d : IsDeep links n place) (q : ℕ) → list_any (eqb q) (deep_places links n place d) ≡ true
+    → (k : ℕ) × (k ≤ n) × IsDeep links k q × (q < length links)
 unfolding deep_places
 member_deep links zero place d q e = absurd (cc e)
 member_deep links (suc n) place d q e =

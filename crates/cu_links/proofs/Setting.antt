@@ -10,7 +10,8 @@ use Rattle.cu_links.specs.Steps.Kept.{IsDeep, IsGrounded, IsKept, IsNoted, MayGr
 use Rattle.cu_links.proofs.Depths.{same_from}
 use Rattle.cu_links.proofs.Links.{link_here, link_other, linked_few, linked_more, linked_same, noted_more, noted_new, places_more}
 
-chain_push : (links : List (Option (ℕ × ℕ))) (a : ℕ) (steps : List (ℕ × ℕ)) (b c label : ℕ) → IsChain links a steps b → link_at links c ≡ Some (b, label) → IsChain links a (steps ++ ((c, label) ∷ [])) c
+chain_push : (links : List (Option (ℕ × ℕ))) (a : ℕ) (steps : List (ℕ × ℕ)) (b c label : ℕ) → IsChain links a steps b → link_at links c ≡ Some (b, label)
+    → IsChain links a (steps ++ ((c, label) ∷ [])) c
 chain_push links a [] b c label same at = (at ∙ ap (λ (p : ℕ). Some (p, label)) (sym same), refl)
 chain_push links a (s ∷ steps) b c label chain at = (chain.0, chain_push links s.0 steps b c label chain.1 at)
 
@@ -49,7 +50,9 @@ grow_set links count after place from label g lt inside apart is =
           let long = length-set links place (Some (from, label)) in
           elim (cases_eq place q) [
             | inl same ↦
-                let here : link_at (slice_set links place (Some (from, label))) q ≡ Some (from, label) = subst (λ (p : ℕ). link_at (slice_set links place (Some (from, label))) p ≡ Some (from, label)) same (link_here links place (Some (from, label)) lt) in
+                let here : link_at (slice_set links place (Some (from, label))) q ≡ Some (from, label) =
+                subst (λ (p : ℕ). link_at (slice_set links place (Some (from, label))) p ≡ Some (from, label)) same
+                (link_here links place (Some (from, label)) lt) in
                 let first : link.0 ≡ from = ap (λ (l : ℕ × ℕ). l.0) (same_value (link_at (slice_set links place (Some (from, label))) q) link (from, label) e here) in
                 omega (arith, first, inside, long)
             | inr other ↦
@@ -64,7 +67,8 @@ noted_long : (links : List (Option (ℕ × ℕ))) (place : ℕ) (link : Option (
 noted_long links place link noted count all i p lt e = let long = length-set links place link in let below = all i p lt e in omega (arith, long, below)
 
 -- a place that has a link gets another
-pub kept_again : (links : List (Option (ℕ × ℕ))) (noted : List ℕ) (count place from label : ℕ) (other : ℕ × ℕ) → IsKept links noted count false → place < length links → from < length links → (IsOnChainTo links place from → ⊥)
+pub kept_again : (links : List (Option (ℕ × ℕ))) (noted : List ℕ) (count place from label : ℕ) (other : ℕ × ℕ) → IsKept links noted count false
+    → place < length links → from < length links → (IsOnChainTo links place from → ⊥)
     → link_at links place ≡ Some other → IsKept (slice_set links place (Some (from, label))) noted count false
 kept_again links noted count place from label other k lt inside apart at =
     let long = length-set links place (Some (from, label)) in
@@ -85,7 +89,8 @@ kept_again links noted count place from label other k lt inside apart at =
     }
 
 -- a place that has none is noted and gets its first
-pub kept_new : (links : List (Option (ℕ × ℕ))) (noted : List ℕ) (count place from label : ℕ) → IsKept links noted count false → place < length links → from < length links → (IsOnChainTo links place from → ⊥)
+pub kept_new : (links : List (Option (ℕ × ℕ))) (noted : List ℕ) (count place from label : ℕ) → IsKept links noted count false → place < length links
+    → from < length links → (IsOnChainTo links place from → ⊥)
     → link_at links place ≡ None → IsKept (slice_set links place (Some (from, label))) (slice_set noted count place) (count + 1) false
 kept_new links noted count place from label k lt inside apart at =
     let long = length-set links place (Some (from, label)) in
@@ -111,7 +116,8 @@ kept_new links noted count place from label k lt inside apart at =
     }
 
 -- a chain was turned: its first place is noted
-pub kept_turned : (links now : List (Option (ℕ × ℕ))) (noted : List ℕ) (count first : ℕ) (turned : Bool) → IsKept links noted count false → length now ≡ length links → first < length links → Relinks links now first
+pub kept_turned : (links now : List (Option (ℕ × ℕ))) (noted : List ℕ) (count first : ℕ) (turned : Bool) → IsKept links noted count false
+    → length now ≡ length links → first < length links → Relinks links now first
     → (turned ≡ false → ⊥) → IsKept now (slice_set noted count first) (count + 1) turned
 kept_turned links now noted count first turned k long lt relinks is =
     let noted_ = length-set noted count first in
@@ -184,12 +190,14 @@ pub off_none : (links : List (Option (ℕ × ℕ))) (a b : ℕ) → a ≢ b → 
 off_none links a b apart all = off_chain links a b apart (λ q label e. let none = none_at links q all in absurd (cc (none, e)))
 
 -- where only one place has a link, no other place but that from which it is is on the chain to another
-pub off_one : (links : List (Option (ℕ × ℕ))) (place from label a b : ℕ) → a ≢ b → a ≢ from → place < length links → All (λ link. link ≡ None) links → IsOnChainTo (slice_set links place (Some (from, label))) a b → ⊥
+pub off_one : (links : List (Option (ℕ × ℕ))) (place from label a b : ℕ) → a ≢ b → a ≢ from → place < length links → All (λ link. link ≡ None) links
+    → IsOnChainTo (slice_set links place (Some (from, label))) a b → ⊥
 off_one links place from label a b apart other lt all =
     off_chain (slice_set links place (Some (from, label))) a b apart (λ q tag e.
     elim (cases_eq place q) [
       | inl same ↦
-          let here : link_at (slice_set links place (Some (from, label))) q ≡ Some (from, label) = subst (λ (p : ℕ). link_at (slice_set links place (Some (from, label))) p ≡ Some (from, label)) same (link_here links place (Some (from, label)) lt) in
+          let here : link_at (slice_set links place (Some (from, label))) q ≡ Some (from, label) =
+          subst (λ (p : ℕ). link_at (slice_set links place (Some (from, label))) p ≡ Some (from, label)) same (link_here links place (Some (from, label)) lt) in
           other (same_from (link_at (slice_set links place (Some (from, label))) q) a tag from label e here)
       | inr apart ↦ absurd (let none = link_other links place q (Some (from, label)) apart ∙ none_at links q all in cc (none, e))
     ])

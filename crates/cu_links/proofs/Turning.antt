@@ -36,7 +36,8 @@ turning_begin old last (n, d) = record {
 }
 
 -- places of another depth keep what is followed from them
-followed_kept : (old now : List (Option (ℕ × ℕ))) (place : ℕ) (link : Option (ℕ × ℕ)) (depth : ℕ) → IsDeep old depth place → (k a : ℕ) (steps : List (ℕ × ℕ)) (last : ℕ) → depth < k → IsDeep old k a → IsChain old a steps last → AreFollowed now a steps
+followed_kept : (old now : List (Option (ℕ × ℕ))) (place : ℕ) (link : Option (ℕ × ℕ)) (depth : ℕ) → IsDeep old depth place
+    → (k a : ℕ) (steps : List (ℕ × ℕ)) (last : ℕ) → depth < k → IsDeep old k a → IsChain old a steps last → AreFollowed now a steps
     → AreFollowed (slice_set now place link) a steps
 followed_kept old now place link depth d k a [] last lt e chain t =
     link_other now place a link (λ same. let both = deep_same old depth k a (subst (λ (p : ℕ). IsDeep old depth p) same d) e in absurd (omega (arith, lt, both))) ∙ t
@@ -45,7 +46,8 @@ followed_kept old now place link depth d k a (s ∷ steps) last lt e chain t =
     (link_other now place a link apart ∙ t.0, followed_kept old now place link depth d (suc k) s.0 steps last (omega (arith, lt)) (a, s.1, chain.0, e) chain.1 t.1)
 
 -- the place is written, and is followed by the steps behind it
-followed_from : (old now : List (Option (ℕ × ℕ))) (place : ℕ) (next : Option (ℕ × ℕ)) (depth : ℕ) → place < length now → IsDeep old depth place → (steps : List (ℕ × ℕ)) (last : ℕ) → IsChain old place steps last → IsNext now next steps
+followed_from : (old now : List (Option (ℕ × ℕ))) (place : ℕ) (next : Option (ℕ × ℕ)) (depth : ℕ) → place < length now → IsDeep old depth place
+    → (steps : List (ℕ × ℕ)) (last : ℕ) → IsChain old place steps last → IsNext now next steps
     → AreFollowed (slice_set now place next) place steps
 followed_from old now place next depth lt d [] last chain ahead = link_here now place next lt ∙ ahead
 followed_from old now place next depth lt d (s ∷ steps) last chain ahead =
@@ -115,7 +117,8 @@ module _ (old now : List (Option (ℕ × ℕ))) (last place : ℕ) (next : Optio
       ]
 
 -- fewer links lead to the place that is next
-pub turning_lower : (old now moved : List (Option (ℕ × ℕ))) (last place from : ℕ) (next after : Option (ℕ × ℕ)) → (t : IsTurning old now last place next) → (u : IsTurning old moved last from after) → suc u.depth ≡ t.depth
+pub turning_lower : (old now moved : List (Option (ℕ × ℕ))) (last place from : ℕ) (next after : Option (ℕ × ℕ)) → (t : IsTurning old now last place next)
+    → (u : IsTurning old moved last from after) → suc u.depth ≡ t.depth
     → depth_by (length old) old from < depth_by (length old) old place
 turning_lower old now moved last place from next after t u less =
     let a = turning_depth old now last place next t in

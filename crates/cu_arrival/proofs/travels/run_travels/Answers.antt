@@ -7,7 +7,8 @@ overflow_sub-result c =
     let runs = c.args.runs.now in
     let order = begins_before runs c.requires.valid c.args.index c.at-run.result c.at-run.ensures in
     let end = c.next_begin-last.ensures in
-    fixed_after runs c.requires.valid c.args.index c.at-run.result c.at-run.ensures c.in-Fixed.arrival (c.next_begin-last.result - 1) c.in-Fixed.is (omega (arith, order.0, end)) (omega (arith, order.0, end))
+    fixed_after runs c.requires.valid c.args.index c.at-run.result c.at-run.ensures c.in-Fixed.arrival (c.next_begin-last.result - 1) c.in-Fixed.is
+    (omega (arith, order.0, end)) (omega (arith, order.0, end))
 
 pub overflow_sub-result-in-Fixed : goal.overflow_sub-result-in-Fixed
 overflow_sub-result-in-Fixed c =

@@ -56,4 +56,7 @@ pub returns : goal.returns
 returns c =
     let none : c.children.child ≡ None = is_none c.children.child (λ x e. c.in_default.not-Some x e) in
     let edges = edges_below c.args.starts.now c.args.uppers.now c.args.rank in
-    record { counts = counting_all edges c.args.links.now c.args.rank c.children.stamps c.children.count (subst (IsCounting edges c.args.links.now c.args.rank c.children.stamps c.children.count) none c.children.invariant) }
+    record {
+      counts = counting_all edges c.args.links.now c.args.rank c.children.stamps c.children.count
+          (subst (IsCounting edges c.args.links.now c.args.rank c.children.stamps c.children.count) none c.children.invariant);
+    }

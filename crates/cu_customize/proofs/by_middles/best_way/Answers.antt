@@ -28,7 +28,8 @@ loop-middle-preserved g c =
           let old = subst (λ (s : FunctionsState). IsBestBut edges s u v most taken c.loop-middle.best) (sym c.loop-middle.invariant.same) (c.loop-middle.invariant.best arcs roads) in
           let new = c.in_ok-best.ensures.best taken old (vias_before arcs c.args.middles.now c.loop-middle.middle-index 0 c.requires.rising inside) in
           let here = subst (λ (s : FunctionsState). IsBestBut edges s u v most (taken ++ Via middle ∷ []) c.in_ok-best.best) c.loop-middle.invariant.same new in
-          subst (λ (ways : List Way). IsBestBut edges (g.F.Functions.state c.args.functions.now) u v most ways c.in_ok-best.best) (via_taken arcs c.args.middles.now c.loop-middle.middle-index 0 inside)
+          subst (λ (ways : List Way). IsBestBut edges (g.F.Functions.state c.args.functions.now) u v most ways c.in_ok-best.best)
+          (via_taken arcs c.args.middles.now c.loop-middle.middle-index 0 inside)
           here;
     }
 

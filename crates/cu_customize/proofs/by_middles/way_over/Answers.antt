@@ -43,4 +43,5 @@ returns-in_err-second g c =
 pub returns : goal.returns
 returns g c =
     way_travels c.args.graph.now.edges (g.F.Functions.state c.args.functions.now) c.args.leg.from c.args.leg.to c.args.middle c.requires.sound.rising c.requires.below c.in_ok-to_middle.to_middle
-    c.in_ok-onward.onward c.in_ok-to_middle.ensures.found c.in_ok-onward.ensures.found c.in_ok-first.first c.in_ok-second.second c.along.result c.in_ok-first.ensures c.in_ok-second.ensures c.along.ensures
+    c.in_ok-onward.onward c.in_ok-to_middle.ensures.found c.in_ok-onward.ensures.found c.in_ok-first.first c.in_ok-second.second c.along.result
+    c.in_ok-first.ensures c.in_ok-second.ensures c.along.ensures

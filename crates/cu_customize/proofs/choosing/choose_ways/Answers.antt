@@ -31,7 +31,8 @@ day-preserved c =
     let list : IsWayList c.entries-entries.result.now = subst (λ (es : List Entry). IsWayList es) (sym c.entries-entries.ensures.all) c.entries-entries.ensures.valid in
     record {
       front = c.advance-front.ensures.front;
-      grown = chosen_step c.entries-entries.result.now c.args.choices.now c.args.way c.day.front c.advance-front.result c.day.merged.items _ _ list c.requires.choices c.day.invariant.front c.day-test.true
+      grown = chosen_step c.entries-entries.result.now c.args.choices.now c.args.way c.day.front c.advance-front.result c.day.merged.items _ _ list
+          c.requires.choices c.day.invariant.front c.day-test.true
           c.advance-front.ensures c.day.invariant.grown refl c.chosen_way.ensures c.in_ok-push_entry.ensures;
     }
 

@@ -6,7 +6,8 @@ pub places-init : goal.places-init
 places-init c = record {
   place = place_later c.args.second.now c.args.first_place (c.args.from + c.args.seconds) (c.args.until - 1 + c.args.seconds) c.requires.place (omega arith);
   later = c.requires.holds;
-  said = shift_pushed c.args.second.now c.args.linked.now.items c.args.linked.now.items c.push.new.self.items c.args.first_place c.args.seconds c.args.from c.args.from c.args.from c.args.until (c.args.from + c.args.seconds)
+  said = shift_pushed c.args.second.now c.args.linked.now.items c.args.linked.now.items c.push.new.self.items c.args.first_place c.args.seconds c.args.from
+      c.args.from c.args.from c.args.until (c.args.from + c.args.seconds)
       c.after.result c.index-second-place.result c.requires.over_day c.requires.place (omega arith) c.requires.holds (omega arith) c.requires.some refl c.index-second-place.is
       c.after.ensures.from c.after.ensures.rule c.in_ok-push.ensures.items (λ f said means. said);
 }
@@ -42,7 +43,9 @@ places-preserved c =
     record {
       place = place_later c.args.second.now c.following-place.result c.places.place.end (c.args.until - 1 + c.args.seconds) c.following-place.ensures.place (omega arith);
       later = omega arith;
-      said = shift_pushed c.args.second.now c.args.linked.now.items c.places.linked.items c.push-in-places.new.self.items c.following-place.result c.args.seconds c.args.from at _ c.args.until c.places.place.end
-          c.after-in-places.result c.index-second-place-in-places.result c.requires.over_day c.following-place.ensures.place (omega arith) (omega arith) (omega arith) (omega arith) (omega arith) c.index-second-place-in-places.is
+      said = shift_pushed c.args.second.now c.args.linked.now.items c.places.linked.items c.push-in-places.new.self.items c.following-place.result
+          c.args.seconds c.args.from at _ c.args.until c.places.place.end
+          c.after-in-places.result c.index-second-place-in-places.result c.requires.over_day c.following-place.ensures.place (omega arith) (omega arith)
+          (omega arith) (omega arith) (omega arith) c.index-second-place-in-places.is
           c.after-in-places.ensures.from c.after-in-places.ensures.rule c.in_ok-push-2.ensures.items c.places.invariant.said;
     }

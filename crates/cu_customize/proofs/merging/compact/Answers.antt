@@ -13,21 +13,26 @@ runs-preserved c =
     let inside : c.runs.index + 1 < length c.args.words.now = omega arith in
     record {
       inside = inside;
-      grown = rules_more c.args.words.now c.runs.list.items c.push_word.new.list.items c.runs.index c.index-words-index.result c.requires inside c.index-words-index.is c.in_ok-push_word.ensures c.runs.invariant.grown;
+      grown = rules_more c.args.words.now c.runs.list.items c.push_word.new.list.items c.runs.index c.index-words-index.result c.requires inside
+          c.index-words-index.is c.in_ok-push_word.ensures c.runs.invariant.grown;
     }
 
 pub returns-clause-over_day : goal.returns-clause-over_day
 returns-clause-over_day c =
-    (rules_all c.args.words.now c.runs.list.items c.push.new.self.items c.runs.index c.end.result c.requires (omega (arith, c.runs.invariant.inside)) c.end.ensures c.in_ok-push.ensures.items c.runs.invariant.grown).over_day
+    (rules_all c.args.words.now c.runs.list.items c.push.new.self.items c.runs.index c.end.result c.requires (omega (arith, c.runs.invariant.inside))
+    c.end.ensures c.in_ok-push.ensures.items c.runs.invariant.grown).over_day
 
 pub returns-clause-value : goal.returns-clause-value
 returns-clause-value c =
-    (rules_all c.args.words.now c.runs.list.items c.push.new.self.items c.runs.index c.end.result c.requires (omega (arith, c.runs.invariant.inside)) c.end.ensures c.in_ok-push.ensures.items c.runs.invariant.grown).value
+    (rules_all c.args.words.now c.runs.list.items c.push.new.self.items c.runs.index c.end.result c.requires (omega (arith, c.runs.invariant.inside))
+    c.end.ensures c.in_ok-push.ensures.items c.runs.invariant.grown).value
 
 pub returns-clause-compact : goal.returns-clause-compact
 returns-clause-compact c =
-    (rules_all c.args.words.now c.runs.list.items c.push.new.self.items c.runs.index c.end.result c.requires (omega (arith, c.runs.invariant.inside)) c.end.ensures c.in_ok-push.ensures.items c.runs.invariant.grown).compact
+    (rules_all c.args.words.now c.runs.list.items c.push.new.self.items c.runs.index c.end.result c.requires (omega (arith, c.runs.invariant.inside))
+    c.end.ensures c.in_ok-push.ensures.items c.runs.invariant.grown).compact
 
 pub returns-clause-end : goal.returns-clause-end
 returns-clause-end c =
-    (rules_all c.args.words.now c.runs.list.items c.push.new.self.items c.runs.index c.end.result c.requires (omega (arith, c.runs.invariant.inside)) c.end.ensures c.in_ok-push.ensures.items c.runs.invariant.grown).end
+    (rules_all c.args.words.now c.runs.list.items c.push.new.self.items c.runs.index c.end.result c.requires (omega (arith, c.runs.invariant.inside))
+    c.end.ensures c.in_ok-push.ensures.items c.runs.invariant.grown).end

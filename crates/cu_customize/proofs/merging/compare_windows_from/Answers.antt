@@ -33,7 +33,8 @@ pub link_and_compare-requires-clause-order : goal.link_and_compare-requires-clau
 link_and_compare-requires-clause-order c = let from = c.start_in-from.ensures c.args.limits.windows c.requires.starts in let order = c.requires.order in omega (arith, from, order)
 
 pub link_and_compare-requires-clause-in_day : goal.link_and_compare-requires-clause-in_day
-link_and_compare-requires-clause-in_day c = let until = c.start_in-until.ensures c.args.limits.windows c.requires.starts in let in_day = starts_in_day c.args.limits.windows c.late_from-end.result in omega (arith, until, in_day)
+link_and_compare-requires-clause-in_day c = let until = c.start_in-until.ensures c.args.limits.windows c.requires.starts in
+    let in_day = starts_in_day c.args.limits.windows c.late_from-end.result in omega (arith, until, in_day)
 
 pub returns-clause-order : goal.returns-clause-order
 returns-clause-order c = let until = c.start_in-until.ensures c.args.limits.windows c.requires.starts in let order = c.in_ok-link_and_compare.ensures.order in omega (arith, until, order)
@@ -55,4 +56,5 @@ returns-clause-merged c arrival sees is =
     let stop = c.start_in-until.ensures c.args.limits.windows c.requires.starts in
     subst (λ (t : ℕ). IsMerging l arrival c.args.candidate.way c.link_and_compare.new.next t) (c.start_in-until.ensures c.args.limits.windows c.requires.starts)
     (c.in_ok-link_and_compare.ensures.merged arrival
-    (λ s late before. linked_between limits c.args.candidate l arrival sees window end s (omega (arith, from)) c.late_from-end.ensures.within early (omega (arith, late, start)) (omega (arith, before, stop))) begun)
+    (λ s late before. linked_between limits c.args.candidate l arrival sees window end s (omega (arith, from)) c.late_from-end.ensures.within early
+    (omega (arith, late, start)) (omega (arith, before, stop))) begun)

@@ -13,7 +13,8 @@ runs-preserved c =
     let inside : c.runs.index + 1 < length c.args.least.now.words.items = omega arith in
     record {
       inside = inside;
-      grown = ways_more c.args.least.now c.runs.runs.items c.push_way.new.runs.items c.runs.index c.index.result.now record { from = c.from.result; way = c.index-in-runs.result.now } c.requires inside c.index.ensures
+      grown = ways_more c.args.least.now c.runs.runs.items c.push_way.new.runs.items c.runs.index c.index.result.now record
+          { from = c.from.result; way = c.index-in-runs.result.now } c.requires inside c.index.ensures
           c.index-in-runs.ensures c.from.ensures.from c.in_ok-push_way.ensures c.runs.invariant.grown;
     }
 

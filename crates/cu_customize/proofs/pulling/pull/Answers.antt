@@ -23,7 +23,8 @@ list_of-requires-2 c =
 pub returns : goal.returns
 returns c =
     let some : least_way c.args.merger.now 0 ≢ NOBODY = λ nobody. let empty = c.is_empty.ensures.1 nobody in absurd (cc (empty, c.if-is_empty.false)) in
-    pulled c.requires.task.0 c.args.task.now c.args.merger.now c.deref.result.now c.in_ok-runs.runs.items c.in_ok-entries.entries.items c.list_of-2.result c.in_ok-least_words.field-0.items c.in_ok-function.function
+    pulled c.requires.task.0 c.args.task.now c.args.merger.now c.deref.result.now c.in_ok-runs.runs.items c.in_ok-entries.entries.items c.list_of-2.result
+    c.in_ok-least_words.field-0.items c.in_ok-function.function
     c.requires.task.1 some
     c.in_ok-runs.ensures c.deref.ensures.value c.in_ok-entries.ensures c.list_of-2.ensures c.in_ok-function.ensures c.in_ok-least_words.ensures.function c.in_ok-least_words.ensures.value
 

@@ -7,5 +7,6 @@ word_of-requires g c = piece_from (g.R.Roads.network c.args.roads.now) c.args.pr
 
 pub loop-index-preserved : goal.loop-index-preserved
 loop-index-preserved g c =
-    pieces_more (pieces_of (g.R.Roads.network c.args.roads.now) c.args.profile) c.args.words.now.items c.loop-index.words.items c.push.new.self.items c.loop-index.index c.piece.result c.word_of.result c.piece.ensures.there
+    pieces_more (pieces_of (g.R.Roads.network c.args.roads.now) c.args.profile) c.args.words.now.items c.loop-index.words.items c.push.new.self.items
+    c.loop-index.index c.piece.result c.word_of.result c.piece.ensures.there
     c.word_of.ensures c.loop-index.invariant c.in_ok-push.ensures.items

@@ -9,10 +9,14 @@ pub returns-clause-function : goal.returns-clause-function
 returns-clause-function g c =
     (road_function_words (g.R.Roads.network c.args.roads.now) c.args.arc c.arc.result c.push.new.self.items c.end.result c.arc.ensures.sound c.arc.ensures.there c.end.ensures
     (c.in_ok-push.ensures.items
-    ∙ ap (λ (xs : List Run). xs ++ c.end.result ∷ []) (c.in_ok-put_pieces.ensures ∙ ap (λ (xs : List Run). xs ++ map run_of (pieces_of (g.R.Roads.network c.args.roads.now) c.arc.result.profile)) c.clear.ensures.items))).0
+    ∙ ap (λ (xs : List Run). xs ++ c.end.result ∷ [])
+    (c.in_ok-put_pieces.ensures ∙ ap (λ (xs : List Run). xs
+    ++ map run_of (pieces_of (g.R.Roads.network c.args.roads.now) c.arc.result.profile)) c.clear.ensures.items))).0
 
 pub returns-clause-value : goal.returns-clause-value
 returns-clause-value g c =
     (road_function_words (g.R.Roads.network c.args.roads.now) c.args.arc c.arc.result c.push.new.self.items c.end.result c.arc.ensures.sound c.arc.ensures.there c.end.ensures
     (c.in_ok-push.ensures.items
-    ∙ ap (λ (xs : List Run). xs ++ c.end.result ∷ []) (c.in_ok-put_pieces.ensures ∙ ap (λ (xs : List Run). xs ++ map run_of (pieces_of (g.R.Roads.network c.args.roads.now) c.arc.result.profile)) c.clear.ensures.items))).1
+    ∙ ap (λ (xs : List Run). xs ++ c.end.result ∷ [])
+    (c.in_ok-put_pieces.ensures ∙ ap (λ (xs : List Run). xs
+    ++ map run_of (pieces_of (g.R.Roads.network c.args.roads.now) c.arc.result.profile)) c.clear.ensures.items))).1

@@ -8,7 +8,8 @@ use Rattle.cu_customize.proofs.Loops.{map_taken, roads_before}
 use Rattle.cu_customize.proofs.settling.best_road.Goals as goal
 
 pub with_road-requires-clause-arc : goal.with_road-requires-clause-arc
-with_road-requires-clause-arc g c = subst (λ (s : FunctionsState). get_or c.args.arcs.now c.loop-arc.arc-index 0 < s.arcs) (sym c.loop-arc.invariant.same) (c.requires.arcs c.loop-arc.arc-index 0 (omega arith))
+with_road-requires-clause-arc g c = subst (λ (s : FunctionsState). get_or c.args.arcs.now c.loop-arc.arc-index 0 < s.arcs) (sym c.loop-arc.invariant.same)
+    (c.requires.arcs c.loop-arc.arc-index 0 (omega arith))
 
 pub loop-arc-preserved : goal.loop-arc-preserved
 loop-arc-preserved g c =

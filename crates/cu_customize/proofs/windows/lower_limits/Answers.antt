@@ -41,7 +41,8 @@ windows-preserved c =
     ] in
     record {
       held = subst (λ (t : ℕ). IsAt words travels.result.index t) until travels.ensures.index;
-      lowered = each_set (λ window limit. IsLowered f (window_start windows window) (window_start windows (window + 1)) (get_or c.args.limits.now window 0) limit) c.windows.limits window c.lesser.result inside
+      lowered = each_set (λ window limit. IsLowered f (window_start windows window) (window_start windows (window + 1)) (get_or c.args.limits.now window 0) limit)
+          c.windows.limits window c.lesser.result inside
           c.windows.invariant.lowered here;
       ahead = ahead_set c.windows.limits c.args.limits.now window c.lesser.result c.windows.invariant.ahead;
     }

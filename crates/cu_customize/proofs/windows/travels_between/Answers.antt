@@ -12,16 +12,21 @@ bounds-words-index-in-stretch c =
 
 pub stretch-smaller : goal.stretch-smaller
 stretch-smaller c =
-    let order = travelling_order c.args.words.now c.requires.over_day c.args.from c.args.until c.stretch.index c.stretch.at c.stretch.least c.stretch.most c.requires.in_day c.stretch.invariant c.stretch-test.true
-    c.index-words-index.result c.index-words-index-in-stretch.result c.min-end.result c.index-words-index.is c.index-words-index-in-stretch.is (omega (arith, c.min-end.ensures, c.from-run_end.ensures.from)) in
+    let order = travelling_order c.args.words.now c.requires.over_day c.args.from c.args.until c.stretch.index c.stretch.at c.stretch.least c.stretch.most
+    c.requires.in_day c.stretch.invariant c.stretch-test.true
+    c.index-words-index.result c.index-words-index-in-stretch.result c.min-end.result c.index-words-index.is c.index-words-index-in-stretch.is
+    (omega (arith, c.min-end.ensures, c.from-run_end.ensures.from)) in
     omega (arith, order.0, order.1)
 
 pub stretch-preserved : goal.stretch-preserved
 stretch-preserved c =
-    let taken : c.saturating_sub-in-stretch.result ≡ arrives c.index-words-index.result.rule c.stretch.at - c.stretch.at = omega (arith, c.saturating_sub-in-stretch.ensures, c.arrives-in-stretch.ensures) in
+    let taken : c.saturating_sub-in-stretch.result ≡ arrives c.index-words-index.result.rule c.stretch.at - c.stretch.at =
+    omega (arith, c.saturating_sub-in-stretch.ensures, c.arrives-in-stretch.ensures) in
     travelling_more c.args.words.now c.requires.over_day c.args.from c.args.until c.stretch.index c.stretch.at c.stretch.least c.stretch.most c.requires.in_day c.stretch.invariant c.stretch-test.true
-    c.index-words-index.result c.index-words-index-in-stretch.result c.min-end.result c.index-words-index.is c.index-words-index-in-stretch.is (omega (arith, c.min-end.ensures, c.from-run_end.ensures.from))
-    c.stepped-index.result c.min-least.result c.max-most.result (omega (arith, c.min-least.ensures, c.saturating_sub.ensures, c.arrives.ensures)) (c.max-most.ensures ∙ ap (λ (n : ℕ). max c.stretch.most n) taken)
+    c.index-words-index.result c.index-words-index-in-stretch.result c.min-end.result c.index-words-index.is c.index-words-index-in-stretch.is
+    (omega (arith, c.min-end.ensures, c.from-run_end.ensures.from))
+    c.stepped-index.result c.min-least.result c.max-most.result (omega (arith, c.min-least.ensures, c.saturating_sub.ensures, c.arrives.ensures))
+    (c.max-most.ensures ∙ ap (λ (n : ℕ). max c.stretch.most n) taken)
     (λ e. c.stepped-index.ensures.ended (c.from-run_end.ensures.from ∙ e)) (λ ne. c.stepped-index.ensures.lasts (λ e. ne (sym c.from-run_end.ensures.from ∙ e)))
 
 pub returns-clause-index : goal.returns-clause-index

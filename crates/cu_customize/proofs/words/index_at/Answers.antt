@@ -35,5 +35,6 @@ returns c =
       lasts = λ next after.
           let here : slice_get words c.begun.result ≡ Some next = subst (λ (k : ℕ). slice_get words k ≡ Some next) next_index after in
           let is_next = get_or_from_slice_get words c.begun.result next next here in
-          not_begun next.from c.args.second (subst (λ (r : Run). leb r.from c.args.second ≡ false) is_next (c.begun.ensures.point.1 c.begun.result next (omega arith) (slice_get_within words c.begun.result next here)));
+          not_begun next.from c.args.second (subst (λ (r : Run). leb r.from c.args.second ≡ false) is_next
+          (c.begun.ensures.point.1 c.begun.result next (omega arith) (slice_get_within words c.begun.result next here)));
     }

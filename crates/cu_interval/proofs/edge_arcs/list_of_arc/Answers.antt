@@ -32,7 +32,8 @@ returns-in_default-edge g c =
     let net : NetworkValue = g.N.Roads.network c.args.roads.now in
     let links : LinksRanks net c.args.order.now c.args.arc c.rank-tail.result c.rank-head.result =
     (c.arc-road.result.tail, c.arc-road.result.head, (c.arc-road.result, c.arc-road.ensures.there, refl, refl), c.rank-tail.ensures.there, c.rank-head.ensures.there) in
-    down_none net c.args.order.now c.args.graph.now c.requires.graph c.args.arc c.rank-tail.result c.rank-head.result links (omega (arith, c.if-tail-head.false)) c.edge-2.result c.edge-2.ensures.found (search rules)
+    down_none net c.args.order.now c.args.graph.now c.requires.graph c.args.arc c.rank-tail.result c.rank-head.result links
+    (omega (arith, c.if-tail-head.false)) c.edge-2.result c.edge-2.ensures.found (search rules)
 
 pub overflow_mul-result-2 : goal.overflow_mul-result-2
 overflow_mul-result-2 g c =

@@ -6,7 +6,8 @@ use Rattle.cu_model.specs.Networks.{IsArcInRange, NetworkValue}
 use Rattle.cu_model.specs.Profiles.{IsProfile}
 use Rattle.cu_interval.proofs.tests.network.Goals as goal
 
-in_three : (g : NetworkValue) (road : RoadArc) (tail head profile : ℕ) → g.nodes ≡ 3 → length g.profiles ≡ 2 → tail < 3 → head < 3 → profile < 2 → road ≡ record { tail = tail; head = head; profile = profile } → IsArcInRange g road
+in_three : (g : NetworkValue) (road : RoadArc) (tail head profile : ℕ) → g.nodes ≡ 3 → length g.profiles ≡ 2 → tail < 3 → head < 3 → profile < 2
+    → road ≡ record { tail = tail; head = head; profile = profile } → IsArcInRange g road
 in_three g road tail head profile nodes two t h p e = subst (IsArcInRange g) (sym e) (omega (arith, t, nodes), omega (arith, h, nodes), omega (arith, p, two))
 
 pub of-requires : goal.of-requires
@@ -20,10 +21,15 @@ of-requires c =
       few_arcs = omega (arith, arcs_long);
       few_profiles = omega (arith, profiles_long);
       in_range = subst (All (IsArcInRange net)) (sym c.in_ok-arcs.ensures.items)
-          (All-cons (IsArcInRange net) c.road.result (c.road-2.result ∷ c.road-3.result ∷ c.road-4.result ∷ c.road-5.result ∷ []) (in_three net c.road.result 0 1 0 refl two (omega arith) (omega arith) (omega arith) c.road.ensures)
-          (All-cons (IsArcInRange net) c.road-2.result (c.road-3.result ∷ c.road-4.result ∷ c.road-5.result ∷ []) (in_three net c.road-2.result 1 2 0 refl two (omega arith) (omega arith) (omega arith) c.road-2.ensures)
+          (All-cons (IsArcInRange net) c.road.result (c.road-2.result ∷ c.road-3.result ∷ c.road-4.result ∷ c.road-5.result ∷ [])
+          (in_three net c.road.result 0 1 0 refl two (omega arith) (omega arith) (omega arith) c.road.ensures)
+          (All-cons (IsArcInRange net) c.road-2.result (c.road-3.result ∷ c.road-4.result ∷ c.road-5.result ∷ [])
+          (in_three net c.road-2.result 1 2 0 refl two (omega arith) (omega arith) (omega arith) c.road-2.ensures)
           (All-cons (IsArcInRange net) c.road-3.result (c.road-4.result ∷ c.road-5.result ∷ []) (in_three net c.road-3.result 0 2 0 refl two (omega arith) (omega arith) (omega arith) c.road-3.ensures)
           (All-cons (IsArcInRange net) c.road-4.result (c.road-5.result ∷ []) (in_three net c.road-4.result 1 1 0 refl two (omega arith) (omega arith) (omega arith) c.road-4.ensures)
-          (All-cons (IsArcInRange net) c.road-5.result ([]) (in_three net c.road-5.result 0 1 1 refl two (omega arith) (omega arith) (omega arith) c.road-5.ensures) (λ k d h. absurd (omega (arith, h))))))));
-      valid = subst (All IsProfile) (sym c.in_ok-profiles.ensures.items) (All-cons IsProfile c.in_ok-alone.field-0 (c.in_ok-alone-2.field-0 ∷ []) c.in_ok-alone.ensures (All-cons IsProfile c.in_ok-alone-2.field-0 [] c.in_ok-alone-2.ensures (λ k d h. absurd (omega (arith, h)))));
+          (All-cons (IsArcInRange net) c.road-5.result ([])
+          (in_three net c.road-5.result 0 1 1 refl two (omega arith) (omega arith) (omega arith) c.road-5.ensures) (λ k d h. absurd (omega (arith, h))))))));
+      valid = subst (All IsProfile) (sym c.in_ok-profiles.ensures.items)
+          (All-cons IsProfile c.in_ok-alone.field-0 (c.in_ok-alone-2.field-0 ∷ []) c.in_ok-alone.ensures
+          (All-cons IsProfile c.in_ok-alone-2.field-0 [] c.in_ok-alone-2.ensures (λ k d h. absurd (omega (arith, h)))));
     }

@@ -14,7 +14,8 @@ links-smaller c =
     let i = c.links.invariant in
     let at : link_at c.links.links c.links.place ≡ Some (c.in-Some.from, c.in-Some.label) = link_of c.links.links c.links.place _ i.within c.in-Some.is in
     let (u, less) = turning_step c.args.links.now c.links.links c.args.place c.links.place c.links.next c.in-Some.from c.in-Some.label i.turning i.within at in
-    turning_lower c.args.links.now c.links.links (slice_set c.links.links c.links.place c.links.next) c.args.place c.links.place c.in-Some.from c.links.next (Some (c.links.place, c.in-Some.label)) i.turning u less
+    turning_lower c.args.links.now c.links.links (slice_set c.links.links c.links.place c.links.next) c.args.place c.links.place c.in-Some.from c.links.next
+    (Some (c.links.place, c.in-Some.label)) i.turning u less
 
 pub links-preserved : goal.links-preserved
 links-preserved c =

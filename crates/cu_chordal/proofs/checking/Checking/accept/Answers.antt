@@ -13,7 +13,8 @@ returns-then-part-count-clause-no c = λ e f.
     c.stamp_sources-count.ensures.counts f.rising f.exact in
     let stamps_long : length c.stamp_sources-count.new.stamps ≡ length c.args.self.now.stamps.items =
     omega (arith, c.stamp_sources-count.auto.stamps, c.deref_mut.ensures.len, c.args.self.now.stamps.ok.0, ap length c.deref_mut.ensures.value) in
-    let kept = take_at c.stamp_sources-count.new.stamps (drop (length c.stamp_sources-count.new.stamps) c.args.self.now.stamps.items) c.args.self.now.stamps.len (omega (arith, stamps_long, c.args.self.now.stamps.ok.0)) in
+    let kept = take_at c.stamp_sources-count.new.stamps (drop (length c.stamp_sources-count.new.stamps) c.args.self.now.stamps.items) c.args.self.now.stamps.len
+    (omega (arith, stamps_long, c.args.self.now.stamps.ok.0)) in
     elim c.then-part-count.branch [
       | then-part-count-via-then-part-count w ↦ absurd (omega (arith, ap length c.part-part.ensures, both.0, w.if-part-count.true))
       | then-part-count-via-else-part-count+then-not-climbs w ↦

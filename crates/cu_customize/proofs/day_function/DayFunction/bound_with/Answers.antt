@@ -32,8 +32,10 @@ windows-preserved c =
     let same : c.min.result ≡ min old most.result = c.min.ensures ∙ ap (λ (n : ℕ). min n most.result) before in
     let lowered : IsLowered f from until old c.min.result = lowered_one f from until old most.result c.min.result upper fits same in
     record {
-      lower = each_set (λ window bound. TakesBetween f (window_start windows window) (window_start windows (window + 1)) bound) c.windows.lower window least.result in_lower c.windows.invariant.lower takes;
-      lowered = each_set (λ window limit. IsLowered f (window_start windows window) (window_start windows (window + 1)) (get_or c.args.limits.now window 0) limit) c.windows.limits window c.min.result in_limits
+      lower = each_set (λ window bound. TakesBetween f (window_start windows window) (window_start windows (window + 1)) bound) c.windows.lower window
+          least.result in_lower c.windows.invariant.lower takes;
+      lowered = each_set (λ window limit. IsLowered f (window_start windows window) (window_start windows (window + 1)) (get_or c.args.limits.now window 0) limit)
+          c.windows.limits window c.min.result in_limits
           c.windows.invariant.lowered lowered;
       ahead = ahead_set c.windows.limits c.args.limits.now window c.min.result c.windows.invariant.ahead;
     }

@@ -33,7 +33,8 @@ invariant_of-self-2 c =
     let l = c.self.inside.least in
     let arrival = composed c.args.first.now c.args.second.now in
     let whole = c.in_ok-link_and_compare.ensures.merged arrival (λ s late early. refl) (merging_none l arrival c.args.way c.restart.new.self c.restart.ensures.done c.restart.ensures.empty) in
-    let merged = merged_lists l arrival c.args.way c.finish.new.self c.swap.new.x c.swap-2.new.x c.swap.ensures.x_after c.swap-2.ensures.x_after (c.in_ok-finish.ensures.merged arrival c.args.way whole) in
+    let merged = merged_lists l arrival c.args.way c.finish.new.self c.swap.new.x c.swap-2.new.x c.swap.ensures.x_after c.swap-2.ensures.x_after
+    (c.in_ok-finish.ensures.merged arrival c.args.way whole) in
     still_held l record { words = c.swap.new.x; ways = c.swap-2.new.x } arrival c.args.way merged
 
 pub returns-clause-arrival : goal.returns-clause-arrival
@@ -41,7 +42,8 @@ returns-clause-arrival c t h =
     let l = c.self.inside.least in
     let arrival = composed c.args.first.now c.args.second.now in
     let whole = c.in_ok-link_and_compare.ensures.merged arrival (λ s late early. refl) (merging_none l arrival c.args.way c.restart.new.self c.restart.ensures.done c.restart.ensures.empty) in
-    let merged = merged_lists l arrival c.args.way c.finish.new.self c.swap.new.x c.swap-2.new.x c.swap.ensures.x_after c.swap-2.ensures.x_after (c.in_ok-finish.ensures.merged arrival c.args.way whole) in
+    let merged = merged_lists l arrival c.args.way c.finish.new.self c.swap.new.x c.swap-2.new.x c.swap.ensures.x_after c.swap-2.ensures.x_after
+    (c.in_ok-finish.ensures.merged arrival c.args.way whole) in
     let both = merged_arrival l record { words = c.swap.new.x; ways = c.swap-2.new.x } arrival c.args.way merged t h in
     told (least_held l) c.args.self.now _ _ _ t (sym c.self.view_is) refl both.0
 
@@ -50,6 +52,7 @@ returns-clause-way c t h =
     let l = c.self.inside.least in
     let arrival = composed c.args.first.now c.args.second.now in
     let whole = c.in_ok-link_and_compare.ensures.merged arrival (λ s late early. refl) (merging_none l arrival c.args.way c.restart.new.self c.restart.ensures.done c.restart.ensures.empty) in
-    let merged = merged_lists l arrival c.args.way c.finish.new.self c.swap.new.x c.swap-2.new.x c.swap.ensures.x_after c.swap-2.ensures.x_after (c.in_ok-finish.ensures.merged arrival c.args.way whole) in
+    let merged = merged_lists l arrival c.args.way c.finish.new.self c.swap.new.x c.swap-2.new.x c.swap.ensures.x_after c.swap-2.ensures.x_after
+    (c.in_ok-finish.ensures.merged arrival c.args.way whole) in
     let both = merged_arrival l record { words = c.swap.new.x; ways = c.swap-2.new.x } arrival c.args.way merged t h in
     told_way (least_held l) c.args.self.now _ _ _ c.args.way t (sym c.self.view_is) refl both.1

@@ -28,7 +28,8 @@ invariant_of-self-2 c =
     let limits = c.args.limits in
     let arrival = seen limits.windows limits.lower.now limits.most.now (composed c.args.first.now c.args.second.now) (too_late (least_held l)) in
     let whole = c.in_ok-compare_windows.ensures.merged arrival (is_seen limits record { first = c.args.first; second = c.args.second; way = c.args.way } l) in
-    let merged = merged_lists l arrival c.args.way c.finish.new.self c.swap.new.x c.swap-2.new.x c.swap.ensures.x_after c.swap-2.ensures.x_after (c.in_ok-finish.ensures.merged arrival c.args.way whole) in
+    let merged = merged_lists l arrival c.args.way c.finish.new.self c.swap.new.x c.swap-2.new.x c.swap.ensures.x_after c.swap-2.ensures.x_after
+    (c.in_ok-finish.ensures.merged arrival c.args.way whole) in
     still_held l record { words = c.swap.new.x; ways = c.swap-2.new.x } arrival c.args.way merged
 
 pub returns : goal.returns
@@ -38,7 +39,8 @@ returns c =
     let f = composed c.args.first.now c.args.second.now in
     let arrival = seen limits.windows limits.lower.now limits.most.now f (too_late (least_held l)) in
     let whole = c.in_ok-compare_windows.ensures.merged arrival (is_seen limits record { first = c.args.first; second = c.args.second; way = c.args.way } l) in
-    let merged = merged_lists l arrival c.args.way c.finish.new.self c.swap.new.x c.swap-2.new.x c.swap.ensures.x_after c.swap-2.ensures.x_after (c.in_ok-finish.ensures.merged arrival c.args.way whole) in
+    let merged = merged_lists l arrival c.args.way c.finish.new.self c.swap.new.x c.swap-2.new.x c.swap.ensures.x_after c.swap-2.ensures.x_after
+    (c.in_ok-finish.ensures.merged arrival c.args.way whole) in
     let new = least_held record { words = c.swap.new.x; ways = c.swap-2.new.x } in
     subst (λ (hs : List Held). IsAddedWithin limits.windows limits.most.now f c.args.way hs new) c.self.view_is
     (added_within limits.windows limits.lower.now limits.most.now f c.args.way (least_held l) new c.requires.lower

@@ -15,7 +15,8 @@ windows-preserved c =
     let next = start_next windows window (omega arith) in
     record {
       long = length-set starts (window + 1) c.min.result ∙ long;
-      known = each_set (λ window start. start ≡ window_start windows window) starts (window + 1) c.min.result inside c.windows.invariant.known (omega (arith, c.min.ensures, c.from.ensures, here, next));
+      known = each_set (λ window start. start ≡ window_start windows window) starts (window + 1) c.min.result inside c.windows.invariant.known
+          (omega (arith, c.min.ensures, c.from.ensures, here, next));
     }
 
 pub returns : goal.returns

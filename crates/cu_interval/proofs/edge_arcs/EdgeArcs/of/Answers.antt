@@ -15,7 +15,8 @@ of-requires-clause-few g c =
     let same = ap length c.deref.ensures.value in
     omega (arith, few, same)
 
-made : (g : NetworkValue) (o : OrderValue) (edges : List Ends) (numbers arcs keys values : List ℕ) (count : ℕ) (lists : List (List ℕ)) → AreListed g o edges (length g.arcs) numbers arcs → keys ≡ numbers → values ≡ arcs
+made : (g : NetworkValue) (o : OrderValue) (edges : List Ends) (numbers arcs keys values : List ℕ) (count : ℕ) (lists : List (List ℕ))
+    → AreListed g o edges (length g.arcs) numbers arcs → keys ≡ numbers → values ≡ arcs
     → count ≡ length edges → AreGroups keys values (2 * count) lists → AreEdgeArcs g o edges lists
 made g o edges numbers arcs keys values count lists listed same_keys same_values same_count groups =
     let by_keys = subst (λ (xs : List ℕ). AreGroups xs values (2 * count) lists) same_keys groups in
@@ -25,7 +26,8 @@ made g o edges numbers arcs keys values count lists listed same_keys same_values
 
 pub returns : goal.returns
 returns g c =
-    made (g.N.Roads.network c.args.roads.now) c.args.order.now c.args.graph.now.edges c.in_ok-listed.listed.numbers.items c.in_ok-listed.listed.arcs.items c.deref.result.now c.deref-2.result.now c.edges.result
+    made (g.N.Roads.network c.args.roads.now) c.args.order.now c.args.graph.now.edges c.in_ok-listed.listed.numbers.items c.in_ok-listed.listed.arcs.items
+    c.deref.result.now c.deref-2.result.now c.edges.result
     c.in_ok-lists.lists c.in_ok-listed.ensures.listed c.deref.ensures.value c.deref-2.ensures.value c.edges.ensures.count c.in_ok-lists.ensures
 
 pub invariant_of-result : goal.invariant_of-result
@@ -37,11 +39,13 @@ invariant_of-result g c = record {
       omega (arith, long, few, edges);
   rising =
       lists_rise (g.N.Roads.network c.args.roads.now) c.args.order.now c.args.graph.now.edges c.in_ok-lists.lists
-      (made (g.N.Roads.network c.args.roads.now) c.args.order.now c.args.graph.now.edges c.in_ok-listed.listed.numbers.items c.in_ok-listed.listed.arcs.items c.deref.result.now c.deref-2.result.now c.edges.result
+      (made (g.N.Roads.network c.args.roads.now) c.args.order.now c.args.graph.now.edges c.in_ok-listed.listed.numbers.items c.in_ok-listed.listed.arcs.items
+      c.deref.result.now c.deref-2.result.now c.edges.result
       c.in_ok-lists.lists c.in_ok-listed.ensures.listed c.deref.ensures.value c.deref-2.ensures.value c.edges.ensures.count c.in_ok-lists.ensures);
   short =
       let keys = ap length c.deref.ensures.value in
       let values = ap length c.deref-2.ensures.value in
-      groups_short c.deref.result.now c.deref-2.result.now _ MAX_ARCS c.in_ok-lists.lists (omega (arith, keys, values, c.in_ok-listed.ensures.listed.pairs)) (omega (arith, keys, c.in_ok-listed.ensures.few))
+      groups_short c.deref.result.now c.deref-2.result.now _ MAX_ARCS c.in_ok-lists.lists (omega (arith, keys, values, c.in_ok-listed.ensures.listed.pairs))
+      (omega (arith, keys, c.in_ok-listed.ensures.few))
       c.in_ok-lists.ensures;
 }

@@ -13,7 +13,8 @@ turn-first-requires-clause-grounded c =
 pub index_mut-requires : goal.index_mut-requires
 index_mut-requires c =
     let unturned : c.self.inside.turned ≡ false = search rules in
-    let room = kept_room c.self.inside.links.items c.self.inside.noted.items c.self.inside.count (kept_unturned c.self.inside.links.items c.self.inside.noted.items c.self.inside.count c.self.inside.turned unturned c.self.invariant) in
+    let room = kept_room c.self.inside.links.items c.self.inside.noted.items c.self.inside.count
+    (kept_unturned c.self.inside.links.items c.self.inside.noted.items c.self.inside.count c.self.inside.turned unturned c.self.invariant) in
     search rules
 
 pub invariant_of-self : goal.invariant_of-self
