@@ -39,7 +39,8 @@ one_text a files file text other told h k =
     let too = rw told at k.0 in
     cc (there, too)
 
-same_texts : (a : ShelfState) (files : List ℕ → Option (List ℕ)) (asked : List FileAsked) (texts others : List (List ℕ)) → a.held ≡ Some files → AreLoaded a asked texts → AreLoaded a asked others → others ≡ texts
+same_texts : (a : ShelfState) (files : List ℕ → Option (List ℕ)) (asked : List FileAsked) (texts others : List (List ℕ)) → a.held ≡ Some files
+    → AreLoaded a asked texts → AreLoaded a asked others → others ≡ texts
 same_texts a files [] [] [] told h k = refl
 same_texts a files [] [] (x ∷ xs) told h k = absurd k
 same_texts a files [] (x ∷ xs) others told h k = absurd h
@@ -125,7 +126,8 @@ packing_stops a b replies file text why work fine sink is (inr (large, behind)) 
     inr (length file.bytes, sym same)
 
 -- of the answers only those of a fault, of the limit or of want of memory aren't done
-answers_stop : (Output : List (List ℕ) → List ℕ → Type 0) (why : Stop) (taken output : List ℕ) → length taken < take_limit → (why ≡ stop.Source → ⊥) → (why ≡ stop.Sink → ⊥) → Answers Output (Some why) taken output → why ≡ stop.NoMemory
+answers_stop : (Output : List (List ℕ) → List ℕ → Type 0) (why : Stop) (taken output : List ℕ) → length taken < take_limit → (why ≡ stop.Source → ⊥)
+    → (why ≡ stop.Sink → ⊥) → Answers Output (Some why) taken output → why ≡ stop.NoMemory
 answers_stop Output why taken output few source sink (end, is, answers) = by end is answers
   where
     by : (e : Option SessionStop) → Some why ≡ ending_of e → AnswersBy Output e taken output → why ≡ stop.NoMemory
@@ -159,7 +161,8 @@ preparing_stops a b tables why can fine (inr (texts, loaded, reading)) =
     tables_stop tables.order (network_of can.nodes can.roads can.profiles) can.read can.given why can.named can.ordered can.few stops
 
 -- and their serving
-serve_stops : (a b : ShelfState) (s t : SourceState) (k mid now : SinkState) (tables : TablesAsked) (why : Stop) → IsServable a tables → IsShort s → MeetsNoFault a b s t k now → mid.faults ≤ now.faults
+serve_stops : (a b : ShelfState) (s t : SourceState) (k mid now : SinkState) (tables : TablesAsked) (why : Stop) → IsServable a tables → IsShort s
+    → MeetsNoFault a b s t k now → mid.faults ≤ now.faults
     → Works true (Some why) (EndsServe a b tables) a b s t k mid → why ≡ stop.NoMemory
 serve_stops a b s t k mid now tables why can short fine later done = ends done.ended
   where
@@ -197,7 +200,8 @@ making_stops : (a b : ShelfState) (s t : SourceState) (k mid now : SinkState) (a
 making_stops a b s t k mid now asked why fine later done = ends done.ended
   where
     ends : EndsMake a b asked done.work → why ≡ stop.NoMemory
-    ends (inl storing) = storing_stops a b [] (tables_made asked (written_network (grid_read asked.grid))) (made_text asked.grid) why done.work fine.stores (no_sink a b s t k mid now false why fine later done.leaves) done.stop storing
+    ends (inl storing) = storing_stops a b [] (tables_made asked (written_network (grid_read asked.grid))) (made_text asked.grid) why done.work fine.stores
+        (no_sink a b s t k mid now false why fine later done.leaves) done.stop storing
     ends (inr before) = cc (before.0, done.stop)
 
 -- and a trial whose graph hasn't too many edges
@@ -233,7 +237,8 @@ checks_stop bytes h stop.NoMemory spells k = refl
 checks_stop bytes h _ spells k = absurd k
 
 -- nothing but want of memory stops the opening of the packed file of a hierarchy
-opening_stops : (a b : ShelfState) (name : List ℕ) (why : Stop) → IsOpenable a name → ((name : List ℕ) → Rose (a.load_faults name) (b.load_faults name) → ⊥) → StopsOpening a b name why → why ≡ stop.NoMemory
+opening_stops : (a b : ShelfState) (name : List ℕ) (why : Stop) → IsOpenable a name → ((name : List ℕ) → Rose (a.load_faults name) (b.load_faults name) → ⊥)
+    → StopsOpening a b name why → why ≡ stop.NoMemory
 opening_stops a b name why can fine (inl loading) =
     let (bytes, loaded, spells) = can.opened in
     load_stops a b can.files (hierarchy_file name) bytes why can.told loaded fine loading
@@ -278,7 +283,8 @@ verify_stops a b s t k mid now name why can fine later done = ends done.ended
         inl (sym same ∙ opening_stops a b name other can fine.loads stops)
 
 -- and likewise of a packed file and its edits
-opening_edits_stops : (a b : ShelfState) (asked : EditingAsked) (why : Stop) → IsEditable a asked → ((name : List ℕ) → Rose (a.load_faults name) (b.load_faults name) → ⊥) → StopsOpeningEdits a b asked why → why ≡ stop.NoMemory
+opening_edits_stops : (a b : ShelfState) (asked : EditingAsked) (why : Stop) → IsEditable a asked
+    → ((name : List ℕ) → Rose (a.load_faults name) (b.load_faults name) → ⊥) → StopsOpeningEdits a b asked why → why ≡ stop.NoMemory
 opening_edits_stops a b asked why can fine (inl loading) =
     let (bytes, loaded, spells) = can.opened in
     loads_stop a b can.files (editing_files asked) (bytes ∷ can.text ∷ []) why can.told loaded fine loading
@@ -321,7 +327,8 @@ or_different : {Other : Type 0} (why : Stop) → (why ≡ stop.NoMemory) ⊎ IsD
 or_different why (inl none) = inl none
 or_different why (inr found) = inr (inr (tt, found))
 
-work_stops : (a b : ShelfState) (s t : SourceState) (k mid now : SinkState) (command : Option Command) (why : Stop) → IsWorkable a command → IsShort s → MeetsNoFault a b s t k now → mid.faults ≤ now.faults
+work_stops : (a b : ShelfState) (s t : SourceState) (k mid now : SinkState) (command : Option Command) (why : Stop) → IsWorkable a command → IsShort s
+    → MeetsNoFault a b s t k now → mid.faults ≤ now.faults
     → Works (has_script command) (Some why) (EndsWork a b command) a b s t k mid → Stops command why
 work_stops a b s t k mid now None why can short fine later done = absurd can
 work_stops a b s t k mid now (Some (Serve tables)) why can short fine later done = inl (serve_stops a b s t k mid now tables why can short fine later done)

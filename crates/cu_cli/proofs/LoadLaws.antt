@@ -35,7 +35,8 @@ stops_behind c file (stop.TooLong whose) h quiet (same, more, still) = (same, rw
 stops_behind c file stop.NoMemory h quiet k = tt
 stops_behind c file _ h quiet k = absurd k
 
-pub stops_all_behind : {a b : ShelfState} (c : ShelfState) (files : List FileAsked) (why : Stop) → OnlyLoads a b → b.load_faults ≡ a.load_faults → StopsLoading b c files why → StopsLoading a c files why
+pub stops_all_behind : {a b : ShelfState} (c : ShelfState) (files : List FileAsked) (why : Stop) → OnlyLoads a b → b.load_faults ≡ a.load_faults
+    → StopsLoading b c files why → StopsLoading a c files why
 stops_all_behind c [] why h quiet k = absurd k
 stops_all_behind c (file ∷ files) why h quiet (inl stops) = inl (stops_behind c file why h quiet stops)
 stops_all_behind c (file ∷ files) why h quiet (inr (text, loaded, more)) = inr (text, loaded_behind file text h loaded, stops_all_behind c files why h quiet more)

@@ -100,7 +100,8 @@ stored_then {T = T} {a = a} {b = b} {c = c} {file = file} {files = files} {r = r
     stopped (Err why) g = (refl, inr (refl, stops_behind a b c files why k.stored h.later g))
 
 -- one store that was refused, and no more
-pub stops_there : {T : Type 0} {a b : ShelfState} {file : FileMade} (files : List FileMade) {why : Stop} → StoresInTurn {T = Unit {0}} a b (file ∷ []) (Err why) → StoresInTurn {T = T} a b (file ∷ files) (Err why)
+pub stops_there : {T : Type 0} {a b : ShelfState} {file : FileMade} (files : List FileMade) {why : Stop} → StoresInTurn {T = Unit {0}} a b (file ∷ []) (Err why)
+    → StoresInTurn {T = T} a b (file ∷ files) (Err why)
 stops_there {a = a} {b = b} {file = file} files {why = why} h = record {
   stored = h.stored;
   stores = h.stores;
@@ -116,7 +117,8 @@ stops_there {a = a} {b = b} {file = file} files {why = why} h = record {
     stopped (entry ∷ stored) (same, inr (some, none)) = absurd none
 
 -- a store was refused behind these replies
-pub storing_refused : {T : Type 0} {a b : ShelfState} {k mid : SinkState} {replies : List ℕ} {files : List FileMade} {why : Stop} (s : SourceState) → Behind k mid replies → (text : List ℕ) → StoresInTurn {T = T} a b files (Err why)
+pub storing_refused : {T : Type 0} {a b : ShelfState} {k mid : SinkState} {replies : List ℕ} {files : List FileMade} {why : Stop} (s : SourceState)
+    → Behind k mid replies → (text : List ℕ) → StoresInTurn {T = T} a b files (Err why)
     → Works false (Some why) (EndsStoring a b replies files text) a b s s k mid
 storing_refused {replies = replies} {why = why} s behind text h = record {
   work = record { stop = Some why; taken = []; output = replies; stored = h.stored };
@@ -128,7 +130,8 @@ storing_refused {replies = replies} {why = why} s behind text h = record {
 }
 
 -- all was stored and said
-pub storing_said : {T S E : Type 0} {a b : ShelfState} {x : T} {y : S} {k mid now : SinkState} {replies : List ℕ} {files : List FileMade} {text : List ℕ} (s : SourceState) → Behind k mid replies → StoresInTurn {T = T} a b files (Ok x)
+pub storing_said : {T S E : Type 0} {a b : ShelfState} {x : T} {y : S} {k mid now : SinkState} {replies : List ℕ} {files : List FileMade} {text : List ℕ}
+    (s : SourceState) → Behind k mid replies → StoresInTurn {T = T} a b files (Ok x)
     → WroteLine {T = S} {E = E} mid now (Ok y) text → Works false None (EndsStoring a b replies files text) a b s s k now
 storing_said {k = k} {mid = mid} {now = now} {replies = replies} {text = text} s behind h line = record {
   work = record { stop = None; taken = []; output = replies ++ line_of text; stored = h.stored };
@@ -147,7 +150,8 @@ storing_said {k = k} {mid = mid} {now = now} {replies = replies} {text = text} s
 }
 
 -- all was stored, and the sink failed
-pub storing_unsaid : {T S E : Type 0} {a b : ShelfState} {x : T} {e : E} {k mid now : SinkState} {replies : List ℕ} {files : List FileMade} {text : List ℕ} (s : SourceState) → Behind k mid replies → StoresInTurn {T = T} a b files (Ok x)
+pub storing_unsaid : {T S E : Type 0} {a b : ShelfState} {x : T} {e : E} {k mid now : SinkState} {replies : List ℕ} {files : List FileMade} {text : List ℕ}
+    (s : SourceState) → Behind k mid replies → StoresInTurn {T = T} a b files (Ok x)
     → WroteLine {T = S} {E = E} mid now (Err e) text → Works false (Some stop.Sink) (EndsStoring a b replies files text) a b s s k now
 storing_unsaid {k = k} {mid = mid} {now = now} {replies = replies} {text = text} s behind h line =
     let (count, within, some) = line.wrote.err in
@@ -189,7 +193,8 @@ said_alone {a = a} {b = b} s {text = text} loads line ends =
     ends_so (λ work done. ends work (line_said a b text work done)) (storing_said s (behind_nothing _) (nothing_stored {T = Unit {0}} loads tt) line)
 
 -- the sink failed in the line
-pub unsaid_alone : {S E : Type 0} {e : E} {Ends : Ending → Type 0} {a b : ShelfState} (s : SourceState) {k now : SinkState} {text : List ℕ} → OnlyLoads a b → WroteLine {T = S} {E = E} k now (Err e) text
+pub unsaid_alone : {S E : Type 0} {e : E} {Ends : Ending → Type 0} {a b : ShelfState} (s : SourceState) {k now : SinkState} {text : List ℕ} → OnlyLoads a b
+    → WroteLine {T = S} {E = E} k now (Err e) text
     → ((work : Ending) → SaysDone [] text work × (work.taken ≡ []) × (work.stored ≡ []) → Ends work) → Works false (Some stop.Sink) Ends a b s s k now
 unsaid_alone {a = a} {b = b} s {text = text} loads line ends =
     ends_so (λ work done. ends work (line_said a b text work done)) (storing_unsaid s (behind_nothing _) (nothing_stored {T = Unit {0}} loads tt) line)

@@ -16,11 +16,13 @@ use Rattle.cu_cli.proofs.StoreLaws.{said_alone, unsaid_alone}
 use Rattle.cu_cli.proofs.WorkLaws.{stopped_before}
 
 -- the opening of a packed file that was to be compared was stopped
-pub comparing_stopped : (a b : ShelfState) (s : SourceState) (k : SinkState) (name : List ℕ) (why : Stop) → OnlyLoads a b → StopsOpening a b name why → IsBeforeScript why → Works false (Some why) (EndsVerify a b name) a b s s k k
+pub comparing_stopped : (a b : ShelfState) (s : SourceState) (k : SinkState) (name : List ℕ) (why : Stop) → OnlyLoads a b → StopsOpening a b name why
+    → IsBeforeScript why → Works false (Some why) (EndsVerify a b name) a b s s k k
 comparing_stopped a b s k name why loads stops before = stopped_before false a b s k (EndsVerify a b name) why loads.held before (λ work ends. inr (why, stops, ends))
 
 -- and so was its comparison
-pub verdict_stopped : (a b : ShelfState) (s : SourceState) (k : SinkState) (name : List ℕ) (h : HierarchyValue) → OnlyLoads a b → Opens a name h → Works false (Some stop.NoMemory) (EndsVerify a b name) a b s s k k
+pub verdict_stopped : (a b : ShelfState) (s : SourceState) (k : SinkState) (name : List ℕ) (h : HierarchyValue) → OnlyLoads a b → Opens a name h
+    → Works false (Some stop.NoMemory) (EndsVerify a b name) a b s s k k
 verdict_stopped a b s k name h loads opens =
     stopped_before false a b s k (EndsVerify a b name) stop.NoMemory loads.held tt (λ work ends. inl (h, opens, inr (inr ends)))
 

@@ -64,7 +64,8 @@ leaves_behind script why s behind h =
     }
 
 -- the work stopped with nothing taken or stored, behind these replies
-pub stopped_behind : (script : Bool) (a b : ShelfState) (s : SourceState) {k mid : SinkState} (replies : List ℕ) (Ends : Ending → Type 0) (why : Stop) → Behind k mid replies → b.held ≡ a.held → IsBeforeScript why
+pub stopped_behind : (script : Bool) (a b : ShelfState) (s : SourceState) {k mid : SinkState} (replies : List ℕ) (Ends : Ending → Type 0) (why : Stop)
+    → Behind k mid replies → b.held ≡ a.held → IsBeforeScript why
     → ((work : Ending) → StopsBehind replies why work → Ends work) → Works script (Some why) Ends a b s s k mid
 stopped_behind script a b s replies Ends why behind held before ends = record {
   work = record { stop = Some why; taken = []; output = replies; stored = [] };
@@ -104,7 +105,8 @@ ordering_stopped a b s k asked why loads stops before = stopped_before false a b
 
 -- the order was made, and its storing ended
 pub ordered : {a b : ShelfState} {s : SourceState} {k now : SinkState} {why : Option Stop} (asked : OrderingAsked) (read : NetworkRead) (order : OrderValue) → ReadsTables a asked read → IsOrder order
-    → IsOrderGiven Dissected read [] order → Works false why (EndsStoring a b [] (order_files_made asked.out order) (ordered_text read.network)) a b s s k now → Works false why (EndsOrder a b asked) a b s s k now
+    → IsOrderGiven Dissected read [] order → Works false why (EndsStoring a b [] (order_files_made asked.out order) (ordered_text read.network)) a b s s k now
+    → Works false why (EndsOrder a b asked) a b s s k now
 ordered asked read order reads sound is done = ends_so (λ work ends. inl (read, order, reads, sound, is, ends)) done
 
 -- the grid was drawn, and the storing of its tables ended
@@ -118,7 +120,8 @@ pub building_stopped : (a b : ShelfState) (s : SourceState) (k : SinkState) (ask
 building_stopped a b s k asked why loads stops before = stopped_before false a b s k (EndsBuild a b asked) why loads.held before (λ work ends. inr (why, stops, ends))
 
 -- the hierarchy was built
-pub has_built : {a : ShelfState} (tables : TablesAsked) {h : HierarchyValue} (prepared : Prepared) → HasPrepared a tables prepared → IsBuilt h → h.network ≡ prepared.network → h.order ≡ prepared.order → HasBuilt a tables h
+pub has_built : {a : ShelfState} (tables : TablesAsked) {h : HierarchyValue} (prepared : Prepared) → HasPrepared a tables prepared → IsBuilt h
+    → h.network ≡ prepared.network → h.order ≡ prepared.order → HasBuilt a tables h
 has_built tables prepared (places, prepares) built network order = record { built = built; places = places; prepares = rw (network, order) prepares }
 
 -- and its file has too many bytes
@@ -141,7 +144,8 @@ status_same (Some session.NoMemory) = refl
 status_same (Some session.TakeLimit) = refl
 
 -- the script was answered over a network
-pub served : (a b : ShelfState) (s t : SourceState) (k now : SinkState) (tables : TablesAsked) (end : Option SessionStop) (h : HierarchyValue) → OnlyLoads a b → HasBuilt a tables h → EndsSession h end s t k now
+pub served : (a b : ShelfState) (s t : SourceState) (k now : SinkState) (tables : TablesAsked) (end : Option SessionStop) (h : HierarchyValue) → OnlyLoads a b
+    → HasBuilt a tables h → EndsSession h end s t k now
     → Works true (ending_of end) (EndsServe a b tables) a b s t k now
 served a b s t k now tables end h loads has answered = record {
   work = record { stop = ending_of end; taken = answered.taken; output = answered.output; stored = [] };
@@ -153,7 +157,8 @@ served a b s t k now tables end h loads has answered = record {
 }
 
 -- the opening was stopped
-pub opening_stopped : (a b : ShelfState) (s : SourceState) (k : SinkState) (name : List ℕ) (why : Stop) → OnlyLoads a b → StopsOpening a b name why → IsBeforeScript why → Works true (Some why) (EndsAsk a b name) a b s s k k
+pub opening_stopped : (a b : ShelfState) (s : SourceState) (k : SinkState) (name : List ℕ) (why : Stop) → OnlyLoads a b → StopsOpening a b name why
+    → IsBeforeScript why → Works true (Some why) (EndsAsk a b name) a b s s k k
 opening_stopped a b s k name why loads stops before = stopped_before true a b s k (EndsAsk a b name) why loads.held before (λ work ends. inr (why, stops, ends))
 
 -- the script was answered by a hierarchy
@@ -180,7 +185,8 @@ commanded {a = a} {b = b} {s = s} {t = t} {k = k} {now = now} {why = why} words 
     subst (λ (c : Option Command). Works (has_script c) why (EndsWork a b c) a b s t k now) (sym is) done
 
 -- what stopped the work was said
-pub closed : (a b : ShelfState) (s t : SourceState) (k mid now : SinkState) (words : List (List ℕ)) (why : Stop) (status : ℕ) → Works (has_script (command_of words)) (Some why) (EndsWork a b (command_of words)) a b s t k mid → Refuses why mid now status
+pub closed : (a b : ShelfState) (s t : SourceState) (k mid now : SinkState) (words : List (List ℕ)) (why : Stop) (status : ℕ)
+    → Works (has_script (command_of words)) (Some why) (EndsWork a b (command_of words)) a b s t k mid → Refuses why mid now status
     → (ending : Ending) × (status ≡ status_at ending.stop) × EndsRun a b words ending × Moves s t k now ending × Stores a.held ending.stored b.held
 closed a b s t k mid now words why status done refuses = said refuses.said
   where
@@ -199,7 +205,8 @@ closed a b s t k mid now words why status done refuses = said refuses.said
         )
     said (inr (eight, some, (count, within, app), rose)) =
         let written : Appends k.written now.written (done.work.output ++ take count (said_at done.work.stop)) =
-        appends_more k.written mid.written now.written done.work.output (take count (said_at done.work.stop)) done.moves.1 (subst (λ (t : List ℕ). Appends mid.written now.written (take count t)) text app) in (
+        appends_more k.written mid.written now.written done.work.output (take count (said_at done.work.stop)) done.moves.1
+        (subst (λ (t : List ℕ). Appends mid.written now.written (take count t)) text app) in (
           record { stop = Some stop.Sink; taken = done.work.taken; output = done.work.output ++ take count (said_at done.work.stop); stored = done.work.stored },
           eight,
           (done.work, refl, refl, done.ended, inr (refl, (λ nil. some (text ∙ nil)), (count, refl))),

@@ -162,7 +162,8 @@ all_barred g places (suc fuel) part order before back f whole split c =
           let at_left : order ≡ (before ++ left.order) ++ (right.order ++ (separator ++ back)) = here ∙ cut_left before left.order right.order separator back in
           let at_right : order ≡ ((before ++ left.order) ++ right.order) ++ (separator ++ back) = here ∙ cut_right before left.order right.order separator back in
           elim (member_cases (split_of g places part) (left.splits ++ right.splits) split (subst (λ (b : Bool). Contains (cond b small large).splits split) many c)) [
-            | inl same ↦ subst (IsBarred g order) same (split_barred g places part order before left.order right.order back f at_right (dissected_permutes g places fuel (left_of places part)) (dissected_permutes g places fuel (right_of g places part)))
+            | inl same ↦ subst (IsBarred g order) same (split_barred g places part order before left.order right.order back f at_right
+                (dissected_permutes g places fuel (left_of places part)) (dissected_permutes g places fuel (right_of g places part)))
             | inr inner ↦ elim (Contains-append_cases left.splits right.splits split inner) [
               | inl first ↦ all_barred g places fuel (left_of places part) order before (right.order ++ (separator ++ back)) (left_leads g places part back right.order f) at_left split first
               | inr second ↦ all_barred g places fuel (right_of g places part) order (before ++ left.order) (separator ++ back) (right_leads g places part back f) at_right split second

@@ -21,7 +21,8 @@ append_two [] x y = refl
 append_two (z ∷ xs) x y = ap (λ (ys : List ℕ). z ∷ ys) (append_two xs x y)
 
 -- the ends of one more road
-pub ends_more : (first second : RoadArc → ℕ) (arcs : List RoadArc) (i : ℕ) (arc : RoadArc) (ends one two : List ℕ) → slice_get arcs i ≡ Some arc → ends ≡ flat_map (both_ends first second) (take i arcs)
+pub ends_more : (first second : RoadArc → ℕ) (arcs : List RoadArc) (i : ℕ) (arc : RoadArc) (ends one two : List ℕ) → slice_get arcs i ≡ Some arc
+    → ends ≡ flat_map (both_ends first second) (take i arcs)
     → one ≡ ends ++ (first arc ∷ []) → two ≡ one ++ (second arc ∷ []) → two ≡ flat_map (both_ends first second) (take (i + 1) arcs)
 ends_more first second arcs i arc ends one two at before first_is second_is =
     let within : i < length arcs = slice_get_within arcs i arc at in
@@ -29,7 +30,8 @@ ends_more first second arcs i arc ends one two at before first_is second_is =
     let more : take (i + 1) arcs ≡ take i arcs ++ (arc ∷ []) = take_more arcs i arc within ∙ ap (λ (a : RoadArc). take i arcs ++ (a ∷ [])) here in
     let whole = flat_map_more (both_ends first second) [] (take i arcs) arc in
     let joined : two ≡ flat_map (both_ends first second) (take i arcs) ++ (first arc ∷ second arc ∷ []) =
-    second_is ∙ ap (λ (xs : List ℕ). xs ++ (second arc ∷ [])) (first_is ∙ ap (λ (xs : List ℕ). xs ++ (first arc ∷ [])) before) ∙ append_two (flat_map (both_ends first second) (take i arcs)) (first arc) (second arc) in
+    second_is ∙ ap (λ (xs : List ℕ). xs ++ (second arc ∷ [])) (first_is ∙ ap (λ (xs : List ℕ). xs ++ (first arc ∷ [])) before)
+    ∙ append_two (flat_map (both_ends first second) (take i arcs)) (first arc) (second arc) in
     joined ∙ whole ∙ ap (flat_map (both_ends first second)) (sym more)
 
 pub ends_long : (first second : RoadArc → ℕ) (arcs : List RoadArc) → length (flat_map (both_ends first second) arcs) ≡ 2 * length arcs
@@ -69,7 +71,8 @@ or_regroup true q r = refl
 or_regroup false q r = refl
 
 -- a neighbour in the list is a road to it or from it
-pub marked_touches : (m : ℕ → Bool) (nodes : List ℕ) (node : ℕ) (arcs : List RoadArc) → ((v : ℕ) → m v ≡ has nodes v) → list_any m (group_of (near_ends arcs) (far_ends arcs) node) ≡ list_any (joins nodes node) arcs
+pub marked_touches : (m : ℕ → Bool) (nodes : List ℕ) (node : ℕ) (arcs : List RoadArc) → ((v : ℕ) → m v ≡ has nodes v)
+    → list_any m (group_of (near_ends arcs) (far_ends arcs) node) ≡ list_any (joins nodes node) arcs
 marked_touches m nodes node [] same = refl
 marked_touches m nodes node (arc ∷ arcs) same =
     let rest : List ℕ = group_of (near_ends arcs) (far_ends arcs) node in
@@ -77,12 +80,16 @@ marked_touches m nodes node (arc ∷ arcs) same =
     let outer : list_any m (cond (eqb arc.tail node) (arc.head ∷ inner) inner) ≡ ((eqb arc.tail node && m arc.head) || list_any m inner) = any_grouped m (eqb arc.tail node) arc.head inner in
     let second : list_any m inner ≡ ((eqb arc.head node && m arc.tail) || list_any m rest) = any_grouped m (eqb arc.head node) arc.tail rest in
     outer ∙ ap (λ (b : Bool). (eqb arc.tail node && b) || list_any m inner) (same arc.head)
-    ∙ ap (λ (b : Bool). (eqb arc.tail node && has nodes arc.head) || b) (second ∙ ap (λ (b : Bool). (eqb arc.head node && b) || list_any m rest) (same arc.tail) ∙ ap (λ (b : Bool). (eqb arc.head node && has nodes arc.tail) || b) (marked_touches m nodes node arcs same))
+    ∙ ap (λ (b : Bool). (eqb arc.tail node && has nodes arc.head) || b)
+    (second ∙ ap (λ (b : Bool). (eqb arc.head node && b) || list_any m rest) (same arc.tail)
+    ∙ ap (λ (b : Bool). (eqb arc.head node && has nodes arc.tail) || b) (marked_touches m nodes node arcs same))
     ∙ or_regroup (eqb arc.tail node && has nodes arc.head) (eqb arc.head node && has nodes arc.tail) (list_any (joins nodes node) arcs)
 
 -- where just these nodes are marked, a node with a marked neighbour touches one of them
-pub beside_touches : (g : NetworkValue) (neighbours : List (List ℕ)) (marks : List Bool) (nodes : List ℕ) (node : ℕ) → HoldsNeighbours g neighbours → ((v : ℕ) → get_or marks v false ≡ has nodes v) → node < g.nodes
+pub beside_touches : (g : NetworkValue) (neighbours : List (List ℕ)) (marks : List Bool) (nodes : List ℕ) (node : ℕ) → HoldsNeighbours g neighbours
+    → ((v : ℕ) → get_or marks v false ≡ has nodes v) → node < g.nodes
     → is_beside neighbours marks node ≡ touches g nodes node
 beside_touches g neighbours marks nodes node f same within =
-    let list : get_or neighbours node [] ≡ group_of (near_ends g.arcs) (far_ends g.arcs) node = get_or_from_slice_get neighbours node (group_of (near_ends g.arcs) (far_ends g.arcs) node) [] (f.groups.each node within) in
+    let list : get_or neighbours node [] ≡ group_of (near_ends g.arcs) (far_ends g.arcs) node =
+    get_or_from_slice_get neighbours node (group_of (near_ends g.arcs) (far_ends g.arcs) node) [] (f.groups.each node within) in
     ap (is_marked marks) list ∙ marked_touches (λ v. get_or marks v false) nodes node g.arcs same

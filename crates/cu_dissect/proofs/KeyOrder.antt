@@ -61,7 +61,8 @@ node_of_key places false u = refl
 
 nodes_of_keys : (places : List Place) (wide : Bool) (part : List ℕ) → map (λ (k : SortKey). k.node) (map (key_of places wide) part) ≡ part
 nodes_of_keys places wide [] = refl
-nodes_of_keys places wide (u ∷ part) = ap (λ (v : ℕ). v ∷ map (λ (k : SortKey). k.node) (map (key_of places wide) part)) (node_of_key places wide u) ∙ ap (λ (vs : List ℕ). u ∷ vs) (nodes_of_keys places wide part)
+nodes_of_keys places wide (u ∷ part) = ap (λ (v : ℕ). v ∷ map (λ (k : SortKey). k.node) (map (key_of places wide) part)) (node_of_key places wide u)
+    ∙ ap (λ (vs : List ℕ). u ∷ vs) (nodes_of_keys places wide part)
 
 -- the sorted keys of a part have different nodes
 different_nodes : (places : List Place) (wide : Bool) (part : List ℕ) (sorted : List SortKey) → AllPairs (λ u v. u < v) part → IsPermutation (map (key_of places wide) part) sorted
@@ -69,7 +70,8 @@ different_nodes : (places : List Place) (wide : Bool) (part : List ℕ) (sorted 
 different_nodes places wide part sorted rising moved i j d lt h e =
     let node : SortKey → ℕ = λ k. k.node in
     let once : IsDistinct eqb part = IsDistinct-from_AllPairs Decides-eqb part (λ k l v less within same. let up = rising k l v less within in absurd (omega (arith, up, same))) in
-    let nodes : IsPermutation part (map node sorted) = subst (λ us. IsPermutation us (map node sorted)) (nodes_of_keys places wide part) (IsPermutation-map node (map (key_of places wide) part) sorted moved) in
+    let nodes : IsPermutation part (map node sorted) =
+    subst (λ us. IsPermutation us (map node sorted)) (nodes_of_keys places wide part) (IsPermutation-map node (map (key_of places wide) part) sorted moved) in
     let apart = AllPairs-from_IsDistinct Decides-eqb (map node sorted) (IsDistinct-IsPermutation eqb flips part (map node sorted) nodes once) in
     let long = length-map sorted node in
     apart i j 0 lt (omega (arith, h, long)) (get_or-map node sorted i d 0 (omega (arith, lt, h)) ∙ e ∙ sym (get_or-map node sorted j d 0 h))
@@ -91,10 +93,13 @@ number_equal a b e = grind (arith, nat_tests)
 below_strictly : (a b : SortKey) → is_below b a ≡ false → a.node ≢ b.node → is_below a b ≡ true
 below_strictly a b e ne =
     ap is_lt (compare_total.antisymm a b)
-    ∙ not_less (compare b a) e (λ same. ne (sym (number_equal b.node a.node (then_equal (nat_cmp b.second a.second) (nat_cmp b.node a.node) (then_equal (nat_cmp b.first a.first) (ordering_then (nat_cmp b.second a.second) (nat_cmp b.node a.node)) same)))))
+    ∙ not_less (compare b a) e (λ same. ne (sym (number_equal b.node a.node
+    (then_equal (nat_cmp b.second a.second) (nat_cmp b.node a.node)
+    (then_equal (nat_cmp b.first a.first) (ordering_then (nat_cmp b.second a.second) (nat_cmp b.node a.node)) same)))))
 
 -- the key in the middle of the sorted keys ends the first half
-pub middle_ends_half : (places : List Place) (wide : Bool) (part : List ℕ) (sorted : List SortKey) (last : SortKey) → 1 < length part → AllPairs (λ u v. u < v) part → IsPermutation (map (key_of places wide) part) sorted → IsSorted compare sorted
+pub middle_ends_half : (places : List Place) (wide : Bool) (part : List ℕ) (sorted : List SortKey) (last : SortKey) → 1 < length part
+    → AllPairs (λ u v. u < v) part → IsPermutation (map (key_of places wide) part) sorted → IsSorted compare sorted
     → ((d : SortKey) → last ≡ get_or sorted (length part / 2 - 1) d) → IsLastLeft places wide part last
 middle_ends_half places wide part sorted last some rising moved up at =
     let m : ℕ = length part / 2 in
@@ -106,10 +111,13 @@ middle_ends_half places wide part sorted last some rising moved up at =
       tells = λ node.
           let one = rank_tells is_below below_order sorted up m last (key_of places wide node) (omega (arith, some)) fits at in
           let same : count_by (λ k. is_below k (key_of places wide node)) sorted ≡ count_by (λ other. goes_before places wide other node) part =
-          counted (λ k. is_below k (key_of places wide node)) ∙ count_agree (λ other. is_below (key_of places wide other) (key_of places wide node)) (λ other. goes_before places wide other node) part (λ other. below_keys places wide other node) in
+          counted (λ k. is_below k (key_of places wide node))
+          ∙ count_agree (λ other. is_below (key_of places wide other) (key_of places wide node)) (λ other. goes_before places wide other node) part
+          (λ other. below_keys places wide other node) in
           one ∙ ap (λ (n : ℕ). nat_lt n m) same;
       half = sym (counted (λ k. not (is_below last k))) ∙ count_front (λ k. not (is_below last k)) sorted m fits
-          (λ i d h. ap not (subst (λ (k : SortKey). is_below k (get_or sorted i d) ≡ false) (sym (at d)) (sorted_far is_below below_order sorted up i (m - 1) d (omega (arith, h)) (omega (arith, h, fits)))))
+          (λ i d h. ap not (subst (λ (k : SortKey). is_below k (get_or sorted i d) ≡ false) (sym (at d))
+          (sorted_far is_below below_order sorted up i (m - 1) d (omega (arith, h)) (omega (arith, h, fits)))))
           (λ i d le h. ap not (subst (λ (k : SortKey). is_below k (get_or sorted i d) ≡ true) (sym (at d))
           (below_strictly (get_or sorted (m - 1) d) (get_or sorted i d) (sorted_far is_below below_order sorted up (m - 1) i d (omega (arith, le)) h)
           (different_nodes places wide part sorted rising moved (m - 1) i d (omega (arith, le, some)) h))));

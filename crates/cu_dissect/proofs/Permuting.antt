@@ -37,7 +37,8 @@ module _ (g : NetworkValue) (places : List Place) where
       let right : List ℕ = right_of g places part in
       let separator : List ℕ = separator_of g places part in
       let halves : IsPermutation part (left ++ rest) = permuted_by_test (is_left places part) part in
-      let others : IsPermutation rest (right ++ separator) = IsPermutation-trans rest (separator ++ right) (right ++ separator) (permuted_by_test (touches g left) rest) (IsPermutation-append_comm separator right) in
+      let others : IsPermutation rest (right ++ separator) =
+      IsPermutation-trans rest (separator ++ right) (right ++ separator) (permuted_by_test (touches g left) rest) (IsPermutation-append_comm separator right) in
       IsPermutation-trans part (left ++ rest) (left ++ (right ++ separator)) halves (IsPermutation-append left left rest (right ++ separator) (IsPermutation-refl left) others)
 
   pub dissected_permutes : (fuel : ℕ) (part : List ℕ) → IsPermutation part (dissected_by g places fuel part).order

@@ -72,5 +72,7 @@ split_is g places part left rest beside others neighbours marks held f left_is r
     let alike : All (λ node. is_beside neighbours marks node ≡ touches g (left_of places part) node) (rest_of places part) =
     λ k d h. beside_touches g neighbours marks (left_of places part) (get_or (rest_of places part) k d) held same ((rest_part places g.nodes part f).in_range k d h) in
     split_same left others beside (left_of places part) (right_of g places part) (separator_of g places part) left_is
-    (others_is ∙ ap (filter (λ node. not (is_beside neighbours marks node))) rest_is ∙ filter_alike (λ node. not (is_beside neighbours marks node)) (λ node. not (touches g (left_of places part) node)) (rest_of places part) (λ k d h. ap not (alike k d h)))
+    (others_is ∙ ap (filter (λ node. not (is_beside neighbours marks node))) rest_is
+    ∙ filter_alike (λ node. not (is_beside neighbours marks node)) (λ node. not (touches g (left_of places part) node)) (rest_of places part)
+    (λ k d h. ap not (alike k d h)))
     (beside_is ∙ ap (filter (is_beside neighbours marks)) rest_is ∙ filter_alike (is_beside neighbours marks) (touches g (left_of places part)) (rest_of places part) alike)

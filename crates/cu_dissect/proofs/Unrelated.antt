@@ -56,7 +56,8 @@ record IsSide (g : NetworkValue) (o : OrderValue) (side : List ℕ) (top : ℕ) 
   below : (x : ℕ) → IsRankIn o side x → x < top
   out : (x y : ℕ) → IsRankIn o side x → Adjacent g o x y → IsRankIn o side y ⊎ (top ≤ y)
 
-linked_out : (g : NetworkValue) (o : OrderValue) → IsOrder o → (front back side : List ℕ) → o.node_at ≡ front ++ back → LeadsBack g side back → (u v node x y : ℕ) → Contains side node → slice_get o.rank_of node ≡ Some x
+linked_out : (g : NetworkValue) (o : OrderValue) → IsOrder o → (front back side : List ℕ) → o.node_at ≡ front ++ back → LeadsBack g side back
+    → (u v node x y : ℕ) → Contains side node → slice_get o.rank_of node ≡ Some x
     → slice_get o.rank_of u ≡ Some x → slice_get o.rank_of v ≡ Some y → AreLinked g u v → IsRankIn o side y ⊎ (length front ≤ y)
 linked_out g o f front back side whole leads u v node x y c at_node at_u at_v linked =
     let same : node ≡ u = one_node o f node u x at_node at_u in
@@ -65,7 +66,8 @@ linked_out g o f front back side whole leads u v node x y c at_node at_u at_v li
       | inr leaves ↦ inr (rank_in_back o f front back whole v y leaves at_v)
     ]
 
-side_of : (g : NetworkValue) (o : OrderValue) → IsOrder o → (front back side : List ℕ) → o.node_at ≡ front ++ back → ((v : ℕ) → Contains side v → Contains front v) → LeadsBack g side back → IsSide g o side (length front)
+side_of : (g : NetworkValue) (o : OrderValue) → IsOrder o → (front back side : List ℕ) → o.node_at ≡ front ++ back
+    → ((v : ℕ) → Contains side v → Contains front v) → LeadsBack g side back → IsSide g o side (length front)
 side_of g o f front back side whole within leads = record {
   below = λ x r. rank_in_front o f front back whole r.0 x (within r.0 r.1) r.2;
   out = λ x y r adjacent. elim adjacent.1 [
@@ -75,7 +77,8 @@ side_of g o f front back side whole within leads = record {
 }
 
 -- a path over ranks below the top stays on its side, but for its end
-path_stays : (g : NetworkValue) (o : OrderValue) (side : List ℕ) (top m x : ℕ) (inner : List ℕ) (y : ℕ) → IsSide g o side top → m ≤ top → IsRankIn o side x → PathBelow g o m x inner y → IsRankIn o side y ⊎ (top ≤ y)
+path_stays : (g : NetworkValue) (o : OrderValue) (side : List ℕ) (top m x : ℕ) (inner : List ℕ) (y : ℕ) → IsSide g o side top → m ≤ top → IsRankIn o side x
+    → PathBelow g o m x inner y → IsRankIn o side y ⊎ (top ≤ y)
 path_stays g o side top m x [] y f low r p = f.out x y r p
 path_stays g o side top m x (z ∷ inner) y f low r p =
     elim (f.out x z r p.0) [

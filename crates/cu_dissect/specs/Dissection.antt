@@ -99,7 +99,8 @@ around split left right = record { order = left.order ++ right.order ++ split.se
 -- the order of a part and its splits, over no more levels than the fuel; a part of at most 8 nodes isn't split
 abbrev pub dissected_by : NetworkValue → List Place → ℕ → List ℕ → Dissected
 dissected_by g places zero part = unsplit part
-dissected_by g places (suc fuel) part = if nat_le (length part) 8 then unsplit part else around (split_of g places part) (dissected_by g places fuel (left_of places part)) (dissected_by g places fuel (right_of g places part))
+dissected_by g places (suc fuel) part = if nat_le (length part) 8 then unsplit part else around (split_of g places part)
+    (dissected_by g places fuel (left_of places part)) (dissected_by g places fuel (right_of g places part))
 
 -- of the whole network: parts halve, so that there are fewer levels than nodes
 abbrev pub dissected : NetworkValue → List Place → Dissected

@@ -62,7 +62,8 @@ module _ (h : HierarchyValue) (graph : ChordalValue) (of : IsHierarchyOf graph h
 
     -- those of some candidates are
     pub some_at_hand : (words learnt : WordsValue) (ends : Ends) → slice_get graph.edges edge ≡ Some ends → KeepsWays h edit marks moved edge dir
-        → ((given : Ends) → slice_get graph.edges edge ≡ Some given → All (λ (entry : Entry). IsWayAtHand moved words graph.edges given dir entry.way) (list_of h edge dir)) → LearnsWords h words learnt
+        → ((given : Ends) → slice_get graph.edges edge ≡ Some given → All (λ (entry : Entry). IsWayAtHand moved words graph.edges given dir entry.way) (list_of h edge dir))
+        → LearnsWords h words learnt
         → ((middle : ℕ) → AreAtHandIfMoved moved learnt graph.edges ends dir middle) → AreCandidatesAtHand h edit marks moved learnt edge dir
     some_at_hand words learnt ends at keeps ways learns halves = inr (
       keeps,

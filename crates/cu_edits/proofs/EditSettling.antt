@@ -36,7 +36,8 @@ use Rattle.cu_edits.proofs.Sides.{halves_at, over}
 
 -- functions of a pair that is framed stay those of its list
 pub function_stays : (a b : HierarchyValue) (Pair : ℕ → ℕ → Type 0) → IsFrame a b Pair → (edges : List Ends) → a.edges ≡ edges → b.edges ≡ edges → (e : ℕ) (dir : Dir) (function : Option (List Run))
-    → ((ends : Ends) → slice_get edges e ≡ Some ends → Pair (start_of ends dir) (end_of ends dir)) → list_of b e dir ≡ list_of a e dir → IsRebuiltFunction a e dir function → IsRebuiltFunction b e dir function
+    → ((ends : Ends) → slice_get edges e ≡ Some ends → Pair (start_of ends dir) (end_of ends dir)) → list_of b e dir ≡ list_of a e dir
+    → IsRebuiltFunction a e dir function → IsRebuiltFunction b e dir function
 function_stays a b Pair frame edges of_a of_b e dir None pair list is = list ∙ is
 function_stays a b Pair frame edges of_a of_b e dir (Some runs) pair list (some, is, values) = (
   subst (λ (es : List Entry). es ≢ []) (sym list) some,
@@ -161,7 +162,8 @@ pub settling_more : (s : SettlingValue) (graph : ChordalValue) (arcs : List (Lis
     → IsResettledEdge (settled_so_far (settled_with s t)) t × IsSettling (settled_with s t) graph arcs rebuilt (slice_set known t.edge (Some functions))
 settling_more s graph arcs rebuilt known t functions old touched fresh sides has_given settled_given =
     let edges = ap (λ (k : ChordalValue). k.edges) old.hierarchy.0 in
-    let has : (side : ℕ) → IsLowerSide s.before.edges t.edge side → HasFunctions known side = subst (λ (es : List Ends). (side : ℕ) → IsLowerSide es t.edge side → HasFunctions known side) edges has_given in
+    let has : (side : ℕ) → IsLowerSide s.before.edges t.edge side → HasFunctions known side =
+    subst (λ (es : List Ends). (side : ℕ) → IsLowerSide es t.edge side → HasFunctions known side) edges has_given in
     let asked = functions_of (record { network = edited s.before.network s.edit; known = known }) in
     let settled : IsSettledEdge s.before.edges arcs asked t.edge t functions = subst (λ (es : List Ends). IsSettledEdge es arcs asked t.edge t functions) edges settled_given in
     let (ends, at, is) = touched in

@@ -60,8 +60,10 @@ said_more h settled moved index known t functions old at inside says =
         | inl same ↦
             let now : slice_get (slice_set known t.edge (Some functions)) e ≡ Some (Some functions) =
             subst (λ (k : ℕ). slice_get (slice_set known t.edge (Some functions)) k ≡ Some (Some functions)) same here in
-            let is : functions ≡ given = cc (now, there) in
-            (subst (Contains (numbers_of settled)) same (number_among settled t (member_at settled t index at)), subst (SayLists h moved e) is (subst (λ (k : ℕ). SayLists h moved k functions) same says))
+            let is : functions ≡ given = cc (now, there) in (
+              subst (Contains (numbers_of settled)) same (number_among settled t (member_at settled t index at)),
+              subst (SayLists h moved e) is (subst (λ (k : ℕ). SayLists h moved k functions) same says),
+            )
         | inr other ↦ old.functions e given (sym (get_other known t.edge e (Some functions) other) ∙ there)
       ];
       has = λ k one lt there. elim (cases_eq k index) [

@@ -45,7 +45,8 @@ unknown_list : (known : List Bool) (number : ℕ) → All (λ (b : Bool). b ≡ 
 unknown_list known number none at = let is = all_at (λ (b : Bool). b ≡ false) known number true none at in cc is
 
 -- of no list is a function known
-no_words : (h : HierarchyValue) (words : WordsValue) → IsSized (length h.edges) words → All (λ (b : Bool). b ≡ false) words.known → All (λ (f : Option (List Run)). f ≡ None) words.functions → AreWordsOf h words
+no_words : (h : HierarchyValue) (words : WordsValue) → IsSized (length h.edges) words → All (λ (b : Bool). b ≡ false) words.known
+    → All (λ (f : Option (List Run)). f ≡ None) words.functions → AreWordsOf h words
 no_words h words size unknown none = record {
   size = size;
   keeps = λ e dir own known. absurd (unknown_list words.known (list_number e dir) unknown known);

@@ -101,7 +101,9 @@ second_side edges ends rank first second e to on same =
     subst (IsSideOver edges ends rank) (sym same)
     (member_at edges (record { low = rank; high = ends.low }) first to, member_at edges (record { low = rank; high = ends.high }) second on, inr on)
 
-pub both_known : (edges : List Ends) → IsRising edges → (ends : Ends) (rank first second : ℕ) (known : List (Option EdgeFunctions)) → slice_get edges first ≡ Some (record { low = rank; high = ends.low })
-    → slice_get edges second ≡ Some (record { low = rank; high = ends.high }) → HasFunctions known first → HasFunctions known second → (side : ℕ) → IsSideOver edges ends rank side → HasFunctions known side
+pub both_known : (edges : List Ends) → IsRising edges → (ends : Ends) (rank first second : ℕ) (known : List (Option EdgeFunctions))
+    → slice_get edges first ≡ Some (record { low = rank; high = ends.low })
+    → slice_get edges second ≡ Some (record { low = rank; high = ends.high }) → HasFunctions known first → HasFunctions known second → (side : ℕ)
+    → IsSideOver edges ends rank side → HasFunctions known side
 both_known edges rising ends rank first second known to on one two side (low, high, inl at) = subst (HasFunctions known) (one_number edges rising first side rank ends.low to at) one
 both_known edges rising ends rank first second known to on one two side (low, high, inr at) = subst (HasFunctions known) (one_number edges rising second side rank ends.high on at) two

@@ -176,7 +176,8 @@ module _ (s : SettlingValue) (graph : ChordalValue) (arcs : List (List ℕ)) (wo
       record {
         function = function;
         is = function_at s.before holds.are.sound asked e d x y l
-            ∙ ap value_kept (layered_newer words.functions moved.places moved.functions (list_number e d) place (omega (arith, inside, long)) there (omega (arith, within)) ∙ is_there) ∙ kept_values function;
+            ∙ ap value_kept (layered_newer words.functions moved.places moved.functions (list_number e d) place (omega (arith, inside, long)) there
+            (omega (arith, within)) ∙ is_there) ∙ kept_values function;
         rebuilds = by_ranks s.before now holds.are.sound refl e d x y function l (word_values now e d function is);
       }
 

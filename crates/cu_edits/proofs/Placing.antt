@@ -123,7 +123,8 @@ module _ (old one two new : MovedValue) (edge : ℕ) (up down : Fate) (upwards d
 
   pub placed_both : ArePlaced old new edge (fate_in up down)
   placed_both = record {
-    long = ap length places ∙ length-set (slice_set two.places (list_number edge Up) upwards) (list_number edge Down) downwards ∙ length-set two.places (list_number edge Up) upwards ∙ ap length same_places;
+    long = ap length places ∙ length-set (slice_set two.places (list_number edge Up) upwards) (list_number edge Down) downwards
+        ∙ length-set two.places (list_number edge Up) upwards ∙ ap length same_places;
     inside = all_inside;
     others = λ e dir ne.
         ap (λ (ps : List ℕ). slice_get ps (list_number e dir)) places

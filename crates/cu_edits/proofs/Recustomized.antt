@@ -76,7 +76,8 @@ recustomized_asks h graph (same, sound) edit old new lists s edge r takes =
     (next_here h sound edit old new lists edge r.taken (subst (λ (k : ChordalValue). Takes k.edges old new (Some edge)) same takes))
 
 -- one more edge is taken out and settled
-pub recustomized_next : (h : HierarchyValue) (graph : ChordalValue) → IsHierarchyOf graph h → (edit : Edit) (old new : BucketsValue) (lists grown : List TouchedEdge) (s next : SettlingValue) (edge : ℕ) (t : TouchedEdge)
+pub recustomized_next : (h : HierarchyValue) (graph : ChordalValue) → IsHierarchyOf graph h
+    → (edit : Edit) (old new : BucketsValue) (lists grown : List TouchedEdge) (s next : SettlingValue) (edge : ℕ) (t : TouchedEdge)
     → AreRecustomized h edit old lists s → Takes graph.edges old new (Some edge) → t.edge ≡ edge → next ≡ record s { settled = s.settled ++ (t ∷ []) }
     → IsResettledEdge (settled_so_far next) t → grown ≡ lists ++ (t ∷ [])
     → AreRecustomized h edit new grown next × (length graph.edges - length grown < length graph.edges - length lists)

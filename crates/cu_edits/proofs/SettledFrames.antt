@@ -202,7 +202,8 @@ module _ (s : SettlingValue) where
       lists = λ u v (edge, dir, leads, untouched).
           list_at s.before s.before are.sound refl edge dir u v leads ∙ sym (untouched_list edge dir untouched) ∙ sym (list_at s.before (settled_so_far s) are.sound refl edge dir u v leads);
       ways = λ u v (edge, dir, leads, untouched).
-          all_so (λ (entry : Entry). IsWellFormed s.before u v entry.way) (λ (entry : Entry). IsFramed s.before (settled_so_far s) (UntouchedPair s.before s.edit) u v entry.way) (list_from s.before u v)
+          all_so (λ (entry : Entry). IsWellFormed s.before u v entry.way)
+          (λ (entry : Entry). IsFramed s.before (settled_so_far s) (UntouchedPair s.before s.edit) u v entry.way) (list_from s.before u v)
           (λ entry. untouched_framed edge dir u v entry.way leads untouched) (list_formed s.before are.sound u v);
     }
 

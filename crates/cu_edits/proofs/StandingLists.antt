@@ -56,7 +56,8 @@ went moved edge dir (Moves given) function (p, at, there) (q, here, is) =
     ap Moves equal
 
 -- before an edge is settled all lists of edges that aren't touched stand
-pub stands_none : (s : SettlingValue) (are : AreSettled s) (moved : MovedValue) → s.settled ≡ [] → ((edge : ℕ) (dir : Dir) (ends : Ends) → slice_get s.before.edges edge ≡ Some ends → IsUnmoved moved edge dir)
+pub stands_none : (s : SettlingValue) (are : AreSettled s) (moved : MovedValue) → s.settled ≡ []
+    → ((edge : ℕ) (dir : Dir) (ends : Ends) → slice_get s.before.edges edge ≡ Some ends → IsUnmoved moved edge dir)
     → ((edge : ℕ) → IsSettled s edge → ⊥) → IsFrame s.before (settled_so_far s) (StandingPair s moved)
 stands_none s are moved none unmoved nothing = record { lists = lists; ways = ways }
   where

@@ -62,7 +62,8 @@ pub words_still : (s : SettlingValue) (graph : ChordalValue) (arcs : List (List 
     → LearnsWords s.before words learnt → now ≡ moved → IsSettlingByWords s graph arcs learnt now
 words_still s graph arcs words learnt moved now old learns same = subst (IsSettlingByWords s graph arcs learnt) (sym same) (words_learnt s graph arcs words learnt moved old learns)
 
-module _ (s : SettlingValue) (graph : ChordalValue) (arcs : List (List ℕ)) (words : WordsValue) (moved : MovedValue) (holds : IsSettlingByWords s graph arcs words moved) (edge : ℕ) (asked : IsNext s edge)
+module _ (s : SettlingValue) (graph : ChordalValue) (arcs : List (List ℕ)) (words : WordsValue) (moved : MovedValue)
+    (holds : IsSettlingByWords s graph arcs words moved) (edge : ℕ) (asked : IsNext s edge)
     (marks : List Bool) (customized : AreCustomized s.before marks) (dir : Dir) where
   -- a list that stands
   pub list_stands : MayStand s.before s.edit arcs marks moved edge dir → (list : NewList) → list.ways ≡ list_of s.before edge dir → list.fate ≡ Stands → IsNewList s moved edge dir list
@@ -124,7 +125,8 @@ module _ (s : SettlingValue) (graph : ChordalValue) (arcs : List (List ℕ)) (wo
     }
 
 -- one edge more was settled
-pub record IsOneMore (h : HierarchyValue) (edit : Edit) (before after : List TouchedEdge) (graph : ChordalValue) (arcs : List (List ℕ)) (words : WordsValue) (moved : MovedValue) (t : TouchedEdge) : Type 0 where
+pub record IsOneMore (h : HierarchyValue) (edit : Edit) (before after : List TouchedEdge) (graph : ChordalValue) (arcs : List (List ℕ)) (words : WordsValue)
+    (moved : MovedValue) (t : TouchedEdge) : Type 0 where
   pub list : after ≡ before ++ (t ∷ [])
   pub resettled : IsResettledEdge (settled_so_far (settling_of h edit after)) t
   pub holds : IsSettlingByWords (settling_of h edit after) graph arcs words moved
@@ -174,7 +176,8 @@ module _ (s : SettlingValue) (graph : ChordalValue) (arcs : List (List ℕ)) (wo
   }
 
 -- what settling one edge more gives, by its parts
-pub words_one : (h : HierarchyValue) (edit : Edit) (before after : List TouchedEdge) (graph : ChordalValue) (arcs : List (List ℕ)) (words : WordsValue) (moved one two last : MovedValue) (t copy : TouchedEdge)
+pub words_one : (h : HierarchyValue) (edit : Edit) (before after : List TouchedEdge) (graph : ChordalValue) (arcs : List (List ℕ)) (words : WordsValue)
+    (moved one two last : MovedValue) (t copy : TouchedEdge)
     (up down : NewList) (upwards downwards : ℕ) → IsSettlingByWords (settling_of h edit before) graph arcs words moved → IsNext (settling_of h edit before) t.edge
     → IsNewList (settling_of h edit before) moved t.edge Up up → IsNewList (settling_of h edit before) moved t.edge Down down → t.up ≡ up.ways → t.down ≡ down.ways
     → KeepsFate moved one up.fate upwards → KeepsFate one two down.fate downwards
@@ -230,7 +233,8 @@ new_list_over s moved kept edge dir found list is same made =
     subst (λ (m : MovedValue). IsNewList s m edge dir list) (sym same) (subst (λ (o : Option NewList). IfSome o (IsNewList s moved edge dir)) is made)
 
 -- a list that was settled over the graph, by functions that are those meant
-pub list_by : (h : HierarchyValue) (graph : ChordalValue) → IsHierarchyOf graph h → (arcs : List (List ℕ)) (after g : NetworkValue) → after ≡ g → (given meant : List (Option (List Run))) → given ≡ meant
+pub list_by : (h : HierarchyValue) (graph : ChordalValue) → IsHierarchyOf graph h → (arcs : List (List ℕ)) (after g : NetworkValue) → after ≡ g
+    → (given meant : List (Option (List Run))) → given ≡ meant
     → (edge : ℕ) (dir : Dir) (found : Option SettledWords) (settled : SettledWords) → found ≡ Some settled
     → ((ends : Ends) (roads : List ℕ) → slice_get graph.edges edge ≡ Some ends → slice_get arcs (list_number edge dir) ≡ Some roads
     → IfSome found (λ (s : SettledWords). IsSettledList graph.edges roads (kept_state after given) (start_of ends dir) (end_of ends dir) s.ways))

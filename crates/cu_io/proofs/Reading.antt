@@ -168,7 +168,8 @@ found_later a b c s t u chunk what (took, held, over) (more, next, finds, same) 
     later found.Spent (none, hidden, all) = (subst HasNoFeed bytes none, hidden, all ∙ took.take_limit)
 
 -- a long line is passed over: bytes that came, and what is held of them
-module _ (a b : ReaderState) (s t : SourceState) (chunk : List ℕ) (took : TakesLine a b s t chunk) (none : HasNoFeed (a.held ++ chunk)) (long : a.line_limit < length a.held) (over : b.over ≡ a.over) where
+module _ (a b : ReaderState) (s t : SourceState) (chunk : List ℕ) (took : TakesLine a b s t chunk) (none : HasNoFeed (a.held ++ chunk))
+    (long : a.line_limit < length a.held) (over : b.over ≡ a.over) where
   abbrev pub drops : ReaderState
   drops = record b { held = [] }
 

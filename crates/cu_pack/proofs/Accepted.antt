@@ -113,7 +113,9 @@ module _ (h : HierarchyValue) (f : IsHierarchy h) where
       let road = road_at h.network number (omega (arith, inside, arcs)) in
       let arc : RoadArc = road.0 in
       let there = road.1 in
-      let range : IsArcInRange h.network (arc_in bytes number) = subst (IsArcInRange h.network) (sym (arc_again h f number arc there)) (all_at (IsArcInRange h.network) h.network.arcs number arc f.network.in_range there) in
+      let range : IsArcInRange h.network (arc_in bytes number) =
+      subst (IsArcInRange h.network) (sym (arc_again h f number arc there))
+      (all_at (IsArcInRange h.network) h.network.arcs number arc f.network.in_range there) in
       elim wrong [
         | inl tail ↦ omega (arith, tail, range.0, nodes_said)
         | inr (inl head) ↦ omega (arith, head, range.1, nodes_said)

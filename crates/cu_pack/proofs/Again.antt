@@ -74,7 +74,8 @@ module _ (h : HierarchyValue) (f : IsHierarchy h) where
   pub piece_there : (profile index : ℕ) (pieces : List Piece) (piece : Piece) → slice_get h.network.profiles profile ≡ Some pieces → slice_get pieces index ≡ Some piece
       → ReadsRule (spelling h) (piece_place (spelling h) (total (take profile h.network.profiles) + index)) piece.from piece.rule
   piece_there profile index pieces piece list there =
-      placed (λ (c : Counts). ReadsRule (spelling h) (pieces_at c + 12 * (total (take profile h.network.profiles) + index)) piece.from piece.rule) (piece_read h f profile index pieces piece list there)
+      placed (λ (c : Counts). ReadsRule (spelling h) (pieces_at c + 12 * (total (take profile h.network.profiles) + index)) piece.from piece.rule)
+      (piece_read h f profile index pieces piece list there)
 
   pub way_start_said : (number : ℕ) → number ≤ length h.lists → way_start (spelling h) number ≡ total (take number h.lists)
   way_start_said number inside =

@@ -39,7 +39,8 @@ counted_same {X} f g a (suc n) same =
 
 -- and it goes on where it stopped
 pub counted_on : {X : Type 0} (g : ℕ → X) (z a n : ℕ) → map g (range_with_len z a) ++ map g (range_with_len (z + a) n) ≡ map g (range_with_len z (a + n))
-counted_on {X} g z zero n = let same : z + 0 ≡ z = omega arith in let count : n ≡ 0 + n = omega arith in ap (λ (m : ℕ). map g (range_with_len m n)) same ∙ ap (λ (m : ℕ). map g (range_with_len z m)) count
+counted_on {X} g z zero n = let same : z + 0 ≡ z = omega arith in let count : n ≡ 0 + n = omega arith in
+    ap (λ (m : ℕ). map g (range_with_len m n)) same ∙ ap (λ (m : ℕ). map g (range_with_len z m)) count
 counted_on {X} g z (suc a) n =
     let next : z + suc a ≡ z + 1 + a = omega arith in
     let count : suc (a + n) ≡ suc a + n = omega arith in
@@ -50,7 +51,8 @@ pub starts_on : {T : Type 0} (lists : List (List T)) (a b start : ℕ) → start
 starts_on lists a b start first =
     counted_same (λ list. start + total (slice_range lists a list)) (before_list lists) a (b - a) (λ k low high. let on = total_on lists a k low in omega (arith, on, first))
 
-pub starts_moved : {T : Type 0} (lists others : List (List T)) (a b start : ℕ) → ((k : ℕ) → k ≤ b → slice_range lists a k ≡ slice_range others a k) → starts_between lists a b start ≡ starts_between others a b start
+pub starts_moved : {T : Type 0} (lists others : List (List T)) (a b start : ℕ) → ((k : ℕ) → k ≤ b → slice_range lists a k ≡ slice_range others a k)
+    → starts_between lists a b start ≡ starts_between others a b start
 starts_moved {T} lists others a b start same =
     counted_same (λ list. start + total (slice_range lists a list)) (λ list. start + total (slice_range others a list)) a (b - a)
     (λ k low high. ap (λ (ls : List (List T)). start + total ls) (same k (omega (arith, low, high))))
@@ -65,12 +67,14 @@ put_starts_on f lists a b first start before after order first_is put more =
     let zero_on : 0 + a ≡ a = omega arith in
     let here = map g (range_with_len 0 a) in
     let next = map g (range_with_len a (b - a)) in
-    let joined : here ++ next ≡ map g (range_with_len 0 b) = ap (λ (m : ℕ). here ++ map g (range_with_len m (b - a))) (sym zero_on) ∙ counted_on g 0 a (b - a) ∙ ap (λ (m : ℕ). map g (range_with_len 0 m)) whole in
+    let joined : here ++ next ≡ map g (range_with_len 0 b) =
+    ap (λ (m : ℕ). here ++ map g (range_with_len m (b - a))) (sym zero_on) ∙ counted_on g 0 a (b - a) ∙ ap (λ (m : ℕ). map g (range_with_len 0 m)) whole in
     more ∙ ap (λ (bs : List ℕ). bs ++ flat_map f (starts_between lists a b first)) put ∙ ap (λ (xs : List ℕ). (start ++ flat_map f here) ++ flat_map f xs) (starts_on lists a b first first_is)
     ∙ append_assoc start (flat_map f here) (flat_map f next) ∙ ap (λ (bs : List ℕ). start ++ bs) (sym (flat_map-append f here next)) ∙ ap (λ (xs : List ℕ). start ++ flat_map f xs) joined
 
 -- they stand among all starts
-pub starts_copied : {T : Type 0} (lists : List (List T)) (a b start : ℕ) → a ≤ b → b ≤ length lists → start ≡ before_list lists a → starts_between lists a b start ≡ slice_range (starts_from 0 lists) a b
+pub starts_copied : {T : Type 0} (lists : List (List T)) (a b start : ℕ) → a ≤ b → b ≤ length lists → start ≡ before_list lists a
+    → starts_between lists a b start ≡ slice_range (starts_from 0 lists) a b
 starts_copied lists a b start order inside first =
     let g = before_list lists in
     let left : ℕ = suc (length lists) - a in

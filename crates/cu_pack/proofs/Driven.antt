@@ -82,7 +82,8 @@ module _ (bytes : List ℕ) where
   pub piece_there : (profile index : ℕ) → index < length (profile_in bytes profile)
       → slice_get (profile_in bytes profile) index ≡ Some (piece_from bytes (piece_place bytes (profile_start bytes profile + index)))
   piece_there profile index inside =
-      made_there (λ piece. piece_from bytes (piece_place bytes piece)) (profile_start bytes profile) (profile_start bytes (suc profile) - profile_start bytes profile) index (omega (arith, inside, pieces_long profile))
+      made_there (λ piece. piece_from bytes (piece_place bytes piece)) (profile_start bytes profile)
+      (profile_start bytes (suc profile) - profile_start bytes profile) index (omega (arith, inside, pieces_long profile))
 
   module _ (f : HasRoads bytes) where
     pub arc_profile : (arc : ℕ) → arc < (counts_in bytes).arcs → (arc_in bytes arc).profile < (counts_in bytes).profiles

@@ -116,7 +116,8 @@ module _ (bytes : List ℕ) (list : ℕ) (f : HasList bytes list) where
       ∙ ap (entry_from bytes) place
       ∙ sym (get_or-map-range_with_len (λ (entry : ℕ). entry_from bytes (entry_place bytes entry)) start count i (start + i) none inside refl))
 
-  pub list_slice : AreInLimits (counts_in bytes) → file_length (counts_in bytes) ≡ length bytes → IsWaySlice bytes (entry_place bytes (way_start bytes list)) (way_start bytes (suc list) - way_start bytes list)
+  pub list_slice : AreInLimits (counts_in bytes) → file_length (counts_in bytes) ≡ length bytes
+      → IsWaySlice bytes (entry_place bytes (way_start bytes list)) (way_start bytes (suc list) - way_start bytes list)
   list_slice limits size = record {
     room = omega (arith, f.order, f.within, size);
     fits = omega (arith, f.order, f.within, limits.nodes, limits.arcs, limits.profiles, limits.edges, limits.pieces, limits.entries);

@@ -121,9 +121,11 @@ module _ (h : HierarchyValue) (f : IsHierarchy h) where
   header_left = stands_second (spelling h) 0 (header (counts_of h)) (behind_header h) body_stands 52 (omega (arith, header_long (counts_of h)))
 
   order_stands :
-      StandsAt (spelling h) 52 (flat_map word h.order.node_at) × StandsAt (spelling h) (rank_of_at (counts_of h)) (flat_map word h.order.rank_of) × StandsAt (spelling h) (arcs_at (counts_of h)) (behind_order h)
+      StandsAt (spelling h) 52 (flat_map word h.order.node_at) × StandsAt (spelling h) (rank_of_at (counts_of h)) (flat_map word h.order.rank_of)
+      × StandsAt (spelling h) (arcs_at (counts_of h)) (behind_order h)
   order_stands =
-      stands_pair (spelling h) 52 (rank_of_at (counts_of h)) (arcs_at (counts_of h)) (flat_map word h.order.node_at) (flat_map word h.order.rank_of) (behind_order h) header_left (omega (arith, nodes_long)) (omega (arith, ranks_long))
+      stands_pair (spelling h) 52 (rank_of_at (counts_of h)) (arcs_at (counts_of h)) (flat_map word h.order.node_at) (flat_map word h.order.rank_of)
+      (behind_order h) header_left (omega (arith, nodes_long)) (omega (arith, ranks_long))
 
   pub nodes_stand : StandsAt (spelling h) 52 (flat_map word h.order.node_at)
   nodes_stand = order_stands.0
@@ -138,10 +140,12 @@ module _ (h : HierarchyValue) (f : IsHierarchy h) where
   arcs_left = stands_second (spelling h) (arcs_at (counts_of h)) (arcs_section h) (behind_arcs h) order_stands.2 (profile_starts_at (counts_of h)) (omega (arith, arcs_long))
 
   profiles_stand :
-      StandsAt (spelling h) (profile_starts_at (counts_of h)) (flat_map long (starts_from 0 h.network.profiles)) × StandsAt (spelling h) (pieces_at (counts_of h)) (flat_map (flat_map piece_bytes) h.network.profiles)
+      StandsAt (spelling h) (profile_starts_at (counts_of h)) (flat_map long (starts_from 0 h.network.profiles))
+      × StandsAt (spelling h) (pieces_at (counts_of h)) (flat_map (flat_map piece_bytes) h.network.profiles)
       × StandsAt (spelling h) (edge_starts_at (counts_of h)) (behind_profiles h)
   profiles_stand =
-      stands_pair (spelling h) (profile_starts_at (counts_of h)) (pieces_at (counts_of h)) (edge_starts_at (counts_of h)) (flat_map long (starts_from 0 h.network.profiles)) (flat_map (flat_map piece_bytes) h.network.profiles)
+      stands_pair (spelling h) (profile_starts_at (counts_of h)) (pieces_at (counts_of h)) (edge_starts_at (counts_of h))
+      (flat_map long (starts_from 0 h.network.profiles)) (flat_map (flat_map piece_bytes) h.network.profiles)
       (behind_profiles h) arcs_left (omega (arith, profile_starts_long)) (omega (arith, pieces_long))
 
   pub profile_starts_stand : StandsAt (spelling h) (profile_starts_at (counts_of h)) (flat_map long (starts_from 0 h.network.profiles))
@@ -154,7 +158,8 @@ module _ (h : HierarchyValue) (f : IsHierarchy h) where
       StandsAt (spelling h) (edge_starts_at (counts_of h)) (flat_map word (edge_starts h)) × StandsAt (spelling h) (uppers_at (counts_of h)) (flat_map word (map (λ (ends : Ends). ends.high) h.edges))
       × StandsAt (spelling h) (way_starts_at (counts_of h)) (ways_section h)
   edges_stand =
-      stands_pair (spelling h) (edge_starts_at (counts_of h)) (uppers_at (counts_of h)) (way_starts_at (counts_of h)) (flat_map word (edge_starts h)) (flat_map word (map (λ (ends : Ends). ends.high) h.edges)) (ways_section h)
+      stands_pair (spelling h) (edge_starts_at (counts_of h)) (uppers_at (counts_of h)) (way_starts_at (counts_of h)) (flat_map word (edge_starts h))
+      (flat_map word (map (λ (ends : Ends). ends.high) h.edges)) (ways_section h)
       profiles_stand.2 (omega (arith, edge_starts_long)) (omega (arith, uppers_long))
 
   pub edge_starts_stand : StandsAt (spelling h) (edge_starts_at (counts_of h)) (flat_map word (edge_starts h))
@@ -168,7 +173,8 @@ module _ (h : HierarchyValue) (f : IsHierarchy h) where
 
   pub entries_stand : StandsAt (spelling h) (entries_at (counts_of h)) (flat_map (flat_map entry_bytes) h.lists)
   entries_stand =
-      stands_second (spelling h) (way_starts_at (counts_of h)) (flat_map long (starts_from 0 h.lists)) (flat_map (flat_map entry_bytes) h.lists) edges_stand.2 (entries_at (counts_of h)) (omega (arith, way_starts_long))
+      stands_second (spelling h) (way_starts_at (counts_of h)) (flat_map long (starts_from 0 h.lists)) (flat_map (flat_map entry_bytes) h.lists) edges_stand.2
+      (entries_at (counts_of h)) (omega (arith, way_starts_long))
 
   body_long : length (body h) ≡ digest_at (counts_of h)
   unfolding body

@@ -27,7 +27,8 @@ put_next {Y} f g n start before after put one =
     let more = map-range_with_len_more g 0 n n (omega arith) in
     one ∙ ap (λ (bs : List ℕ). bs ++ f (g n)) put ∙ flat_map_more f start (map g (range_with_len 0 n)) (g n) ∙ ap (λ (ys : List Y). start ++ flat_map f ys) (sym more)
 
-module _ {T : Type 0} (lists : List (List T)) (i start : ℕ) (bytes after whole : List ℕ) (put : bytes ++ flat_map long (starts_from start (drop i lists)) ≡ whole) (one : after ≡ bytes ++ long start) where
+module _ {T : Type 0} (lists : List (List T)) (i start : ℕ) (bytes after whole : List ℕ)
+    (put : bytes ++ flat_map long (starts_from start (drop i lists)) ≡ whole) (one : after ≡ bytes ++ long start) where
   -- one start more
   pub start_more : (list : List T) → slice_get lists i ≡ Some list → after ++ flat_map long (starts_from (start + length list) (drop (i + 1) lists)) ≡ whole
   unfolding starts_from

@@ -90,7 +90,8 @@ module _ (h : HierarchyValue) (f : IsHierarchy h) where
 
   pub length_read : long_at (spelling h) 44 ≡ file_length (counts_of h)
   unfolding header
-  length_read = let limits = in_limits h f in long_in_header 44 (file_length (counts_of h)) (omega arith) refl (omega (arith, limits.nodes, limits.arcs, limits.profiles, limits.edges, limits.pieces, limits.entries))
+  length_read = let limits = in_limits h f in long_in_header 44 (file_length (counts_of h)) (omega arith) refl
+      (omega (arith, limits.nodes, limits.arcs, limits.profiles, limits.edges, limits.pieces, limits.entries))
 
   -- the node at a rank, and the rank of a node
   pub node_read : (rank node : ℕ) → slice_get h.order.node_at rank ≡ Some node → word_at (spelling h) (52 + 4 * rank) ≡ node
@@ -102,7 +103,9 @@ module _ (h : HierarchyValue) (f : IsHierarchy h) where
   pub rank_read : (node rank : ℕ) → slice_get h.order.rank_of node ≡ Some rank → word_at (spelling h) (rank_of_at (counts_of h) + 4 * node) ≡ rank
   rank_read node rank there =
       let within = slice_get_within h.order.node_at rank node (f.order.placed node rank there) in
-      word_read (spelling h) (rank_of_at (counts_of h) + 4 * node) rank (stands_ith word 4 (λ n. refl) (spelling h) (rank_of_at (counts_of h)) h.order.rank_of node rank (ranks_stand h f) there) (omega (arith, within, f.order.few))
+      word_read (spelling h) (rank_of_at (counts_of h) + 4 * node) rank
+      (stands_ith word 4 (λ n. refl) (spelling h) (rank_of_at (counts_of h)) h.order.rank_of node rank (ranks_stand h f) there)
+      (omega (arith, within, f.order.few))
 
   -- a road
   pub arc_read : (number : ℕ) (arc : RoadArc) → slice_get h.network.arcs number ≡ Some arc → ReadsRow (spelling h) (arcs_at (counts_of h) + 12 * number) arc.tail arc.head arc.profile
@@ -122,7 +125,8 @@ module _ (h : HierarchyValue) (f : IsHierarchy h) where
       let within = sum_by-take-le length h.network.profiles profile in
       let limit = pieces_in_limit h.network f.network in
       long_read (spelling h) (profile_starts_at (counts_of h) + 8 * profile) before
-      (stands_ith long 8 (λ n. refl) (spelling h) (profile_starts_at (counts_of h)) (starts_from 0 h.network.profiles) profile before (profile_starts_stand h f) (start_there 0 h.network.profiles profile inside ∙ ap Some (omega arith)))
+      (stands_ith long 8 (λ n. refl) (spelling h) (profile_starts_at (counts_of h)) (starts_from 0 h.network.profiles) profile before (profile_starts_stand h f)
+      (start_there 0 h.network.profiles profile inside ∙ ap Some (omega arith)))
       (omega (arith, within, limit))
 
   -- a piece of a profile
@@ -134,7 +138,8 @@ module _ (h : HierarchyValue) (f : IsHierarchy h) where
       let limit = all_at (λ (p : Piece). is_in_limit p ≡ true) pieces index piece valid.limits there in
       let begins = piece_begins piece limit in
       rule_read (spelling h) (pieces_at (counts_of h) + 12 * (total (take profile h.network.profiles) + index)) piece.from piece.rule
-      (stands_jth piece_bytes 12 piece_long (spelling h) (pieces_at (counts_of h)) h.network.profiles profile index pieces piece (pieces_stand h f) list there) (omega (arith, begins)) (and_parts (nat_lt piece.from day) (is_rule_in_limit piece.rule) limit).1
+      (stands_jth piece_bytes 12 piece_long (spelling h) (pieces_at (counts_of h)) h.network.profiles profile index pieces piece (pieces_stand h f) list there)
+      (omega (arith, begins)) (and_parts (nat_lt piece.from day) (is_rule_in_limit piece.rule) limit).1
 
   -- how many edges are before a rank
   pub edge_start_read : (rank : ℕ) → rank ≤ h.network.nodes → word_at (spelling h) (edge_starts_at (counts_of h) + 4 * rank) ≡ first_edge_of h.edges rank
@@ -142,7 +147,8 @@ module _ (h : HierarchyValue) (f : IsHierarchy h) where
       let within = first_edge_within h.edges rank in
       let limit = f.graph.few_edges in
       word_read (spelling h) (edge_starts_at (counts_of h) + 4 * rank) (first_edge_of h.edges rank)
-      (stands_ith word 4 (λ n. refl) (spelling h) (edge_starts_at (counts_of h)) (edge_starts h) rank (first_edge_of h.edges rank) (edge_starts_stand h f) (counted_there (first_edge_of h.edges) (suc h.network.nodes) rank (omega (arith, inside))))
+      (stands_ith word 4 (λ n. refl) (spelling h) (edge_starts_at (counts_of h)) (edge_starts h) rank (first_edge_of h.edges rank) (edge_starts_stand h f)
+      (counted_there (first_edge_of h.edges) (suc h.network.nodes) rank (omega (arith, inside))))
       (omega (arith, within, limit))
 
   -- the higher rank of an edge
@@ -162,7 +168,8 @@ module _ (h : HierarchyValue) (f : IsHierarchy h) where
       let within = sum_by-take-le length h.lists number in
       let limit = entries_in_limit h f in
       long_read (spelling h) (way_starts_at (counts_of h) + 8 * number) before
-      (stands_ith long 8 (λ n. refl) (spelling h) (way_starts_at (counts_of h)) (starts_from 0 h.lists) number before (way_starts_stand h f) (start_there 0 h.lists number inside ∙ ap Some (omega arith)))
+      (stands_ith long 8 (λ n. refl) (spelling h) (way_starts_at (counts_of h)) (starts_from 0 h.lists) number before (way_starts_stand h f)
+      (start_there 0 h.lists number inside ∙ ap Some (omega arith)))
       (omega (arith, within, limit))
 
   -- an entry's way is a road or a rank that is there
@@ -184,7 +191,8 @@ module _ (h : HierarchyValue) (f : IsHierarchy h) where
       let formed = all_at (λ (e : Entry). IsWellFormed h (start_of ends dir) (end_of ends dir) e.way) (list_of h edge dir) index entry (f.formed edge dir ends edge_there) there in
       let range = all_at (λ (e : Ends). (e.low < e.high) × (e.high < h.network.nodes)) h.edges edge ends f.graph.in_range edge_there in
       way_read (spelling h) at entry.from (start_of ends dir) (end_of ends dir) entry.way (start_below ends dir h.network.nodes range.0 range.1)
-      (stands_jth entry_bytes 12 entry_long (spelling h) (entries_at (counts_of h)) h.lists (list_number edge dir) index (list_of h edge dir) entry (entries_stand h f) list there) (omega (arith, begins)) formed
+      (stands_jth entry_bytes 12 entry_long (spelling h) (entries_at (counts_of h)) h.lists (list_number edge dir) index (list_of h edge dir) entry
+      (entries_stand h f) list there) (omega (arith, begins)) formed
 
   -- the same, by the list's number
   pub listed_read : (number index : ℕ) (list : List Entry) (entry : Entry) → slice_get h.lists number ≡ Some list → slice_get list index ≡ Some entry
@@ -198,5 +206,6 @@ module _ (h : HierarchyValue) (f : IsHierarchy h) where
       let same_number = sym parts.3 in
       let found : slice_get h.lists number ≡ Some (list_of h edge dir) = subst (λ (n : ℕ). slice_get h.lists n ≡ Some (list_of h edge dir)) same_number (list_there h edge dir f inside) in
       let same : list ≡ list_of h edge dir = cc in
-      let read = entry_read edge dir index (get_or h.edges edge nowhere) entry (slice_get-get_or h.edges edge nowhere inside) (subst (λ (es : List Entry). slice_get es index ≡ Some entry) same there) in
+      let read = entry_read edge dir index (get_or h.edges edge nowhere) entry (slice_get-get_or h.edges edge nowhere inside)
+      (subst (λ (es : List Entry). slice_get es index ≡ Some entry) same there) in
       subst (λ (n : ℕ). ReadsWay (spelling h) (entries_at (counts_of h) + 12 * (total (take n h.lists) + index)) entry.from entry.way) same_number read

@@ -74,10 +74,12 @@ own_first lists t inside =
       get_here set_up (2 * t.edge + 1) t.down (omega (arith, inside, long)),
     )
 
-own_kept : (lists : List (List Entry)) (touched : List TouchedEdge) (t : TouchedEdge) → ((i : ℕ) (u : TouchedEdge) → slice_get touched i ≡ Some u → t.edge < u.edge) → AreOwn lists t → AreOwn (replaced lists touched) t
+own_kept : (lists : List (List Entry)) (touched : List TouchedEdge) (t : TouchedEdge)
+    → ((i : ℕ) (u : TouchedEdge) → slice_get touched i ≡ Some u → t.edge < u.edge) → AreOwn lists t → AreOwn (replaced lists touched) t
 own_kept lists touched t later own = (
   replaced_elsewhere lists touched (2 * t.edge) (λ i u there. let above = later i u there in ((λ same. absurd (omega (arith, same, above))), (λ same. absurd (omega (arith, same, above))))) ∙ own.0,
-  replaced_elsewhere lists touched (2 * t.edge + 1) (λ i u there. let above = later i u there in ((λ same. absurd (omega (arith, same, above))), (λ same. absurd (omega (arith, same, above))))) ∙ own.1,
+  replaced_elsewhere lists touched (2 * t.edge + 1)
+      (λ i u there. let above = later i u there in ((λ same. absurd (omega (arith, same, above))), (λ same. absurd (omega (arith, same, above))))) ∙ own.1,
 )
 
 replaced_there : (lists : List (List Entry)) (touched : List TouchedEdge) (i : ℕ) (t : TouchedEdge) → AreRising touched → slice_get touched i ≡ Some t → 2 * t.edge + 1 < length lists
@@ -104,7 +106,8 @@ up_to_none touched edges = record {
   left = λ i t more there. omega arith;
 }
 
-module _ (lists : List (List Entry)) (touched : List TouchedEdge) (edges : ℕ) (long : length lists ≡ 2 * edges) (rising : AreRising touched) (below : All (λ (t : TouchedEdge). t.edge < edges) touched) where
+module _ (lists : List (List Entry)) (touched : List TouchedEdge) (edges : ℕ) (long : length lists ≡ 2 * edges) (rising : AreRising touched)
+    (below : All (λ (t : TouchedEdge). t.edge < edges) touched) where
   pub edge_inside : (i : ℕ) (t : TouchedEdge) → slice_get touched i ≡ Some t → t.edge < edges
   edge_inside i t there = all_at (λ (u : TouchedEdge). u.edge < edges) touched i t below there
 

@@ -87,7 +87,8 @@ module _ (bytes : List ℕ) (small : AreBytes bytes) (f : IsGraph bytes) (none :
       let start_end : profile_starts_at c + 8 * suc c.profiles ≡ pieces_at c = omega arith in
       let starts = ap (flat_map long) (starts_again (profile_start bytes) (profile_in bytes) 0 c.profiles 0 (profiles_lead bytes valid) (sym first))
       ∙ longs_again bytes small (profile_starts_at c) (suc c.profiles) (omega (arith, size)) ∙ ap (slice_range bytes (profile_starts_at c)) start_end in
-      let pieces = lists_again bytes small piece_bytes (λ piece. piece_from bytes (piece_place bytes piece)) (pieces_at c) (profile_start bytes) c.profiles c.pieces first (last_profile bytes valid) (λ k lt.
+      let pieces = lists_again bytes small piece_bytes (λ piece. piece_from bytes (piece_place bytes piece)) (pieces_at c) (profile_start bytes) c.profiles
+      c.pieces first (last_profile bytes valid) (λ k lt.
       let rises = profile_rises bytes valid k lt in
       let within = profile_within bytes valid k lt in (
         omega (arith, rises),
@@ -120,7 +121,8 @@ module _ (bytes : List ℕ) (small : AreBytes bytes) (f : IsGraph bytes) (none :
       let start_end : way_starts_at c + 8 * suc (2 * c.edges) ≡ entries_at c = omega arith in
       let starts = ap (flat_map long) (starts_again (way_start bytes) (list_in bytes) 0 (2 * c.edges) 0 (lists_lead bytes none) (sym first))
       ∙ longs_again bytes small (way_starts_at c) (suc (2 * c.edges)) (omega (arith, size)) ∙ ap (slice_range bytes (way_starts_at c)) start_end in
-      let entries = lists_again bytes small entry_bytes (λ entry. entry_from bytes (entry_place bytes entry)) (entries_at c) (way_start bytes) (2 * c.edges) c.entries first (last_list bytes none) (λ k lt.
+      let entries = lists_again bytes small entry_bytes (λ entry. entry_from bytes (entry_place bytes entry)) (entries_at c) (way_start bytes) (2 * c.edges)
+      c.entries first (last_list bytes none) (λ k lt.
       let within = list_within bytes none k lt in (
         list_rises bytes none k lt,
         λ j low high. entry_again bytes small (entries_at c + 12 * j) (omega (arith, high, within, size)) (list_kinds bytes none k lt j low high),

@@ -23,7 +23,8 @@ all_items xs end all = last_items xs 0 end all
 pub put_all : {X : Type 0} (f : X → List ℕ) (xs : List X) (end : ℕ) (before after : List ℕ) → end ≡ length xs → after ≡ before ++ flat_map f (slice_range xs 0 end) → after ≡ before ++ flat_map f xs
 put_all {X} f xs end before after all put = put ∙ ap (λ (ys : List X). before ++ flat_map f ys) (all_items xs end all)
 
-pub put_set : {X : Type 0} (f : X → List ℕ) (xs : List X) (i end : ℕ) (x : X) (before one two after : List ℕ) → i < length xs → end ≡ length xs → one ≡ before ++ flat_map f (slice_range xs 0 i) → two ≡ one ++ f x
+pub put_set : {X : Type 0} (f : X → List ℕ) (xs : List X) (i end : ℕ) (x : X) (before one two after : List ℕ) → i < length xs → end ≡ length xs
+    → one ≡ before ++ flat_map f (slice_range xs 0 i) → two ≡ one ++ f x
     → after ≡ two ++ flat_map f (slice_range xs (i + 1) end) → after ≡ before ++ flat_map f (set xs i x)
 put_set {X} f xs i end x before one two after inside all first second third =
     let front = flat_map f (take i xs) in

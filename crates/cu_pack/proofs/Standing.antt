@@ -26,7 +26,8 @@ module _ (bytes : List ℕ) (at : ℕ) (first second : List ℕ) (both : StandsA
       ∙ ap (λ (n : ℕ). drop (length first) (take n (drop at bytes))) (sym (length-append first second)) ∙ ap (drop (length first)) both ∙ drop_at first second (length first) refl
 
 -- a part inside
-pub stands_inside : (bytes : List ℕ) (at k next : ℕ) (part inner : List ℕ) → StandsAt bytes at part → k + length inner ≤ length part → take (length inner) (drop k part) ≡ inner → next ≡ at + k → StandsAt bytes next inner
+pub stands_inside : (bytes : List ℕ) (at k next : ℕ) (part inner : List ℕ) → StandsAt bytes at part → k + length inner ≤ length part
+    → take (length inner) (drop k part) ≡ inner → next ≡ at + k → StandsAt bytes next inner
 stands_inside bytes at k next part inner all inside there place =
     let long = length part - k in
     let whole : k + long ≡ length part = omega (arith, inside) in
@@ -59,7 +60,8 @@ flat_flat_length f k each (xs ∷ xss) =
     let both = length-append (flat_map f xs) (flat_map (flat_map f) xss) in
     let one = flat_length f k each xs in
     let rest = flat_flat_length f k each xss in
-    both ∙ ap (λ (n : ℕ). n + length (flat_map (flat_map f) xss)) one ∙ ap (λ (n : ℕ). k * length xs + n) rest ∙ sym (mul-add k (length xs) (total xss)) ∙ ap (λ (n : ℕ). k * n) (sym (sum_by-cons length xs xss))
+    both ∙ ap (λ (n : ℕ). n + length (flat_map (flat_map f) xss)) one ∙ ap (λ (n : ℕ). k * length xs + n) rest ∙ sym (mul-add k (length xs) (total xss))
+    ∙ ap (λ (n : ℕ). k * n) (sym (sum_by-cons length xs xss))
 
 cut : {X : Type 0} (f : X → List ℕ) (xs : List X) (i : ℕ) (x : X) → slice_get xs i ≡ Some x → (rest : List ℕ) × (flat_map f xs ≡ flat_map f (take i xs) ++ (f x ++ rest))
 cut f [] i x there = absurd (cc there)
@@ -78,7 +80,8 @@ stands_within f bytes at xs i x next all there place =
     stands_first bytes next (f x) parts.0 (stands_second bytes at front (f x ++ parts.0) split next place)
 
 -- where all pieces have one length
-pub stands_ith : {X : Type 0} (f : X → List ℕ) (k : ℕ) → ((x : X) → length (f x) ≡ k) → (bytes : List ℕ) (at : ℕ) (xs : List X) (i : ℕ) (x : X) → StandsAt bytes at (flat_map f xs) → slice_get xs i ≡ Some x
+pub stands_ith : {X : Type 0} (f : X → List ℕ) (k : ℕ) → ((x : X) → length (f x) ≡ k) → (bytes : List ℕ) (at : ℕ) (xs : List X) (i : ℕ) (x : X)
+    → StandsAt bytes at (flat_map f xs) → slice_get xs i ≡ Some x
     → StandsAt bytes (at + k * i) (f x)
 stands_ith f k each bytes at xs i x all there =
     let inside = slice_get_within xs i x there in
@@ -86,7 +89,8 @@ stands_ith f k each bytes at xs i x all there =
     stands_within f bytes at xs i x (at + k * i) all there (ap (λ (n : ℕ). at + n) (sym before))
 
 -- where they are those of several lists, one behind the other
-pub stands_jth : {X : Type 0} (f : X → List ℕ) (k : ℕ) → ((x : X) → length (f x) ≡ k) → (bytes : List ℕ) (at : ℕ) (xss : List (List X)) (i j : ℕ) (xs : List X) (x : X) → StandsAt bytes at (flat_map (flat_map f) xss)
+pub stands_jth : {X : Type 0} (f : X → List ℕ) (k : ℕ) → ((x : X) → length (f x) ≡ k)
+    → (bytes : List ℕ) (at : ℕ) (xss : List (List X)) (i j : ℕ) (xs : List X) (x : X) → StandsAt bytes at (flat_map (flat_map f) xss)
     → slice_get xss i ≡ Some xs → slice_get xs j ≡ Some x → StandsAt bytes (at + k * (total (take i xss) + j)) (f x)
 stands_jth f k each bytes at xss i j xs x all list there =
     let before = total (take i xss) in

@@ -31,7 +31,8 @@ pub total_on : {T : Type 0} (lists : List (List T)) (a b : ℕ) → a ≤ b → 
 total_on {T} lists a b order = ap (λ (ls : List (List T)). total ls) (sym (take_on lists a b order)) ∙ sum_by-append length (take a lists) (slice_range lists a b)
 
 -- what is made of a stretch, put behind what is made of the list before it
-pub put_stretch : {X : Type 0} (f : X → List ℕ) (xs : List X) (a b : ℕ) (start before after : List ℕ) → a ≤ b → before ≡ start ++ flat_map f (take a xs) → after ≡ before ++ flat_map f (slice_range xs a b)
+pub put_stretch : {X : Type 0} (f : X → List ℕ) (xs : List X) (a b : ℕ) (start before after : List ℕ) → a ≤ b → before ≡ start ++ flat_map f (take a xs)
+    → after ≡ before ++ flat_map f (slice_range xs a b)
     → after ≡ start ++ flat_map f (take b xs)
 put_stretch {X} f xs a b start before after order put more =
     more ∙ ap (λ (bs : List ℕ). bs ++ flat_map f (slice_range xs a b)) put ∙ append_assoc start (flat_map f (take a xs)) (flat_map f (slice_range xs a b))
@@ -61,7 +62,8 @@ module _ {X : Type 0} (f : X → List ℕ) (bytes : List ℕ) (at : ℕ) (xs : L
       stretch_of bytes (at + k * a) (at + k * b) (flat_map f (slice_range xs a b)) (stretch_stands (at + k * a) (ap (λ (n : ℕ). at + n) (sym before))) (omega (arith, long, whole))
 
 -- where it is made of lists, of twelve bytes for each item
-pub stretch_lists : {X : Type 0} (f : X → List ℕ) → ((x : X) → length (f x) ≡ 12) → (bytes : List ℕ) (at : ℕ) (xss : List (List X)) → StandsAt bytes at (flat_map (flat_map f) xss) → (a b first end : ℕ) → a ≤ b
+pub stretch_lists : {X : Type 0} (f : X → List ℕ) → ((x : X) → length (f x) ≡ 12) → (bytes : List ℕ) (at : ℕ) (xss : List (List X))
+    → StandsAt bytes at (flat_map (flat_map f) xss) → (a b first end : ℕ) → a ≤ b
     → first ≡ total (take a xss) → end ≡ total (take b xss) → slice_range bytes (at + 12 * first) (at + 12 * end) ≡ flat_map (flat_map f) (slice_range xss a b)
 stretch_lists f each bytes at xss all a b first end order first_is end_is =
     let before = flat_flat_length f 12 each (take a xss) in

@@ -11,7 +11,8 @@ abbrev pub parts : HierarchyValue → List ℕ
 parts h = order_section h ++ (arcs_section h ++ (profiles_section h ++ (edges_section h ++ ways_section h)))
 
 -- with the digest in the place of whatever stands behind the sections
-pub spelled : (h : HierarchyValue) (counts : Counts) (none headed bytes last all : List ℕ) → counts ≡ counts_of h → none ≡ [] → headed ≡ none ++ header counts → bytes ≡ headed ++ parts h → length last ≡ 32
+pub spelled : (h : HierarchyValue) (counts : Counts) (none headed bytes last all : List ℕ) → counts ≡ counts_of h → none ≡ [] → headed ≡ none ++ header counts
+    → bytes ≡ headed ++ parts h → length last ≡ 32
     → all ≡ bytes ++ last → sealed all ≡ spelling h
 unfolding body spelling
 spelled h counts none headed bytes last all same empty head put short end =

@@ -142,7 +142,13 @@ begins_other s t last profile e other x = record {
       omega (arith, few, next, more);
   given = λ between row same groups.
       let begun = ap (λ (n : ℕ). profiles_of_groups n (onto row groups)) (sym x.row) ∙ groups_begun t row groups (x.first ∙ sym x.row) x.wrong_kind x.pieces in
-      rw (e, groups_other s last row groups (λ k. other (k ∙ sym same)), joined_kept (last_profile s) s.fault t.fault s.profiles.items t.profiles.items (profiles_of_groups s.row (onto row groups)) x.kept, begun, same) refl;
+      rw (
+        e,
+        groups_other s last row groups (λ k. other (k ∙ sym same)),
+        joined_kept (last_profile s) s.fault t.fault s.profiles.items t.profiles.items (profiles_of_groups s.row (onto row groups)) x.kept,
+        begun,
+        same,
+      ) refl;
 }
 
 -- the rows end

@@ -39,7 +39,8 @@ text_read names text s t answer same n h =
     given_new None = refl
     given_new (Some rows) = new_given s rows n
 
-    from_new : (o : Option (List (List (List ℕ)))) → Leads (below Header (rows_behind s) o) IsBetweenRows rows_behind t answer → Leads (below Header profiles_of_rows o) IsBetweenRows rows_behind t answer
+    from_new : (o : Option (List (List (List ℕ)))) → Leads (below Header (rows_behind s) o) IsBetweenRows rows_behind t answer
+        → Leads (below Header profiles_of_rows o) IsBetweenRows rows_behind t answer
     from_new o k = rw (given_new o) at k
 
 -- what was finished is what the text gives

@@ -20,7 +20,8 @@ part_room h f pending spot (x, y, is) =
     (omega (arith, room), omega (arith, few))
 
 -- the first half is next, and leads over a lower edge
-pub parted_on : (h : HierarchyValue) → IsHierarchy h → (pending : List Pending) (spot : Spot) (parted : Parted) → length pending ≡ h.network.nodes → IsSomewhere h pending spot → HoldsParted h spot.next parted
+pub parted_on : (h : HierarchyValue) → IsHierarchy h → (pending : List Pending) (spot : Spot) (parted : Parted) → length pending ≡ h.network.nodes
+    → IsSomewhere h pending spot → HoldsParted h spot.next parted
     → IsSomewhere h (slice_set pending spot.depth (record { asked = spot.next; back = parted.back; ahead = parted.ahead; half = half.First parted.rest }))
     (record { whole = spot.whole; next = record { list = parted.first; second = spot.next.second }; depth = spot.depth + 1; roads = spot.roads })
     × (low_of_list h parted.first < low_of_list h spot.next.list)

@@ -65,7 +65,8 @@ module _ (h : HierarchyValue) (f : IsHierarchy h) (whole : Asked) (pending : Lis
       let t = p.asked.second in
       let m = top.middle in
       let (from, to, at, waits) = subst (λ (k : Half). IsHalf h p k top.u top.v m top.x top.y top.second) is top.in_work in
-      let done : IsDriven h top.u m t driven = subst (λ (n : ℕ). IsDriven h top.u m n driven) at (subst (λ (b : ℕ). IsDriven h top.u b top.second driven) to (subst (λ (a : ℕ). IsDriven h a top.y top.second driven) from top.done)) in
+      let done : IsDriven h top.u m t driven = subst (λ (n : ℕ). IsDriven h top.u m n driven) at
+      (subst (λ (b : ℕ). IsDriven h top.u b top.second driven) to (subst (λ (a : ℕ). IsDriven h a top.y top.second driven) from top.done)) in
       let w0 = top.parted.window.0 in
       let w1 = top.parted.window.1 in
       let w2 = top.parted.window.2 in

@@ -71,5 +71,6 @@ pub arcs_read : {U : Type 0} (text : List ℕ) (names : List (List ℕ)) (s t : 
 arcs_read text names s t answer e empty h =
     let rest = arcs_rest s.nodes s.profiles in
     subst (λ (header : List (List ℕ)). Leads (below (Header Roads) (arcs_of_rows s.nodes s.profiles) (rows_below header (table text))) (HasCounts s.nodes s.profiles) rest t answer) e
-    (subst (λ (arcs : List RoadArc). Leads (below (Header Roads) (λ rows. rest_of (arc_fault s.nodes s.profiles) arc_of_row arcs rows) (rows_below names (table text))) (HasCounts s.nodes s.profiles) rest t answer) empty
+    (subst (λ (arcs : List RoadArc). Leads (below (Header Roads) (λ rows. rest_of (arc_fault s.nodes s.profiles) arc_of_row arcs rows) (rows_below names (table text)))
+    (HasCounts s.nodes s.profiles) rest t answer) empty
     (walked_below (arcs_follow s.nodes s.profiles) s t (rows_below names (table text)) (Header Roads) answer (refl, refl) h))

@@ -26,7 +26,8 @@ pub roads_joined : (roads : List ℕ) → walk_text true roads ≡ join_by decim
 roads_joined [] = refl
 roads_joined (road ∷ roads) = ap (λ (t : List ℕ). decimal road ++ t) (blanks roads)
 
-module _ (h : HierarchyValue) (sound : IsHierarchy h) (query : Query) (from to : ℕ) (start : slice_get h.order.rank_of query.from ≡ Some from) (stop : slice_get h.order.rank_of query.to ≡ Some to) where
+module _ (h : HierarchyValue) (sound : IsHierarchy h) (query : Query) (from to : ℕ) (start : slice_get h.order.rank_of query.from ≡ Some from)
+    (stop : slice_get h.order.rank_of query.to ≡ Some to) where
   -- the nodes of the query stand at these ranks
   from_placed : slice_get h.order.node_at from ≡ Some query.from
   from_placed = sound.order.placed query.from from start

@@ -106,7 +106,8 @@ session_begins h reader source sink is = rw is (record {
   rises = omega arith;
 })
 
-module _ (first held : HierarchyValue) (source_before : SourceState) (sink_before : SinkState) (r after : ReaderState) (s t : SourceState) (k : SinkState) (h : Session first held source_before sink_before r s k) (chunk : List ℕ)
+module _ (first held : HierarchyValue) (source_before : SourceState) (sink_before : SinkState) (r after : ReaderState) (s t : SourceState) (k : SinkState)
+    (h : Session first held source_before sink_before r s k) (chunk : List ℕ)
     (took : TakesLine r after s t chunk) where
   taken_now : List ℕ
   taken_now = h.taken ++ chunk

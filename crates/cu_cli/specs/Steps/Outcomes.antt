@@ -71,7 +71,8 @@ pub record Refuses (why : Stop) (before now : SinkState) (status : ℕ) : Type 0
   pub rises : before.flushed ≤ now.flushed
 
 -- The work of a command, which may answer a script, ended as `Ends` says, and moved, stored and left so much.
-pub record Works (script : Bool) (why : Option Stop) (Ends : Ending → Type 0) (shelf_before shelf_now : ShelfState) (source_before source_now : SourceState) (sink_before sink_now : SinkState) : Type 0 where
+pub record Works (script : Bool) (why : Option Stop) (Ends : Ending → Type 0) (shelf_before shelf_now : ShelfState) (source_before source_now : SourceState)
+    (sink_before sink_now : SinkState) : Type 0 where
   pub work : Ending
   pub stop : work.stop ≡ why
   pub ended : Ends work

@@ -132,7 +132,8 @@ pub record IsUpOver (h : HierarchyValue) (q : Question) (done : List ℕ) (befor
   pub swept : long ≡ None → IsUpSwept h q done labels links
 
 -- the downward sweep over these ranks is done, or ended with a call whose walk is too long
-pub record IsDownOver (h : HierarchyValue) (q : Question) (done : List ℕ) (before now : Option (List Call)) (labels : List (Option ℕ)) (links : List (Option (ℕ × ℕ))) (long : Option Call) : Type 0 where
+pub record IsDownOver (h : HierarchyValue) (q : Question) (done : List ℕ) (before now : Option (List Call)) (labels : List (Option ℕ))
+    (links : List (Option (ℕ × ℕ))) (long : Option Call) : Type 0 where
   pub ended : long ≡ first_long h (down_calls_of h q done)
   pub told : AddsAll before now (until_long h (down_calls_of h q done))
   pub swept : long ≡ None → IsDownSwept h q done labels links

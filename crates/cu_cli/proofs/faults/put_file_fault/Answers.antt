@@ -16,7 +16,10 @@ returns-in_ok-put_all-in-Limit g c =
 pub returns-in_err-put_word_and_number-in-Ways : goal.returns-in_err-put_word_and_number-in-Ways
 returns-in_err-put_word_and_number-in-Ways g c =
     let rest = codes " " ++ dir_word c.in-Ways.dir in
-    record { wrote = rw c.in-Ways.is (wrote_same (simp append_assoc) (wrote_stops rest c.from_residual-in_err-put_word_and_number-in-Ways.ensures.0 c.in_err-put_word_and_number-in-Ways.ensures.wrote)) }
+    record {
+      wrote = rw c.in-Ways.is (wrote_same (simp append_assoc)
+          (wrote_stops rest c.from_residual-in_err-put_word_and_number-in-Ways.ensures.0 c.in_err-put_word_and_number-in-Ways.ensures.wrote));
+    }
 
 pub returns-in_err-put_all-in-Ways : goal.returns-in_err-put_all-in-Ways
 returns-in_err-put_all-in-Ways g c =

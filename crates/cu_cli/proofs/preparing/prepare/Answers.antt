@@ -13,7 +13,8 @@ returns-in_err-texts-clause-err g c =
     let asked = c.args.tables in
     let before = g.H.Shelf.state c.args.shelf.now in
     let now = g.H.Shelf.state c.load_tables.new.shelf in
-    let stops = stops_sooner before now (network_files asked.nodes.now asked.roads.now asked.profiles.now) (order_files (order_asked asked.order)) c.in_err-texts.field-0.0 c.in_err-texts.ensures.err in
+    let stops = stops_sooner before now (network_files asked.nodes.now asked.roads.now asked.profiles.now) (order_files (order_asked asked.order))
+    c.in_err-texts.field-0.0 c.in_err-texts.ensures.err in
     rw (err_is c.from_residual.result c.in_err-texts.field-0.0 c.from_residual.ensures.1) (inl stops)
 
 pub returns-in_err-given-clause-err : goal.returns-in_err-given-clause-err
@@ -24,7 +25,8 @@ returns-in_err-given-clause-err g c =
     let why = c.in_err-given.field-0.0 in
     let order = stops_all_behind now (order_files (order_asked asked.order)) why c.in_ok-texts.ensures.loads c.in_ok-texts.ensures.quiet c.in_err-given.ensures.err in
     let stops =
-    stops_later before now (network_files asked.nodes.now asked.roads.now asked.profiles.now) (order_files (order_asked asked.order)) (table_texts c.in_ok-texts.texts) why c.in_ok-texts.ensures.ok order in
+    stops_later before now (network_files asked.nodes.now asked.roads.now asked.profiles.now) (order_files (order_asked asked.order))
+    (table_texts c.in_ok-texts.texts) why c.in_ok-texts.ensures.ok order in
     rw (err_is c.from_residual-in_err-given.result why c.from_residual-in_err-given.ensures.1) (inl stops)
 
 pub returns-clause-ok : goal.returns-clause-ok
@@ -35,14 +37,16 @@ returns-clause-ok g c =
     let given = c.in_ok-given.given in
     let order = all_loaded_behind (order_files (order_asked asked.order)) (order_texts given) c.in_ok-texts.ensures.loads c.in_ok-given.ensures.ok in
     let loaded =
-    loaded_then before (network_files asked.nodes.now asked.roads.now asked.profiles.now) (order_files (order_asked asked.order)) (table_texts texts) (order_texts given) c.in_ok-texts.ensures.ok order in
+    loaded_then before (network_files asked.nodes.now asked.roads.now asked.profiles.now) (order_files (order_asked asked.order)) (table_texts texts)
+    (order_texts given) c.in_ok-texts.ensures.ok order in
     if_ok_map c.read_prepared.result _ _
     (λ prepared (places, read). (
       places,
       (
         table_texts texts ++ order_texts given,
         loaded,
-        read_asked (order_asked asked.order) given texts.nodes.items texts.roads.items texts.profiles.items (record { network = prepared.network; places = places }) prepared.order c.in_ok-given.ensures.given read,
+        read_asked (order_asked asked.order) given texts.nodes.items texts.roads.items texts.profiles.items
+            (record { network = prepared.network; places = places }) prepared.order c.in_ok-given.ensures.given read,
       ),
     ))
     c.read_prepared.ensures.ok
@@ -55,7 +59,12 @@ returns-clause-err g c =
     let given = c.in_ok-given.given in
     let order = all_loaded_behind (order_files (order_asked asked.order)) (order_texts given) c.in_ok-texts.ensures.loads c.in_ok-given.ensures.ok in
     let loaded =
-    loaded_then before (network_files asked.nodes.now asked.roads.now asked.profiles.now) (order_files (order_asked asked.order)) (table_texts texts) (order_texts given) c.in_ok-texts.ensures.ok order in
+    loaded_then before (network_files asked.nodes.now asked.roads.now asked.profiles.now) (order_files (order_asked asked.order)) (table_texts texts)
+    (order_texts given) c.in_ok-texts.ensures.ok order in
     if_err_map c.read_prepared.result _ _
-    (λ why stops. inr (table_texts texts ++ order_texts given, loaded, reading_stops_asked (order_asked asked.order) given texts.nodes.items texts.roads.items texts.profiles.items why c.in_ok-given.ensures.given stops))
+    (λ why stops. inr (
+      table_texts texts ++ order_texts given,
+      loaded,
+      reading_stops_asked (order_asked asked.order) given texts.nodes.items texts.roads.items texts.profiles.items why c.in_ok-given.ensures.given stops,
+    ))
     c.read_prepared.ensures.err

@@ -26,7 +26,8 @@ pub returns-clause-apart : goal.returns-clause-apart
 returns-clause-apart c =
     let g : NetworkValue = c.args.network.now in
     let places : List Place = c.args.places.now in
-    let all : All (IsApart g) (dissected g places).splits = all_from_members (IsApart g) (dissected g places).splits (λ split at. (splits_barred g places c.in_ok-dissection.ensures.sound split at).apart) in
+    let all : All (IsApart g) (dissected g places).splits =
+    all_from_members (IsApart g) (dissected g places).splits (λ split at. (splits_barred g places c.in_ok-dissection.ensures.sound split at).apart) in
     subst (All (IsApart g)) (sym c.in_ok-dissection.ensures.splits) all
 
 pub returns-clause-unrelated : goal.returns-clause-unrelated
@@ -37,5 +38,6 @@ returns-clause-unrelated c = λ graph closed.
     let given : order.node_at ≡ (dissected g places).order = c.in_ok-order.ensures.given ∙ c.in_ok-dissection.ensures.order in
     let all : All (IsUnrelated graph order) (dissected g places).splits =
     all_from_members (IsUnrelated graph order) (dissected g places).splits
-    (λ split at. barred_unrelated g order graph split c.in_ok-order.ensures.sound closed (subst (λ (nodes : List ℕ). IsBarred g nodes split) (sym given) (splits_barred g places c.in_ok-dissection.ensures.sound split at))) in
+    (λ split at. barred_unrelated g order graph split c.in_ok-order.ensures.sound closed
+    (subst (λ (nodes : List ℕ). IsBarred g nodes split) (sym given) (splits_barred g places c.in_ok-dissection.ensures.sound split at))) in
     subst (All (IsUnrelated graph order)) (sym c.in_ok-dissection.ensures.splits) all

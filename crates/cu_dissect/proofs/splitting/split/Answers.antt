@@ -14,7 +14,9 @@ cond_clear false m clear = clear
 pub mark-requires : goal.mark-requires
 mark-requires c =
     let n : ℕ = c.args.map.now.network.now.nodes in
-    let all : All (λ node. node < n) c.deref.result.now = subst (All (λ node. node < n)) (sym (c.deref.ensures.value ∙ c.in_ok-halves.ensures.left)) (left_part c.args.map.now.places.now n c.args.part.now c.requires.part).in_range in
+    let all : All (λ node. node < n) c.deref.result.now =
+    subst (All (λ node. node < n)) (sym (c.deref.ensures.value ∙ c.in_ok-halves.ensures.left))
+    (left_part c.args.map.now.places.now n c.args.part.now c.requires.part).in_range in
     subst (λ (k : ℕ). All (λ node. node < k) c.deref.result.now) (sym c.requires.long) all
 
 pub part_by_marks-requires-clause-in_range : goal.part_by_marks-requires-clause-in_range
@@ -25,7 +27,9 @@ part_by_marks-requires-clause-in_range c =
 pub mark-requires-2 : goal.mark-requires-2
 mark-requires-2 c =
     let n : ℕ = c.args.map.now.network.now.nodes in
-    let all : All (λ node. node < n) c.deref-3.result.now = subst (All (λ node. node < n)) (sym (c.deref-3.ensures.value ∙ c.in_ok-halves.ensures.left)) (left_part c.args.map.now.places.now n c.args.part.now c.requires.part).in_range in
+    let all : All (λ node. node < n) c.deref-3.result.now =
+    subst (All (λ node. node < n)) (sym (c.deref-3.ensures.value ∙ c.in_ok-halves.ensures.left))
+    (left_part c.args.map.now.places.now n c.args.part.now c.requires.part).in_range in
     subst (λ (k : ℕ). All (λ node. node < k) c.deref-3.result.now) (sym (c.mark.auto.marks ∙ c.requires.long)) all
 
 pub returns-clause-exact : goal.returns-clause-exact
@@ -35,7 +39,9 @@ returns-clause-exact c =
     let rest : List ℕ = c.in_ok-halves.halves.rest.items in
     let neighbours : List (List ℕ) = c.args.map.now.neighbours in
     let marks : List Bool = c.mark.new.marks in
-    let marked : (v : ℕ) → get_or marks v false ≡ has left v = λ v. c.mark.ensures v ∙ cond_clear (has c.deref.result.now v) (get_or c.args.marks.now v false) (c.requires.clear v) ∙ ap (λ (nodes : List ℕ). has nodes v) c.deref.ensures.value in
+    let marked : (v : ℕ) → get_or marks v false ≡ has left v =
+    λ v. c.mark.ensures v ∙ cond_clear (has c.deref.result.now v) (get_or c.args.marks.now v false) (c.requires.clear v)
+    ∙ ap (λ (nodes : List ℕ). has nodes v) c.deref.ensures.value in
     split_is g c.args.map.now.places.now c.args.part.now left rest c.in_ok-sides.sides.beside.items c.in_ok-sides.sides.others.items neighbours marks c.requires.map.joined c.requires.part
     c.in_ok-halves.ensures.left c.in_ok-halves.ensures.rest marked (c.in_ok-sides.ensures.beside ∙ ap (filter (is_beside neighbours marks)) c.deref-2.ensures.value)
     (c.in_ok-sides.ensures.others ∙ ap (filter (λ node. not (is_beside neighbours marks node))) c.deref-2.ensures.value)

@@ -15,6 +15,7 @@ of-requires-2 c =
       few_nodes = omega (arith, c.requires);
       few_arcs = omega (arith, c.requires, c.loop-head.invariant.few);
       few_profiles = omega (arith, one);
-      in_range = All-weaker (λ (arc : RoadArc). (arc.tail < n) × (arc.head < n) × (arc.profile < 1)) (IsArcInRange net) (λ arc r. (r.0, r.1, omega (arith, r.2, one))) c.loop-head.arcs.items c.loop-head.invariant.in_range;
+      in_range = All-weaker (λ (arc : RoadArc). (arc.tail < n) × (arc.head < n) × (arc.profile < 1)) (IsArcInRange net)
+          (λ arc r. (r.0, r.1, omega (arith, r.2, one))) c.loop-head.arcs.items c.loop-head.invariant.in_range;
       valid = subst (All IsProfile) (sym c.in_ok-vec-2.ensures.items) (All-cons IsProfile _ [] c.in_ok-profile.ensures.valid (λ k d h. absurd (omega (arith, h))));
     }

@@ -135,7 +135,8 @@ returns-clause-resettled g c =
     (c.in_ok-down.ensures.list c.args.settled.now.items first c.requires.asked) in
     (words_one (g.W.Ways.hierarchy c.args.parts.now.ways.now) c.args.parts.now.edit.now c.args.settled.now.items c.push.new.self.items graph arcs c.next_list-2.new.held.functions
     c.next_list-2.new.held.moved c.keep.new.self c.keep-2.new.self c.place.new.self (record { edge = c.args.edge; up = c.in-Some.up.ways; down = c.in-Some-2.down.ways }) c.in_ok-copy.copy c.in-Some.up
-    c.in-Some-2.down c.in_ok-upwards.upwards c.in_ok-downwards.downwards second c.requires.asked upper lower refl refl c.in_ok-upwards.ensures.kept c.in_ok-downwards.ensures.kept c.place.ensures.places
+    c.in-Some-2.down c.in_ok-upwards.upwards c.in_ok-downwards.downwards second c.requires.asked upper lower refl refl c.in_ok-upwards.ensures.kept
+    c.in_ok-downwards.ensures.kept c.place.ensures.places
     c.place.ensures.functions c.in_ok-copy.ensures c.in_ok-push.ensures.items).resettled
 
 pub returns-clause-holds : goal.returns-clause-holds
@@ -155,5 +156,6 @@ returns-clause-holds g c =
     (c.in_ok-down.ensures.list c.args.settled.now.items first c.requires.asked) in
     (words_one (g.W.Ways.hierarchy c.args.parts.now.ways.now) c.args.parts.now.edit.now c.args.settled.now.items c.push.new.self.items graph arcs c.next_list-2.new.held.functions
     c.next_list-2.new.held.moved c.keep.new.self c.keep-2.new.self c.place.new.self (record { edge = c.args.edge; up = c.in-Some.up.ways; down = c.in-Some-2.down.ways }) c.in_ok-copy.copy c.in-Some.up
-    c.in-Some-2.down c.in_ok-upwards.upwards c.in_ok-downwards.downwards second c.requires.asked upper lower refl refl c.in_ok-upwards.ensures.kept c.in_ok-downwards.ensures.kept c.place.ensures.places
+    c.in-Some-2.down c.in_ok-upwards.upwards c.in_ok-downwards.downwards second c.requires.asked upper lower refl refl c.in_ok-upwards.ensures.kept
+    c.in_ok-downwards.ensures.kept c.place.ensures.places
     c.place.ensures.functions c.in_ok-copy.ensures c.in_ok-push.ensures.items).holds

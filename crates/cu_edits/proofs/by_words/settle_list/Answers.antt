@@ -14,7 +14,8 @@ pub settle-requires-clause-arcs : goal.settle-requires-clause-arcs
 settle-requires-clause-arcs g c =
     let h = g.W.Ways.hierarchy c.args.parts.now.ways.now in
     let inside : c.args.edge < length h.edges = subst (λ (es : List Ends). c.args.edge < length es) (same_edges h c.args.parts.now.graph.now c.requires.parts.hierarchy) c.requires.edge in
-    arcs_sound h.network h.order h.edges c.args.parts.now.arcs.now c.args.parts.now.edit.now c.args.edge c.args.dir c.requires.parts.roads inside c.edited_roads-roads.result c.edited_roads-roads.ensures
+    arcs_sound h.network h.order h.edges c.args.parts.now.arcs.now c.args.parts.now.edit.now c.args.edge c.args.dir c.requires.parts.roads inside
+    c.edited_roads-roads.result c.edited_roads-roads.ensures
 
 pub settle-requires-clause-functions : goal.settle-requires-clause-functions
 settle-requires-clause-functions g c =

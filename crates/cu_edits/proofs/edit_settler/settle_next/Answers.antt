@@ -76,7 +76,8 @@ pub returns-clause-settled : goal.returns-clause-settled
 returns-clause-settled g c =
     (next_one (g.W.Ways.hierarchy c.args.ways.now) c.args.edit.now c.args.settled.now.items c.push.new.self.items c.args.graph.now c.args.arcs.now c.args.rebuilt.now c.learn_sides.new.rebuilt
     c.args.known.now c.learn_sides.new.known _ c.args.edge c.ends-ends.result c.in_ok-lists.lists c.in_ok-copy.copy c.in_ok-lists.functions c.requires.holds c.requires.asked c.ends-ends.ensures.there
-    c.learn_sides.ensures.learns c.learn_sides.ensures.size c.learn_sides.ensures.keeps c.in_ok-learn_sides.ensures.sides c.in_ok-lists.ensures c.in_ok-copy.ensures c.in_ok-push.ensures.items refl).list
+    c.learn_sides.ensures.learns c.learn_sides.ensures.size c.learn_sides.ensures.keeps c.in_ok-learn_sides.ensures.sides c.in_ok-lists.ensures
+    c.in_ok-copy.ensures c.in_ok-push.ensures.items refl).list
 
 pub returns-clause-resettled : goal.returns-clause-resettled
 returns-clause-resettled g c =
@@ -89,4 +90,5 @@ pub returns-clause-holds : goal.returns-clause-holds
 returns-clause-holds g c =
     (next_one (g.W.Ways.hierarchy c.args.ways.now) c.args.edit.now c.args.settled.now.items c.push.new.self.items c.args.graph.now c.args.arcs.now c.args.rebuilt.now c.learn_sides.new.rebuilt
     c.args.known.now c.learn_sides.new.known _ c.args.edge c.ends-ends.result c.in_ok-lists.lists c.in_ok-copy.copy c.in_ok-lists.functions c.requires.holds c.requires.asked c.ends-ends.ensures.there
-    c.learn_sides.ensures.learns c.learn_sides.ensures.size c.learn_sides.ensures.keeps c.in_ok-learn_sides.ensures.sides c.in_ok-lists.ensures c.in_ok-copy.ensures c.in_ok-push.ensures.items refl).holds
+    c.learn_sides.ensures.learns c.learn_sides.ensures.size c.learn_sides.ensures.keeps c.in_ok-learn_sides.ensures.sides c.in_ok-lists.ensures
+    c.in_ok-copy.ensures c.in_ok-push.ensures.items refl).holds

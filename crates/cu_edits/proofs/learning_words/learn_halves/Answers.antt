@@ -32,4 +32,5 @@ returns-clause-known g c is middle =
     let edges = c.args.parts.now.graph.now.edges in
     let Good = IsAtHand c.args.moved.now c.loop-middle.words in
     by_any Good edges c.args.ends c.args.dir c.down-middle-items.result.now (λ x. (c.down-middle-items.ensures.members x).1)
-    (all_of_first (HalvesAre Good edges c.args.ends c.args.dir) c.down-middle-items.result.now c.loop-middle.middle-index (omega (arith, c.loop-middle-test.false)) c.loop-middle.invariant.known) middle
+    (all_of_first (HalvesAre Good edges c.args.ends c.args.dir) c.down-middle-items.result.now c.loop-middle.middle-index
+    (omega (arith, c.loop-middle-test.false)) c.loop-middle.invariant.known) middle

@@ -34,5 +34,6 @@ returns-in-Set c =
     let all = total_all g.profiles c.profiles.result c.profiles.ensures.count in
     let sum = total_set g.profiles c.in-Set.profile (pieces_of g c.in-Set.profile) c.in-Set.pieces there in
     let added = ap length c.pieces-in-Set.ensures.all in
-    let whole : _ ≡ total (set g.profiles c.in-Set.profile c.in-Set.pieces) = omega (arith, within, all, sum, added, c.profile_start-count.ensures.start, c.from-removed.ensures, c.pieces.ensures.count) in
+    let whole : _ ≡ total (set g.profiles c.in-Set.profile c.in-Set.pieces) =
+    omega (arith, within, all, sum, added, c.profile_start-count.ensures.start, c.from-removed.ensures, c.pieces.ensures.count) in
     whole ∙ ap (λ (e : Edit). total (edited g e).profiles) (sym is)

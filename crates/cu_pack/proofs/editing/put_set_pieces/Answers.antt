@@ -11,4 +11,5 @@ returns c =
     let b3 = c.extend_from_slice-2.new.self.items in
     let first = c.in_ok-extend_from_slice.ensures.items ∙ ap (λ (bs : List ℕ). b0 ++ bs) c.pieces_part.ensures.part in
     let third = c.in_ok-extend_from_slice-2.ensures.items ∙ ap (λ (bs : List ℕ). b2 ++ bs) c.pieces_part-2.ensures.part in
-    put_set (flat_map piece_bytes) c.args.view.now.network.profiles c.args.profile c.profiles-profiles.result c.args.pieces.now b0 b1 b2 b3 c.requires c.profiles-profiles.ensures.count first c.in_ok-put_piece_list.ensures third
+    put_set (flat_map piece_bytes) c.args.view.now.network.profiles c.args.profile c.profiles-profiles.result c.args.pieces.now b0 b1 b2 b3 c.requires
+    c.profiles-profiles.ensures.count first c.in_ok-put_piece_list.ensures third

@@ -19,7 +19,8 @@ loop-behind-init c =
 pub overflow_sub-profile_start : goal.overflow_sub-profile_start
 overflow_sub-profile_start c =
     let g = c.args.view.now.network in
-    let moved = set_behind g.profiles c.args.profile (pieces_of g c.args.profile) [] (pieces_there g c.args.profile c.requires.profile) c.loop-behind.behind (omega arith) (omega (arith, c.profiles-behind-end.ensures.count)) in
+    let moved = set_behind g.profiles c.args.profile (pieces_of g c.args.profile) [] (pieces_there g c.args.profile c.requires.profile) c.loop-behind.behind
+    (omega arith) (omega (arith, c.profiles-behind-end.ensures.count)) in
     omega (arith, moved, c.profile_start.ensures.start, c.from-removed.ensures, c.pieces.ensures.count)
 
 pub overflow_add-profile_start : goal.overflow_add-profile_start
@@ -46,5 +47,6 @@ loop-behind-preserved c =
 pub returns : goal.returns
 returns c =
     let g = c.args.view.now.network in
-    set_starts_all g.profiles c.args.profile (pieces_of g c.args.profile) c.args.pieces.now (pieces_there g c.args.profile c.requires.profile) c.loop-behind.behind c.args.bytes.now.items c.loop-behind.bytes.items
+    set_starts_all g.profiles c.args.profile (pieces_of g c.args.profile) c.args.pieces.now (pieces_there g c.args.profile c.requires.profile)
+    c.loop-behind.behind c.args.bytes.now.items c.loop-behind.bytes.items
     (omega (arith, c.profiles-behind-end.ensures.count, c.loop-behind.invariant.within)) c.loop-behind.invariant.put

@@ -21,6 +21,7 @@ returns c =
       edges = c.edges.result;
       pieces = c.count_edited.result;
       entries = c.count_replaced.result;
-    }) (counts_of h) (c.nodes.ensures.count ∙ sym (nodes_edited g edit)) (c.arcs.ensures.count ∙ sym (arcs_edited g edit)) (c.profiles.ensures.count ∙ sym (profiles_edited g edit)) c.edges.ensures.count c.count_edited.ensures
+    }) (counts_of h) (c.nodes.ensures.count ∙ sym (nodes_edited g edit)) (c.arcs.ensures.count ∙ sym (arcs_edited g edit))
+    (c.profiles.ensures.count ∙ sym (profiles_edited g edit)) c.edges.ensures.count c.count_edited.ensures
     c.count_replaced.ensures in
     record { counts = same; limits = subst AreInLimits (sym same) (in_limits h c.requires.sound) }

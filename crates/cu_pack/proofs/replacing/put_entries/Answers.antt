@@ -23,7 +23,8 @@ loop-touched-preserved c =
     record {
       up_to = up_to_more h.lists touched edges lists rising c.requires.edges index next up_to t there;
       put =
-          entries_more h.lists touched edges lists rising c.requires.edges index next up_to t there c.args.bytes.now.items before c.extend_from_slice.new.self.items c.put_own_entries.new.bytes.items c.loop-touched.invariant.put kept
+          entries_more h.lists touched edges lists rising c.requires.edges index next up_to t there c.args.bytes.now.items before
+          c.extend_from_slice.new.self.items c.put_own_entries.new.bytes.items c.loop-touched.invariant.put kept
           c.in_ok-put_own_entries.ensures;
     }
 
@@ -37,6 +38,8 @@ returns c =
     let before = c.loop-touched.bytes.items in
     let all : length touched ≤ index = omega arith in
     let end : 2 * c.edges-end.result ≡ 2 * edges = ap (λ (n : ℕ). 2 * n) c.edges-end.ensures.count in
-    let kept = c.in_ok-extend_from_slice-2.ensures.items ∙ ap (λ (bs : List ℕ). before ++ bs) c.entries_part-2.ensures.part ∙ ap (λ (n : ℕ). before ++ flat_map (flat_map entry_bytes) (slice_range h.lists next n)) end in
-    entries_whole h.lists touched edges c.edges-end.ensures.sound.lists (edges_rise touched c.requires.rising) c.requires.edges index next c.loop-touched.invariant.up_to all c.args.bytes.now.items before
+    let kept = c.in_ok-extend_from_slice-2.ensures.items ∙ ap (λ (bs : List ℕ). before ++ bs) c.entries_part-2.ensures.part
+    ∙ ap (λ (n : ℕ). before ++ flat_map (flat_map entry_bytes) (slice_range h.lists next n)) end in
+    entries_whole h.lists touched edges c.edges-end.ensures.sound.lists (edges_rise touched c.requires.rising) c.requires.edges index next
+    c.loop-touched.invariant.up_to all c.args.bytes.now.items before
     c.extend_from_slice-2.new.self.items c.loop-touched.invariant.put kept

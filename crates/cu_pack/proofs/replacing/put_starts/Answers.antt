@@ -15,7 +15,8 @@ put_own_starts-requires c =
     let h = c.args.view.now in
     let touched = c.args.lists.now in
     let t = c.touched-item.result in
-    let before = total_before h.lists touched (length h.edges) c.edges-end.ensures.sound.lists (edges_rise touched c.requires.rising) c.requires.edges c.loop-touched.touched-index c.loop-touched.next c.loop-touched.invariant.up_to t
+    let before = total_before h.lists touched (length h.edges) c.edges-end.ensures.sound.lists (edges_rise touched c.requires.rising) c.requires.edges
+    c.loop-touched.touched-index c.loop-touched.next c.loop-touched.invariant.up_to t
     (slice_get_read touched (length touched) c.loop-touched.touched-index t refl (omega arith) c.touched-item.is) in
     let most = sum_by-take-le length (replaced h.lists touched) (2 * t.edge) in
     record { few = omega (arith, before, most, c.in_ok-start.ensures.after, c.loop-touched.invariant.start, c.requires.few) }
@@ -37,7 +38,8 @@ loop-touched-preserved c =
       up_to = up_to_more h.lists touched edges lists rising c.requires.edges index next up_to t there;
       start = omega (arith, behind, c.in_ok-start.ensures.after, c.in_ok-start-2.ensures.after, c.loop-touched.invariant.start);
       put =
-          starts_more h.lists touched edges lists rising c.requires.edges index next up_to t there c.loop-touched.start c.in_ok-start.start c.args.bytes.now.items c.loop-touched.bytes.items c.put_starts_between.new.bytes.items
+          starts_more h.lists touched edges lists rising c.requires.edges index next up_to t there c.loop-touched.start c.in_ok-start.start
+          c.args.bytes.now.items c.loop-touched.bytes.items c.put_starts_between.new.bytes.items
           c.put_own_starts.new.bytes.items c.loop-touched.invariant.start c.loop-touched.invariant.put c.in_ok-start.ensures.put c.in_ok-start.ensures.after c.in_ok-start-2.ensures.put;
     }
 
@@ -57,6 +59,7 @@ returns c =
     let kept = c.in_ok-last.ensures.put ∙ ap (λ (n : ℕ). before ++ flat_map long (starts_between h.lists next n start)) end in
     let last = c.in_ok-last.ensures.after ∙ ap (λ (n : ℕ). start + total (slice_range h.lists next n)) end in
     on_ok_weaker c.put_long.result
-    (λ e. starts_whole h.lists touched edges lists rising c.requires.edges index next c.loop-touched.invariant.up_to all start c.in_ok-last.last c.args.bytes.now.items before c.put_starts_between-2.new.bytes.items c.put_long.new.bytes.items
+    (λ e. starts_whole h.lists touched edges lists rising c.requires.edges index next c.loop-touched.invariant.up_to all start c.in_ok-last.last
+    c.args.bytes.now.items before c.put_starts_between-2.new.bytes.items c.put_long.new.bytes.items
     c.loop-touched.invariant.start c.loop-touched.invariant.put kept last e)
     c.put_long.ensures

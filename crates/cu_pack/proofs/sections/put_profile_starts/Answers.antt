@@ -23,7 +23,8 @@ loop-profile-preserved c =
     let more = total_more net.profiles profile (pieces_of net profile) there in
     let count : c.loop-profile.start + length (pieces_of net profile) ≡ c.loop-profile.start + c.from-start.result = omega (arith, c.pieces.ensures.count, c.from-start.ensures) in
     let whole = c.args.bytes.now.items ++ flat_map long (starts_from 0 net.profiles) in
-    let put = start_more net.profiles profile c.loop-profile.start c.loop-profile.bytes.items c.put_long.new.bytes.items whole c.loop-profile.invariant.put c.in_ok-put_long.ensures (pieces_of net profile) there in
+    let put = start_more net.profiles profile c.loop-profile.start c.loop-profile.bytes.items c.put_long.new.bytes.items whole c.loop-profile.invariant.put
+    c.in_ok-put_long.ensures (pieces_of net profile) there in
     record {
       start = omega (arith, more, count, c.loop-profile.invariant.start);
       put = ap (λ (n : ℕ). c.put_long.new.bytes.items ++ flat_map long (starts_from n (drop (profile + 1) net.profiles))) (sym count) ∙ put;

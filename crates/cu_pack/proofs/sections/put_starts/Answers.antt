@@ -25,7 +25,8 @@ overflow_add-next c =
 pub returns-clause-put : goal.returns-clause-put
 returns-clause-put c =
     let middle = ap (λ (n : ℕ). c.put_long.new.bytes.items ++ long (c.args.start + n)) (c.from.ensures ∙ c.entries.ensures.count) in
-    put_then c.args.bytes.now.items c.put_long.new.bytes.items c.put_long-2.new.bytes.items (long c.args.start) (long (c.args.start + length (list_of c.args.hierarchy.now c.args.edge Up))) c.in_ok-put_long.ensures
+    put_then c.args.bytes.now.items c.put_long.new.bytes.items c.put_long-2.new.bytes.items (long c.args.start)
+    (long (c.args.start + length (list_of c.args.hierarchy.now c.args.edge Up))) c.in_ok-put_long.ensures
     (c.in_ok-put_long-2.ensures ∙ middle)
 
 pub returns-clause-next : goal.returns-clause-next

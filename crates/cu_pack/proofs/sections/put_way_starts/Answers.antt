@@ -37,5 +37,6 @@ returns c =
     let whole = c.args.bytes.now.items ++ flat_map long (starts_from 0 h.lists) in
     let sound = c.edges-edge-end.ensures.sound in
     on_ok_weaker c.put_long.result
-    (λ e. start_last h.lists (2 * c.loop-edge.edge) c.loop-edge.start c.loop-edge.bytes.items c.put_long.new.bytes.items whole c.loop-edge.invariant.put e (omega (arith, sound.lists, c.edges-edge-end.ensures.count)))
+    (λ e. start_last h.lists (2 * c.loop-edge.edge) c.loop-edge.start c.loop-edge.bytes.items c.put_long.new.bytes.items whole c.loop-edge.invariant.put e
+    (omega (arith, sound.lists, c.edges-edge-end.ensures.count)))
     c.put_long.ensures

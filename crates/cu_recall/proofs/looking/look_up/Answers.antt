@@ -16,7 +16,8 @@ halves-parts-requires c =
         c.args.view.now,
         sym (ap (λ (graph : ChordalValue). graph.edges) c.requires.graph),
         middle_there c.args.view.now c.ways.ensures.sound c.args.asked c.direction-dir.result c.in-Via.middle c.args.asked.second c.requires.asked c.direction-dir.ensures
-            (λ u v is. way_over c.args.view.now c.ways.ensures.sound c.args.asked c.direction-dir.result c.ways.result c.in-Some.found (way.Via c.in-Via.middle) c.ways.ensures.list c.direction-dir.ensures force c.in-Via.is
+            (λ u v is. way_over c.args.view.now c.ways.ensures.sound c.args.asked c.direction-dir.result c.ways.result c.in-Some.found (way.Via c.in-Via.middle)
+            c.ways.ensures.list c.direction-dir.ensures force c.in-Via.is
             u v is c.args.asked.second force.0.0 force.0.1),
       );
     }
@@ -29,7 +30,8 @@ returns-in-Road c =
         (
           force.0.2,
           λ u v is some.
-              way_over c.args.view.now c.ways.ensures.sound c.args.asked c.direction-dir.result c.ways.result c.in-Some.found (way.Road c.in-Road.road) c.ways.ensures.list c.direction-dir.ensures force c.in-Road.is u v is,
+              way_over c.args.view.now c.ways.ensures.sound c.args.asked c.direction-dir.result c.ways.result c.in-Some.found (way.Road c.in-Road.road)
+              c.ways.ensures.list c.direction-dir.ensures force c.in-Road.is u v is,
         ),
         force.0.0,
         force.0.1,
@@ -44,8 +46,11 @@ returns-in-Via c =
         (
           force.0.2,
           λ u v is some.
-              parts_over c.args.view.now c.args.asked.list c.direction-dir.result c.in-Via.middle c.halves-parts.result u v c.in-Some.found.from c.in-Some.found.until (c.halves-parts.ensures.halves c.args.view.now (sym (ap (λ (graph : ChordalValue). graph.edges) c.requires.graph))) c.direction-dir.ensures is
-              (way_over c.args.view.now c.ways.ensures.sound c.args.asked c.direction-dir.result c.ways.result c.in-Some.found (way.Via c.in-Via.middle) c.ways.ensures.list c.direction-dir.ensures force c.in-Via.is u v is),
+              parts_over c.args.view.now c.args.asked.list c.direction-dir.result c.in-Via.middle c.halves-parts.result u v c.in-Some.found.from
+              c.in-Some.found.until (c.halves-parts.ensures.halves c.args.view.now (sym (ap (λ (graph : ChordalValue). graph.edges) c.requires.graph)))
+              c.direction-dir.ensures is
+              (way_over c.args.view.now c.ways.ensures.sound c.args.asked c.direction-dir.result c.ways.result c.in-Some.found (way.Via c.in-Via.middle)
+              c.ways.ensures.list c.direction-dir.ensures force c.in-Via.is u v is),
         ),
         force.0.0,
         force.0.1,

@@ -32,7 +32,8 @@ pub later-requires : goal.later-requires
 later-requires c =
     let h = c.args.view.now in
     let top = done_last h c.args.spot.whole c.joins.pending c.joins.depth (c.args.spot.roads + c.args.driven.roads) c.joins.driven none c.joins-test.true c.joins.invariant.done in
-    let near = top_near h c.requires.sound c.args.spot.whole c.joins.pending (c.joins.depth - 1) (c.args.spot.roads + c.args.driven.roads) c.joins.driven (get_or c.joins.pending (c.joins.depth - 1) none) top in
+    let near = top_near h c.requires.sound c.args.spot.whole c.joins.pending (c.joins.depth - 1) (c.args.spot.roads + c.args.driven.roads) c.joins.driven
+    (get_or c.joins.pending (c.joins.depth - 1) none) top in
     let few = c.requires.sound.graph.few_ranks in
     omega (arith, near.0, near.1, near.2, few, c.requires.few)
 
@@ -43,7 +44,8 @@ returns-in-First-clause-follows c =
     let total = c.args.spot.roads + c.args.driven.roads in
     let top = done_last h whole c.joins.pending c.joins.depth total c.joins.driven none c.joins-test.true c.joins.invariant.done in
     let one : c.joins.depth ≡ suc (c.joins.depth - 1) = omega (arith, c.joins-test.true) in
-    let next = first_done h c.requires.sound whole c.joins.pending (c.joins.depth - 1) total c.joins.driven (get_or c.joins.pending (c.joins.depth - 1) none) top c.in-First.rest c.in-First.is c.second_next.result c.second_next.ensures
+    let next = first_done h c.requires.sound whole c.joins.pending (c.joins.depth - 1) total c.joins.driven (get_or c.joins.pending (c.joins.depth - 1) none)
+    top c.in-First.rest c.in-First.is c.second_next.result c.second_next.ensures
     (record { whole = whole; next = record { list = c.in-First.rest; second = c.later.result }; depth = c.joins.depth; roads = total })
     (ap (λ (n : ℕ). at_spot whole c.in-First.rest n c.joins.depth total) c.later.ensures
     ∙ ap (λ (n : ℕ). at_spot whole c.in-First.rest (((get_or c.joins.pending (c.joins.depth - 1) none).asked.second + c.joins.driven.travel) % day) n total) one) in
@@ -53,8 +55,10 @@ pub joined-driven-requires-clause-travel : goal.joined-driven-requires-clause-tr
 joined-driven-requires-clause-travel c =
     let h = c.args.view.now in
     let top = done_last h c.args.spot.whole c.joins.pending c.joins.depth (c.args.spot.roads + c.args.driven.roads) c.joins.driven none c.joins-test.true c.joins.invariant.done in
-    let near = top_near h c.requires.sound c.args.spot.whole c.joins.pending (c.joins.depth - 1) (c.args.spot.roads + c.args.driven.roads) c.joins.driven (get_or c.joins.pending (c.joins.depth - 1) none) top in
-    let both = second_near h c.requires.sound c.args.spot.whole c.joins.pending (c.joins.depth - 1) (c.args.spot.roads + c.args.driven.roads) c.joins.driven (get_or c.joins.pending (c.joins.depth - 1) none) top c.in-Second.travel c.in-Second.roads c.in-Second.is in
+    let near = top_near h c.requires.sound c.args.spot.whole c.joins.pending (c.joins.depth - 1) (c.args.spot.roads + c.args.driven.roads) c.joins.driven
+    (get_or c.joins.pending (c.joins.depth - 1) none) top in
+    let both = second_near h c.requires.sound c.args.spot.whole c.joins.pending (c.joins.depth - 1) (c.args.spot.roads + c.args.driven.roads) c.joins.driven
+    (get_or c.joins.pending (c.joins.depth - 1) none) top c.in-Second.travel c.in-Second.roads c.in-Second.is in
     let few = c.requires.sound.graph.few_ranks in
     omega (arith, near.0, near.1, both.0, both.1, few, c.requires.few)
 
@@ -62,7 +66,8 @@ pub joined-driven-requires-clause-roads : goal.joined-driven-requires-clause-roa
 joined-driven-requires-clause-roads c =
     let h = c.args.view.now in
     let top = done_last h c.args.spot.whole c.joins.pending c.joins.depth (c.args.spot.roads + c.args.driven.roads) c.joins.driven none c.joins-test.true c.joins.invariant.done in
-    let both = second_near h c.requires.sound c.args.spot.whole c.joins.pending (c.joins.depth - 1) (c.args.spot.roads + c.args.driven.roads) c.joins.driven (get_or c.joins.pending (c.joins.depth - 1) none) top c.in-Second.travel c.in-Second.roads c.in-Second.is in
+    let both = second_near h c.requires.sound c.args.spot.whole c.joins.pending (c.joins.depth - 1) (c.args.spot.roads + c.args.driven.roads) c.joins.driven
+    (get_or c.joins.pending (c.joins.depth - 1) none) top c.in-Second.travel c.in-Second.roads c.in-Second.is in
     let few = c.requires.sound.graph.few_ranks in
     omega (arith, both.1, few, c.requires.few)
 
@@ -77,7 +82,9 @@ pub remember-requires-clause-window : goal.remember-requires-clause-window
 remember-requires-clause-window c =
     let h = c.args.view.now in
     let top = done_last h c.args.spot.whole c.joins.pending c.joins.depth (c.args.spot.roads + c.args.driven.roads) c.joins.driven none c.joins-test.true c.joins.invariant.done in
-    (second_done h c.requires.sound c.args.spot.whole c.joins.pending (c.joins.depth - 1) (c.args.spot.roads + c.args.driven.roads) c.joins.driven (get_or c.joins.pending (c.joins.depth - 1) none) top c.in-Second.travel c.in-Second.roads c.in-Second.is c.joined-driven.result c.joined-driven.ensures).0.window
+    (second_done h c.requires.sound c.args.spot.whole c.joins.pending (c.joins.depth - 1) (c.args.spot.roads + c.args.driven.roads) c.joins.driven
+    (get_or c.joins.pending (c.joins.depth - 1) none) top c.in-Second.travel c.in-Second.roads c.in-Second.is
+    c.joined-driven.result c.joined-driven.ensures).0.window
 
 pub joins-preserved : goal.joins-preserved
 joins-preserved c =
@@ -85,13 +92,15 @@ joins-preserved c =
     let i = c.joins.invariant in
     let within = i.within in
     let top = done_last h c.args.spot.whole c.joins.pending c.joins.depth (c.args.spot.roads + c.args.driven.roads) c.joins.driven none c.joins-test.true i.done in
-    let both = second_done h c.requires.sound c.args.spot.whole c.joins.pending (c.joins.depth - 1) (c.args.spot.roads + c.args.driven.roads) c.joins.driven (get_or c.joins.pending (c.joins.depth - 1) none) top c.in-Second.travel c.in-Second.roads c.in-Second.is c.joined-driven.result c.joined-driven.ensures in
+    let both = second_done h c.requires.sound c.args.spot.whole c.joins.pending (c.joins.depth - 1) (c.args.spot.roads + c.args.driven.roads) c.joins.driven
+    (get_or c.joins.pending (c.joins.depth - 1) none) top c.in-Second.travel c.in-Second.roads c.in-Second.is c.joined-driven.result c.joined-driven.ensures in
     record {
       within = omega (arith, within);
       same = i.same;
       total = refl;
       done = both.1;
-      knows = c.remember.ensures.knows h i.knows (top_holds h c.requires.sound c.args.spot.whole c.joins.pending (c.joins.depth - 1) (c.args.spot.roads + c.args.driven.roads) c.joins.driven (get_or c.joins.pending (c.joins.depth - 1) none) top c.joined-driven.result both.0);
+      knows = c.remember.ensures.knows h i.knows (top_holds h c.requires.sound c.args.spot.whole c.joins.pending (c.joins.depth - 1)
+          (c.args.spot.roads + c.args.driven.roads) c.joins.driven (get_or c.joins.pending (c.joins.depth - 1) none) top c.joined-driven.result both.0);
     }
 
 pub returns-clause-follows : goal.returns-clause-follows

@@ -9,7 +9,8 @@ returns-then-driven-nodes-clause-unpacks c u v is =
     let h = c.args.view.now in
     let i = c.parts.invariant in
     let nodes = i.nodes in
-    let long = whole_long h i.sound c.go_down.new.pending c.go_down.result.0 c.go_down.result.1 c.go_down.ensures.somewhere c.go_down.ensures.driven c.args.whole (c.go_down.ensures.whole ∙ i.whole) u v is in
+    let long = whole_long h i.sound c.go_down.new.pending c.go_down.result.0 c.go_down.result.1 c.go_down.ensures.somewhere c.go_down.ensures.driven
+    c.args.whole (c.go_down.ensures.whole ∙ i.whole) u v is in
     omega (arith, long, nodes, c.if-driven-nodes.true)
 
 pub returns-in-Whole-clause-unpacks : goal.returns-in-Whole-clause-unpacks

@@ -11,7 +11,8 @@ use Rattle.cu_roads.proofs.arcs.read_arcs.Goals as goal
 use Rattle.cu_roads.proofs.arcs.read_arcs.Goals.{In_ok-each_row_below}
 
 -- what is given once the rows were gone through
-read : (c : In_ok-each_row_below) → Leads (arcs_of_text c.args.nodes c.args.profiles c.args.text.now) (HasCounts c.args.nodes c.args.profiles) (arcs_rest c.args.nodes c.args.profiles) c.each_row_below.new.taker c.in_ok-each_row_below.field-0
+read : (c : In_ok-each_row_below) → Leads (arcs_of_text c.args.nodes c.args.profiles c.args.text.now) (HasCounts c.args.nodes c.args.profiles)
+    (arcs_rest c.args.nodes c.args.profiles) c.each_row_below.new.taker c.in_ok-each_row_below.field-0
 read c = arcs_read c.args.text.now _ _ c.each_row_below.new.taker c.in_ok-each_row_below.field-0 (search rules) (search rules) c.in_ok-each_row_below.ensures
 
 pub returns-in_err-branch-clause-refused : goal.returns-in_err-branch-clause-refused
@@ -22,7 +23,8 @@ returns-in_err-branch-clause-refused c =
 pub returns-in_err-branch-clause-table : goal.returns-in_err-branch-clause-table
 returns-in_err-branch-clause-table c =
     let p = err_from_is_err_and c.from_residual-in_err-branch.result c.from_residual-in_err-branch.ensures.1 in
-    rw (p.1, p.2) (refusal_is takes_arc refuses_arc (λ (why : RoadRefusal). is_of_profiles why ≡ false) (λ s row why h. h.0) _ refl _ _ _ c.in_ok-each_row_below.field-0 _ c.in_err-branch.was c.in_ok-each_row_below.ensures)
+    rw (p.1, p.2) (refusal_is takes_arc refuses_arc (λ (why : RoadRefusal). is_of_profiles why ≡ false) (λ s row why h. h.0) _ refl _ _ _
+    c.in_ok-each_row_below.field-0 _ c.in_err-branch.was c.in_ok-each_row_below.ensures)
 
 pub returns-clause-arcs : goal.returns-clause-arcs
 returns-clause-arcs c =

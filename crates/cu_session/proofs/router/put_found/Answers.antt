@@ -12,8 +12,10 @@ put_arrival-requires-clause-arriving g c =
 
 pub returns-in-Arrive-clause-answer : goal.returns-in-Arrive-clause-answer
 returns-in-Arrive-clause-answer g c =
-    answered c.args.unpacker.now c.requires.sound c.args.query c.args.from c.args.to c.requires.start c.requires.stop c.args.swept c.args.desk.now c.requires.found c.requires.holds c.requires.least c.requires.real
+    answered c.args.unpacker.now c.requires.sound c.args.query c.args.from c.args.to c.requires.start c.requires.stop c.args.swept c.args.desk.now
+    c.requires.found c.requires.holds c.requires.least c.requires.real
 
 pub returns-in-Long-clause-answer : goal.returns-in-Long-clause-answer
 returns-in-Long-clause-answer g c =
-    answered c.args.unpacker.now c.requires.sound c.args.query c.args.from c.args.to c.requires.start c.requires.stop c.args.swept c.args.desk.now c.requires.found c.requires.holds c.requires.least c.requires.real
+    answered c.args.unpacker.now c.requires.sound c.args.query c.args.from c.args.to c.requires.start c.requires.stop c.args.swept c.args.desk.now
+    c.requires.found c.requires.holds c.requires.least c.requires.real

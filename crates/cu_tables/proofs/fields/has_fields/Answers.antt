@@ -11,11 +11,14 @@ returns-then-ne c =
     let k = compare_next (fields_of c.args.row.now) c.args.fields.now _ c.loop-i.i (omega arith) (omega arith) in
     let other = not-true _ (sym c.ne.ensures ∙ c.if-ne.true) in
     let differ = rw c.field.ensures at other in
-    sym (c.loop-i.invariant ∙ k ∙ ap (λ (b : Bool). b && pointwise bytes_eq (drop (c.loop-i.i + 1) (fields_of c.args.row.now)) (drop (c.loop-i.i + 1) (map (λ (f : Bor (List ℕ)). f.now) c.args.fields.now))) differ)
+    sym (c.loop-i.invariant ∙ k ∙ ap (λ (b : Bool). b
+    && pointwise bytes_eq (drop (c.loop-i.i + 1) (fields_of c.args.row.now))
+    (drop (c.loop-i.i + 1) (map (λ (f : Bor (List ℕ)). f.now) c.args.fields.now))) differ)
 
 pub loop-i-preserved : goal.loop-i-preserved
 loop-i-preserved c =
     let k = compare_next (fields_of c.args.row.now) c.args.fields.now _ c.loop-i.i (omega arith) (omega arith) in
     let other = not-false _ (sym c.ne.ensures ∙ c.if-ne.false) in
     let same = rw c.field.ensures at other in
-    c.loop-i.invariant ∙ k ∙ ap (λ (b : Bool). b && pointwise bytes_eq (drop (c.loop-i.i + 1) (fields_of c.args.row.now)) (drop (c.loop-i.i + 1) (map (λ (f : Bor (List ℕ)). f.now) c.args.fields.now))) same
+    c.loop-i.invariant ∙ k ∙ ap (λ (b : Bool). b && pointwise bytes_eq (drop (c.loop-i.i + 1) (fields_of c.args.row.now))
+    (drop (c.loop-i.i + 1) (map (λ (f : Bor (List ℕ)). f.now) c.args.fields.now))) same

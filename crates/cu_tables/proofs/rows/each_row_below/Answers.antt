@@ -10,7 +10,8 @@ returns-then-not-branch g c = rw (rw c.if-not-branch.true at (c.in_ok-take_heade
 pub returns : goal.returns
 returns g c = IfOk-weaker c.take_rows.result _ _
     (λ answer h.
-    let (rows, found, ends) = below_header (λ rows. Ends g.T.TakesRows.takes g.T.TakesRows.refuses c.args.taker.now rows c.take_rows.new.taker answer) c.take_header.new.rows c.args.text.now (map (λ (f : Bor (List ℕ)). f.now) c.args.header.now)
+    let (rows, found, ends) = below_header (λ rows. Ends g.T.TakesRows.takes g.T.TakesRows.refuses c.args.taker.now rows c.take_rows.new.taker answer)
+    c.take_header.new.rows c.args.text.now (map (λ (f : Bor (List ℕ)). f.now) c.args.header.now)
     (rw c.if-not-branch.false at (c.in_ok-take_header.ensures c.args.text.now c.rows_of-rows.ensures)) h in
     rw found ends)
     c.take_rows.ensures

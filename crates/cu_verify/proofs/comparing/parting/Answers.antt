@@ -9,7 +9,8 @@ returns-in-Some c =
     c.loop-index.invariant (sym c.stored_entry.ensures) (sym c.built_entry.ensures) c.in-Some.ensures
 
 pub loop-index-preserved : goal.loop-index-preserved
-loop-index-preserved c = below_more (λ (k : ℕ). slice_get c.args.stored.now k ≡ slice_get c.args.built.now k) c.loop-index.index c.loop-index.invariant (sym c.stored_entry.ensures ∙ c.in_default.ensures ∙ c.built_entry.ensures)
+loop-index-preserved c = below_more (λ (k : ℕ). slice_get c.args.stored.now k ≡ slice_get c.args.built.now k) c.loop-index.index c.loop-index.invariant
+    (sym c.stored_entry.ensures ∙ c.in_default.ensures ∙ c.built_entry.ensures)
 
 pub returns : goal.returns
 returns c =

@@ -62,7 +62,8 @@ returns-in_err-store_file g c =
     (record {
       works = λ source.
           edits_stored _ _ source _ _ (editing_asked c.args.asked) h after text c.in_ok-file.ensures.loads opens done few
-          (storing_refused source (behind_edits _ _ source _ _ (editing_asked c.args.asked) h after text c.in_ok-file.ensures.loads opens done) (stored_text (length (spelling after))) (stored_behind c.in_ok-file.ensures.loads stores));
+          (storing_refused source (behind_edits _ _ source _ _ (editing_asked c.args.asked) h after text c.in_ok-file.ensures.loads opens done)
+          (stored_text (length (spelling after))) (stored_behind c.in_ok-file.ensures.loads stores));
     })
 
 pub returns-in_err-say_stored : goal.returns-in_err-say_stored

@@ -44,7 +44,10 @@ returns-in_err-store_file g c =
     let text = c.deref.ensures.value ∙ c.in_ok-text.ensures.text in
     let stores = rw text at c.in_err-store_file.ensures.stores in
     rw (err_is c.from_residual-in_err-store_file.result c.in_err-store_file.field-0.0 c.from_residual-in_err-store_file.ensures.1)
-    (record { works = λ source. ordered (ordering_asked c.args.asked) read c.in_ok-order.order reads c.in_ok-order.ensures.sound c.in_ok-order.ensures.order (storing_refused source (behind_nothing _) (ordered_text read.network) (stored_behind c.in_ok-texts.ensures.loads stores)) })
+    (record {
+      works = λ source. ordered (ordering_asked c.args.asked) read c.in_ok-order.order reads c.in_ok-order.ensures.sound c.in_ok-order.ensures.order
+          (storing_refused source (behind_nothing _) (ordered_text read.network) (stored_behind c.in_ok-texts.ensures.loads stores));
+    })
 
 pub returns-in_err-say_ordered : goal.returns-in_err-say_ordered
 returns-in_err-say_ordered g c =
@@ -53,7 +56,10 @@ returns-in_err-say_ordered g c =
     let text = c.deref.ensures.value ∙ c.in_ok-text.ensures.text in
     let stores = rw text at c.in_ok-store_file.ensures.stores in
     rw (err_is c.from_residual-in_err-say_ordered.result stop.Sink c.from_residual-in_err-say_ordered.ensures.1)
-    (record { works = λ source. ordered (ordering_asked c.args.asked) read c.in_ok-order.order reads c.in_ok-order.ensures.sound c.in_ok-order.ensures.order (storing_unsaid source (behind_nothing _) (stored_behind c.in_ok-texts.ensures.loads stores) c.in_err-say_ordered.ensures.wrote) })
+    (record {
+      works = λ source. ordered (ordering_asked c.args.asked) read c.in_ok-order.order reads c.in_ok-order.ensures.sound c.in_ok-order.ensures.order
+          (storing_unsaid source (behind_nothing _) (stored_behind c.in_ok-texts.ensures.loads stores) c.in_err-say_ordered.ensures.wrote);
+    })
 
 pub returns : goal.returns
 returns g c =
@@ -61,4 +67,7 @@ returns g c =
     let reads : ReadsTables (g.H.Shelf.state c.args.shelf.now) (ordering_asked c.args.asked) read = (table_texts c.in_ok-texts.texts, c.in_ok-texts.ensures.ok, c.in_ok-network.ensures.ok) in
     let text = c.deref.ensures.value ∙ c.in_ok-text.ensures.text in
     let stores = rw text at c.in_ok-store_file.ensures.stores in
-    record { works = λ source. ordered (ordering_asked c.args.asked) read c.in_ok-order.order reads c.in_ok-order.ensures.sound c.in_ok-order.ensures.order (storing_said source (behind_nothing _) (stored_behind c.in_ok-texts.ensures.loads stores) c.in_ok-say_ordered.ensures.wrote) }
+    record {
+      works = λ source. ordered (ordering_asked c.args.asked) read c.in_ok-order.order reads c.in_ok-order.ensures.sound c.in_ok-order.ensures.order
+          (storing_said source (behind_nothing _) (stored_behind c.in_ok-texts.ensures.loads stores) c.in_ok-say_ordered.ensures.wrote);
+    }

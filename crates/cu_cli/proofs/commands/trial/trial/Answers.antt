@@ -27,7 +27,8 @@ returns-in_err-say_tried g c =
     let first = c.in_ok-router.router in
     let last = c.take_turns.new.router in
     let turns = c.in_ok-take_turns.ensures in
-    let is = tried_all (trial_asked c.args.asked) first last c.build_grid.new.draws c.take_turns.new.tally c.in_ok-router.ensures.order c.in_ok-router.ensures.network c.in_ok-router.ensures.behind turns.tried turns.order turns.built in
+    let is = tried_all (trial_asked c.args.asked) first last c.build_grid.new.draws c.take_turns.new.tally c.in_ok-router.ensures.order
+    c.in_ok-router.ensures.network c.in_ok-router.ensures.behind turns.tried turns.order turns.built in
     let same = c.view-view.ensures.same in
     let line = rw same at c.in_err-say_tried.ensures.wrote in
     rw (err_is c.from_residual-in_err-say_tried.result stop.Sink c.from_residual-in_err-say_tried.ensures.1)
@@ -38,7 +39,8 @@ returns g c =
     let first = c.in_ok-router.router in
     let last = c.take_turns.new.router in
     let turns = c.in_ok-take_turns.ensures in
-    let is = tried_all (trial_asked c.args.asked) first last c.build_grid.new.draws c.take_turns.new.tally c.in_ok-router.ensures.order c.in_ok-router.ensures.network c.in_ok-router.ensures.behind turns.tried turns.order turns.built in
+    let is = tried_all (trial_asked c.args.asked) first last c.build_grid.new.draws c.take_turns.new.tally c.in_ok-router.ensures.order
+    c.in_ok-router.ensures.network c.in_ok-router.ensures.behind turns.tried turns.order turns.built in
     let same = c.view-view.ensures.same in
     let line = rw same at c.in_ok-say_tried.ensures.wrote in
     record { works = λ shelf source. said_alone source (only_nothing shelf) line (λ work done. inl (_, is, done.0, done.1, done.2)) }

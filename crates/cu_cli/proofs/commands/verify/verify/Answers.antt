@@ -20,7 +20,10 @@ pub returns-in-Some : goal.returns-in-Some
 returns-in-Some g c =
     let opened = c.in_ok-bytes.ensures in
     let spells = rw c.deref.ensures.value at c.adopt-view.ensures.spells in
-    record { works = λ source. differs _ _ source _ c.args.name.now c.adopt-view.result c.in-Some.found opened.loads (c.in_ok-bytes.bytes.items, opened.ok.0, spells) (rw c.in-Some.is at c.in_ok-found.ensures.found) }
+    record {
+      works = λ source. differs _ _ source _ c.args.name.now c.adopt-view.result c.in-Some.found opened.loads
+          (c.in_ok-bytes.bytes.items, opened.ok.0, spells) (rw c.in-Some.is at c.in_ok-found.ensures.found);
+    }
 
 pub returns-in_err-put_line : goal.returns-in_err-put_line
 returns-in_err-put_line g c =

@@ -14,7 +14,8 @@ returns-clause-added t c =
     let left : c.deref.result.now ≡ split.left = c.deref.ensures.value ∙ ap (λ (s : SplitValue). s.left) c.split.view_is in
     let right : c.deref-2.result.now ≡ split.right = c.deref-2.ensures.value ∙ ap (λ (s : SplitValue). s.right) c.split.view_is in
     let separator : c.deref-3.result.now ≡ split.separator = c.deref-3.ensures.value ∙ ap (λ (s : SplitValue). s.separator) c.split.view_is in
-    part_added g places c.args.part.now split c.args.self.now c.split_part.new.self c.add_part.new.self c.add_part-2.new.self _ (omega (arith, c.if-part-le-UNSPLIT.false)) c.in_ok-split.ensures.exact c.in_ok-split.ensures.halves
+    part_added g places c.args.part.now split c.args.self.now c.split_part.new.self c.add_part.new.self c.add_part-2.new.self _
+    (omega (arith, c.if-part-le-UNSPLIT.false)) c.in_ok-split.ensures.exact c.in_ok-split.ensures.halves
     c.in_ok-split.ensures.order c.in_ok-split.ensures.listed (subst (adds c.split_part.new.self c.add_part.new.self) left c.in_ok-add_part.ensures.added)
     (subst (adds c.add_part.new.self c.add_part-2.new.self) right c.in_ok-add_part-2.ensures.added)
     (c.in_ok-extend_from_slice-2.ensures.items ∙ ap (λ (xs : List ℕ). c.add_part-2.new.self.order.items ++ xs) separator) refl

@@ -5,7 +5,10 @@ use Rattle.cu_pack.proofs.cutting.Sections.edge_between.Goals as goal
 
 pub returns-then-number-eq0 : goal.returns-then-number-eq0
 returns-then-number-eq0 c =
-    record { edge = part_missed c.args.self.now c.args.low c.requires.low c.args.high c.edges_up_to-number.result c.edges_up_to-number.ensures.count (λ some. absurd (omega (arith, some, c.if-number-eq0.true))) }
+    record {
+      edge = part_missed c.args.self.now c.args.low c.requires.low c.args.high c.edges_up_to-number.result c.edges_up_to-number.ensures.count
+          (λ some. absurd (omega (arith, some, c.if-number-eq0.true)));
+    }
 
 pub returns-then-upper-high : goal.returns-then-upper-high
 returns-then-upper-high c =

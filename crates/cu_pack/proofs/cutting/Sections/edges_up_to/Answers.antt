@@ -23,6 +23,7 @@ returns c =
     let next : c.args.low + 1 ≡ suc c.args.low = omega arith in
     let end = c.edge_start.ensures.start ∙ ap (edge_start bytes) next in
     record {
-      count = count_up_to_at bytes c.self.inside.body c.self.view_is _ (uppers_at (counts_in bytes) + 4 * edge_start bytes c.args.low) 4 _ (edge_start bytes (suc c.args.low) - edge_start bytes c.args.low)
+      count = count_up_to_at bytes c.self.inside.body c.self.view_is _ (uppers_at (counts_in bytes) + 4 * edge_start bytes c.args.low) 4 _
+          (edge_start bytes (suc c.args.low) - edge_start bytes c.args.low)
           (omega (arith, uppers, c.edge_start-start.ensures.start)) (omega (arith, end, c.edge_start-start.ensures.start)) c.args.high c.count_up_to.result c.count_up_to.ensures;
     }

@@ -84,5 +84,6 @@ returns c =
     record {
       part =
           c.between.ensures.part ∙ same_part bytes (entries_at (counts_in bytes) + 12 * first) (entries_at (counts_in bytes) + 12 * end) _ _ (omega (arith, at)) (omega (arith, at))
-          ∙ entries_part bytes c.args.self.now (subst (Spells bytes) c.self.view_is c.self.invariant) c.args.start c.args.end c.requires.order first end c.way_start.ensures.start c.way_start-2.ensures.start;
+          ∙ entries_part bytes c.args.self.now (subst (Spells bytes) c.self.view_is c.self.invariant) c.args.start c.args.end c.requires.order first end
+          c.way_start.ensures.start c.way_start-2.ensures.start;
     }

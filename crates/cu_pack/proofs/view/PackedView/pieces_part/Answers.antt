@@ -84,5 +84,6 @@ returns c =
     record {
       part =
           c.between.ensures.part ∙ same_part bytes (pieces_at (counts_in bytes) + 12 * first) (pieces_at (counts_in bytes) + 12 * end) _ _ (omega (arith, at)) (omega (arith, at))
-          ∙ pieces_part bytes c.args.self.now (subst (Spells bytes) c.self.view_is c.self.invariant) c.args.start c.args.end c.requires.order first end c.profile_start.ensures.start c.profile_start-2.ensures.start;
+          ∙ pieces_part bytes c.args.self.now (subst (Spells bytes) c.self.view_is c.self.invariant) c.args.start c.args.end c.requires.order first end
+          c.profile_start.ensures.start c.profile_start-2.ensures.start;
     }

@@ -21,6 +21,7 @@ returns c =
     let end = ap (λ (l : Layout). l.edge_starts) c.layout-layout.ensures.layout in
     record {
       part =
-          c.between.ensures.part ∙ same_part bytes (profile_starts_at (counts_in bytes)) (edge_starts_at (counts_in bytes)) c.layout-layout.result.profile_starts c.layout-layout.result.edge_starts start end
+          c.between.ensures.part ∙ same_part bytes (profile_starts_at (counts_in bytes)) (edge_starts_at (counts_in bytes))
+          c.layout-layout.result.profile_starts c.layout-layout.result.edge_starts start end
           ∙ profiles_part bytes c.args.self.now (subst (Spells bytes) c.self.view_is c.self.invariant);
     }

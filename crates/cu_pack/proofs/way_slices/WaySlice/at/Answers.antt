@@ -24,4 +24,5 @@ pub returns : goal.returns
 returns c =
     let s = c.self.inside in
     let some : 0 < s.count = search rules in
-    way_slice_way s.body s.at s.count c.args.self.now c.self.invariant c.self.view_is c.args.second _ c.count_up_to-begun.result c.entry.result (ap (λ (n : ℕ). c.args.second % n) c.from.ensures) some c.count_up_to-begun.ensures c.entry.ensures
+    way_slice_way s.body s.at s.count c.args.self.now c.self.invariant c.self.view_is c.args.second _ c.count_up_to-begun.result c.entry.result
+    (ap (λ (n : ℕ). c.args.second % n) c.from.ensures) some c.count_up_to-begun.ensures c.entry.ensures

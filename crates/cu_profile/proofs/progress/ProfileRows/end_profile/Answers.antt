@@ -19,7 +19,8 @@ invariant_of-self c =
     let same = c.profile_of-profile.ensures
     ∙ ap (λ (k : Option ℕ). profile_checked s.first k c.replace-pieces.result.items) c.take.ensures.value
     ∙ ap (λ (ps : List Piece). profile_checked s.first s.wrong_kind ps) (ap (λ v. v.items) c.replace-pieces.ensures.value) in
-    let kept = subst (λ (p : Result (List Piece) ProfileRefusal). OnOk c.keep_profile.result (KeepsProfile p s.profiles.items s.fault c.keep_profile.new.profiles.items c.keep_profile.new.fault)) same c.keep_profile.ensures.kept in
+    let kept = subst (λ (p : Result (List Piece) ProfileRefusal). OnOk c.keep_profile.result
+    (KeepsProfile p s.profiles.items s.fault c.keep_profile.new.profiles.items c.keep_profile.new.fault)) same c.keep_profile.ensures.kept in
     let sound = ended_sound c.keep_profile.result s.first s.row s.wrong_kind s.pieces.items s.profiles.items c.keep_profile.new.profiles.items s.fault c.keep_profile.new.fault
     kept c.keep_profile.ensures.unchanged s.few s.sum s.valid in
     let none = ap length (ap (λ v. v.items) c.replace-pieces.ensures.after ∙ c.new.ensures.items) in

@@ -43,7 +43,8 @@ invariant_of-self-2 c =
     let (spelled, beside, known, digest) = c.self.invariant in
     let same : old ≡ decoded (sealed inside.bytes.items) = c.adopt-view.ensures.same ∙ ap (λ (bytes : List ℕ). decoded (sealed bytes)) c.deref.ensures.value in
     let sound : IsHierarchy old = subst IsHierarchy (sym same) spelled.sound in
-    let spells = spelled_with old c.args.edit c.in_ok-touched.touched.edit lists c.deref-2.result.now (sealed bytes) c.in_ok-touched.ensures.edit c.deref-2.ensures.value c.in_ok-touched.ensures.sound c.in_ok-bytes.ensures.spelled in
+    let spells = spelled_with old c.args.edit c.in_ok-touched.touched.edit lists c.deref-2.result.now (sealed bytes) c.in_ok-touched.ensures.edit
+    c.deref-2.ensures.value c.in_ok-touched.ensures.sound c.in_ok-bytes.ensures.spelled in
     let room = subst (λ (h : HierarchyValue). HasRoom h inside.graph inside.tree inside.desk inside.room inside.work inside.editing) (sym same) beside in
     let knows = subst (λ (h : HierarchyValue). KnowsCustomized h inside.customized) (sym same) known in
     let resettled = c.in_ok-touched.ensures.resettled in
@@ -63,7 +64,8 @@ returns-clause-edited c =
     let held : old ≡ c.args.self.now = same ∙ c.self.view_is in
     let sound : IsHierarchy old = subst IsHierarchy (sym same) c.self.invariant.0.sound in
     let range = subst (λ (h : HierarchyValue). IsEditInRange h.network c.args.edit) (sym held) c.requires.range in
-    let spells = spelled_with old c.args.edit c.in_ok-touched.touched.edit lists c.deref-2.result.now (sealed bytes) c.in_ok-touched.ensures.edit c.deref-2.ensures.value c.in_ok-touched.ensures.sound c.in_ok-bytes.ensures.spelled in
+    let spells = spelled_with old c.args.edit c.in_ok-touched.touched.edit lists c.deref-2.result.now (sealed bytes) c.in_ok-touched.ensures.edit
+    c.deref-2.ensures.value c.in_ok-touched.ensures.sound c.in_ok-bytes.ensures.spelled in
     let made = edited_after old (hierarchy_with old c.args.edit lists) c.args.edit (sealed bytes) spells c.in_ok-touched.ensures.resettled lists sound range c.in_ok-touched.ensures.touched in
     let many : length lists ≡ c.len.result = omega (arith, c.len.ensures, c.deref-2.ensures.len, ap (λ (l : List TouchedEdge). length l) c.deref-2.ensures.value) in
     let counted = subst (λ count. IsEdited old c.args.edit (decoded (sealed bytes)) count) many made in

@@ -14,4 +14,5 @@ returns-clause-ok c =
     let row = map (λ (f : Bor (List ℕ)). f.now) c.args.fields.now in
     let after : Inside = record { writer = c.write_fields.new.self; width = Some (length c.args.fields.now); failed = c.self.inside.failed } in
     subst (λ (o : Option WrittenText). AddsRow o (written after) row) c.self.view_is
-    (row_added c.self.inside after row c.if-self.false c.if-self.false (ap Some (sym (length-map c.args.fields.now (λ (f : Bor (List ℕ)). f.now)))) (rw setup at (c.in-Ok.ensures.bytes fields wrote plain)))
+    (row_added c.self.inside after row c.if-self.false c.if-self.false (ap Some (sym (length-map c.args.fields.now (λ (f : Bor (List ℕ)). f.now))))
+    (rw setup at (c.in-Ok.ensures.bytes fields wrote plain)))
