@@ -77,6 +77,18 @@ impl DayFunction {
         })
     }
 
+    /// Finds what it takes in each of these windows of the day too, unless it is known in some windows.
+    pub fn find_bounds(&mut self, alloc: Global, windows: Windows) -> Result<(), NoMemory>
+        ensures { self.new ≡ self.old }
+    {
+        if self.bounds.is_some() {
+            return Ok(());
+        }
+        let bounds = Bounds::of(&self.words, self.least, self.most, windows);
+        self.bounds = Some(Box::new(alloc, bounds)?);
+        Ok(())
+    }
+
     /// Its words.
     pub fn words(&self) -> &[Word]
         ensures all { result.now ≡ self.now }

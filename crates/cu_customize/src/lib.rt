@@ -53,6 +53,7 @@ pub use merging::{MOST, NOBODY, WayRun};
 pub use pulling::SettledWords;
 pub use roads::put_road;
 pub use settling::{Settled, settle};
+pub use windows::Windows;
 pub use word_settling::WordSettling;
 pub use words::{MAX_NUMBER, Word, function_of_run, least_travel, most_travel, staying};
 

@@ -60,7 +60,7 @@ const END: u64 = DAY as u64;
 /// The last one ends with the day. Some may be empty.
 #[derive(Clone, Copy, Debug, PartialEq, Eq)]
 pub struct Windows {
-    pub widths: [u16; WIDTHS],
+    widths: [u16; WIDTHS],
 }
 
 /// How long a function takes from one second until another: at least, and at most where that is below 65,535.

@@ -44,6 +44,11 @@ impl WordSettling {
         })
     }
 
+    /// The windows of the day in which it bounds functions.
+    pub fn windows(&self) -> Windows {
+        self.windows
+    }
+
     /// Settles the shortcut of an edge in a direction by the functions of these roads and these functions of shortcuts, by
     /// list number: the maximal runs, over a day, of its first candidate that arrives earliest, and when that arrives. The
     /// candidates are the edge's roads that aren't closed, by rising number, and then the middles of which both halves

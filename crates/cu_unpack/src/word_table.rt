@@ -9,7 +9,7 @@ ghost use Rattle.cu_unpack.specs.Steps.WordRebuilding.{HasWords, IsKnown};
 use crate::missing::Known;
 use crate::shortcuts::{Shortcut, list_number};
 use cu_chordal::MAX_EDGES;
-use cu_customize::DayFunction;
+use cu_customize::{DayFunction, Windows};
 use cu_model::NoMemory;
 use std::alloc::Global;
 use std::marker::Model;
@@ -77,6 +77,22 @@ impl WordTable {
         let number = list_number(shortcut);
         self.known[number] = true;
         self.functions[number] = function;
+    }
+
+    /// Finds how long the function of a shortcut, if it has one, takes in each of these windows of the day.
+    pub fn find_bounds(
+        &mut self,
+        alloc: Global,
+        shortcut: Shortcut,
+        windows: Windows,
+    ) -> Result<(), NoMemory>
+        requires { number_of shortcut < length self.old.functions }
+        ensures { self.new ≡ self.old }
+    {
+        if let Some(function) = &mut self.functions[list_number(shortcut)] {
+            function.find_bounds(alloc, windows)?;
+        }
+        Ok(())
     }
 }
 

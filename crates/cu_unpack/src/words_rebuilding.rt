@@ -1,10 +1,9 @@
 //! Functions of shortcuts over the day as words, rebuilt from their ways or put in.
 
-ghost use Rattle.std.specs.Prelude.{◌≡◌, ◌<◌, ◌+◌, ◌≤◌, ◌↔◌, All, IfOk, IfSome, IsTrue, None, OnErr, Some, false, length, slice_set, take, true};
+ghost use Rattle.std.specs.Prelude.{◌≡◌, ◌<◌, ◌+◌, ◌≤◌, ◌↔◌, All, IfOk, IfSome, IsTrue, None, OnErr, Some, false, length, take, true};
 ghost use Rattle.cu_chordal.specs.declared.graph.TheConstants.{MAX_EDGES};
-ghost use Rattle.cu_interval.specs.declared.ways.Dir.TheVariants.{Up, Down};
 ghost use Rattle.cu_interval.specs.Hierarchies.{IsHierarchy, list_number};
-ghost use Rattle.cu_unpack.specs.RebuiltWords.{IsFarList, IsFarWay, IsKnownList, IsNeeded, IsRebuiltWords, IsSized, KeepsWords, Learns, NeedsFarList};
+ghost use Rattle.cu_unpack.specs.RebuiltWords.{IsFarList, IsFarWay, IsKnownList, IsNeeded, IsRebuiltWords, IsSized, KeepsWords, Learns, NeedsFarList, with_list};
 ghost use Rattle.cu_unpack.specs.Steps.Rebuilding.{FindsMissing, HasHalves, HasWays, IsWayOf, ways_of};
 ghost use Rattle.cu_unpack.specs.Steps.WordRebuilding.{AddsWay, HoldsLeast, IsKnown, LearnsIf};
 
@@ -13,7 +12,7 @@ use crate::room::Room;
 use crate::shortcuts::{Shortcut, halves, is_among, take_next};
 use crate::word_table::WordTable;
 use cu_chordal::MAX_EDGES;
-use cu_customize::DayFunction;
+use cu_customize::{DayFunction, Windows};
 use cu_interval::{Dir, Way, Ways};
 use cu_model::NoMemory;
 use std::alloc::Global;
@@ -64,22 +63,29 @@ impl WordFunctions {
         self.table.is_known(Shortcut { edge, dir })
     }
 
-    /// Both lists of an edge are known from then on, with these functions. The edge's number is in range.
-    pub fn put(&mut self, edge: u32, up: Option<DayFunction>, down: Option<DayFunction>)
-        requires known { list_number edge Down < length self.old.known }
-        requires functions { list_number edge Down < length self.old.functions }
-        ensures known { self.new.known ≡ slice_set (slice_set self.old.known
-            (list_number edge Up) true) (list_number edge Down) true }
-        ensures functions { self.new.functions ≡ slice_set (slice_set self.old.functions
-            (list_number edge Up) up) (list_number edge Down) down }
+    /// The list of an edge in a direction is known from then on, with this function. The edge's number is in range.
+    pub fn put(&mut self, edge: u32, dir: Dir, function: Option<DayFunction>)
+        requires known { list_number edge dir < length self.old.known }
+        requires functions { list_number edge dir < length self.old.functions }
+        ensures { self.new ≡ with_list self.old (list_number edge dir) function }
     {
-        let upwards = Shortcut { edge, dir: Dir::Up };
-        let downwards = Shortcut {
-            edge,
-            dir: Dir::Down,
-        };
-        self.table.put(upwards, up);
-        self.table.put(downwards, down);
+        self.table.put(Shortcut { edge, dir }, function);
+    }
+
+    /// Finds how long the function of the list of an edge in a direction, if it has one, takes in each of these windows of
+    /// the day, so that settling by it compares less. The edge's number is in range.
+    pub fn find_bounds(
+        &mut self,
+        alloc: Global,
+        edge: u32,
+        dir: Dir,
+        windows: Windows,
+    ) -> Result<(), NoMemory>
+        requires { list_number edge dir < length self.old.functions }
+        ensures { self.new ≡ self.old }
+    {
+        self.table
+            .find_bounds(alloc, Shortcut { edge, dir }, windows)
     }
 
     /// Learns the list of an edge in a direction over these ways, and those that it needs: the least of its ways at each second
