@@ -40,7 +40,7 @@ later_cases first None x e = inr e
 later_cases first (Some y) x e = inl e
 
 -- what holds of all items holds of the one that has begun last
-begun_all : {A : Type 0} (from : A → ℕ) (P : A → Type 0) (xs : List A) (s : ℕ) (x : A) → All P xs → last_begun from xs s ≡ Some x → P x
+pub begun_all : {A : Type 0} (from : A → ℕ) (P : A → Type 0) (xs : List A) (s : ℕ) (x : A) → All P xs → last_begun from xs s ≡ Some x → P x
 begun_all from P [] s x all e = absurd (cc e)
 begun_all from P (y ∷ ys) s x all e =
     elim (later_cases (if leb (from y) s then Some y else None) (last_begun from ys s) x e) [

@@ -19,6 +19,7 @@ pub mod WindowLaws
 pub mod BoundLaws
 pub mod SeenLaws
 pub mod AddLaws
+pub mod FirstLaws
 pub mod TravelLaws
 pub mod ReadLaws
 pub mod OneRun

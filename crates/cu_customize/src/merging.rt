@@ -12,9 +12,9 @@ ghost use Rattle.cu_customize.specs.declared.windows.TheConstants.{NO_LIMIT, WIN
 ghost use Rattle.cu_customize.specs.Windows.{AreLowered, AreStarts, IsLate, TakesInWindows, window_start};
 ghost use Rattle.cu_customize.specs.Words.{IsCompactDay, IsDayList, IsFunctionWords, composed, end_run, is_fixed};
 ghost use Rattle.cu_customize.specs.Least.{KeepsDayOrder, IsWayRuns, least_arrival, least_way, tie_with, way_with};
-ghost use Rattle.cu_customize.specs.Steps.Merging.{IsAddedWithin, IsHeld, IsNext, IsMerging, IsSeen, IsMerged, IsBefore, CopiesBehind, Merges, Puts, least_held, next_held};
+ghost use Rattle.cu_customize.specs.Steps.Merging.{IsAddedWithin, IsAlone, IsHeld, IsNext, IsMerging, IsSeen, IsMerged, IsBefore, CopiesBehind, Merges, Puts, least_held, next_held};
 
-use crate::linking::link_between;
+use crate::linking::{link, link_between};
 use crate::windows::{Limits, STARTS, WINDOWS, Windows, lower_limits, start_in};
 use crate::words::{MAX_NUMBER, Word, index_at, stepped};
 use cu_model::{DAY, NoMemory};
@@ -157,6 +157,23 @@ impl Next {
         self.ways.clear();
         self.index = 0;
         self.done = 0;
+    }
+
+    // Takes a candidate's runs all day.
+    fn take_all(&mut self, words: &[Word], way: u32) -> Result<(), NoMemory>
+        requires over_day { IsDayList words.now }
+        requires even { length self.old.ways.items ≡ length self.old.words.items }
+        requires empty { next_held self.old ≡ [] }
+        ensures even { IfOk result (λ _. length self.new.ways.items ≡ length self.new.words.items) }
+        ensures index { IfOk result (λ _. self.new.index ≡ self.old.index) }
+        ensures done { IfOk result (λ _. self.new.done ≡ DAY) }
+        ensures alone { IfOk result (λ _. IsAlone (arrival_value words.now) way self.new) }
+    {
+        'runs: for index in 0..words.len() - 1 {
+            self.put(words[index], way)?;
+        }
+        self.done = END;
+        Ok(())
     }
 
     // Takes what the old list has to the end of the day, and ends both lists.
@@ -535,6 +552,9 @@ impl PartMerger {
             ≡ way_with self.old (composed first.now second.now t) way t) }
         ensures err { OnErr result (self.new ≡ self.old) }
     {
+        if self.has_none() {
+            return self.begin_with(first, second, way);
+        }
         let candidate = Candidate { first, second, way };
         self.next.restart();
         link_and_compare(
@@ -548,6 +568,34 @@ impl PartMerger {
         if self.next.words.is_empty() {
             return Ok(());
         }
+        self.next.finish(&self.least)?;
+        mem::swap(&mut self.least.words, &mut self.next.words);
+        mem::swap(&mut self.least.ways, &mut self.next.ways);
+        Ok(())
+    }
+
+    // Is the least later than any arrival all day, as where there is no candidate?
+    fn has_none(&self) -> bool
+        ensures { IsTrue result → (t : ℕ) → t < DAY → least_arrival self.now t ≡ MOST }
+    {
+        let words = &self.least.words;
+        words.len() == 2 && words[0].has_rule_of(Word::of(0, true, MOST))
+    }
+
+    // Adds a candidate where there is none: it is the least all day, so nothing is compared.
+    fn begin_with(&mut self, first: &[Word], second: &[Word], way: u32) -> Result<(), NoMemory>
+        requires first { IsFunctionWords first.now }
+        requires second { IsFunctionWords second.now }
+        requires none { (t : ℕ) → t < DAY → least_arrival self.old t ≡ MOST }
+        ensures arrival { IfOk result (λ _. (t : ℕ) → t < DAY → least_arrival self.new t
+            ≡ min (least_arrival self.old t) (composed first.now second.now t)) }
+        ensures way { IfOk result (λ _. (t : ℕ) → t < DAY → least_way self.new t
+            ≡ way_with self.old (composed first.now second.now t) way t) }
+        ensures err { OnErr result (self.new ≡ self.old) }
+    {
+        link(first, second, &mut self.linked)?;
+        self.next.restart();
+        self.next.take_all(&self.linked, way)?;
         self.next.finish(&self.least)?;
         mem::swap(&mut self.least.words, &mut self.next.words);
         mem::swap(&mut self.least.ways, &mut self.next.ways);

@@ -43,6 +43,14 @@ SaysMerged least arrival way held s =
     (arrives held.0.rule s ≡ min (least_arrival (least_held least) s) (arrival s))
     × (held.1 ≡ way_with (least_held least) (arrival s) way s)
 
+-- a run and a number that say when a candidate arrives by this function, and that it is the one
+abbrev pub SaysAlone : (ℕ → ℕ) → ℕ → Held → ℕ → Type 0
+SaysAlone arrival way held s = (arrives held.0.rule s ≡ arrival s) × (held.1 ≡ way)
+
+-- so do the runs of the list being made, all day
+abbrev pub IsAlone : (ℕ → ℕ) → ℕ → Next → Type 0
+IsAlone arrival way next = IsTiled held_from (SaysAlone arrival way) (next_held next) day
+
 -- at all seconds before `t` the list being made is right as far as it has come, and from there on the
 -- candidate is no earlier, nor as early under a lower number
 pub record IsMerging (least : Least) (arrival : ℕ → ℕ) (way : ℕ)
