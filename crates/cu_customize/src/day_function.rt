@@ -116,6 +116,18 @@ impl DayFunction {
         self.most
     }
 
+    /// A copy, which knows nothing of windows.
+    pub fn copy(&self, alloc: Global) -> Result<DayFunction, NoMemory>
+        ensures { IfOk result (λ copy. copy ≡ self.now) }
+    {
+        Ok(DayFunction {
+            words: Vec::from_slice(alloc, &self.words)?,
+            least: self.least,
+            most: self.most,
+            bounds: None,
+        })
+    }
+
     /// The same function by runs.
     pub fn to_arrival(&self, alloc: Global) -> Result<Arrival, NoMemory>
         ensures value { IfOk result (λ arrival.

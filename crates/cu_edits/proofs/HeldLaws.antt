@@ -15,7 +15,8 @@ use Rattle.cu_interval.specs.Hierarchies.{HierarchyValue, IsHierarchyOf, list_nu
 use Rattle.cu_interval.proofs.EndsLaws.{number_within}
 use Rattle.cu_unpack.specs.RebuiltWords.{IsSized, WordsValue}
 use Rattle.cu_edits.specs.Settling.{IsSettled, SettlingValue}
-use Rattle.cu_edits.specs.Steps.ByWords.{AreWordsOf, IsSettlingByWords}
+use Rattle.cu_edits.specs.Learned.{AreWordsOf}
+use Rattle.cu_edits.specs.Steps.ByWords.{IsSettlingByWords}
 use Rattle.cu_edits.specs.Steps.Held.{IsSettlingNone}
 use Rattle.cu_edits.specs.Steps.Holding.{settling_of}
 use Rattle.cu_edits.specs.Steps.Known.{IsEditSound}
@@ -38,14 +39,14 @@ holds_none h graph edit arcs settled none of roads range pieces = record {
   };
 }
 
-no_edge : (s : SettlingValue) → s.settled ≡ [] → (edge : ℕ) → IsSettled s edge → ⊥
+pub no_edge : (s : SettlingValue) → s.settled ≡ [] → (edge : ℕ) → IsSettled s edge → ⊥
 no_edge s none edge c = none_in_nil edge (subst (λ (xs : List TouchedEdge). IsSettled (record s { settled = xs }) edge) none c)
 
 unknown_list : (known : List Bool) (number : ℕ) → All (λ (b : Bool). b ≡ false) known → slice_get known number ≡ Some true → ⊥
 unknown_list known number none at = let is = all_at (λ (b : Bool). b ≡ false) known number true none at in cc is
 
 -- of no list is a function known
-no_words : (h : HierarchyValue) (words : WordsValue) → IsSized (length h.edges) words → All (λ (b : Bool). b ≡ false) words.known
+pub no_words : (h : HierarchyValue) (words : WordsValue) → IsSized (length h.edges) words → All (λ (b : Bool). b ≡ false) words.known
     → All (λ (f : Option (List Run)). f ≡ None) words.functions → AreWordsOf h words
 no_words h words size unknown none = record {
   size = size;
@@ -58,18 +59,18 @@ no_words h words size unknown none = record {
       there ∙ ap Some (none n None (omega (arith, inside, one, two)));
 }
 
--- words of which none is known are held where no edge was settled
+-- words of the hierarchy before are held where no edge was settled
 pub holds_words : (s : SettlingValue) (graph : ChordalValue) (arcs : List (List ℕ)) (edges : ℕ) (words : WordsValue) (moved : MovedValue) → edges ≡ length graph.edges → IsSettlingNone s graph arcs
-    → IsSized edges words → All (λ (b : Bool). b ≡ false) words.known → All (λ (f : Option (List Run)). f ≡ None) words.functions → length moved.places ≡ 2 * edges
+    → AreWordsOf s.before words → length moved.places ≡ 2 * edges
     → All (λ (place : ℕ). place ≡ 0) moved.places → IsSettlingByWords s graph arcs words moved
-holds_words s graph arcs edges words moved count old size unknown none long zeros =
+holds_words s graph arcs edges words moved count old known long zeros =
     let same : edges ≡ length s.before.edges = count ∙ ap (λ (k : ChordalValue). length k.edges) old.parts.hierarchy.0 in
     let are = subst (λ (xs : List TouchedEdge). AreSettled (record s { settled = xs })) (sym old.none) (settled_none s.before s.edit old.parts.hierarchy.1) in
     let places : length moved.places ≡ 2 * length s.before.edges = omega (arith, long, same) in
     record {
       are = are;
       parts = old.parts;
-      known = no_words s.before words (subst (λ (n : ℕ). IsSized n words) same size) unknown none;
+      known = known;
       places = places;
       inside = λ k d lt. let zero = zeros k d lt in omega (arith, zero);
       stands = stands_none s are moved old.none (λ e dir ends at.

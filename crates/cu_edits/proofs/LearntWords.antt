@@ -15,7 +15,8 @@ use Rattle.cu_interval.specs.Hierarchies.{HierarchyValue}
 use Rattle.cu_interval.proofs.EndsLaws.{each_number}
 use Rattle.cu_unpack.specs.RebuiltWords.{IsKnownList, IsSameList, IsSized, Learns, WordsValue}
 use Rattle.cu_unpack.proofs.Learning.{learned_keeps, learned_still}
-use Rattle.cu_edits.specs.Steps.ByWords.{AreAtHandIfMoved, AreWordsOf, IsAtHand, IsWayAtHand, LearnsWords}
+use Rattle.cu_edits.specs.Learned.{AreWordsOf}
+use Rattle.cu_edits.specs.Steps.ByWords.{AreAtHandIfMoved, IsAtHand, IsWayAtHand, LearnsWords}
 use Rattle.cu_edits.specs.Steps.Moving.{HalvesAre, MovedValue}
 use Rattle.cu_edits.proofs.BothHalves.{joins_low}
 

@@ -44,3 +44,4 @@ pub mod ResettledOnce
 pub mod BuiltCustomized
 pub mod EditCustomized
 pub mod AtHand
+pub mod TakenLists

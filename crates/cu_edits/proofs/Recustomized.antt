@@ -106,6 +106,7 @@ pub record IsRecustomized (h : HierarchyValue) (edit : Edit) (s : SettlingValue)
   pub settled : IsPermutation s.settled lists
   pub resettled : IsResettled h edit (hierarchy_with h edit lists)
   pub sound : IsHierarchy (hierarchy_with h edit lists)
+  pub same : settled_so_far s ≡ hierarchy_with h edit lists
 
 pub recustomized_all : (h : HierarchyValue) → IsHierarchy h → (edit : Edit) (buckets : BucketsValue) (lists sorted : List TouchedEdge) (s : SettlingValue)
     → AreRecustomized h edit buckets lists s → ((e rank : ℕ) → IsHeld buckets e rank → ⊥) → IsEditInRange h.network edit → IsEditSound edit
@@ -129,4 +130,13 @@ recustomized_all h sound edit buckets lists sorted s r none range sets moved up 
       settled = subst (λ (x : SettlingValue). IsPermutation x.settled sorted) (sym r.state) moved;
       resettled = subst (IsResettled h edit) same (all_resettled settled r.are all);
       sound = subst IsHierarchy same (all_sound settled r.are all range sets);
+      same = ap settled_so_far r.state ∙ same;
     }
+
+-- so each of them is among those that the settler settled
+pub all_settled : (h : HierarchyValue) (edit : Edit) (s : SettlingValue) (lists : List TouchedEdge) → NumbersTouched h edit (numbers_of lists) → IsPermutation s.settled lists
+    → s.before ≡ h → s.edit ≡ edit → (edge : ℕ) → IsTouchedEdge s.before s.edit edge → IsSettled s edge
+all_settled h edit s lists numbers moved before same edge touched =
+    let there : IsTouchedEdge h edit edge = subst (λ (e : Edit). IsTouchedEdge h e edge) same (subst (λ (x : HierarchyValue). IsTouchedEdge x s.edit edge) before touched) in
+    let back = IsPermutation-sym (numbers_of s.settled) (numbers_of lists) (IsPermutation-map (λ (t : TouchedEdge). t.edge) s.settled lists moved) in
+    Contains-permutation (numbers_of lists) (numbers_of s.settled) edge back ((numbers.exact edge).1 there)

@@ -1,4 +1,5 @@
 pub mod Customized
 pub mod EditLines
+pub mod Learned
 pub mod Settling
 pub mod Steps

@@ -11,3 +11,4 @@ pub mod Settled
 pub mod Spreading
 pub mod LinePieces
 pub mod LineChanges
+pub mod Taking

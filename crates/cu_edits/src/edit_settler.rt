@@ -3,9 +3,11 @@
 ghost use Rattle.std.specs.Prelude.{◌≡◌, ◌<◌, ◌++◌, ◌∷◌, [], ℕ, List, IfNone, IfOk, IfSome, OnErr, OnOk, length};
 ghost use Rattle.cu_model.specs.Edits.{IsEditInRange, edited};
 ghost use Rattle.cu_interval.specs.EdgeArcs.{AreEdgeArcs};
-ghost use Rattle.cu_interval.specs.Hierarchies.{IsHierarchyOf};
+ghost use Rattle.cu_interval.specs.Hierarchies.{HierarchyValue, IsHierarchyOf};
+ghost use Rattle.cu_interval.specs.Touching.{IsTouchedEdge};
 ghost use Rattle.cu_edits.specs.Customized.{AreCustomized};
-ghost use Rattle.cu_edits.specs.Settling.{IsLowerSide, IsResettledEdge, SettlingValue, settled_so_far};
+ghost use Rattle.cu_edits.specs.Learned.{AreWordsOf};
+ghost use Rattle.cu_edits.specs.Settling.{IsLowerSide, IsResettledEdge, IsSettled, SettlingValue, settled_so_far};
 ghost use Rattle.cu_edits.specs.Steps.Held.{Holds, IsBegun, IsPlain};
 ghost use Rattle.cu_edits.specs.Steps.Holding.{IsNext, IsSettledEdge, IsSettling, settling_of};
 ghost use Rattle.cu_edits.specs.Steps.Known.{HasFunctions, IsEditSound, functions_of};
@@ -16,14 +18,15 @@ use crate::edit_parts::EditParts;
 use crate::going_over::plain_of_words;
 use crate::held::{Held, HeldWords};
 use crate::known::{EdgeFunctions, KnownFunctions};
+use crate::learned::Learned;
 use crate::learning::learn_sides;
 use crate::moved_lists::MovedLists;
 use crate::settler::Settler;
 use cu_chordal::Chordal;
-use cu_customize::{WordSettling, settle};
+use cu_customize::settle;
 use cu_interval::{Dir, EdgeArcs, TouchedEdge, Ways};
 use cu_model::{Edit, NoMemory};
-use cu_unpack::{Rebuilt, WordFunctions};
+use cu_unpack::Rebuilt;
 use std::alloc::Global;
 use std::marker::Model;
 
@@ -87,10 +90,11 @@ impl<'a, W: Ways> EditSettler<'a, W> {
         ensures { IfOk result (λ settler. settler
             ≡ record { before = W.hierarchy ways.now; edit = edit.now; settled = [] }) }
     {
-        EditSettler::over(alloc, ways, edit, graph, arcs, &[])
+        EditSettler::over(alloc, ways, edit, graph, arcs, &[], None)
     }
 
-    /// The same, where edges with a mark are known to have the lists that customization makes of the lists below them.
+    /// The same, where edges with a mark are known to have the lists that customization makes of the lists below them, and
+    /// functions of lists are known.
     pub fn over(
         alloc: Global,
         ways: &'a W,
@@ -98,12 +102,14 @@ impl<'a, W: Ways> EditSettler<'a, W> {
         graph: &'a Chordal,
         arcs: &'a EdgeArcs,
         customized: &'a [bool],
+        learned: Option<Learned>,
     ) -> Result<EditSettler<'a, W>, NoMemory>
         requires edit { IsEditInRange (W.hierarchy ways.now).network edit.now }
         requires graph { IsHierarchyOf graph.now (W.hierarchy ways.now) }
         requires arcs { AreEdgeArcs (W.hierarchy ways.now).network (W.hierarchy ways.now).order
             graph.now.edges arcs.now }
         requires customized { AreCustomized (W.hierarchy ways.now) customized.now }
+        requires learned { IfSome learned (AreWordsOf (W.hierarchy ways.now)) }
         ensures { IfOk result (λ settler. settler
             ≡ record { before = W.hierarchy ways.now; edit = edit.now; settled = [] }) }
     {
@@ -116,8 +122,23 @@ impl<'a, W: Ways> EditSettler<'a, W> {
             arcs,
             customized,
             settled,
-            held: Held::Nothing,
+            held: Held::Nothing(learned),
         })
+    }
+
+    /// What is known of lists once all touched edges are settled. None where nothing is, since a way takes longer than words
+    /// can say or memory ran out.
+    pub fn into_learned(self, alloc: Global) -> Option<Learned>
+        requires all { (edge : ℕ) → IsTouchedEdge self.before self.edit edge → IsSettled self edge }
+        ensures { IfSome result (AreWordsOf (settled_so_far self.entry)) }
+    {
+        let EditSettler { graph, held, .. } = self;
+        let edges = graph.edges();
+        match held {
+            Held::Nothing(learned) => learned,
+            Held::Words(words) => Learned::after(alloc, words, edges).ok(),
+            Held::Plain(_plain) => None,
+        }
     }
 }
 
@@ -178,15 +199,28 @@ fn hold_words<W: Ways>(
     ensures holds { (s : SettlingValue) (arcs : List (List ℕ))
         → Holds s parts.now.graph.now arcs held.old → Holds s parts.now.graph.now arcs held.new }
 {
-    if let Held::Nothing = held {
-        let edges = parts.graph.edges();
-        *held = Held::Words(HeldWords {
-            functions: WordFunctions::new(alloc, edges)?,
-            moved: MovedLists::new(alloc, edges)?,
-            settling: WordSettling::new(alloc, parts.ways)?,
-        });
+    if let Held::Nothing(learned) = held {
+        let learned = begin(alloc, parts, learned.take())?;
+        let moved = MovedLists::new(alloc, parts.graph.edges())?;
+        *held = Held::Words(learned.held_with(moved));
     }
     Ok(())
+}
+
+// What was learned earlier, or else room for what will be.
+fn begin<W: Ways>(
+    alloc: Global,
+    parts: &EditParts<'_, W>,
+    earlier: Option<Learned>,
+) -> Result<Learned, NoMemory>
+    ensures { IfOk result (λ learned. (h : HierarchyValue)
+        → length h.edges ≡ length parts.now.graph.now.edges
+        → IfSome earlier (AreWordsOf h) → AreWordsOf h learned) }
+{
+    if let Some(learned) = earlier {
+        return Ok(learned);
+    }
+    Learned::nothing(alloc, parts.ways, parts.graph.edges())
 }
 
 // Settles one edge more by words where they are held. None where they aren't, and where a way takes longer than they can say.

@@ -1,6 +1,7 @@
 //! The functions of edges that a settler holds.
 
 use crate::known::EdgeFunctions;
+use crate::learned::Learned;
 use crate::moved_lists::MovedLists;
 use cu_customize::WordSettling;
 use cu_unpack::{Rebuilt, WordFunctions};
@@ -21,11 +22,11 @@ pub struct HeldPlain {
     pub known: Vec<Option<EdgeFunctions>>,
 }
 
-/// What a settler holds: nothing before it settles an edge, then words, and plain functions once a way takes longer than words
-/// can say.
+/// What a settler holds: before it settles an edge what was learned earlier, then words, and plain functions once a way takes
+/// longer than words can say.
 #[derive(Debug, Drop)]
 pub enum Held {
-    Nothing,
+    Nothing(Option<Learned>),
     Words(HeldWords),
     Plain(HeldPlain),
 }

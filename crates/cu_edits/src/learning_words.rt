@@ -5,7 +5,8 @@ ghost use Rattle.cu_chordal.specs.declared.graph.Ends.{Ends};
 ghost use Rattle.cu_interval.specs.declared.ways.Entry.{Entry};
 ghost use Rattle.cu_interval.specs.Hierarchies.{IsHierarchyOf, IsWellFormed, end_of, list_number, list_of, start_of};
 ghost use Rattle.cu_unpack.specs.RebuiltWords.{IsKnownList};
-ghost use Rattle.cu_edits.specs.Steps.ByWords.{AreAtHandIfMoved, AreWordsOf, IsAtHand, IsWayAtHand, LearnsWords};
+ghost use Rattle.cu_edits.specs.Learned.{AreWordsOf};
+ghost use Rattle.cu_edits.specs.Steps.ByWords.{AreAtHandIfMoved, IsAtHand, IsWayAtHand, LearnsWords};
 ghost use Rattle.cu_edits.specs.Steps.Moving.{HalvesAre};
 
 use crate::both_halves::find_halves;
@@ -193,7 +194,7 @@ fn learn_list<W: Ways>(
     ensures known { IfOk result (λ is_near. is_near ≡ true
         → IsAtHand moved.now words.new edge dir) }
 {
-    if !moved.is_unmoved(edge, dir) || words.knows(edge, dir) {
+    if !moved.is_unmoved(edge, dir) {
         return Ok(true);
     }
     words.learn(alloc, parts.ways, edge, dir)

@@ -11,8 +11,10 @@
 //! plain ones; once a way takes longer than words can say, as in a file that isn't built, it goes over to plain functions.
 //! [`copy_profile`] copies a profile of whatever stands for a network.
 //!
-//! [`CustomizedEdges`] tells which edges are known to be customized (`specs/Customized.antt`): all are in a built hierarchy, and
-//! an edit keeps those that are and adds those that it settles.
+//! [`touch_over`] is the same for whoever makes one edit after the other, and knows of lists what earlier edits left:
+//! [`CustomizedEdges`] tells which edges are known to be customized (`specs/Customized.antt`), as all are in a built hierarchy,
+//! and an edit keeps those that are and adds those that it settles; [`Learned`] has functions of lists (`specs/Learned.antt`),
+//! and an edit puts the new ones in the place of those of lists that it moved.
 //!
 //! A law speaks of the definitions alone, [`resettled_is_built`]: a built hierarchy that is resettled by an edit is the built one
 //! of the edited network.
@@ -33,6 +35,7 @@ mod going_over;
 mod held;
 mod known;
 mod laws;
+mod learned;
 mod learning;
 mod learning_words;
 mod lines;
@@ -50,6 +53,7 @@ pub use copying::copy_profile;
 pub use customized::CustomizedEdges;
 pub use edit_settler::EditSettler;
 pub use laws::resettled_is_built;
+pub use learned::Learned;
 pub use lines::{EditLine, EditRefusal, MAX_EDIT_LINE, check_edit};
 pub use recustomizing::{Touched, recustomize, touch, touch_over};
 pub use settler::Settler;

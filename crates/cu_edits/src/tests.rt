@@ -4,7 +4,7 @@ ghost use Rattle.std.specs.Prelude.{◌≡◌, ◌<◌, IfOk, length};
 ghost use Rattle.cu_model.specs.Edits.{IsEditInRange};
 ghost use Rattle.cu_model.specs.Profiles.{IsProfile};
 
-use crate::{Touched, touch, touched_edges};
+use crate::{CustomizedEdges, Learned, Touched, touch, touch_over, touched_edges};
 use cu_chordal::close;
 use cu_customize::customize;
 use cu_interval::{Dir, EdgeArcs, Entry, Hierarchy, TouchedEdge, Way, Ways};
@@ -181,5 +181,42 @@ fn closing_roads_empties_their_lists(rt: HostRuntime) -> Result<(), Fail> {
     assert!(rt; touched.lists.len() == 2);
     assert!(rt; has_lists(&touched.lists[0], 1, &[], &[]));
     assert!(rt; has_lists(&touched.lists[1], 2, &[], &[]));
+    Ok(())
+}
+
+// What the edit touches in this hierarchy, of which nothing is known, and what is known after it.
+fn touch_and_learn(
+    alloc: Global,
+    hierarchy: &Hierarchy,
+    edit: Edit,
+) -> Result<(Touched, Option<Learned>), Fail>
+    requires { IsEditInRange hierarchy.now.network edit }
+{
+    let mut buckets = RankBuckets::new(alloc, hierarchy.nodes(), hierarchy.edges())?;
+    let graph = hierarchy.graph();
+    let arcs = EdgeArcs::of(alloc, hierarchy, hierarchy.order(), graph)?;
+    let none = CustomizedEdges::none(alloc, hierarchy.edges())?;
+    let mut learned = None;
+    let touched = touch_over(
+        alloc,
+        hierarchy,
+        edit,
+        graph,
+        &arcs,
+        &mut buckets,
+        &none,
+        &mut learned,
+    )?;
+    Ok((touched, learned))
+}
+
+#[test]
+fn an_edit_hands_on_what_it_learned(rt: HostRuntime) -> Result<(), Fail> {
+    let alloc = rt.alloc();
+    let hierarchy = slow_road(alloc)?;
+    let pieces = always(alloc, Rule::Travel(200))?;
+    let (touched, learned) = touch_and_learn(alloc, &hierarchy, Edit::Set { profile: 0, pieces })?;
+    assert!(rt; are_roads_alone(&touched.lists));
+    assert!(rt; learned.is_some());
     Ok(())
 }

@@ -1,6 +1,6 @@
 -- What a router holds: its packed bytes spell one hierarchy, and its room stays fit for the hierarchy after an edit.
 use Rattle.std.proofs.Common.{◌≡◌, ◌<◌, ◌∙◌, ℕ, Bool, true, List, [], ◌∷◌, Option, Some, length, get_or, map, refl, sym, ap, subst, arith, All}
-use Rattle.std.specs.Prelude.{slice_set}
+use Rattle.std.specs.Prelude.{IfSome, slice_set}
 use Rattle.std.proofs.lemmas.List.{get_or-map, length-map, length-set}
 use Rattle.std.proofs.lemmas.List.Elements.{Contains-get_or}
 use Rattle.std.proofs.lemmas.Option.{slice_get_within}
@@ -14,6 +14,7 @@ use Rattle.cu_chordal.specs.Edges.{IsClosureOf}
 use Rattle.cu_chordal.specs.Graphs.{ChordalValue}
 use Rattle.cu_elimtree.specs.SweepArcs.{parents_in}
 use Rattle.cu_edits.specs.Customized.{AreCustomized, marked}
+use Rattle.cu_edits.specs.Learned.{AreWordsOf}
 use Rattle.cu_edits.specs.Settling.{numbers_of}
 use Rattle.cu_edits.proofs.EditCustomized.{edit_customized}
 use Rattle.cu_interval.specs.declared.ways.TouchedEdge.{TouchedEdge}
@@ -31,6 +32,7 @@ use Rattle.cu_pack.proofs.Bodies.{spelled_sealed}
 use Rattle.cu_pack.proofs.Views.{said_again}
 use Rattle.cu_recall.specs.Rooms.{RoomValue}
 use Rattle.cu_sweep.specs.Desks.{DeskValue}
+use Rattle.cu_unpack.specs.RebuiltWords.{WordsValue}
 use Rattle.cu_session.specs.declared.router.EditRoom.{EditRoom}
 use Rattle.cu_session.specs.Steps.Routing.{FitsSome, HasEditRoom, HasRoom, IsEdited, KnowsCustomized}
 use Rattle.cu_edits.proofs.ResettledBuilt.{resettled_built}
@@ -108,25 +110,26 @@ module _ (old new : HierarchyValue) (edit : Edit) (resettled : IsResettled old e
       let order = subst (λ (o : OrderValue). AreEdgeArcs new.network o old.edges lists) (sym resettled.order) network in
       subst (λ (edges : List Ends). AreEdgeArcs new.network new.order edges lists) (sym resettled.edges) order
 
-  edits_after : (room : EditRoom) (now : BucketsValue) → HasEditRoom old room → now.ranks ≡ room.buckets.ranks → length now.states ≡ length room.buckets.states
-      → HasEditRoom new (record { arcs = room.arcs; buckets = now })
-  edits_after room now fits ranks edges = record {
+  edits_after : (room : EditRoom) (now : BucketsValue) (words : Option WordsValue) → HasEditRoom old room → now.ranks ≡ room.buckets.ranks → length now.states ≡ length room.buckets.states
+      → IfSome words (AreWordsOf new) → HasEditRoom new (record { arcs = room.arcs; buckets = now; learned = words })
+  edits_after room now words fits ranks edges learned = record {
     listed = arcs_same room.arcs fits.listed;
     ranks = ranks ∙ fits.ranks ∙ sym nodes_same;
     edges = edges ∙ fits.edges ∙ sym edges_same;
+    learned = learned;
   }
 
   pub room_after : (graph : ChordalValue) (parents : List (Option ℕ)) (queries : DeskValue) (known later : Option RoomValue) (walks : Option ℕ) (editing : Option EditRoom) (room : EditRoom)
-      (now : BucketsValue) → HasRoom old graph parents queries known walks editing → (new.network.nodes ≡ old.network.nodes → length new.edges ≡ length old.edges → FitsSome new later)
-      → HasEditRoom old room → now.ranks ≡ room.buckets.ranks → length now.states ≡ length room.buckets.states
-      → HasRoom new graph parents queries later walks (Some (record { arcs = room.arcs; buckets = now }))
-  room_after graph parents queries known later walks editing room now beside fits edits ranks edges = record {
+      (now : BucketsValue) (words : Option WordsValue) → HasRoom old graph parents queries known walks editing → (new.network.nodes ≡ old.network.nodes → length new.edges ≡ length old.edges → FitsSome new later)
+      → HasEditRoom old room → now.ranks ≡ room.buckets.ranks → length now.states ≡ length room.buckets.states → IfSome words (AreWordsOf new)
+      → HasRoom new graph parents queries later walks (Some (record { arcs = room.arcs; buckets = now; learned = words }))
+  room_after graph parents queries known later walks editing room now words beside fits edits ranks edges learned = record {
     chordal = beside.chordal ∙ sym graph_same;
     tree = subst (λ (g : ChordalValue). parents ≡ parents_in g) (sym graph_same) beside.tree;
     desk = beside.desk ∙ sym nodes_same;
     room = fits nodes_same edges_same;
     work = beside.work ∙ ap (λ n. Some n) (sym nodes_same);
-    edits = edits_after room now edits ranks edges;
+    edits = edits_after room now words edits ranks edges learned;
   }
 
   -- the edit was made, and touches so many edges

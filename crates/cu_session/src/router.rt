@@ -18,7 +18,7 @@ ghost use Rattle.cu_session.specs.Swept.{swept_reply};
 
 use crate::writing::put_damage;
 use cu_chordal::Chordal;
-use cu_edits::{CustomizedEdges, touch_over};
+use cu_edits::{CustomizedEdges, Learned, touch_over};
 use cu_elimtree::Tree;
 use cu_interval::{EdgeArcs, Ways};
 use cu_io::{Sink, SinkFailed, put_all, put_number};
@@ -49,11 +49,13 @@ pub struct Router {
     editing: Option<EditRoom>,
 }
 
-/// What an edit needs beside a hierarchy: the roads of each edge, and buckets for the edges that it touches.
+/// What an edit needs beside a hierarchy: the roads of each edge, and buckets for the edges that it touches; and what earlier
+/// edits learned of the functions of lists.
 #[derive(Debug, Drop)]
 pub(crate) struct EditRoom {
     arcs: EdgeArcs,
     buckets: RankBuckets,
+    learned: Option<Learned>,
 }
 
 impl Model for Router {
@@ -215,14 +217,19 @@ impl Router {
     {
         let view = adopt(&self.bytes);
         let mut room = edit_room(alloc, &view, &self.graph, self.editing.take())?;
+        let Some(known) = &self.room else {
+            unreachable!()
+        };
+        let ways = RecalledWays::new(&view, &self.graph, known);
         let touched = touch_over(
             alloc,
-            &view,
+            &ways,
             edit,
             &self.graph,
             &room.arcs,
             &mut room.buckets,
             &self.customized,
+            &mut room.learned,
         )?;
         let bytes = repack_unsealed(alloc, &view, &touched.edit, &touched.lists)?;
         self.bytes = bytes;
@@ -260,7 +267,11 @@ fn edit_room(
     let order = order_of(alloc, view)?;
     let arcs = EdgeArcs::of(alloc, view, &order, graph)?;
     let buckets = RankBuckets::new(alloc, view.nodes(), edges)?;
-    Ok(EditRoom { arcs, buckets })
+    Ok(EditRoom {
+        arcs,
+        buckets,
+        learned: None,
+    })
 }
 
 // Forgets what was learnt of the hierarchy before an edit. Takes no memory.

@@ -8,7 +8,7 @@ use crate::{
     relax_counted,
 };
 use cu_chordal::close;
-use cu_customize::customize;
+use cu_customize::{Windows, customize};
 use cu_interval::{Call, Dir, Hierarchy, Ways};
 use cu_model::{Network, Order, Piece, Profile, RoadArc, Roads, Rule};
 use std::alloc::Global;
@@ -109,7 +109,7 @@ fn learned(alloc: Global, hierarchy: &Hierarchy, second: u64) -> Result<Option<u
     requires edges { length hierarchy.now.edges ≡ 3 }
     requires second { second ≤ 2 ^ 62 }
 {
-    let mut words = WordFunctions::new(alloc, 3)?;
+    let mut words = WordFunctions::new(alloc, 3, Windows::of(hierarchy))?;
     if !words.learn(alloc, hierarchy, 2, Dir::Up)? {
         return Ok(None);
     }

@@ -24,6 +24,7 @@ use std::marker::Model;
 pub struct WordFunctions {
     table: WordTable,
     room: Room,
+    windows: Windows,
 }
 
 impl Model for WordFunctions {
@@ -35,8 +36,9 @@ impl Model for WordFunctions {
 }
 
 impl WordFunctions {
-    /// Room for the functions of so many edges, at most [`MAX_EDGES`], in both directions. None is known.
-    pub fn new(alloc: Global, edges: u32) -> Result<WordFunctions, NoMemory>
+    /// Room for the functions of so many edges, at most [`MAX_EDGES`], in both directions. None is known. Those that are asked
+    /// for are bounded in these windows of the day, so that settling by them compares less.
+    pub fn new(alloc: Global, edges: u32, windows: Windows) -> Result<WordFunctions, NoMemory>
         requires edges { edges ≤ MAX_EDGES }
         ensures size { IfOk result (λ words. IsSized edges words) }
         ensures unknown { IfOk result (λ words. All (λ known. known ≡ false) words.known) }
@@ -45,6 +47,7 @@ impl WordFunctions {
         Ok(WordFunctions {
             table: WordTable::new(alloc, edges)?,
             room: Room::new(alloc)?,
+            windows,
         })
     }
 
@@ -72,22 +75,6 @@ impl WordFunctions {
         self.table.put(Shortcut { edge, dir }, function);
     }
 
-    /// Finds how long the function of the list of an edge in a direction, if it has one, takes in each of these windows of
-    /// the day, so that settling by it compares less. The edge's number is in range.
-    pub fn find_bounds(
-        &mut self,
-        alloc: Global,
-        edge: u32,
-        dir: Dir,
-        windows: Windows,
-    ) -> Result<(), NoMemory>
-        requires { list_number edge dir < length self.old.functions }
-        ensures { self.new ≡ self.old }
-    {
-        self.table
-            .find_bounds(alloc, Shortcut { edge, dir }, windows)
-    }
-
     /// Learns the list of an edge in a direction over these ways, and those that it needs: the least of its ways at each second
     /// of the day, as in this hierarchy. False only where the halves of a way that it needs take so long that, with a day more,
     /// words can't say it. What was known is taken as it is, and stays, after a refusal too; so does what the edge doesn't need.
@@ -111,15 +98,40 @@ impl WordFunctions {
         ensures learns { Learns (W.hierarchy ways.now) edge self.old self.new }
     {
         let shortcut = Shortcut { edge, dir };
-        if self.table.is_known(shortcut) {
-            return Ok(true);
+        if !learn_asked(alloc, ways, &mut self.table, &mut self.room, shortcut)? {
+            return Ok(false);
         }
-        if ways.entries(edge, dir) == 0 {
-            self.table.put(shortcut, None);
-            return Ok(true);
-        }
-        learn_all(alloc, ways, &mut self.table, &mut self.room, shortcut)
+        self.table.find_bounds(alloc, shortcut, self.windows)?;
+        Ok(true)
     }
+}
+
+// Learns the list of a shortcut, unless it is known, and those that it needs. False where a way takes longer than words can say.
+fn learn_asked<W: Ways>(
+    alloc: Global,
+    ways: &W,
+    table: &mut WordTable,
+    room: &mut Room,
+    shortcut: Shortcut,
+) -> Result<bool, NoMemory>
+    requires edge { shortcut.edge < length (W.hierarchy ways.now).edges }
+    requires size { IsSized (length (W.hierarchy ways.now).edges) table.old }
+    requires keeps { KeepsWords (W.hierarchy ways.now)
+        (IsNeeded (W.hierarchy ways.now).edges shortcut.edge) table.old }
+    ensures known { IfOk result (λ is_near. is_near ≡ true → IsKnown table.new shortcut) }
+    ensures far { IfOk result (λ is_near. is_near ≡ false →
+        NeedsFarList (W.hierarchy ways.now) shortcut.edge table.new) }
+    ensures size { IsSized (length (W.hierarchy ways.now).edges) table.new }
+    ensures learns { Learns (W.hierarchy ways.now) shortcut.edge table.old table.new }
+{
+    if table.is_known(shortcut) {
+        return Ok(true);
+    }
+    if ways.entries(shortcut.edge, shortcut.dir) == 0 {
+        table.put(shortcut, None);
+        return Ok(true);
+    }
+    learn_all(alloc, ways, table, room, shortcut)
 }
 
 // Learns the list of a shortcut with a way, and those that it needs. False where a way takes longer than words can say. The

@@ -1,5 +1,5 @@
 -- Settling by words: which functions of lists are known, and what stays true as more are learned and one edge is settled after the other.
-use Rattle.std.specs.Prelude.{ℕ, List, Bool, false, All, Option, Some, None, ◌≡◌, ◌≤◌, ◌⊎◌, ◌*◌, length, slice_get}
+use Rattle.std.specs.Prelude.{ℕ, List, Bool, All, Option, Some, ◌≡◌, ◌≤◌, ◌⊎◌, ◌*◌, length, slice_get}
 use Rattle.cu_model.specs.declared.roads.Edit.{Edit}
 use Rattle.cu_model.specs.Edits.{IsEditInRange}
 use Rattle.cu_arrival.specs.declared.runs.Run.{Run}
@@ -14,7 +14,8 @@ use Rattle.cu_interval.specs.Hierarchies.{HierarchyValue, IsHierarchyOf, end_of,
 use Rattle.cu_customize.specs.declared.pulling.SettledWords.{SettledWords}
 use Rattle.cu_customize.specs.Functions.{FunctionsState}
 use Rattle.cu_customize.specs.Settling.{IsDayValueOf, IsSettledList}
-use Rattle.cu_unpack.specs.RebuiltWords.{IsKnownList, IsRebuiltWords, IsSized, KeepsWords, WordsValue}
+use Rattle.cu_unpack.specs.RebuiltWords.{IsKnownList, IsRebuiltWords, WordsValue}
+use Rattle.cu_edits.specs.Learned.{AreWordsOf}
 use Rattle.cu_edits.specs.Settling.{IsSettled, SettlingValue, settled_so_far}
 use Rattle.cu_edits.specs.Steps.Frames.{IsFrame}
 use Rattle.cu_edits.specs.Steps.Known.{IsEditSound}
@@ -27,12 +28,6 @@ pub record AreParts (h : HierarchyValue) (edit : Edit) (graph : ChordalValue) (a
   pub roads : AreEdgeArcs h.network h.order h.edges arcs
   pub range : IsEditInRange h.network edit
   pub pieces : IsEditSound edit
-
--- functions of lists of a hierarchy, and no others; none stands for a list that isn't known
-pub record AreWordsOf (h : HierarchyValue) (words : WordsValue) : Type 0 where
-  pub size : IsSized (length h.edges) words
-  pub keeps : KeepsWords h (λ edge. Unit {0}) words
-  pub unknown : (number : ℕ) → slice_get words.known number ≡ Some false → slice_get words.functions number ≡ Some None
 
 -- more lists were learned; what was known still is
 pub record LearnsWords (h : HierarchyValue) (before now : WordsValue) : Type 0 where

@@ -1,11 +1,12 @@
 -- What queries and edits are answered from, and what an edit makes of it.
-use Rattle.std.specs.Prelude.{ℕ, Bool, List, Option, Some, None, ◌≡◌, length}
+use Rattle.std.specs.Prelude.{ℕ, Bool, List, Option, Some, None, ◌≡◌, IfSome, length}
 use Rattle.cu_model.specs.declared.queries.Query.{Query}
 use Rattle.cu_model.specs.declared.roads.Edit.{Edit}
 use Rattle.cu_model.specs.Networks.{NetworkValue}
 use Rattle.cu_model.specs.Roads.{HasNoWalk, IsLeastArrival}
 use Rattle.cu_chordal.specs.Graphs.{ChordalValue}
 use Rattle.cu_edits.specs.Customized.{AreCustomized}
+use Rattle.cu_edits.specs.Learned.{AreWordsOf}
 use Rattle.cu_elimtree.specs.SweepArcs.{parents_in}
 use Rattle.cu_interval.specs.EdgeArcs.{AreEdgeArcs}
 use Rattle.cu_interval.specs.Hierarchies.{HierarchyValue, IsBuilt, IsHierarchy, graph_of}
@@ -20,11 +21,12 @@ abbrev pub FitsSome : HierarchyValue → Option RoomValue → Type 0
 FitsSome h None = ⊥
 FitsSome h (Some room) = Fits h room
 
--- room for edits fits a hierarchy: the roads of each edge, and buckets for its ranks and edges
+-- room for edits fits a hierarchy: the roads of each edge, buckets for its ranks and edges, and functions of its lists, if any are known
 pub record HasEditRoom (h : HierarchyValue) (room : EditRoom) : Type 0 where
   pub listed : AreEdgeArcs h.network h.order h.edges room.arcs
   pub ranks : room.buckets.ranks ≡ h.network.nodes
   pub edges : length room.buckets.states ≡ length h.edges
+  pub learned : IfSome room.learned (AreWordsOf h)
 
 -- so does that which is kept, if any is
 abbrev pub FitsEdits : HierarchyValue → Option EditRoom → Type 0

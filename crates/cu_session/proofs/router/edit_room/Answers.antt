@@ -27,5 +27,6 @@ returns c =
         listed = subst (λ (es : List Ends). AreEdgeArcs h.network h.order es c.in_ok-arcs.arcs) (ap (λ (g : ChordalValue). g.edges) c.requires.graph) ordered;
         ranks = ap (λ (b : BucketsValue). b.ranks) c.in_ok-buckets.ensures ∙ c.nodes.ensures.count;
         edges = ap (λ (b : BucketsValue). length b.states) c.in_ok-buckets.ensures ∙ length-replicate _ _ ∙ c.edges-edges.ensures.count;
+        learned = tt;
       };
     }

@@ -5,8 +5,11 @@ use Rattle.cu_edits.proofs.edit_settler.EditSettler.over.Goals as goal
 
 pub invariant_of-result : goal.invariant_of-result
 invariant_of-result g c = (
-  holds_none (g.W.Ways.hierarchy c.args.ways.now) c.args.graph.now c.args.edit.now c.args.arcs.now c.new-settled.result.items c.new-settled.ensures.items c.requires.graph c.requires.arcs
-      c.requires.edit c.read_edit.ensures,
+  (
+    holds_none (g.W.Ways.hierarchy c.args.ways.now) c.args.graph.now c.args.edit.now c.args.arcs.now c.new-settled.result.items c.new-settled.ensures.items c.requires.graph c.requires.arcs
+        c.requires.edit c.read_edit.ensures,
+    c.requires.learned,
+  ),
   c.requires.customized,
 )
 
