@@ -15,10 +15,12 @@ use Rattle.cu_interval.specs.Hierarchies.{HierarchyValue}
 use Rattle.cu_interval.proofs.EndsLaws.{each_number}
 use Rattle.cu_unpack.specs.RebuiltWords.{IsKnownList, IsSameList, IsSized, Learns, WordsValue}
 use Rattle.cu_unpack.proofs.Learning.{learned_keeps, learned_still}
+use Rattle.cu_edits.specs.declared.learning_words.Middles.{Middles}
+use Rattle.cu_edits.specs.declared.learning_words.Middles.TheVariants.{Any, Moved}
 use Rattle.cu_edits.specs.Learned.{AreWordsOf}
-use Rattle.cu_edits.specs.Steps.ByWords.{AreAtHandIfMoved, IsAtHand, IsWayAtHand, LearnsWords}
+use Rattle.cu_edits.specs.Steps.ByWords.{AreAtHandIfMoved, AreLearned, IsAtHand, IsWayAtHand, LearnsWords}
 use Rattle.cu_edits.specs.Steps.Moving.{HalvesAre, MovedValue}
-use Rattle.cu_edits.proofs.BothHalves.{joins_low}
+use Rattle.cu_edits.proofs.BothHalves.{by_any, joins_low}
 
 -- one list was learned, and those that it needs
 pub learns_list : (h : HierarchyValue) (edge : ℕ) (before now : WordsValue) → AreWordsOf h before → IsSized (length h.edges) now → Learns h edge before now → LearnsWords h before now
@@ -50,12 +52,12 @@ module _ (h : HierarchyValue) (moved : MovedValue) (before now : WordsValue) (le
   pub still_at_hand : (edge : ℕ) (dir : Dir) → IsAtHand moved before edge dir → IsAtHand moved now edge dir
   still_at_hand edge dir known unmoved = learns.still edge dir (known unmoved)
 
-  pub halves_still : (edges : List Ends) (ends : Ends) (dir : Dir) (middle : ℕ) → HalvesAre (IsAtHand moved before) edges ends dir middle → HalvesAre (IsAtHand moved now) edges ends dir middle
+  halves_still : (edges : List Ends) (ends : Ends) (dir : Dir) (middle : ℕ) → HalvesAre (IsAtHand moved before) edges ends dir middle → HalvesAre (IsAtHand moved now) edges ends dir middle
   halves_still edges ends dir middle known first second are =
       let both = known first second are in
       (still_at_hand first Down both.0, still_at_hand second Up both.1)
 
-  pub moved_still : (edges : List Ends) (ends : Ends) (dir : Dir) (middle : ℕ) → AreAtHandIfMoved moved before edges ends dir middle → AreAtHandIfMoved moved now edges ends dir middle
+  moved_still : (edges : List Ends) (ends : Ends) (dir : Dir) (middle : ℕ) → AreAtHandIfMoved moved before edges ends dir middle → AreAtHandIfMoved moved now edges ends dir middle
   moved_still edges ends dir middle (inl unmoved) = inl unmoved
   moved_still edges ends dir middle (inr known) = inr (halves_still edges ends dir middle known)
 
@@ -67,15 +69,32 @@ module _ (h : HierarchyValue) (moved : MovedValue) (before now : WordsValue) (le
       → All (λ (entry : Entry). IsWayAtHand moved now edges ends dir entry.way) entries
   ways_still edges ends dir entries all k d inside = way_still edges ends dir (get_or entries k d).way (all k d inside)
 
+  pub middle_still : (which : Middles) (edges : List Ends) (ends : Ends) (dir : Dir) (middle : ℕ) → AreLearned which moved before edges ends dir middle
+      → AreLearned which moved now edges ends dir middle
+  middle_still Any edges ends dir middle known = halves_still edges ends dir middle known
+  middle_still Moved edges ends dir middle known = moved_still edges ends dir middle known
+
 -- so it is of the first middles and one more
 pub learns_more : (Known Now : ℕ → Type 0) → ((x : ℕ) → Known x → Now x) → (middles : List ℕ) (i : ℕ) → i < length middles → All Known (take i middles) → Now (get_or middles i 0)
     → All Now (take (i + 1) middles)
 learns_more Known Now still middles i inside all one = All-more Now middles i 0 inside (λ k d h. still (get_or (take i middles) k d) (all k d h)) one
 
 -- what is so of the halves by all middles that are joined to the lower end is so of any
-pub moved_by_any : (moved : MovedValue) (value : WordsValue) (edges : List Ends) (ends : Ends) (dir : Dir) (middles : List ℕ) → ((x : ℕ) → HasEdge edges x ends.low → Contains middles x)
+moved_by_any : (moved : MovedValue) (value : WordsValue) (edges : List Ends) (ends : Ends) (dir : Dir) (middles : List ℕ) → ((x : ℕ) → HasEdge edges x ends.low → Contains middles x)
     → All (AreAtHandIfMoved moved value edges ends dir) middles → (middle : ℕ) → AreAtHandIfMoved moved value edges ends dir middle
 moved_by_any moved value edges ends dir middles members all middle = elim (member_decided middles middle) [
   | inl c ↦ All-contains (AreAtHandIfMoved moved value edges ends dir) middles middle all c
   | inr apart ↦ inl (λ first second are. absurd (apart (members middle (joins_low edges ends dir middle first second are))))
 ]
+
+pub learned_by_any : (which : Middles) (moved : MovedValue) (value : WordsValue) (edges : List Ends) (ends : Ends) (dir : Dir) (middles : List ℕ)
+    → ((x : ℕ) → HasEdge edges x ends.low → Contains middles x) → All (AreLearned which moved value edges ends dir) middles → (middle : ℕ)
+    → AreLearned which moved value edges ends dir middle
+learned_by_any Any moved value edges ends dir middles members all middle = by_any (IsAtHand moved value) edges ends dir middles members all middle
+learned_by_any Moved moved value edges ends dir middles members all middle = moved_by_any moved value edges ends dir middles members all middle
+
+-- where both halves are at hand, nothing else is asked
+pub both_learned : (which : Middles) (moved : MovedValue) (value : WordsValue) (edges : List Ends) (ends : Ends) (dir : Dir) (middle : ℕ)
+    → HalvesAre (IsAtHand moved value) edges ends dir middle → AreLearned which moved value edges ends dir middle
+both_learned Any moved value edges ends dir middle known = known
+both_learned Moved moved value edges ends dir middle known = inr known

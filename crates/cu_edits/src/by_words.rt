@@ -2,6 +2,7 @@
 
 ghost use Rattle.std.specs.Prelude.{◌≡◌, ◌<◌, ◌*◌, ◌++◌, ◌∷◌, [], List, IfNone, IfOk, IfSome, OnErr, Some, length, slice_get, true};
 ghost use Rattle.cu_model.specs.Edits.{IsEditInRange, edited};
+ghost use Rattle.cu_interval.specs.declared.ways.Dir.TheVariants.{Up, Down};
 ghost use Rattle.cu_interval.specs.declared.ways.TouchedEdge.{TouchedEdge};
 ghost use Rattle.cu_interval.specs.Hierarchies.{IsHierarchyOf, list_of};
 ghost use Rattle.cu_edits.specs.Customized.{AreCustomized};
@@ -16,7 +17,7 @@ use crate::copied_lists::copy_touched;
 use crate::edit_parts::EditParts;
 use crate::edited_roads::EditedRoads;
 use crate::held::HeldWords;
-use crate::learning_words::{learn_halves, learn_moved, learn_ways};
+use crate::learning_words::{Middles, learn_middles, learn_ways};
 use crate::moved_lists::MovedLists;
 use crate::new_list::{Fate, NewList};
 use crate::standing::{
@@ -55,12 +56,77 @@ pub fn settle_by_words<W: Ways>(
         (settling_of (W.hierarchy parts.now.ways.now) parts.now.edit.now settled.new.items)
         parts.now.graph.now parts.now.arcs.now held.new.functions held.new.moved }
 {
+    let Some((up, down)) = next_lists(alloc, parts, held, settled, edge)? else {
+        return Ok(None);
+    };
+    let lists = keep_lists(alloc, parts, held, settled, edge, up, down)?;
+    Ok(Some(lists))
+}
+
+// Both lists of the edge that is settled next, upwards and downwards. None where a way takes longer than words can say.
+fn next_lists<W: Ways>(
+    alloc: Global,
+    parts: &EditParts<'_, W>,
+    held: &mut HeldWords,
+    settled: &[TouchedEdge],
+    edge: u32,
+) -> Result<Option<(NewList, NewList)>, NoMemory>
+    requires holds { IsSettlingByWords
+        (settling_of (W.hierarchy parts.now.ways.now) parts.now.edit.now settled.now)
+        parts.now.graph.now parts.now.arcs.now held.old.functions held.old.moved }
+    requires customized { AreCustomized (W.hierarchy parts.now.ways.now) parts.now.customized.now }
+    requires asked { IsNext
+        (settling_of (W.hierarchy parts.now.ways.now) parts.now.edit.now settled.now) edge }
+    ensures up { IfOk result (λ found. IfSome found (λ lists. IsNewList
+        (settling_of (W.hierarchy parts.now.ways.now) parts.now.edit.now settled.now)
+        held.new.moved edge Up lists.0)) }
+    ensures down { IfOk result (λ found. IfSome found (λ lists. IsNewList
+        (settling_of (W.hierarchy parts.now.ways.now) parts.now.edit.now settled.now)
+        held.new.moved edge Down lists.1)) }
+    ensures holds { IsSettlingByWords
+        (settling_of (W.hierarchy parts.now.ways.now) parts.now.edit.now settled.now)
+        parts.now.graph.now parts.now.arcs.now held.new.functions held.new.moved }
+{
     let Some(up) = next_list(alloc, parts, held, edge, Dir::Up)? else {
         return Ok(None);
     };
     let Some(down) = next_list(alloc, parts, held, edge, Dir::Down)? else {
         return Ok(None);
     };
+    Ok(Some((up, down)))
+}
+
+// Both lists of an edge are settled: keeps what became of them.
+fn keep_lists<W: Ways>(
+    alloc: Global,
+    parts: &EditParts<'_, W>,
+    held: &mut HeldWords,
+    settled: &mut Vec<TouchedEdge>,
+    edge: u32,
+    up: NewList,
+    down: NewList,
+) -> Result<TouchedEdge, NoMemory>
+    requires holds { IsSettlingByWords
+        (settling_of (W.hierarchy parts.now.ways.now) parts.now.edit.now settled.old.items)
+        parts.now.graph.now parts.now.arcs.now held.old.functions held.old.moved }
+    requires asked { IsNext
+        (settling_of (W.hierarchy parts.now.ways.now) parts.now.edit.now settled.old.items) edge }
+    requires up { IsNewList
+        (settling_of (W.hierarchy parts.now.ways.now) parts.now.edit.now settled.old.items)
+        held.old.moved edge Up up }
+    requires down { IsNewList
+        (settling_of (W.hierarchy parts.now.ways.now) parts.now.edit.now settled.old.items)
+        held.old.moved edge Down down }
+    ensures edge { IfOk result (λ touched. touched.edge ≡ edge) }
+    ensures settled { IfOk result
+        (λ touched. settled.new.items ≡ settled.old.items ++ touched ∷ []) }
+    ensures resettled { IfOk result (IsResettledEdge (settled_so_far
+        (settling_of (W.hierarchy parts.now.ways.now) parts.now.edit.now settled.new.items))) }
+    ensures kept { OnErr result (settled.new.items ≡ settled.old.items) }
+    ensures holds { IsSettlingByWords
+        (settling_of (W.hierarchy parts.now.ways.now) parts.now.edit.now settled.new.items)
+        parts.now.graph.now parts.now.arcs.now held.new.functions held.new.moved }
+{
     let lists = TouchedEdge {
         edge,
         up: up.ways,
@@ -71,7 +137,7 @@ pub fn settle_by_words<W: Ways>(
     let downwards = held.moved.keep(down.fate)?;
     settled.push(copy)?;
     held.moved.place(edge, upwards, downwards);
-    Ok(Some(lists))
+    Ok(lists)
 }
 
 // The list of the edge that is settled next in a direction. None where a way takes longer than words can say.
@@ -199,12 +265,12 @@ fn learn_candidates<W: Ways>(
 {
     let ends = parts.graph.ends(edge);
     if !keeps_its_ways(parts, moved, edge, dir) {
-        return learn_halves(alloc, parts, moved, ends, dir, words);
+        return learn_middles(alloc, parts, moved, ends, dir, Middles::Any, words);
     }
     if !learn_ways(alloc, parts, moved, edge, dir, words)? {
         return Ok(false);
     }
-    learn_moved(alloc, parts, moved, ends, dir, words)
+    learn_middles(alloc, parts, moved, ends, dir, Middles::Moved, words)
 }
 
 // Is the list of an edge in a direction known to be what customization makes of the lists below it, and are its ways as they

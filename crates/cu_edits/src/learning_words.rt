@@ -4,9 +4,9 @@ ghost use Rattle.std.specs.Prelude.{◌≡◌, ◌<◌, ◌*◌, ℕ, All, IfOk,
 ghost use Rattle.cu_chordal.specs.declared.graph.Ends.{Ends};
 ghost use Rattle.cu_interval.specs.declared.ways.Entry.{Entry};
 ghost use Rattle.cu_interval.specs.Hierarchies.{IsHierarchyOf, IsWellFormed, end_of, list_number, list_of, start_of};
-ghost use Rattle.cu_unpack.specs.RebuiltWords.{IsKnownList};
+ghost use Rattle.cu_unpack.specs.RebuiltWords.{IsKnownList, WordsValue};
 ghost use Rattle.cu_edits.specs.Learned.{AreWordsOf};
-ghost use Rattle.cu_edits.specs.Steps.ByWords.{AreAtHandIfMoved, IsAtHand, IsWayAtHand, LearnsWords};
+ghost use Rattle.cu_edits.specs.Steps.ByWords.{AreLearned, IsAtHand, IsWayAtHand, LearnsWords};
 ghost use Rattle.cu_edits.specs.Steps.Moving.{HalvesAre};
 
 use crate::both_halves::find_halves;
@@ -19,40 +19,23 @@ use cu_model::NoMemory;
 use cu_unpack::WordFunctions;
 use std::alloc::Global;
 
-/// Makes sure that both halves of each way by a middle of an edge with these ends in a direction are known, but for those that
-/// were moved; those that aren't are learned. False where a way takes longer than words can say. What was learned stays
-/// after a refusal too.
-pub fn learn_halves<W: Ways>(
-    alloc: Global,
-    parts: &EditParts<'_, W>,
-    moved: &MovedLists,
-    ends: Ends,
-    dir: Dir,
-    words: &mut WordFunctions,
-) -> Result<bool, NoMemory>
-    requires graph { IsHierarchyOf parts.now.graph.now (W.hierarchy parts.now.ways.now) }
-    requires ranks { ends.low < parts.now.graph.now.ranks }
-    requires moved { length moved.now.places ≡ 2 * length parts.now.graph.now.edges }
-    requires words { AreWordsOf (W.hierarchy parts.now.ways.now) words.old }
-    ensures learns { LearnsWords (W.hierarchy parts.now.ways.now) words.old words.new }
-    ensures known { IfOk result (λ is_near. is_near ≡ true → (middle : ℕ)
-        → HalvesAre (IsAtHand moved.now words.new) parts.now.graph.now.edges ends dir middle) }
-{
-    for middle in parts.graph.down(ends.low) {
-        if !learn_both(alloc, parts, moved, ends, dir, *middle, words)? {
-            return Ok(false);
-        }
-    }
-    Ok(true)
+/// Of which middles halves are learned: of any, or of those alone of which a half was moved.
+#[derive(Clone, Copy, Debug)]
+pub enum Middles {
+    Any,
+    Moved,
 }
 
-/// The same of the halves by those middles alone of which a half was moved.
-pub fn learn_moved<W: Ways>(
+/// Makes sure that both halves of each way by such a middle of an edge with these ends in a direction are known, but for halves
+/// that were moved; those that aren't are learned. False where a way takes longer than words can say. What was learned stays
+/// after a refusal too.
+pub fn learn_middles<W: Ways>(
     alloc: Global,
     parts: &EditParts<'_, W>,
     moved: &MovedLists,
     ends: Ends,
     dir: Dir,
+    which: Middles,
     words: &mut WordFunctions,
 ) -> Result<bool, NoMemory>
     requires graph { IsHierarchyOf parts.now.graph.now (W.hierarchy parts.now.ways.now) }
@@ -61,10 +44,10 @@ pub fn learn_moved<W: Ways>(
     requires words { AreWordsOf (W.hierarchy parts.now.ways.now) words.old }
     ensures learns { LearnsWords (W.hierarchy parts.now.ways.now) words.old words.new }
     ensures known { IfOk result (λ is_near. is_near ≡ true → (middle : ℕ)
-        → AreAtHandIfMoved moved.now words.new parts.now.graph.now.edges ends dir middle) }
+        → AreLearned which moved.now words.new parts.now.graph.now.edges ends dir middle) }
 {
     for middle in parts.graph.down(ends.low) {
-        if !learn_if_moved(alloc, parts, moved, ends, dir, *middle, words)? {
+        if !learn_middle(alloc, parts, moved, ends, dir, which, *middle, words)? {
             return Ok(false);
         }
     }
@@ -72,12 +55,13 @@ pub fn learn_moved<W: Ways>(
 }
 
 // The same of one middle.
-fn learn_if_moved<W: Ways>(
+fn learn_middle<W: Ways>(
     alloc: Global,
     parts: &EditParts<'_, W>,
     moved: &MovedLists,
     ends: Ends,
     dir: Dir,
+    which: Middles,
     middle: u32,
     words: &mut WordFunctions,
 ) -> Result<bool, NoMemory>
@@ -87,12 +71,32 @@ fn learn_if_moved<W: Ways>(
     requires words { AreWordsOf (W.hierarchy parts.now.ways.now) words.old }
     ensures learns { LearnsWords (W.hierarchy parts.now.ways.now) words.old words.new }
     ensures known { IfOk result (λ is_near. is_near ≡ true
-        → AreAtHandIfMoved moved.now words.new parts.now.graph.now.edges ends dir middle) }
+        → AreLearned which moved.now words.new parts.now.graph.now.edges ends dir middle) }
 {
-    if are_both_unmoved(parts, moved, ends, dir, middle) {
+    if is_left_out(parts, moved, ends, dir, which, middle) {
         return Ok(true);
     }
     learn_both(alloc, parts, moved, ends, dir, middle, words)
+}
+
+// Need the halves by a middle not be learned, since none of them was moved?
+fn is_left_out<W: Ways>(
+    parts: &EditParts<'_, W>,
+    moved: &MovedLists,
+    ends: Ends,
+    dir: Dir,
+    which: Middles,
+    middle: u32,
+) -> bool
+    requires middle { middle < parts.now.graph.now.ranks }
+    requires moved { length moved.now.places ≡ 2 * length parts.now.graph.now.edges }
+    ensures { result ≡ true → (words : WordsValue)
+        → AreLearned which moved.now words parts.now.graph.now.edges ends dir middle }
+{
+    match which {
+        Middles::Any => false,
+        Middles::Moved => are_both_unmoved(parts, moved, ends, dir, middle),
+    }
 }
 
 /// The same of the halves by the middles of the list of an edge in a direction, before the edit.

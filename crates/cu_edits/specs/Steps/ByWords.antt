@@ -15,6 +15,8 @@ use Rattle.cu_customize.specs.declared.pulling.SettledWords.{SettledWords}
 use Rattle.cu_customize.specs.Functions.{FunctionsState}
 use Rattle.cu_customize.specs.Settling.{IsDayValueOf, IsSettledList}
 use Rattle.cu_unpack.specs.RebuiltWords.{IsKnownList, IsRebuiltWords, WordsValue}
+use Rattle.cu_edits.specs.declared.learning_words.Middles.{Middles}
+use Rattle.cu_edits.specs.declared.learning_words.Middles.TheVariants.{Any, Moved}
 use Rattle.cu_edits.specs.Learned.{AreWordsOf}
 use Rattle.cu_edits.specs.Settling.{IsSettled, SettlingValue, settled_so_far}
 use Rattle.cu_edits.specs.Steps.Frames.{IsFrame}
@@ -42,6 +44,11 @@ IsAtHand moved words edge dir = IsUnmoved moved edge dir → IsKnownList words (
 abbrev pub AreAtHandIfMoved : MovedValue → WordsValue → List Ends → Ends → Dir → ℕ → Type 0
 AreAtHandIfMoved moved words edges ends dir middle =
     HalvesAre (IsUnmoved moved) edges ends dir middle ⊎ HalvesAre (IsAtHand moved words) edges ends dir middle
+
+-- both halves of the way by a middle are at hand, or, where that is asked of moved ones alone, if one of them was moved
+abbrev pub AreLearned : Middles → MovedValue → WordsValue → List Ends → Ends → Dir → ℕ → Type 0
+AreLearned Any moved words edges ends dir middle = HalvesAre (IsAtHand moved words) edges ends dir middle
+AreLearned Moved moved words edges ends dir middle = AreAtHandIfMoved moved words edges ends dir middle
 
 -- so are those of a way, if it is one by a middle
 abbrev pub IsWayAtHand : MovedValue → WordsValue → List Ends → Ends → Dir → Way → Type 0

@@ -4,18 +4,18 @@ use Rattle.cu_edits.proofs.AtHand.{all_at_hand, some_at_hand}
 use Rattle.cu_edits.proofs.SettlingNext.{ends_within}
 use Rattle.cu_edits.proofs.by_words.learn_candidates.Goals as goal
 
-pub learn_moved-requires-clause-ranks : goal.learn_moved-requires-clause-ranks
-learn_moved-requires-clause-ranks g c = (ends_within c.args.parts.now.graph.now c.args.edge c.ends-ends.result c.ends-ends.ensures.sound c.ends-ends.ensures.there).0
+pub learn_middles-requires-2-clause-ranks : goal.learn_middles-requires-2-clause-ranks
+learn_middles-requires-2-clause-ranks g c = (ends_within c.args.parts.now.graph.now c.args.edge c.ends-ends.result c.ends-ends.ensures.sound c.ends-ends.ensures.there).0
 
 pub returns-then-not-keeps_its_ways-clause-known : goal.returns-then-not-keeps_its_ways-clause-known
 returns-then-not-keeps_its_ways-clause-known g c =
-    IfOk-weaker c.learn_halves.result _ _
+    IfOk-weaker c.learn_middles.result _ _
     (λ (is_near : Bool) known near. all_at_hand (g.W.Ways.hierarchy c.args.parts.now.ways.now) c.args.parts.now.graph.now c.requires.parts.hierarchy c.args.parts.now.edit.now
-    c.args.parts.now.customized.now c.args.moved.now c.args.edge c.args.dir c.learn_halves.new.words c.ends-ends.result c.ends-ends.ensures.there (known near)) c.learn_halves.ensures.known
+    c.args.parts.now.customized.now c.args.moved.now c.args.edge c.args.dir c.learn_middles.new.words c.ends-ends.result c.ends-ends.ensures.there (known near)) c.learn_middles.ensures.known
 
 pub returns-clause-known : goal.returns-clause-known
 returns-clause-known g c =
-    IfOk-weaker c.learn_moved.result _ _
+    IfOk-weaker c.learn_middles-2.result _ _
     (λ (is_near : Bool) known near. some_at_hand (g.W.Ways.hierarchy c.args.parts.now.ways.now) c.args.parts.now.graph.now c.requires.parts.hierarchy c.args.parts.now.edit.now
-    c.args.parts.now.customized.now c.args.moved.now c.args.edge c.args.dir c.learn_ways.new.words c.learn_moved.new.words c.ends-ends.result c.ends-ends.ensures.there
-    (c.keeps_its_ways.ensures c.if-not-keeps_its_ways.false) (c.in_ok-learn_ways.ensures.known c.if-not-branch.false) c.learn_moved.ensures.learns (known near)) c.learn_moved.ensures.known
+    c.args.parts.now.customized.now c.args.moved.now c.args.edge c.args.dir c.learn_ways.new.words c.learn_middles-2.new.words c.ends-ends.result c.ends-ends.ensures.there
+    (c.keeps_its_ways.ensures c.if-not-keeps_its_ways.false) (c.in_ok-learn_ways.ensures.known c.if-not-branch.false) c.learn_middles-2.ensures.learns (known near)) c.learn_middles-2.ensures.known
