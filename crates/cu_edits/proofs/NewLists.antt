@@ -25,6 +25,7 @@ use Rattle.cu_interval.specs.Resettling.{ArrivesIn, IsCandidateIn, IsResettledLi
 use Rattle.cu_interval.specs.Touching.{IsChanged}
 use Rattle.cu_interval.specs.WayLists.{GoesFirst, IsFirstEarliest}
 use Rattle.cu_interval.proofs.Lookups.{way_held}
+use Rattle.cu_interval.proofs.Unpacked.{way_there}
 use Rattle.cu_interval.proofs.EndsLaws.{number_within}
 use Rattle.cu_customize.specs.Functions.{FunctionsState, kept_state, road_if, value_kept}
 use Rattle.cu_customize.specs.Layers.{layered}
@@ -280,7 +281,7 @@ module _ (s : SettlingValue) (graph : ChordalValue) (arcs : List (List ℕ)) (wo
 
     old_way : (t : ℕ) → t < day → IsOldBest → old ≢ [] → (way : Way) × IsOldWay t way
     old_way t lt best some =
-        let (way, in_force) = values.in_force_at old best.resettled.spelled some t in
+        let (way, in_force) = way_there old best.resettled.spelled some t in
         let first = best.resettled.first t way lt in_force in
         let unmoved = way_held (IsUnmovedWay s.before.network s.edit s.before.edges moved ends dir) old t way best.unmoved in_force in
         let known = way_held (KnowsWay now asked u v) old t way best.known in_force in
