@@ -24,10 +24,10 @@ take() {
   { tr '\r' '\n' <"$2" >"$room/$1"; } 2>/dev/null || fail "$2 can't be read"
 }
 
-# tables PROGRAM WORD..: runs an awk program over tables in the room. The words are awk's operands.
+# tables PROGRAMS WORD..: runs an awk program of some files over tables in the room. The words are awk's operands.
 tables() {
-  program="$1"
+  programs="$1"
   shift
-  (cd "$room" && awk -v self="$self" -f "$parts/refuse.awk" -f "$parts/tables.awk" \
-    -f "$parts/drawing.awk" -f "$parts/$program" "$@")
+  for program in $programs; do set -- -f "$parts/$program" "$@"; done
+  (cd "$room" && awk -v self="$self" -f "$parts/refuse.awk" -f "$parts/tables.awk" -f "$parts/drawing.awk" "$@")
 }

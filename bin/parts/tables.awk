@@ -56,6 +56,10 @@ function read_node(    node) {
 
 # Reads a row of ROADS into `road`, `from`, `to` and `profile`.
 function read_road() {
+  if (!("nodes" in rows)) {
+    table = "nodes"
+    refuse_header()
+  }
   road = rows["roads"]
   if ($0 !~ /^[0-9]+,[0-9]+,[0-9]+,[0-9]+$/) {
     refuse_row("arc,tail,head,profile must be four numbers")

@@ -1,15 +1,14 @@
 -- From what a growing list says of each second to the arrival function, and the choices, that it ends as.
-use Rattle.std.proofs.Common.{◌≡◌, ◌≤◌, ◌<◌, ◌+◌, ◌-◌, ◌*◌, ◌^◌, ◌∙◌, ℕ, List, [], refl, sym, subst, arith, inl, inr}
+use Rattle.std.proofs.Common.{◌≡◌, ◌≤◌, ◌<◌, ◌+◌, ◌-◌, ◌*◌, ◌^◌, ◌∙◌, ℕ, List, refl, sym, subst, arith, inl, inr}
 use Rattle.std.specs.Prelude.{All}
 use Rattle.std.proofs.lemmas.Bool.{cases_lt}
 use Rattle.cu_model.specs.Days.{day}
 use Rattle.cu_model.specs.Growing.{IsPushed}
-use Rattle.cu_model.proofs.Growing.{IsGrown, grown_none, grown_push, all_pushed}
+use Rattle.cu_model.proofs.Growing.{IsGrown, grown_push, all_pushed}
 use Rattle.cu_arrival.specs.declared.runs.Run.{Run}
 use Rattle.cu_arrival.specs.declared.runs.RunRule.{RunRule}
 use Rattle.cu_arrival.specs.declared.runs.RunRule.TheVariants.{Shift, Fixed}
-use Rattle.cu_arrival.specs.Runs.{run_at, run_value, rule_value, rule_number, arrival_value, IsRunInLimit, IsArrivalFunction}
-use Rattle.cu_arrival.specs.Steps.Stretches.{arrives}
+use Rattle.cu_arrival.specs.Runs.{run_at, run_value, rule_value, rule_number, arrival_value, IsRunInLimit, IsArrivalFunction, arrives}
 use Rattle.cu_arrival.proofs.RunLaws.{value_in_day, value-days}
 
 -- a rule that means this second's value of a function of the seconds of a day
@@ -20,12 +19,6 @@ Means f rule s = arrives rule s ≡ f s
 pub record IsBuilt (f : ℕ → ℕ) (runs : List Run) (t : ℕ) : Type 0 where
   pub grown : IsGrown (λ (run : Run). run.from) (λ (run : Run). run.rule) (Means f) runs t
   pub limits : All IsRunInLimit runs
-
-pub built_none : (f : ℕ → ℕ) → IsBuilt f [] 0
-built_none f = record {
-  grown = grown_none (λ (run : Run). run.from) (λ (run : Run). run.rule) (Means f);
-  limits = λ k d h. absurd (omega (arith, h));
-}
 
 pub built_push : (f : ℕ → ℕ) (old new : List Run) (run : Run) (t end : ℕ) → IsBuilt f old t → IsPushed (λ (r : Run). r.rule) old run new
     → run.from ≡ t → t < end → end ≤ day → rule_number run.rule ≤ 2 ^ 62 → ((s : ℕ) → t ≤ s → s < end → arrives run.rule s ≡ f s)

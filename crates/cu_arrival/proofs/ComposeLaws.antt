@@ -5,9 +5,9 @@ use Rattle.cu_arrival.specs.declared.runs.Run.{Run}
 use Rattle.cu_arrival.specs.declared.runs.RunRule.{RunRule}
 use Rattle.cu_arrival.specs.declared.stretches.Stretch.{Stretch}
 use Rattle.cu_arrival.specs.declared.composition.Linked.{Linked}
-use Rattle.cu_arrival.specs.Runs.{rule_number, arrival_value, IsArrivalFunction}
+use Rattle.cu_arrival.specs.Runs.{rule_number, arrival_value, IsArrivalFunction, arrives}
 use Rattle.cu_model.specs.Growing.{IsPushed}
-use Rattle.cu_arrival.specs.Steps.Stretches.{arrives, IsStretch}
+use Rattle.cu_arrival.specs.Steps.Stretches.{IsStretch}
 use Rattle.cu_arrival.specs.Steps.TwoRules.{IsLinked}
 use Rattle.cu_arrival.proofs.RunLaws.{arrival_value-onward, arrival_value-fifo, arrival_value-next_day}
 use Rattle.cu_arrival.proofs.StretchLaws.{stretch_later, stretch_value}

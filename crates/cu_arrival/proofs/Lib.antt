@@ -5,5 +5,3 @@ pub mod Built
 pub mod ComposeLaws
 pub mod MinimumLaws
 pub mod PieceLaws
-pub mod TravelLaws
-pub mod Comparing

@@ -5,7 +5,7 @@ use Rattle.std.specs.Option.{option_map}
 use Rattle.std.proofs.lemmas.Nat.{mod-mul-add, div-mul-add}
 use Rattle.cu_model.specs.Days.{day, RepeatsDaily}
 use Rattle.cu_model.proofs.Begun.{starts_begun}
-use Rattle.cu_model.proofs.DayLaws.{onward_always, order_always, next_day, many_days}
+use Rattle.cu_model.proofs.DayLaws.{onward_always, order_always, next_day}
 use Rattle.cu_arrival.specs.declared.runs.Run.{Run}
 use Rattle.cu_arrival.specs.declared.runs.RunRule.{RunRule}
 use Rattle.cu_arrival.specs.declared.runs.RunRule.TheVariants.{Shift, Fixed}
@@ -46,7 +46,3 @@ module _ (runs : List Run) (f : IsArrivalFunction runs) where
   -- a day later the function arrives a day later
   pub arrival_value-next_day : (t : ℕ) → arrival_value runs (day + t) ≡ day + arrival_value runs t
   arrival_value-next_day = next_day (arrival_value runs) arrival_value-repeats
-
-  -- many days later, so many days later
-  pub arrival_value-days : (days t : ℕ) → arrival_value runs (days * day + t) ≡ days * day + arrival_value runs t
-  arrival_value-days = many_days (arrival_value runs) arrival_value-repeats

@@ -7,8 +7,8 @@ use Rattle.cu_arrival.specs.declared.runs.Run.{Run}
 use Rattle.cu_arrival.specs.declared.runs.RunRule.{RunRule}
 use Rattle.cu_arrival.specs.declared.runs.RunRule.TheVariants.{Shift, Fixed}
 use Rattle.cu_arrival.specs.declared.stretches.Stretch.{Stretch}
-use Rattle.cu_arrival.specs.Runs.{run_at, run_value, rule_value, rule_number, arrival_value, IsRunInLimit, IsArrivalFunction}
-use Rattle.cu_arrival.specs.Steps.Stretches.{arrives, on_day, until_next, IsStretch}
+use Rattle.cu_arrival.specs.Runs.{run_at, run_value, rule_value, rule_number, arrival_value, IsRunInLimit, IsArrivalFunction, arrives}
+use Rattle.cu_arrival.specs.Steps.Stretches.{on_day, until_next, IsStretch}
 use Rattle.cu_model.proofs.Begun.{begun_until}
 use Rattle.cu_model.proofs.RoadLaws.{all_at}
 use Rattle.cu_arrival.proofs.RunLaws.{value_at}

@@ -1,4 +1,3 @@
 pub mod Runs
 pub mod Choices
-pub mod Travels
 pub mod Steps

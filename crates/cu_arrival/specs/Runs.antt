@@ -8,6 +8,11 @@ use Rattle.cu_arrival.specs.declared.runs.Run.{Run}
 use Rattle.cu_arrival.specs.declared.runs.RunRule.{RunRule}
 use Rattle.cu_arrival.specs.declared.runs.RunRule.TheVariants.{Shift, Fixed}
 
+-- when a rule arrives whose second is an absolute one, leaving at an absolute second
+abbrev pub arrives : RunRule → ℕ → ℕ
+arrives (Shift seconds) t = t + seconds
+arrives (Fixed arrival) t = arrival
+
 -- the last run that has begun by this second of the day
 abbrev pub run_at : List Run → ℕ → Option Run
 run_at runs second = last_begun (λ (run : Run). run.from) runs second

@@ -3,4 +3,3 @@ pub mod Stretches
 pub mod TwoRules
 pub mod OfPieces
 pub mod Packing
-pub mod TravelsOver

@@ -4,8 +4,7 @@
 ghost use Rattle.std.specs.Prelude.{◌≡◌, ◌≤◌, ◌<◌, ◌+◌, ◌^◌, ℕ, IfOk, min};
 ghost use Rattle.cu_model.specs.declared.limits.TheConstants.{DAY};
 ghost use Rattle.cu_arrival.specs.declared.runs.RunRule.TheVariants.{Shift};
-ghost use Rattle.cu_arrival.specs.Runs.{arrival_value, rule_number, IsArrivalFunction, IsCompact};
-ghost use Rattle.cu_arrival.specs.Steps.Stretches.{arrives};
+ghost use Rattle.cu_arrival.specs.Runs.{arrival_value, rule_number, IsArrivalFunction, IsCompact, arrives};
 ghost use Rattle.cu_arrival.specs.Steps.TwoRules.{IsLinked};
 
 use crate::growing::push_run;
@@ -18,11 +17,11 @@ use std::alloc::Global;
 // The last second at which a function arrives on day 0.
 const LATEST: u64 = 1 << 62;
 
-/// A rule of the composition, and the first second at which it no longer holds.
+// A rule of the composition, and the first second at which it no longer holds.
 #[derive(Clone, Copy)]
-pub struct Linked {
-    pub rule: RunRule,
-    pub end: u64,
+struct Linked {
+    rule: RunRule,
+    end: u64,
 }
 
 /// The composition: along the first function and from where it arrives along the second, which repeats by whole days. A
@@ -57,9 +56,9 @@ pub fn compose(alloc: Global, first: &Arrival, second: &Arrival) -> Result<Arriv
     Ok(Arrival::of_runs(runs))
 }
 
-/// The rule of the composition at a second at which both stretches are reached, and until when it holds.
+// The rule of the composition at a second at which both stretches are reached, and until when it holds.
 #[inline(always)]
-pub fn link_stretches(first: Stretch, second: Stretch, at: u64) -> Linked
+fn link_stretches(first: Stretch, second: Stretch, at: u64) -> Linked
     requires now { at < first.end }
     requires day { first.end ≤ DAY }
     requires first { rule_number first.rule ≤ 2 ^ 62 }

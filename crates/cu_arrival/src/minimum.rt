@@ -3,9 +3,8 @@
 
 ghost use Rattle.std.specs.Prelude.{◌≡◌, ◌≤◌, ◌<◌, ◌+◌, ◌^◌, ℕ, IfOk, min, if◌then◌else◌};
 ghost use Rattle.cu_model.specs.declared.limits.TheConstants.{DAY};
-ghost use Rattle.cu_arrival.specs.Runs.{arrival_value, rule_number, IsArrivalFunction, IsCompact};
+ghost use Rattle.cu_arrival.specs.Runs.{arrival_value, rule_number, IsArrivalFunction, IsCompact, arrives};
 ghost use Rattle.cu_arrival.specs.Choices.{IsChoices};
-ghost use Rattle.cu_arrival.specs.Steps.Stretches.{arrives};
 ghost use Rattle.cu_arrival.specs.Steps.TwoRules.{IsEarlier};
 
 use crate::growing::{push_choice, push_run};
@@ -15,12 +14,12 @@ use crate::stretches::{reach, stretch_at};
 use cu_model::{DAY, NoMemory};
 use std::alloc::Global;
 
-/// The earlier of two rules, whether it is the second, and the first second at which that no longer holds.
+// The earlier of two rules, whether it is the second, and the first second at which that no longer holds.
 #[derive(Clone, Copy)]
-pub struct Earlier {
-    pub rule: RunRule,
-    pub second: bool,
-    pub end: u64,
+struct Earlier {
+    rule: RunRule,
+    second: bool,
+    end: u64,
 }
 
 /// The earlier of two functions at each second, and from which seconds on it is the second one: where that is strictly
@@ -65,8 +64,8 @@ pub fn lesser(
     Ok((Arrival::of_runs(runs), choices))
 }
 
-/// The earlier of two rules at a second, and until when it is the earlier, at most until `end`. The first one takes a tie.
-pub fn earlier_rule(first: RunRule, second: RunRule, at: u64, end: u64) -> Earlier
+// The earlier of two rules at a second, and until when it is the earlier, at most until `end`. The first one takes a tie.
+fn earlier_rule(first: RunRule, second: RunRule, at: u64, end: u64) -> Earlier
     requires now { at < end }
     requires day { end ≤ DAY }
     requires first { rule_number first ≤ 2 ^ 62 }

@@ -3,7 +3,7 @@
 ghost use Rattle.std.specs.Prelude.{◌≡◌, ◌≤◌, ◌<◌, ◌+◌, ◌^◌, ◌++◌, ◌∷◌, [], ℕ, Some, IfOk, length, nat_le, slice_get, true, false};
 ghost use Rattle.std.specs.List.Sorted.{IsNonDecreasingBy, IsPartitionPoint};
 ghost use Rattle.cu_model.specs.declared.limits.TheConstants.{DAY};
-ghost use Rattle.cu_arrival.specs.declared.packing.PackedRun.{PackedRun};
+ghost use Rattle.cu_arrival.specs.declared.packing.KeptRun.{KeptRun};
 ghost use Rattle.cu_arrival.specs.declared.runs.Run.{Run};
 ghost use Rattle.cu_arrival.specs.Runs.{IsArrivalFunction, run_at, rule_number};
 ghost use Rattle.cu_arrival.specs.Steps.Packing.{unpacked, unpacked_rule};
@@ -16,15 +16,15 @@ use std::marker::Model;
 
 // A run: the second of the day from which it holds, and the number of its rule doubled, and one more where that is fixed.
 #[derive(Clone, Copy, Debug)]
-struct PackedRun {
+struct KeptRun {
     from: u32,
-    word: u64,
+    bits: u64,
 }
 
 /// A list of runs. Contracts see it as such.
 #[derive(Debug, Drop)]
 pub struct RunList {
-    packed: Vec<PackedRun>,
+    packed: Vec<KeptRun>,
 }
 
 impl Model for RunList {
@@ -99,13 +99,13 @@ impl RunList {
     }
 }
 
-fn pack(run: Run) -> PackedRun
+fn pack(run: Run) -> KeptRun
     requires { rule_number run.rule ≤ 2 ^ 62 }
     ensures { unpacked result ≡ run }
 {
-    PackedRun {
+    KeptRun {
         from: run.from,
-        word: pack_rule(run.rule),
+        bits: pack_rule(run.rule),
     }
 }
 
@@ -119,11 +119,11 @@ fn pack_rule(rule: RunRule) -> u64
     }
 }
 
-fn unpack(kept: PackedRun) -> Run
+fn unpack(kept: KeptRun) -> Run
     ensures { result ≡ unpacked kept }
 {
-    let number = kept.word / 2;
-    let rule = if kept.word % 2 == 0 {
+    let number = kept.bits / 2;
+    let rule = if kept.bits % 2 == 0 {
         RunRule::Shift(number)
     } else {
         RunRule::Fixed(number)
@@ -135,12 +135,12 @@ fn unpack(kept: PackedRun) -> Run
 }
 
 // How many runs are from this second of the day or before it.
-fn begun(packed: &[PackedRun], time: u32) -> usize
-    requires { IsNonDecreasingBy (λ (kept : PackedRun). kept.from) packed.now }
+fn begun(packed: &[KeptRun], time: u32) -> usize
+    requires { IsNonDecreasingBy (λ (kept : KeptRun). kept.from) packed.now }
     ensures bound { result ≤ length packed.now }
     ensures point { IsPartitionPoint
-        (λ (kept : PackedRun). nat_le kept.from time ≡ true)
-        (λ (kept : PackedRun). nat_le kept.from time ≡ false)
+        (λ (kept : KeptRun). nat_le kept.from time ≡ true)
+        (λ (kept : KeptRun). nat_le kept.from time ≡ false)
         packed.now result }
 {
     packed.partition_point(|kept| kept.from <= time)

@@ -3,8 +3,8 @@
 ghost use Rattle.std.specs.Prelude.{◌≡◌, ◌≤◌, ◌<◌, ◌+◌, ◌^◌, ◌%◌, ℕ, Some, length, slice_get};
 ghost use Rattle.cu_model.specs.declared.limits.TheConstants.{DAY};
 ghost use Rattle.cu_arrival.specs.declared.runs.Run.{Run};
-ghost use Rattle.cu_arrival.specs.Runs.{IsArrivalFunction, arrival_value, rule_number};
-ghost use Rattle.cu_arrival.specs.Steps.Stretches.{IsStretch, arrives, on_day, until_next};
+ghost use Rattle.cu_arrival.specs.Runs.{IsArrivalFunction, arrival_value, rule_number, arrives};
+ghost use Rattle.cu_arrival.specs.Steps.Stretches.{IsStretch, on_day, until_next};
 
 use crate::packing::RunList;
 use crate::runs::RunRule;
@@ -44,10 +44,10 @@ fn rule_on(rule: RunRule, midnight: u64) -> RunRule
     }
 }
 
-/// The second of the day from which the run after the one with this index holds, or the end of the day where that is the
-/// last.
+// The second of the day from which the run after the one with this index holds, or the end of the day where that is the
+// last.
 #[inline(always)]
-pub fn next_begin(runs: &RunList, index: usize) -> u64
+fn next_begin(runs: &RunList, index: usize) -> u64
     requires { index < length runs.now }
     ensures { result ≡ until_next (slice_get runs.now (index + 1)) }
 {
@@ -58,9 +58,9 @@ pub fn next_begin(runs: &RunList, index: usize) -> u64
     }
 }
 
-/// The stretch of the run with this index, on the day that begins at this second.
+// The stretch of the run with this index, on the day that begins at this second.
 #[inline(always)]
-pub fn stretch_of(runs: &RunList, index: usize, midnight: u64) -> Stretch
+fn stretch_of(runs: &RunList, index: usize, midnight: u64) -> Stretch
     requires valid { IsArrivalFunction runs.now }
     requires within { index < length runs.now }
     requires whole { midnight % DAY ≡ 0 }

@@ -16,7 +16,8 @@ use Rattle.cu_chordal.specs.Groups.{AreGroups, group_of}
 use Rattle.cu_chordal.specs.Steps.Flat.{AreLower, FindsIndex, IsLaidOut, IsTable, edges_in, graph_in}
 use Rattle.cu_chordal.specs.declared.table.EdgeTable.{EdgeTable}
 use Rattle.cu_chordal.specs.declared.graph.TheConstants.{MAX_EDGES}
-use Rattle.cu_chordal.proofs.Tables.{length_paired, paired_at, down_grouped, down_of_from_edge, down_rising, edge_from_down_of, edge_from_up_of, up_rising, up_of_from_edge, numbered, increasing_from_pairs}
+use Rattle.cu_chordal.proofs.Tables.{length_paired, paired_at, down_grouped, down_of_from_edge, down_rising, edge_from_down_of, edge_from_up_of, up_rising, up_of_from_edge}
+use Rattle.cu_chordal.proofs.Tables.{numbered, increasing_from_pairs}
 
 -- a graph that is laid out in a table and lists of lower neighbours, and what is read of it
 module _ (ranks : ℕ) (table : EdgeTable) (lower : List (List ℕ)) (graph : ChordalValue) (f : IsLaidOut ranks table lower) (shown : graph_in ranks table ≡ graph) where

@@ -1,5 +1,6 @@
 -- Which ranks a chordal edge joins, said by paths of roads.
 use Rattle.std.specs.Prelude.{ℕ, List, [], ◌∷◌, Some, ◌≡◌, ◌≢◌, ◌<◌, ◌⊎◌, ◌↔◌, length, min, slice_get}
+use Rattle.std.specs.List.{AllPairs, Contains}
 use Rattle.cu_model.specs.Networks.{NetworkValue}
 use Rattle.cu_model.specs.Orders.{OrderValue}
 use Rattle.cu_model.specs.Roads.{Links}
@@ -32,9 +33,12 @@ pub record ListsEdges (g : NetworkValue) (o : OrderValue) (edges : List Ends) : 
   pub sorted : IsRising edges
   pub exact : (x y : ℕ) → HasEdge edges x y ↔ ((x < y) × IsEdge g o x y)
 
--- more chordal edges than the limit
-abbrev pub HasTooManyEdges : NetworkValue → OrderValue → Type 0
-HasTooManyEdges g o = (edges : List Ends) → ListsEdges g o edges → MAX_EDGES < length edges
+-- more chordal edges than the limit: so many different ones
+pub record HasTooManyEdges (g : NetworkValue) (o : OrderValue) : Type 0 where
+  pub edges : List Ends
+  pub many : MAX_EDGES < length edges
+  pub differ : AllPairs (λ (a b : Ends). a ≢ b) edges
+  pub real : (e : Ends) → Contains edges e → (e.low < e.high) × IsEdge g o e.low e.high
 
 -- the chordal supergraph of a road network under an order
 pub record IsClosureOf (g : NetworkValue) (o : OrderValue) (graph : ChordalValue) : Type 0 where

@@ -21,8 +21,6 @@ mod graph;
 mod groups;
 mod lists;
 mod table;
-#[cfg(test)]
-mod tests;
 
 pub use checking::first_wrong;
 pub use closure::{CloseRefusal, close};

@@ -1,4 +1,5 @@
 pub mod StopLaws
+mod SayingLaws
 mod LoadLaws
 mod OrderKinds
 mod WorkLaws

@@ -4,10 +4,10 @@ use Rattle.cu_pack.specs.Checks.{IsRefused}
 use Rattle.cu_pack.specs.declared.refusals.PackRefusal.{PackRefusal}
 use Rattle.cu_pack.specs.declared.refusals.PackRefusal.TheVariants as pack
 use Rattle.cu_cli.specs.Opening.{StopsChecks}
-use Rattle.cu_cli.specs.Steps.Outcomes.{IsBeforeScript, stop_of_file}
+use Rattle.cu_cli.specs.Steps.Outcomes.{IsRefusal, stop_of_file}
 
 -- the stop of a refused file, which comes before the script
-pub stops_checks : (bytes : List ℕ) (refusal : PackRefusal) → IsRefused bytes refusal → StopsChecks bytes (stop_of_file refusal) × IsBeforeScript (stop_of_file refusal)
+pub stops_checks : (bytes : List ℕ) (refusal : PackRefusal) → IsRefused bytes refusal → StopsChecks bytes (stop_of_file refusal) × IsRefusal (stop_of_file refusal)
 stops_checks bytes pack.Short h = ((h, λ e. cc e), tt)
 stops_checks bytes pack.Magic h = ((h, λ e. cc e), tt)
 stops_checks bytes (pack.Version found) h = ((h, λ e. cc e), tt)

@@ -35,12 +35,14 @@ use Rattle.cu_roads.proofs.GridLaws.{length-days}
 use Rattle.cu_cli.specs.declared.commands.trial.Tally.{Tally}
 use Rattle.cu_cli.specs.declared.stops.Stop.{Stop}
 use Rattle.cu_cli.specs.declared.stops.Stop.TheVariants as stop
-use Rattle.cu_session.specs.Steps.Routing.{IsEdited}
-use Rattle.cu_cli.specs.Runs.{EndsTrial}
+use Rattle.cu_router.specs.Edited.{IsEdited}
+use Rattle.cu_cli.specs.Commands.Trial.{EndsTrial, trying}
 use Rattle.cu_cli.specs.Trials.{IsEditedBy, IsGridOrder, IsTrial, IsTried, IsTurn, TrialValue, drawn_edit, drawn_query, edits_text, hierarchy_text, queries_text}
-use Rattle.cu_cli.specs.Words.{GridAsked, TrialAsked, grid_read}
-use Rattle.cu_cli.specs.Steps.Outcomes.{Works}
+use Rattle.cu_cli.specs.Words.{GridAsked, grid_read}
+use Rattle.cu_cli.specs.Steps.Outcomes.{Did, world_of}
 use Rattle.cu_cli.specs.Steps.Trials.{IsDrawable, StopsGrid, standing}
+use Rattle.cu_cli.proofs.Completeness.{IsComplete}
+use Rattle.cu_cli.proofs.LoadLaws.{only_nothing, only_refused}
 use Rattle.cu_cli.proofs.WorkLaws.{stopped_before}
 
 -- and that of a built one is its own
@@ -151,11 +153,11 @@ tried_more order start before now number h k =
     subst (λ (n : ℕ). IsTried order start n now) (sym e) (before, h, k)
 
 -- all turns were taken
-pub tried_all : (asked : TrialAsked) (first last : HierarchyValue) (draws : ℕ) (end : Tally) → IsGridOrder asked.grid first.order → first.network ≡ (grid_read asked.grid).network
-    → draws ≡ behind_grid asked.grid.start asked.grid.width asked.grid.height
-    → IsTried first.order (standing first.network (record { draws = draws; reached = 0; sum = 0; edits = 0; touched = 0 })) asked.turns (standing last.network end)
-    → last.order ≡ first.order → IsBuilt last → IsTrial asked (hierarchy_text last ++ queries_text asked.turns (standing last.network end) ++ edits_text (standing last.network end))
-tried_all asked first last draws end order network behind tried same built = record {
+pub tried_all : (grid : GridAsked) (turns : ℕ) (first last : HierarchyValue) (draws : ℕ) (end : Tally) → IsGridOrder grid first.order → first.network ≡ (grid_read grid).network
+    → draws ≡ behind_grid grid.start grid.width grid.height
+    → IsTried first.order (standing first.network (record { draws = draws; reached = 0; sum = 0; edits = 0; touched = 0 })) turns (standing last.network end)
+    → last.order ≡ first.order → IsBuilt last → IsTrial grid turns (hierarchy_text last ++ queries_text turns (standing last.network end) ++ edits_text (standing last.network end))
+tried_all grid turns first last draws end order network behind tried same built = record {
   order = first.order;
   given = order;
   end = standing last.network end;
@@ -167,11 +169,22 @@ tried_all asked first last draws end order network behind tried same built = rec
   line = refl;
 }
 
+-- where nothing fails, nothing but want of memory stops a trial whose graph hasn't too many edges
+pub trial_law : (grid : GridAsked) (turns : ℕ) → IsComplete (trying grid turns)
+unfolding trying
+trial_law grid turns a b work why can fine is (inl (text, tried, inl (none, said), taken, stored)) = absurd (cc (none, is))
+trial_law grid turns a b work why can fine is (inl (text, tried, inr (failed, front), taken, stored)) = absurd (fine.sink failed)
+trial_law grid turns a b work why can fine is (inr (inl (order, given, many, before))) = absurd (can order given many)
+trial_law grid turns a b work why can fine is (inr (inr before)) = inl (cc (before.0, is))
+
 -- the hierarchy of a grid wasn't built
-pub grid_stopped : (a : ShelfState) (s : SourceState) (k : SinkState) (asked : TrialAsked) (why : Stop) → StopsGrid asked.grid why → Works false (Some why) (EndsTrial asked) a a s s k k
-grid_stopped a s k asked stop.TooManyEdges (order, given, many) = stopped_before false a a s k (EndsTrial asked) stop.TooManyEdges refl tt (λ work ends. inr (inl (order, given, many, ends)))
-grid_stopped a s k asked stop.NoMemory h = stopped_before false a a s k (EndsTrial asked) stop.NoMemory refl tt (λ work ends. inr (inr ends))
-grid_stopped a s k asked _ h = absurd h
+pub grid_stopped : (a : ShelfState) (s : SourceState) (k : SinkState) (grid : GridAsked) (turns : ℕ) (why : Stop) → StopsGrid grid why
+    → Did false (Some why) (EndsTrial grid turns) (world_of a s k) (world_of a s k)
+grid_stopped a s k grid turns stop.TooManyEdges (order, given, many) =
+    stopped_before false a a s k (EndsTrial grid turns) stop.TooManyEdges (only_refused stop.TooManyEdges tt (only_nothing a)) tt (λ work ends. inr (inl (order, given, many, ends)))
+grid_stopped a s k grid turns stop.NoMemory h =
+    stopped_before false a a s k (EndsTrial grid turns) stop.NoMemory (only_refused stop.NoMemory tt (only_nothing a)) tt (λ work ends. inr (inr ends))
+grid_stopped a s k grid turns _ h = absurd h
 
 -- four texts in two pairs, and four more
 pub pairs_then : (a b c d e f x y : List ℕ) → a ++ b ++ (c ++ d) ++ (e ++ f ++ x ++ y) ≡ a ++ b ++ c ++ d ++ e ++ f ++ x ++ y

@@ -3,7 +3,10 @@ pub mod Stops
 pub mod Preparing
 pub mod Opening
 pub mod Storing
+pub mod Endings
+pub mod Meanings
 pub mod Trials
-pub mod Sure
+pub mod Commands
 pub mod Runs
+pub mod Sure
 pub mod Steps

@@ -1,13 +1,13 @@
--- A packed hierarchy that a command loads; or what stops the run there.
-use Rattle.std.specs.Prelude.{List, ℕ, [], ◌∷◌, ◌≢◌, ◌⊎◌}
+-- A packed hierarchy that a command loads, perhaps with other files behind it; or what stops the run there.
+use Rattle.std.specs.Prelude.{List, ℕ, ◌∷◌, ◌≡◌, ◌≢◌, ◌⊎◌, Option, Some}
 use Rattle.cu_io.specs.Shelves.{ShelfState}
 use Rattle.cu_interval.specs.Hierarchies.{HierarchyValue}
 use Rattle.cu_pack.specs.Checks.{IsRefused, Spells}
 use Rattle.cu_pack.specs.declared.refusals.PackRefusal.TheVariants as pack
 use Rattle.cu_cli.specs.declared.stops.Stop.{Stop}
 use Rattle.cu_cli.specs.declared.stops.Stop.TheVariants as stop
-use Rattle.cu_cli.specs.Preparing.{AreLoaded, IsLoaded, StopsLoad, StopsLoading}
-use Rattle.cu_cli.specs.Words.{EditingAsked, editing_files, hierarchy_file}
+use Rattle.cu_cli.specs.Preparing.{AreLoaded, StopsLoading}
+use Rattle.cu_cli.specs.Words.{FileAsked}
 
 -- the loaded bytes are the packed file of no hierarchy, and this is the first check that they fail; or memory ran out
 abbrev pub StopsChecks : List ℕ → Stop → Type 0
@@ -15,23 +15,18 @@ StopsChecks bytes (stop.File refusal) = IsRefused bytes refusal × (refusal ≢ 
 StopsChecks bytes stop.NoMemory = Unit {0}
 StopsChecks bytes _ = ⊥
 
--- the file is loaded, and is the packed file of this hierarchy
-abbrev pub Opens : ShelfState → List ℕ → HierarchyValue → Type 0
-Opens before name h = (bytes : List ℕ) × IsLoaded before (hierarchy_file name) bytes × Spells bytes h
+-- the files are loaded: the first is the packed file of this hierarchy, and these are the texts of the others
+abbrev pub Opens : ShelfState → List FileAsked → HierarchyValue → List (List ℕ) → Type 0
+Opens before files h texts = (bytes : List ℕ) × AreLoaded before files (bytes ∷ texts) × Spells bytes h
 
--- the load, or the first check behind it, stops the run so
-abbrev pub StopsOpening : ShelfState → ShelfState → List ℕ → Stop → Type 0
-StopsOpening before now name why =
-    StopsLoad before now (hierarchy_file name) why
-    ⊎ ((bytes : List ℕ) × IsLoaded before (hierarchy_file name) bytes × StopsChecks bytes why)
+-- a load, or the first check of the first file behind all loads, stops the run so
+abbrev pub StopsOpening : ShelfState → ShelfState → List FileAsked → Stop → Type 0
+StopsOpening before now files why =
+    StopsLoading before now files why
+    ⊎ ((bytes : List ℕ) × (texts : List (List ℕ)) × AreLoaded before files (bytes ∷ texts) × StopsChecks bytes why)
 
--- both files are loaded: the first is the packed file of this hierarchy, the second this text
-abbrev pub OpensEdits : ShelfState → EditingAsked → HierarchyValue → List ℕ → Type 0
-OpensEdits before asked h text =
-    (bytes : List ℕ) × AreLoaded before (editing_files asked) (bytes ∷ text ∷ []) × Spells bytes h
-
--- one of both loads, or the first check of the packed file behind them, stops the run so
-abbrev pub StopsOpeningEdits : ShelfState → ShelfState → EditingAsked → Stop → Type 0
-StopsOpeningEdits before now asked why =
-    StopsLoading before now (editing_files asked) why
-    ⊎ ((bytes : List ℕ) × (text : List ℕ) × AreLoaded before (editing_files asked) (bytes ∷ text ∷ []) × StopsChecks bytes why)
+-- files that are there, within the limit, the first of them the packed file of a hierarchy
+abbrev pub IsOpenable : List FileAsked → ShelfState → Type 0
+IsOpenable asked before =
+    (files : List ℕ → Option (List ℕ)) × (h : HierarchyValue) × (texts : List (List ℕ)) × (before.held ≡ Some files)
+    × Opens before asked h texts

@@ -1,5 +1,5 @@
 -- What a command prepares before its work: its files loaded, their texts read, and the graph closed; or the first of these that stops it.
-use Rattle.std.specs.Prelude.{ℕ, List, [], ◌∷◌, ◌≡◌, ◌<◌, ◌≤◌, ◌⊎◌, Some, Result, Ok, Err, length, slice_get}
+use Rattle.std.specs.Prelude.{ℕ, List, [], ◌∷◌, ◌≡◌, ◌<◌, ◌≤◌, ◌⊎◌, Option, Some, Result, Ok, Err, length, slice_get}
 use Rattle.cu_io.specs.Counts.{Rose}
 use Rattle.cu_io.specs.Holdings.{Holds, HoldsMore}
 use Rattle.cu_io.specs.Shelves.{ShelfState}
@@ -15,7 +15,7 @@ use Rattle.cu_roads.specs.NetworkTexts.{NetworkRead, network_of}
 use Rattle.cu_roads.specs.declared.refusals.RoadRefusal.{RoadRefusal}
 use Rattle.cu_cli.specs.declared.stops.Stop.{Stop}
 use Rattle.cu_cli.specs.declared.stops.Stop.TheVariants as stop
-use Rattle.cu_cli.specs.Words.{FileAsked, OrderAsked, Identity, Dissected, Named, OrderingAsked, TablesAsked, network_files, table_files}
+use Rattle.cu_cli.specs.Words.{FileAsked, OrderAsked, Identity, Dissected, Named, TablesAsked, table_files}
 
 -- the file is loaded with these bytes
 abbrev pub IsLoaded : ShelfState → FileAsked → List ℕ → Type 0
@@ -42,6 +42,25 @@ StopsLoading before now [] why = ⊥
 StopsLoading before now (file ∷ files) why =
     StopsLoad before now file why ⊎ ((text : List ℕ) × IsLoaded before file text × StopsLoading before now files why)
 
+-- the files are loaded; the first three are tables that name this network, and these are the texts of the others
+abbrev pub ReadsTables : ShelfState → List FileAsked → NetworkRead → List (List ℕ) → Type 0
+ReadsTables before files read given =
+    (nodes : List ℕ) × (roads : List ℕ) × (profiles : List ℕ) × AreLoaded before files (nodes ∷ roads ∷ profiles ∷ given)
+    × (network_of nodes roads profiles ≡ Ok read)
+
+-- the first check that the tables fail, or memory ran out
+abbrev pub StopsNetwork : Result NetworkRead RoadRefusal → Stop → Type 0
+StopsNetwork named (stop.Network refusal) = named ≡ Err refusal
+StopsNetwork named stop.NoMemory = Unit {0}
+StopsNetwork named _ = ⊥
+
+-- a load, or the reading of the tables behind all loads, stops the run so
+abbrev pub StopsTables : ShelfState → ShelfState → List FileAsked → Stop → Type 0
+StopsTables before now files why =
+    StopsLoading before now files why
+    ⊎ ((nodes : List ℕ) × (roads : List ℕ) × (profiles : List ℕ) × (given : List (List ℕ))
+    × AreLoaded before files (nodes ∷ roads ∷ profiles ∷ given) × StopsNetwork (network_of nodes roads profiles) why)
+
 -- the order that is given: each node its own rank, or that of the dissection of the network, or that of the text
 abbrev pub IsOrderGiven : OrderAsked → NetworkRead → List (List ℕ) → OrderValue → Type 0
 IsOrderGiven Identity read texts order = (rank : ℕ) → rank < read.network.nodes → slice_get order.node_at rank ≡ Some rank
@@ -63,17 +82,6 @@ IsOrderRefused _ read texts other = ⊥
 abbrev pub HasFewEdges : NetworkValue → OrderValue → Type 0
 HasFewEdges g order = (edges : List Ends) × ListsEdges g order edges × (length edges ≤ MAX_EDGES)
 
--- the tables name this network, with these places
-abbrev pub Names : Result NetworkRead RoadRefusal → NetworkRead → Type 0
-Names (Err refusal) read = ⊥
-Names (Ok named) read = named ≡ read
-
--- the texts of three tables, and perhaps of an order, name this network and this order, whose graph has few edges
-abbrev pub AreRead : OrderAsked → List (List ℕ) → NetworkRead → OrderValue → Type 0
-AreRead asked (nodes ∷ roads ∷ profiles ∷ given) read order =
-    Names (network_of nodes roads profiles) read × IsOrderOf asked read given order × HasFewEdges read.network order
-AreRead asked _ read order = ⊥
-
 -- behind the tables: the order's text is refused, or the graph has too many edges, or memory ran out
 abbrev pub StopsOrder : OrderAsked → NetworkRead → List (List ℕ) → Stop → Type 0
 StopsOrder asked read given (stop.Order refusal) = IsOrderRefused asked read given refusal
@@ -81,55 +89,23 @@ StopsOrder asked read given stop.TooManyEdges = (order : OrderValue) × IsOrderO
 StopsOrder asked read given stop.NoMemory = Unit {0}
 StopsOrder asked read given _ = ⊥
 
--- the first check that the tables fail, or what stops the run behind them
-abbrev pub StopsTables : OrderAsked → Result NetworkRead RoadRefusal → List (List ℕ) → Stop → Type 0
-StopsTables asked (Ok read) given why = StopsOrder asked read given why
-StopsTables asked (Err refusal) given (stop.Network other) = refusal ≡ other
-StopsTables asked (Err refusal) given stop.NoMemory = Unit {0}
-StopsTables asked (Err refusal) given _ = ⊥
+-- all files are loaded and read: the tables name this network, and this is the order that is asked for, whose graph has few edges
+abbrev pub Prepares : ShelfState → TablesAsked → OrderAsked → NetworkRead → OrderValue → Type 0
+Prepares before tables asked read order =
+    (given : List (List ℕ)) × ReadsTables before (table_files tables asked) read given × IsOrderOf asked read given order
+    × HasFewEdges read.network order
 
--- the reading of the texts stops the run so
-abbrev pub StopsReading : OrderAsked → List (List ℕ) → Stop → Type 0
-StopsReading asked (nodes ∷ roads ∷ profiles ∷ given) why = StopsTables asked (network_of nodes roads profiles) given why
-StopsReading asked _ why = ⊥
+-- a load stops the run so, or the reading behind all loads: that of the tables, or else that of the order
+abbrev pub StopsPreparing : ShelfState → ShelfState → TablesAsked → OrderAsked → Stop → Type 0
+StopsPreparing before now tables asked why =
+    StopsTables before now (table_files tables asked) why
+    ⊎ ((read : NetworkRead) × (given : List (List ℕ)) × ReadsTables before (table_files tables asked) read given
+    × StopsOrder asked read given why)
 
--- all files of the tables are loaded and read
-abbrev pub Prepares : ShelfState → TablesAsked → NetworkRead → OrderValue → Type 0
-Prepares before tables read order =
-    (texts : List (List ℕ)) × AreLoaded before (table_files tables) texts × AreRead tables.order texts read order
-
--- a load, or the reading behind all loads, stops the run so
-abbrev pub StopsPreparing : ShelfState → ShelfState → TablesAsked → Stop → Type 0
-StopsPreparing before now tables why =
-    StopsLoading before now (table_files tables) why
-    ⊎ ((texts : List (List ℕ)) × AreLoaded before (table_files tables) texts × StopsReading tables.order texts why)
-
--- the files of the tables whose order is asked for
-abbrev pub ordering_files : OrderingAsked → List FileAsked
-ordering_files asked = network_files asked.nodes asked.roads asked.profiles
-
--- the texts of three tables name this network
-abbrev pub AreTables : List (List ℕ) → NetworkRead → Type 0
-AreTables (nodes ∷ roads ∷ profiles ∷ []) read = Names (network_of nodes roads profiles) read
-AreTables _ read = ⊥
-
--- the tables are loaded and read, and no order is given
-abbrev pub ReadsTables : ShelfState → OrderingAsked → NetworkRead → Type 0
-ReadsTables before asked read = (texts : List (List ℕ)) × AreLoaded before (ordering_files asked) texts × AreTables texts read
-
--- the first check that the tables fail, or memory ran out
-abbrev pub StopsNetwork : Result NetworkRead RoadRefusal → Stop → Type 0
-StopsNetwork named (stop.Network refusal) = named ≡ Err refusal
-StopsNetwork named stop.NoMemory = Unit {0}
-StopsNetwork named _ = ⊥
-
--- the reading of three texts stops the run so
-abbrev pub StopsTexts : List (List ℕ) → Stop → Type 0
-StopsTexts (nodes ∷ roads ∷ profiles ∷ []) why = StopsNetwork (network_of nodes roads profiles) why
-StopsTexts _ why = ⊥
-
--- a load, or the reading behind all loads, stops the ordering so
-abbrev pub StopsOrdering : ShelfState → ShelfState → OrderingAsked → Stop → Type 0
-StopsOrdering before now asked why =
-    StopsLoading before now (ordering_files asked) why
-    ⊎ ((texts : List (List ℕ)) × AreLoaded before (ordering_files asked) texts × StopsTexts texts why)
+-- tables that are there, within the limit, and name a network and an order of few edges
+abbrev pub IsServable : TablesAsked → OrderAsked → ShelfState → Type 0
+IsServable tables asked before =
+    (files : List ℕ → Option (List ℕ)) × (read : NetworkRead) × (given : List (List ℕ)) × (before.held ≡ Some files)
+    × ReadsTables before (table_files tables asked) read given
+    × ((other : OrderRefusal) → IsOrderRefused asked read given other → ⊥)
+    × ((order : OrderValue) → IsOrderOf asked read given order → HasTooManyEdges read.network order → ⊥)

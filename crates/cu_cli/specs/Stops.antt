@@ -21,7 +21,12 @@ use Rattle.cu_pack.specs.declared.refusals.Field.TheVariants as field
 use Rattle.cu_pack.specs.declared.refusals.PackRefusal.{PackRefusal}
 use Rattle.cu_pack.specs.declared.refusals.PackRefusal.TheVariants as pack
 use Rattle.cu_session.specs.Refusals.{piece_refusal_words}
-use Rattle.cu_session.specs.Swept.{dir_word}
+use Rattle.cu_router.specs.Swept.{dir_word}
+
+-- a word, and numbers behind it, each behind a space
+abbrev pub numbers_text : List ℕ → List ℕ → List ℕ
+numbers_text word [] = word
+numbers_text word (number ∷ numbers) = numbers_text (word ++ codes " " ++ decimal number) numbers
 
 abbrev pub file_word : File → List ℕ
 file_word Nodes = codes "nodes"
@@ -52,20 +57,12 @@ road_fault (road.ProfileRange row) = row_fault (codes "roads") row (codes "profi
 road_fault (road.Profiles refusal) = profile_fault refusal
 road_fault road.NoMemory = []
 
--- the line of a refusal
-abbrev pub network_fault : RoadRefusal → List ℕ
-network_fault refusal = codes "network: " ++ road_fault refusal
-
-abbrev pub order_fault_words : OrderRefusal → List ℕ
-order_fault_words (order.Number row) = decimal row ++ codes " number"
-order_fault_words (order.Range row) = decimal row ++ codes " range"
-order_fault_words (order.Twice row) = decimal row ++ codes " twice"
-order_fault_words (order.Count rows) = decimal rows ++ codes " count"
-order_fault_words order.NoMemory = []
-
--- the line of a refused order
 abbrev pub order_fault : OrderRefusal → List ℕ
-order_fault refusal = codes "order: " ++ order_fault_words refusal
+order_fault (order.Number row) = decimal row ++ codes " number"
+order_fault (order.Range row) = decimal row ++ codes " range"
+order_fault (order.Twice row) = decimal row ++ codes " twice"
+order_fault (order.Count rows) = decimal rows ++ codes " count"
+order_fault order.NoMemory = []
 
 abbrev pub field_word : Field → List ℕ
 field_word field.Nodes = codes "nodes"
@@ -75,32 +72,20 @@ field_word field.Edges = codes "edges"
 field_word field.Pieces = codes "pieces"
 field_word field.Entries = codes "entries"
 
--- a word and a number
-abbrev pub number_fault : List ℕ → ℕ → List ℕ
-number_fault word number = word ++ codes " " ++ decimal number
-
--- a word and two numbers
-abbrev pub numbers_fault : List ℕ → ℕ → ℕ → List ℕ
-numbers_fault word first second = word ++ codes " " ++ decimal first ++ codes " " ++ decimal second
-
-abbrev pub file_fault_words : PackRefusal → List ℕ
-file_fault_words pack.Short = codes "short"
-file_fault_words pack.Magic = codes "magic"
-file_fault_words (pack.Version found) = number_fault (codes "version") found
-file_fault_words (pack.Length said found) = numbers_fault (codes "length") said found
-file_fault_words pack.Digest = codes "digest"
-file_fault_words (pack.Limit whose) = codes "limit " ++ field_word whose
-file_fault_words (pack.Size counted found) = numbers_fault (codes "size") counted found
-file_fault_words (pack.Order rank) = number_fault (codes "order") rank
-file_fault_words (pack.RoadArc arc) = number_fault (codes "arc") arc
-file_fault_words (pack.Profile number) = number_fault (codes "profile") number
-file_fault_words (pack.Graph rank) = number_fault (codes "graph") rank
-file_fault_words (pack.Ways edge dir) = number_fault (codes "ways") edge ++ codes " " ++ dir_word dir
-file_fault_words pack.NoMemory = []
-
--- the line of a file that is no packed hierarchy
 abbrev pub file_fault : PackRefusal → List ℕ
-file_fault refusal = codes "file: " ++ file_fault_words refusal
+file_fault pack.Short = codes "short"
+file_fault pack.Magic = codes "magic"
+file_fault (pack.Version found) = numbers_text (codes "version") (found ∷ [])
+file_fault (pack.Length said found) = numbers_text (codes "length") (said ∷ found ∷ [])
+file_fault pack.Digest = codes "digest"
+file_fault (pack.Limit whose) = codes "limit " ++ field_word whose
+file_fault (pack.Size counted found) = numbers_text (codes "size") (counted ∷ found ∷ [])
+file_fault (pack.Order rank) = numbers_text (codes "order") (rank ∷ [])
+file_fault (pack.RoadArc arc) = numbers_text (codes "arc") (arc ∷ [])
+file_fault (pack.Profile number) = numbers_text (codes "profile") (number ∷ [])
+file_fault (pack.Graph rank) = numbers_text (codes "graph") (rank ∷ [])
+file_fault (pack.Ways edge dir) = numbers_text (codes "ways") (edge ∷ []) ++ codes " " ++ dir_word dir
+file_fault pack.NoMemory = []
 
 -- the way that a list takes, if it isn't empty
 abbrev pub way_words : Option Way → List ℕ
@@ -134,16 +119,13 @@ abbrev pub said_of : Stop → List ℕ
 said_of stop.Words = line_of (codes "words")
 said_of (stop.Fault whose) = line_of (codes "shelf: fault " ++ role_word whose)
 said_of (stop.TooLong whose) = line_of (codes "shelf: long " ++ role_word whose)
-said_of (stop.Network refusal) = line_of (network_fault refusal)
-said_of (stop.Order refusal) = line_of (order_fault refusal)
-said_of (stop.File refusal) = line_of (file_fault refusal)
+said_of (stop.Network refusal) = line_of (codes "network: " ++ road_fault refusal)
+said_of (stop.Order refusal) = line_of (codes "order: " ++ order_fault refusal)
+said_of (stop.File refusal) = line_of (codes "file: " ++ file_fault refusal)
 said_of stop.TooManyEdges = line_of (codes "too many shortcuts")
-said_of (stop.TooLarge bytes) = line_of (codes "too large " ++ decimal bytes)
+said_of (stop.TooLarge bytes) = line_of (numbers_text (codes "too large") (bytes ∷ []))
 said_of (stop.Differs found) = line_of (difference_text found)
-said_of stop.Source = []
-said_of stop.Sink = []
-said_of stop.NoMemory = []
-said_of stop.TakeLimit = []
+said_of _ = []
 
 -- the status of a stop, by number
 abbrev pub status_of : Stop → ℕ

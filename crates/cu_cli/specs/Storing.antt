@@ -1,5 +1,5 @@
 -- What a run stores, and what is said of it.
-use Rattle.std.specs.Prelude.{ℕ, List, [], ◌∷◌, ◌≡◌, ◌⊎◌, Option, Some, None, IfSome}
+use Rattle.std.specs.Prelude.{ℕ, List, [], ◌∷◌, ◌≡◌, ◌⊎◌, Option, Some, None, IfSome, is_some}
 use Rattle.cu_io.specs.Counts.{Rose}
 use Rattle.cu_io.specs.Holdings.{Holds, KeepsOthers}
 use Rattle.cu_io.specs.Shelves.{ShelfState}
@@ -12,11 +12,11 @@ pub record FileStored : Type 0 where
   pub name : List ℕ
   pub bytes : Option (List ℕ)
 
--- what each name holds once these files were stored, in this order
+-- what each name holds once these files were stored, in this order; where that was told it is told behind each store
 abbrev pub Stores : Option (List ℕ → Option (List ℕ)) → List FileStored → Option (List ℕ → Option (List ℕ)) → Type 0
 Stores before [] now = now ≡ before
 Stores before (file ∷ files) now =
-    (then : Option (List ℕ → Option (List ℕ)))
+    (then : Option (List ℕ → Option (List ℕ))) × (is_some then ≡ is_some before)
     × IfSome file.bytes (Holds then file.name) × KeepsOthers before then file.name × Stores then files now
 
 -- a file that a command makes: whose word names it, the name, and its bytes

@@ -15,7 +15,7 @@ use Rattle.cu_interval.specs.Hierarchies.{HierarchyValue, IsBuilt}
 use Rattle.cu_roads.specs.Draws.{after, drawn, stepped}
 use Rattle.cu_roads.specs.Grids.{behind_grid, drawn_day}
 use Rattle.cu_session.specs.Replies.{Touches}
-use Rattle.cu_cli.specs.Words.{GridAsked, TrialAsked, grid_read}
+use Rattle.cu_cli.specs.Words.{GridAsked, grid_read}
 
 -- where a trial stands between two turns: the state of its draws, the network, and the tallies so far
 pub record TrialValue : Type 0 where
@@ -75,14 +75,9 @@ IsTried order start (suc turns) now =
 
 -- where the turns of a trial begin: over the grid, with the draws behind it
 abbrev pub trial_start : GridAsked → TrialValue
-trial_start grid = record {
-  state = behind_grid grid.start grid.width grid.height;
-  network = (grid_read grid).network;
-  reached = 0;
-  sum = 0;
-  edits = 0;
-  touched = 0;
-}
+trial_start grid =
+    let state = behind_grid grid.start grid.width grid.height in
+    record { state = state; network = (grid_read grid).network; reached = 0; sum = 0; edits = 0; touched = 0 }
 
 -- an order of a grid's nodes is that of its dissection
 pub record IsGridOrder (grid : GridAsked) (order : OrderValue) : Type 0 where
@@ -107,13 +102,13 @@ abbrev pub edits_text : TrialValue → List ℕ
 edits_text end = codes " edits " ++ decimal end.edits ++ codes " touched " ++ decimal end.touched
 
 -- the line of a trial
-pub record IsTrial (asked : TrialAsked) (text : List ℕ) : Type 0 where
+pub record IsTrial (grid : GridAsked) (turns : ℕ) (text : List ℕ) : Type 0 where
   pub order : OrderValue
-  pub given : IsGridOrder asked.grid order
+  pub given : IsGridOrder grid order
   pub end : TrialValue
-  pub tried : IsTried order (trial_start asked.grid) asked.turns end
+  pub tried : IsTried order (trial_start grid) turns end
   pub last : HierarchyValue
   pub built : IsBuilt last
   pub network : last.network ≡ end.network
   pub same : last.order ≡ order
-  pub line : text ≡ hierarchy_text last ++ queries_text asked.turns end ++ edits_text end
+  pub line : text ≡ hierarchy_text last ++ queries_text turns end ++ edits_text end

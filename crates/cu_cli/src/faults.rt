@@ -2,7 +2,7 @@
 
 ghost use Rattle.std.specs.Prelude.{◌≡◌, ◌++◌, codes, decimal};
 ghost use Rattle.cu_io.specs.Sinks.{Wrote, WroteLine};
-ghost use Rattle.cu_cli.specs.Stops.{difference_text, field_word, file_fault, file_fault_words, file_word, network_fault, order_fault, order_fault_words, place_words, profile_fault, road_fault, row_fault, way_words};
+ghost use Rattle.cu_cli.specs.Stops.{difference_text, field_word, file_fault, file_word, order_fault, place_words, profile_fault, road_fault, row_fault, way_words};
 
 use crate::stops::Difference;
 use cu_interval::{Dir, Way};
@@ -15,7 +15,7 @@ use cu_session::{put_dir, put_piece_refusal, put_word_and_long, put_word_and_num
 
 /// Writes and ends the line of a refused network.
 pub fn put_network_line<K: Sink>(sink: &mut K, refusal: RoadRefusal) -> Result<(), SinkFailed>
-    ensures wrote { WroteLine (K.state sink.old) (K.state sink.new) result (network_fault refusal) }
+    ensures wrote { WroteLine (K.state sink.old) (K.state sink.new) result (codes "network: " ++ road_fault refusal) }
 {
     put_all(sink, b"network: ")?;
     put_road_fault(sink, refusal)?;
@@ -92,7 +92,7 @@ fn file_text(file: File) -> &'static [u8]
 
 /// Writes and ends the line of a refused order.
 pub fn put_order_line<K: Sink>(sink: &mut K, refusal: OrderRefusal) -> Result<(), SinkFailed>
-    ensures wrote { WroteLine (K.state sink.old) (K.state sink.new) result (order_fault refusal) }
+    ensures wrote { WroteLine (K.state sink.old) (K.state sink.new) result (codes "order: " ++ order_fault refusal) }
 {
     put_all(sink, b"order: ")?;
     put_order_words(sink, refusal)?;
@@ -100,7 +100,7 @@ pub fn put_order_line<K: Sink>(sink: &mut K, refusal: OrderRefusal) -> Result<()
 }
 
 fn put_order_words<K: Sink>(sink: &mut K, refusal: OrderRefusal) -> Result<(), SinkFailed>
-    ensures wrote { Wrote (K.state sink.old) (K.state sink.new) result (order_fault_words refusal) }
+    ensures wrote { Wrote (K.state sink.old) (K.state sink.new) result (order_fault refusal) }
 {
     match refusal {
         OrderRefusal::Number { row } => put_number_and_word(sink, row, b" number"),
@@ -121,7 +121,7 @@ fn put_number_and_word<K: Sink>(sink: &mut K, number: u32, word: &[u8]) -> Resul
 
 /// Writes and ends the line of a file that is no packed hierarchy.
 pub fn put_file_line<K: Sink>(sink: &mut K, refusal: PackRefusal) -> Result<(), SinkFailed>
-    ensures wrote { WroteLine (K.state sink.old) (K.state sink.new) result (file_fault refusal) }
+    ensures wrote { WroteLine (K.state sink.old) (K.state sink.new) result (codes "file: " ++ file_fault refusal) }
 {
     put_all(sink, b"file: ")?;
     put_file_fault(sink, refusal)?;
@@ -129,7 +129,7 @@ pub fn put_file_line<K: Sink>(sink: &mut K, refusal: PackRefusal) -> Result<(), 
 }
 
 fn put_file_fault<K: Sink>(sink: &mut K, refusal: PackRefusal) -> Result<(), SinkFailed>
-    ensures wrote { Wrote (K.state sink.old) (K.state sink.new) result (file_fault_words refusal) }
+    ensures wrote { Wrote (K.state sink.old) (K.state sink.new) result (file_fault refusal) }
 {
     match refusal {
         PackRefusal::Short => put_all(sink, b"short"),

@@ -19,6 +19,7 @@ mod faults;
 mod opening;
 mod preparing;
 mod program;
+mod saying;
 mod stops;
 mod storing;
 mod sure;
@@ -26,6 +27,3 @@ mod words;
 
 pub use program::run;
 pub use sure::run_surely;
-
-#[cfg(test)]
-mod tests;

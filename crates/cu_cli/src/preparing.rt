@@ -1,20 +1,20 @@
 //! What a command prepares before its work: its files loaded, their texts read, and the graph closed. Whatever is
 //! refused stops the run.
 
-ghost use Rattle.std.specs.Prelude.{◌≡◌, ◌≤◌, ◌<◌, ℕ, Some, IfOk, IfErr, OnOk, length, slice_get};
+ghost use Rattle.std.specs.Prelude.{◌≡◌, ◌≤◌, ◌<◌, ℕ, Some, Ok, IfOk, IfErr, length, slice_get};
 ghost use Rattle.cu_chordal.specs.Edges.{IsClosureOf};
 ghost use Rattle.cu_dissect.specs.Dissection.{dissected};
 ghost use Rattle.cu_model.specs.Networks.{IsNetwork};
 ghost use Rattle.cu_model.specs.Orders.{IsOrder};
 ghost use Rattle.cu_model.specs.declared.limits.TheConstants.{MAX_NODES};
-ghost use Rattle.cu_cli.specs.Preparing.{AreLoaded, AreTables, IsLoaded, IsOrderGiven, StopsLoad, StopsLoading, StopsPreparing, StopsTexts};
+ghost use Rattle.cu_cli.specs.Preparing.{AreLoaded, IsLoaded, IsOrderGiven, StopsLoad, StopsLoading, StopsNetwork, StopsPreparing};
 ghost use Rattle.cu_cli.specs.Steps.Asks.{order_asked, tables_asked};
-ghost use Rattle.cu_cli.specs.Steps.Loading.{HasPrepared, IsGivenBy, IsReadFrom, OnlyLoads, RefusesOrder, StopsReadingFrom, order_kind, order_texts, table_texts};
-ghost use Rattle.cu_cli.specs.Steps.Outcomes.{IsBeforeScript};
+ghost use Rattle.cu_cli.specs.Steps.Loading.{HasPrepared, IsGivenBy, IsReadFrom, OnlyLoads, RefusesOrder, StopsReading, named_by, order_kind, order_texts, table_texts};
+ghost use Rattle.cu_cli.specs.Steps.Outcomes.{IsBeforeScript, IsRefusal, stop_of};
 ghost use Rattle.cu_cli.specs.Words.{network_files, order_files};
 
 use crate::stops::{Role, Stop};
-use crate::words::{OrderWord, TableWords};
+use crate::words::{OrderWord, TableNames};
 use cu_chordal::{Chordal, close};
 use cu_dissect::dissect;
 use cu_io::{LoadFailed, Shelf};
@@ -53,42 +53,40 @@ pub struct Prepared {
 /// Loads the tables and the order, reads them, and closes the graph.
 pub fn prepare<H: Shelf>(
     alloc: Global,
-    tables: TableWords<'_>,
+    tables: TableNames<'_>,
+    order: OrderWord<'_>,
     shelf: &mut H,
 ) -> Result<Prepared, Stop>
-    ensures ok { IfOk result (HasPrepared (H.state shelf.old) (tables_asked tables.entry)) }
+    ensures ok { IfOk result
+        (HasPrepared (H.state shelf.old) (tables_asked tables.entry) (order_asked order.entry)) }
     ensures closed { IfOk result
         (λ prepared. IsClosureOf prepared.network prepared.order prepared.graph) }
     ensures err { IfErr result (StopsPreparing (H.state shelf.old) (H.state shelf.new)
-        (tables_asked tables.entry)) }
+        (tables_asked tables.entry) (order_asked order.entry)) }
     ensures before { IfErr result IsBeforeScript }
-    ensures loads { OnlyLoads (H.state shelf.old) (H.state shelf.new) }
+    ensures loads { OnlyLoads (stop_of result) (H.state shelf.old) (H.state shelf.new) }
 {
-    let texts = load_tables(alloc, tables.nodes, tables.roads, tables.profiles, shelf)?;
-    let given = load_order(alloc, tables.order, shelf)?;
+    let texts = load_tables(alloc, tables, shelf)?;
+    let given = load_order(alloc, order, shelf)?;
     read_prepared(alloc, &texts, &given)
 }
 
 /// Loads the tables of a network, in the order of their words.
 pub fn load_tables<H: Shelf>(
     alloc: Global,
-    nodes: &str,
-    roads: &str,
-    profiles: &str,
+    tables: TableNames<'_>,
     shelf: &mut H,
 ) -> Result<TableTexts, Stop>
     ensures ok { IfOk result (λ texts. AreLoaded (H.state shelf.old)
-        (network_files nodes.now roads.now profiles.now) (table_texts texts)) }
+        (network_files (tables_asked tables.entry)) (table_texts texts)) }
     ensures err { IfErr result (StopsLoading (H.state shelf.old) (H.state shelf.new)
-        (network_files nodes.now roads.now profiles.now)) }
+        (network_files (tables_asked tables.entry))) }
     ensures before { IfErr result IsBeforeScript }
-    ensures loads { OnlyLoads (H.state shelf.old) (H.state shelf.new) }
-    ensures quiet { OnOk result
-        ((H.state shelf.new).load_faults ≡ (H.state shelf.old).load_faults) }
+    ensures loads { OnlyLoads (stop_of result) (H.state shelf.old) (H.state shelf.new) }
 {
-    let nodes = load_file(alloc, Role::Nodes, nodes, shelf)?;
-    let roads = load_file(alloc, Role::Roads, roads, shelf)?;
-    let profiles = load_file(alloc, Role::Profiles, profiles, shelf)?;
+    let nodes = load_file(alloc, Role::Nodes, tables.nodes, shelf)?;
+    let roads = load_file(alloc, Role::Roads, tables.roads, shelf)?;
+    let profiles = load_file(alloc, Role::Profiles, tables.profiles, shelf)?;
     Ok(TableTexts {
         nodes,
         roads,
@@ -108,7 +106,7 @@ fn load_order<H: Shelf>(
     ensures err { IfErr result (StopsLoading (H.state shelf.old) (H.state shelf.new)
         (order_files (order_asked order.entry))) }
     ensures before { IfErr result IsBeforeScript }
-    ensures loads { OnlyLoads (H.state shelf.old) (H.state shelf.new) }
+    ensures loads { OnlyLoads (stop_of result) (H.state shelf.old) (H.state shelf.new) }
 {
     match order {
         OrderWord::Identity => Ok(OrderGiven::Identity),
@@ -132,9 +130,7 @@ pub fn load_file<H: Shelf>(
     ensures err { IfErr result (StopsLoad (H.state shelf.old) (H.state shelf.new)
         (record { role = role; name = name.now })) }
     ensures before { IfErr result IsBeforeScript }
-    ensures loads { OnlyLoads (H.state shelf.old) (H.state shelf.new) }
-    ensures quiet { OnOk result
-        ((H.state shelf.new).load_faults ≡ (H.state shelf.old).load_faults) }
+    ensures loads { OnlyLoads (stop_of result) (H.state shelf.old) (H.state shelf.new) }
 {
     let mut bytes = Vec::new(alloc);
     match shelf.load(alloc, name, &mut bytes) {
@@ -147,23 +143,23 @@ pub fn load_file<H: Shelf>(
 
 /// The network of the tables, and the places of its nodes.
 pub fn read_tables(alloc: Global, texts: &TableTexts) -> Result<(Network, Places), Stop>
-    ensures ok { IfOk result (λ read. AreTables (table_texts texts.now)
-        (record { network = read.0; places = read.1 })) }
+    ensures ok { IfOk result (λ read. named_by texts.now
+        ≡ Ok (record { network = read.0; places = read.1 })) }
     ensures places { IfOk result (λ read. length read.1 ≡ read.0.nodes) }
     ensures sound { IfOk result (λ read. IsNetwork read.0) }
-    ensures err { IfErr result (StopsTexts (table_texts texts.now)) }
-    ensures before { IfErr result IsBeforeScript }
+    ensures err { IfErr result (StopsNetwork (named_by texts.now)) }
+    ensures before { IfErr result IsRefusal }
 {
     Ok(read_network(alloc, &texts.nodes, &texts.roads, &texts.profiles)?)
 }
 
 // The network of the tables, its order, and the graph closed under it.
 fn read_prepared(alloc: Global, texts: &TableTexts, given: &OrderGiven) -> Result<Prepared, Stop>
-    ensures ok { IfOk result (IsReadFrom (table_texts texts.now) given.now) }
+    ensures ok { IfOk result (IsReadFrom texts.now given.now) }
     ensures closed { IfOk result
         (λ prepared. IsClosureOf prepared.network prepared.order prepared.graph) }
-    ensures err { IfErr result (StopsReadingFrom (table_texts texts.now) given.now) }
-    ensures before { IfErr result IsBeforeScript }
+    ensures err { IfErr result (StopsReading texts.now given.now) }
+    ensures before { IfErr result IsRefusal }
 {
     let (network, places) = read_tables(alloc, texts)?;
     let order = make_order(alloc, given, &network, &places)?;

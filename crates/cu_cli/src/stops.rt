@@ -1,19 +1,20 @@
 //! Why a run stops before all is done: one type, one line for each reason, and one place that says it.
 
-ghost use Rattle.std.specs.Prelude.{◌≡◌, ◌++◌, codes, decimal};
+ghost use Rattle.std.specs.Prelude.{◌≡◌, ◌++◌};
 ghost use Rattle.cu_io.specs.Sinks.{WroteLine};
 ghost use Rattle.cu_cli.specs.Stops.{role_word, said_of, status_of};
 ghost use Rattle.cu_cli.specs.Steps.Outcomes.{Refuses, Said};
 
 use crate::faults::{put_difference_line, put_file_line, put_network_line, put_order_line};
+use crate::saying::put_numbers_line;
 use cu_chordal::CloseRefusal;
 use cu_interval::{Dir, Way};
-use cu_io::{Sink, SinkFailed, end_line, put_all, put_line};
+use cu_io::{Sink, SinkFailed, put_all, put_line};
 use cu_model::NoMemory;
 use cu_order::OrderRefusal;
 use cu_pack::PackRefusal;
 use cu_roads::RoadRefusal;
-use cu_session::{SessionStop, put_word_and_long};
+use cu_session::SessionStop;
 
 /// Whose word of a command names a file.
 #[derive(Clone, Copy, Debug, PartialEq, Eq)]
@@ -165,7 +166,7 @@ impl From<PackRefusal> for Stop {
 
 impl From<SessionStop> for Stop {
     ghost use Rattle.std.specs.Prelude.{◌≡◌};
-    ghost use Rattle.cu_cli.specs.Runs.{ending_of};
+    ghost use Rattle.cu_cli.specs.Endings.{ending_of};
     ghost use Rattle.std.specs.Prelude.{Some};
 
     ghost from_gives = { λ session stop. Some stop ≡ ending_of (Some session) };
@@ -226,18 +227,10 @@ fn say<K: Sink>(stop: Stop, sink: &mut K) -> Result<(), SinkFailed>
         Stop::Order(refusal) => put_order_line(sink, refusal),
         Stop::File(refusal) => put_file_line(sink, refusal),
         Stop::TooManyEdges => put_line(sink, b"too many shortcuts"),
-        Stop::TooLarge(bytes) => put_large_line(sink, bytes),
+        Stop::TooLarge(bytes) => put_numbers_line(sink, b"too large", &[bytes]),
         Stop::Differs(found) => put_difference_line(sink, found),
         Stop::Source | Stop::Sink | Stop::NoMemory | Stop::TakeLimit => Ok(()),
     }
-}
-
-fn put_large_line<K: Sink>(sink: &mut K, bytes: u64) -> Result<(), SinkFailed>
-    ensures wrote { WroteLine (K.state sink.old) (K.state sink.new) result
-        (codes "too large " ++ decimal bytes) }
-{
-    put_word_and_long(sink, b"too large ", bytes)?;
-    end_line(sink)
 }
 
 fn put_role_line<K: Sink>(sink: &mut K, words: &[u8], role: Role) -> Result<(), SinkFailed>

@@ -17,13 +17,12 @@ use Rattle.cu_interval.specs.declared.ways.Way.{Way}
 use Rattle.cu_interval.specs.declared.ways.Way.TheVariants.{Road, Via}
 use Rattle.cu_interval.specs.WayLists.{GoesFirst, IsFirstEarliest, IsRunsOf, IsWayList, way_in}
 use Rattle.cu_interval.proofs.Unpacked.{way_there}
+use Rattle.cu_interval.proofs.LowLists.{runs_by}
 use Rattle.cu_customize.specs.declared.settling.Settled.{Settled}
 use Rattle.cu_customize.specs.Functions.{FunctionsState}
 use Rattle.cu_customize.specs.Settling.{ArrivesBy}
 use Rattle.cu_customize.specs.Steps.Best.{IsBestOf, IsOpenAmong, IsOpenWay, IsWayFunction}
-use Rattle.cu_customize.specs.Steps.ByMiddles.{IsNeverBefore}
 use Rattle.cu_customize.specs.Steps.Choosing.{AreTurns, chosen, chosen_by, side}
-use Rattle.cu_customize.proofs.LowFunctions.{runs_by}
 
 -- a way arrives at one second
 pub arrives_once : (edges : List Ends) (f : FunctionsState) (u v t : ℕ) (way : Way) (a b : ℕ) → ArrivesBy edges f u v t way a → ArrivesBy edges f u v t way b → a ≡ b
@@ -140,23 +139,6 @@ first_stays edges f u v ways way w s old goes late = record {
           | inr tie ↦ inr (omega (arith, tie, more), inr (subst (λ (x : Way). GoesFirst w x) last (All-contains (λ (x : Way). GoesFirst x way) ways w goes old.candidate.0)))
         ]
   ];
-}
-
--- a way that is nowhere earlier changes nothing
-pub best_never : (edges : List Ends) (f : FunctionsState) (u v : ℕ) (ways : List Way) (way : Way) (entries : List Entry) (function : Option (List Run))
-    → IsBestOf edges f u v ways (record { ways = entries; function = function }) → All (λ (x : Way). GoesFirst x way) ways → IsNeverBefore edges f u v way function
-    → IsBestOf edges f u v (ways ++ way ∷ []) (record { ways = entries; function = function })
-best_never edges f u v ways way entries None is goes closed = best_without edges f u v ways way (record { ways = entries; function = None }) is closed
-best_never edges f u v ways way entries (Some runs) is goes never = record {
-  runs = record {
-    spelled = is.runs.spelled;
-    first = λ s w lt e.
-        let old = is.runs.first s w lt e in
-        let same : old.arrival ≡ arrival_value runs s = arrives_once edges f u v s w old.arrival (arrival_value runs s) old.arrives (is.value.2 s w lt e) in
-        first_stays edges f u v ways way w s old goes (λ later at. let order = never s later lt at in omega (arith, same, order));
-    none = λ empty. absurd (is.value.0 empty);
-  };
-  value = is.value;
 }
 
 -- what is known of two functions, of the list by the first, and of the way by the second

@@ -21,12 +21,15 @@ use Rattle.cu_interval.specs.declared.ways.Way.{Way}
 use Rattle.cu_interval.specs.declared.ways.Way.TheVariants.{Road, Via}
 use Rattle.cu_interval.specs.Hierarchies.{end_of, list_number, start_of}
 use Rattle.cu_interval.proofs.Lookups.{number_finds}
-use Rattle.cu_customize.specs.Functions.{FunctionsState, kept_state, value_kept}
+use Rattle.cu_interval.proofs.EndsLaws.{number_below}
+use Rattle.cu_interval.proofs.LowLists.{runs_by}
+use Rattle.cu_customize.specs.Functions.{FunctionsState, kept_state}
+use Rattle.cu_runs.specs.Layers.{value_kept}
 use Rattle.cu_customize.specs.Settling.{ArrivesBy, IsCandidateBy, IsSettledList, function_from, through, value_at}
 use Rattle.cu_customize.specs.Steps.Kept.{AreDropped, DropsEdge, Keeps}
 use Rattle.cu_customize.proofs.Halves.{both_some, first_is, second_is}
-use Rattle.cu_customize.proofs.Keeping.{number_below, push_before, push_last}
-use Rattle.cu_customize.proofs.LowFunctions.{down_edge, runs_by, up_edge}
+use Rattle.cu_customize.proofs.Keeping.{push_before, push_last}
+use Rattle.cu_customize.proofs.LowFunctions.{down_edge, up_edge}
 use Rattle.cu_customize.proofs.Lows.{IsDailyValueOf}
 use Rattle.cu_customize.proofs.Settles.{leads_over}
 

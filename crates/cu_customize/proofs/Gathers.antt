@@ -15,17 +15,17 @@ use Rattle.cu_chordal.proofs.Members.{member_at, none_in_nil}
 use Rattle.cu_interval.specs.declared.ways.Way.{Way}
 use Rattle.cu_interval.specs.declared.ways.Way.TheVariants.{Road, Via}
 use Rattle.cu_interval.specs.WayLists.{GoesFirst}
-use Rattle.cu_customize.specs.declared.merging.TheConstants.{MOST, NOBODY}
+use Rattle.cu_runs.specs.declared.merging.TheConstants.{MOST, NOBODY}
 use Rattle.cu_customize.specs.declared.task.Task.{Task}
-use Rattle.cu_customize.specs.Least.{Held, KeepsDayOrder, least_arrival, least_way, tie_with, way_with}
+use Rattle.cu_runs.specs.Least.{Held, KeepsDayOrder, least_arrival, least_way, tie_with, way_with, IsAddedAt, IsStillAt}
 use Rattle.cu_customize.specs.Settling.{value_at}
 use Rattle.cu_customize.specs.Steps.Best.{IsOpenWay}
 use Rattle.cu_customize.specs.Functions.{road_function, road_if}
-use Rattle.cu_customize.specs.Words.{IsFunctionWords, composed}
-use Rattle.cu_customize.specs.Steps.Gathering.{ArrivesIn, Gathers, GathersAt, IsBeaten, IsBound, IsGathered, IsGatheredBut, IsInTime, IsLeastAt, IsLeastWay, IsNear, IsNobodys, IsOpenIn, IsOrdered, IsRival, IsTask, IsWithin, state_of, ways_of}
-use Rattle.cu_customize.specs.Steps.Merging.{IsAddedAt, IsStillAt}
+use Rattle.cu_runs.specs.PackedRuns.{IsPackedFunction, composed}
+use Rattle.cu_customize.specs.Steps.Gathering.{ArrivesIn, Gathers, GathersAt, IsBeaten, IsBound, IsGathered, IsGatheredBut, IsInTime, IsLeastAt, IsLeastWay}
+use Rattle.cu_customize.specs.Steps.Gathering.{IsNear, IsNobodys, IsOpenIn, IsOrdered, IsRival, IsTask, IsWithin, state_of, ways_of}
 use Rattle.cu_customize.specs.Steps.Triangles.{middles_in}
-use Rattle.cu_customize.proofs.AddLaws.{composed_order}
+use Rattle.cu_runs.proofs.AddLaws.{composed_order}
 use Rattle.cu_customize.proofs.Bests.{among_cases, arrives_once}
 use Rattle.cu_customize.proofs.Loops.{member_map}
 use Rattle.cu_customize.proofs.Places.{goes_before, goes_by_place}
@@ -246,8 +246,8 @@ gathers_closed g task a held closed t lt =
     let none : road_function g a ≡ None = ap (λ (b : Bool). road_if b g a) closed in
     gathers_none g task (Road a) held held t record { least = refl; chosen = refl } (λ free. let no : IsSome {T = ℕ → ℕ} None = subst (λ (o : Option (ℕ → ℕ)). IsSome o) none free in absurd (cc no))
 
-module _ (g : NetworkValue) (network : IsNetwork g) (task : Task) (is : IsTask g task) (a : ℕ) (held : Contains task.arcs.now a) (opened : is_closed_arc g a ≡ false) (words : List Run)
-    (value : (t : ℕ) → t < day → arrival_value words t ≡ arc_value g a t) where
+module _ (g : NetworkValue) (network : IsNetwork g) (task : Task) (is : IsTask g task) (a : ℕ) (held : Contains task.arcs.now a) (opened : is_closed_arc g a ≡ false) (packed : List Run)
+    (value : (t : ℕ) → t < day → arrival_value packed t ≡ arc_value g a t) where
   road_some : road_function g a ≡ Some (arc_value g a)
   road_some = ap (λ (b : Bool). road_if b g a) opened
 
@@ -258,13 +258,13 @@ module _ (g : NetworkValue) (network : IsNetwork g) (task : Task) (is : IsTask g
   road_says t = ap (λ (o : Option (ℕ → ℕ)). value_at o t) road_some
 
   -- the road never arrives before it leaves
-  pub road_onward : IsOnward (arrival_value words)
+  pub road_onward : IsOnward (arrival_value packed)
   road_onward t lt = let on = arc_value-onward g network a (road_inside g task is a held) t in let says = value t lt in omega (arith, on, says)
 
-  -- one that isn't closed arrives as these words say, where nobody goes anywhere else first
-  pub gathers_road : (number : ℕ) (old new : List Held) → slice_get (ways_of task) number ≡ Some (Road a) → IsFunctionWords words
-      → ((t : ℕ) → t < day → least_arrival new t ≡ min (least_arrival old t) (composed task.stay.now words t))
-      → ((t : ℕ) → t < day → least_way new t ≡ way_with old (composed task.stay.now words t) number t) → Gathers g task (Road a) old new
+  -- one that isn't closed arrives as these packed runs say, where nobody goes anywhere else first
+  pub gathers_road : (number : ℕ) (old new : List Held) → slice_get (ways_of task) number ≡ Some (Road a) → IsPackedFunction packed
+      → ((t : ℕ) → t < day → least_arrival new t ≡ min (least_arrival old t) (composed task.stay.now packed t))
+      → ((t : ℕ) → t < day → least_way new t ≡ way_with old (composed task.stay.now packed t) number t) → Gathers g task (Road a) old new
   gathers_road number old new there function least_is way_is =
       let inside = road_inside g task is a held in
       let near : IsNear g task (Road a) = λ t arrival lt e.
@@ -272,13 +272,13 @@ module _ (g : NetworkValue) (network : IsNetwork g) (task : Task) (is : IsTask g
       let on = arc_value-onward g network a inside t in
       let same : arc_value g a t ≡ arrival = at_once g task t (Road a) (arc_value g a t) arrival (road_says t) e in
       (omega (arith, on, same), omega (arith, far, same, lt)) in
-      let arrives : (t : ℕ) → t < day → ArrivesIn g task t (Road a) (composed task.stay.now words t) = λ t lt.
-      let at : composed task.stay.now words t ≡ arc_value g a t = ap (arrival_value words) (is.stay t lt) ∙ value t lt in
+      let arrives : (t : ℕ) → t < day → ArrivesIn g task t (Road a) (composed task.stay.now packed t) = λ t lt.
+      let at : composed task.stay.now packed t ≡ arc_value g a t = ap (arrival_value packed) (is.stay t lt) ∙ value t lt in
       subst (λ (x : ℕ). ArrivesIn g task t (Road a) x) (sym at) (road_says t) in
-      gathers_one g task is (Road a) number old new (composed task.stay.now words) there road_free near (composed_order task.stay.now words is.stays function) arrives least_is way_is
+      gathers_one g task is (Road a) number old new (composed task.stay.now packed) there road_free near (composed_order task.stay.now packed is.stays function) arrives least_is way_is
 
   -- and never takes longer than they say
-  pub road_bound : (most : ℕ) → ((t : ℕ) → t < day → arrival_value words t ≤ t + most) → IsBound g task most
+  pub road_bound : (most : ℕ) → ((t : ℕ) → t < day → arrival_value packed t ≤ t + most) → IsBound g task most
   road_bound most within = inr (λ t lt. (
     Road a,
     (Contains-append_left (map Road task.arcs.now) (map Via (middles_in task.triangles.now)) (Road a) (member_map Road task.arcs.now a held), road_free),

@@ -1,9 +1,8 @@
 -- The way by a middle: the two edges from the middle, and the functions of both halves.
-use Rattle.std.proofs.Common.{◌≡◌, ◌≤◌, ◌<◌, ◌+◌, ◌-◌, ◌^◌, ◌∙◌, ℕ, List, Option, Some, None, refl, sym, ap, subst, true, min, arith}
+use Rattle.std.proofs.Common.{◌≡◌, ◌<◌, ◌^◌, ◌∙◌, ℕ, List, Option, Some, None, refl, sym, ap, subst, true, min}
 use Rattle.std.specs.Prelude.{IsSome}
 use Rattle.cu_model.specs.Days.{day}
 use Rattle.cu_arrival.specs.declared.runs.Run.{Run}
-use Rattle.cu_arrival.specs.declared.travels.Travels.{Travels}
 use Rattle.cu_arrival.specs.Runs.{IsArrivalFunction, arrival_value}
 use Rattle.cu_chordal.specs.declared.graph.Ends.{Ends}
 use Rattle.cu_chordal.specs.Graphs.{FindsEdge, IsRising}
@@ -11,10 +10,9 @@ use Rattle.cu_chordal.proofs.Members.{member_at}
 use Rattle.cu_interval.specs.declared.ways.Dir.TheVariants.{Up, Down}
 use Rattle.cu_interval.specs.declared.ways.Way.TheVariants.{Via}
 use Rattle.cu_interval.proofs.Lookups.{number_finds}
-use Rattle.cu_customize.specs.Functions.{AreTravelsOf, FunctionsState, IsFunction}
+use Rattle.cu_customize.specs.Functions.{FunctionsState, IsFunction}
 use Rattle.cu_customize.specs.Settling.{KnowsHalves, function_from, shortcut_of, through}
 use Rattle.cu_customize.specs.Steps.Best.{IsOpenWay, IsWayFunction}
-use Rattle.cu_customize.specs.Steps.ByMiddles.{IsEarlierThrough, IsNeverBefore, IsNeverEarlier, IsWayOver}
 use Rattle.cu_customize.proofs.LowFunctions.{down_edge, down_function, up_edge, up_function}
 
 -- along two functions that are there somebody arrives
@@ -29,53 +27,23 @@ both_some None second t a e = absurd (cc e)
 both_some (Some f) None t a e = absurd (cc e)
 both_some (Some f) (Some b) t a e = (refl, refl)
 
--- a function that takes no time isn't there
-timeless : (f : Option (ℕ → ℕ)) → AreTravelsOf None f → IsSome f → ⊥
-timeless None h some = absurd (cc some)
-timeless (Some g) h some = absurd h
+-- a function that is answered with none isn't there
+unanswered : (f : Option (ℕ → ℕ)) → IsFunction None f → IsSome f → ⊥
+unanswered None h some = absurd (cc some)
+unanswered (Some g) h some = absurd h
 
--- what is said of two answered functions is said of those that they are
-pub through_answered : (standing : Option (List Run)) (first second : Option (ℕ → ℕ)) (a b : List Run) → IsFunction (Some a) first → IsFunction (Some b) second
-    → IsNeverEarlier standing (Some (arrival_value a)) (Some (arrival_value b)) → IsNeverEarlier standing first second
-through_answered standing None second a b h i never = absurd h
-through_answered standing (Some f) None a b h i never = absurd i
-through_answered None (Some f) (Some g) a b h i never = λ both. never (refl, refl)
-through_answered (Some runs) (Some f) (Some g) a b h i never = λ t x lt e.
-    let inner : arrival_value b (arrival_value a t) ≡ g (f t) = i.1 (arrival_value a t) ∙ ap g (h.1 t) in
-    never t x lt (ap (λ (y : ℕ). Some (min y (2 ^ 62))) inner ∙ e)
-
--- the composition of both functions is that of the way along them
-pub through_both : (standing : Option (List Run)) (first second : Option (ℕ → ℕ)) (a b runs : List Run) → IsFunction (Some a) first → IsFunction (Some b) second → IsArrivalFunction runs
-    → ((t : ℕ) → t < day → arrival_value runs t ≡ min (arrival_value b (arrival_value a t)) (2 ^ 62)) → IsEarlierThrough standing (Some runs) first second
-through_both standing None second a b runs h i sound value = absurd h
-through_both standing (Some f) None a b runs h i sound value = absurd i
-through_both standing (Some f) (Some g) a b runs h i sound value = (
+-- the composition of both functions arrives as the way along them does
+through_both : (first second : Option (ℕ → ℕ)) (a b runs : List Run) → IsFunction (Some a) first → IsFunction (Some b) second
+    → ((t : ℕ) → t < day → arrival_value runs t ≡ min (arrival_value b (arrival_value a t)) (2 ^ 62))
+    → IsSome first × IsSome second × ((t : ℕ) → t < day → through first second t ≡ Some (arrival_value runs t))
+through_both None second a b runs h i value = absurd h
+through_both (Some f) None a b runs h i value = absurd i
+through_both (Some f) (Some g) a b runs h i value = (
   refl,
   refl,
-  sound,
   λ t lt.
       let inner : arrival_value b (arrival_value a t) ≡ g (f t) = i.1 (arrival_value a t) ∙ ap g (h.1 t) in
       ap (λ (x : ℕ). Some x) (sym (value t lt ∙ ap (λ (x : ℕ). min x (2 ^ 62)) inner)),
-)
-
--- how long it takes along both, by how long each takes
-pub travels_both : (first second : Option (ℕ → ℕ)) (a b travels : Travels) → AreTravelsOf (Some a) first → AreTravelsOf (Some b) second
-    → travels ≡ record { least = min (a.least + b.least) (2 ^ 62 - day); most = min (a.most + b.most) (2 ^ 64 - 1) }
-    → IsSome first × IsSome second × ((t x : ℕ) → t < day → through first second t ≡ Some x → (t + travels.least ≤ x) × (x ≤ t + travels.most))
-travels_both None second a b travels h i is = absurd h
-travels_both (Some f) None a b travels h i is = absurd i
-travels_both (Some f) (Some g) a b travels h i is = (
-  refl,
-  refl,
-  λ t x lt e.
-      let same : min (g (f t)) (2 ^ 62) ≡ x = cc e in
-      let least = ap (λ (y : Travels). y.least) is in
-      let most = ap (λ (y : Travels). y.most) is in
-      let one = h.slower t in
-      let two = i.slower (f t) in
-      let three = h.faster t in
-      let four = i.faster (f t) in
-      (omega (arith, same, least, one, two, lt), omega (arith, same, most, three, four)),
 )
 
 module _ (edges : List Ends) (f : FunctionsState) (u v m : ℕ) (rising : IsRising edges) (below : (m < u) × (m < v)) where
@@ -99,11 +67,11 @@ module _ (edges : List Ends) (f : FunctionsState) (u v m : ℕ) (rising : IsRisi
   knows_second known e d one two =
       (known m below.0 below.1 (member_at edges (record { low = m; high = u }) e one) (member_at edges (record { low = m; high = v }) d two)).1 d (number_finds edges rising m v (Some d) two)
 
-  pub first_timeless : (e : ℕ) → FindsEdge edges m u (Some e) → AreTravelsOf None (f.shortcut e Down) → IsOpenWay edges f u v (Via m) → ⊥
-  first_timeless e at none free = timeless (f.shortcut e Down) none (subst (λ (x : Option (ℕ → ℕ)). IsSome x) (first_is e at) free.0)
+  pub first_unanswered : (e : ℕ) → FindsEdge edges m u (Some e) → IsFunction None (f.shortcut e Down) → IsOpenWay edges f u v (Via m) → ⊥
+  first_unanswered e at none free = unanswered (f.shortcut e Down) none (subst (λ (x : Option (ℕ → ℕ)). IsSome x) (first_is e at) free.0)
 
-  pub second_timeless : (d : ℕ) → FindsEdge edges m v (Some d) → AreTravelsOf None (f.shortcut d Up) → IsOpenWay edges f u v (Via m) → ⊥
-  second_timeless d at none free = timeless (f.shortcut d Up) none (subst (λ (x : Option (ℕ → ℕ)). IsSome x) (second_is d at) free.1)
+  pub second_unanswered : (d : ℕ) → FindsEdge edges m v (Some d) → IsFunction None (f.shortcut d Up) → IsOpenWay edges f u v (Via m) → ⊥
+  second_unanswered d at none free = unanswered (f.shortcut d Up) none (subst (λ (x : Option (ℕ → ℕ)). IsSome x) (second_is d at) free.1)
 
   module _ (e d : ℕ) (one : FindsEdge edges m u (Some e)) (two : FindsEdge edges m v (Some d)) where
     along_halves : (t : ℕ) → through (function_from edges f u m) (function_from edges f m v) t ≡ through (f.shortcut e Down) (f.shortcut d Up) t
@@ -115,28 +83,9 @@ module _ (edges : List Ends) (f : FunctionsState) (u v m : ℕ) (rising : IsRisi
       subst (λ (x : Option (ℕ → ℕ)). IsSome x) (sym (second_is d two)) other,
     )
 
-    halves_open : IsOpenWay edges f u v (Via m) → IsSome (f.shortcut e Down) × IsSome (f.shortcut d Up)
-    halves_open (some, other) = (subst (λ (x : Option (ℕ → ℕ)). IsSome x) (first_is e one) some, subst (λ (x : Option (ℕ → ℕ)). IsSome x) (second_is d two) other)
-
     -- the function along both halves is the way's
-    pub way_function : (standing : Option (List Run)) (runs : List Run) → IsEarlierThrough standing (Some runs) (f.shortcut e Down) (f.shortcut d Up) → IsWayFunction edges f u v (Via m) (Some runs)
-    way_function standing runs (some, other, sound, arrives) = (open_halves (some, other), sound, λ t lt. along_halves t ∙ arrives t lt)
-
-    -- where it is nowhere earlier, the way isn't
-    pub way_never : (standing : Option (List Run)) → IsNeverEarlier standing (f.shortcut e Down) (f.shortcut d Up) → IsNeverBefore edges f u v (Via m) standing
-    way_never None none = λ free. none (halves_open free)
-    way_never (Some runs) never = λ t arrival lt at. never t arrival lt (sym (along_halves t) ∙ at)
-
-    -- and it takes as long as both
-    pub way_travels : (a b travels : Travels) → AreTravelsOf (Some a) (f.shortcut e Down) → AreTravelsOf (Some b) (f.shortcut d Up)
-        → travels ≡ record { least = min (a.least + b.least) (2 ^ 62 - day); most = min (a.most + b.most) (2 ^ 64 - 1) }
-        → IsWayOver edges f u v m (record { to_middle = e; onward = d; travels = travels })
-    way_travels a b travels h i is =
-        let (some, other, within) = travels_both (f.shortcut e Down) (f.shortcut d Up) a b travels h i is in
-        record {
-          first = one;
-          second = two;
-          free = open_halves (some, other);
-          near = let least = ap (λ (y : Travels). y.least) is in omega (arith, least);
-          travels = λ t arrival lt at. within t arrival lt (sym (along_halves t) ∙ at);
-        }
+    pub along_function : (a b runs : List Run) → IsFunction (Some a) (f.shortcut e Down) → IsFunction (Some b) (f.shortcut d Up) → IsArrivalFunction runs
+        → ((t : ℕ) → t < day → arrival_value runs t ≡ min (arrival_value b (arrival_value a t)) (2 ^ 62)) → IsWayFunction edges f u v (Via m) (Some runs)
+    along_function a b runs h i sound value =
+        let (some, other, arrives) = through_both (f.shortcut e Down) (f.shortcut d Up) a b runs h i value in
+        (open_halves (some, other), sound, λ t lt. along_halves t ∙ arrives t lt)

@@ -1,11 +1,11 @@
 -- Functions that are kept: they are those of the network and order, and all halves of the next edge are among them.
-use Rattle.std.proofs.Common.{◌≡◌, ◌≢◌, ◌<◌, ◌+◌, ◌*◌, ◌/◌, ◌%◌, ◌∙◌, ◌++◌, ℕ, Bool, true, false, List, [], ◌∷◌, Option, Some, refl, sym, ap, subst, arith, inl, inr, length, get_or, ltb, min}
+use Rattle.std.proofs.Common.{◌≡◌, ◌≢◌, ◌<◌, ◌+◌, ◌*◌, ◌∙◌, ◌++◌, ℕ, Bool, true, false, List, [], ◌∷◌, Option, Some, refl, sym, ap, subst, arith, inl, inr, length, get_or, ltb, min}
 use Rattle.std.specs.Prelude.{All, slice_get}
 use Rattle.std.specs.Option.{option_map}
-use Rattle.std.proofs.lemmas.Bool.{cases_eq, cases_lt, ltb-true}
+use Rattle.std.proofs.lemmas.Bool.{cases_lt, ltb-true}
 use Rattle.std.proofs.lemmas.List.{get_or_append_left, length_push}
 use Rattle.std.proofs.Math.Seq.{get_or-append_seam}
-use Rattle.std.proofs.lemmas.Option.{slice_get-get_or, get_or_from_slice_get, slice_get_within, slice_get_cases}
+use Rattle.std.proofs.lemmas.Option.{slice_get-get_or}
 use Rattle.cu_model.specs.Networks.{NetworkValue, IsNetwork}
 use Rattle.cu_model.specs.Orders.{OrderValue, IsOrder}
 use Rattle.cu_model.specs.Roads.{is_closed_arc}
@@ -15,7 +15,7 @@ use Rattle.cu_arrival.specs.declared.runs.Run.{Run}
 use Rattle.cu_arrival.specs.Runs.{arrival_value}
 use Rattle.cu_chordal.specs.declared.graph.Ends.{Ends}
 use Rattle.cu_chordal.specs.Edges.{IsClosureOf, ListsEdges}
-use Rattle.cu_chordal.specs.Graphs.{ChordalValue, ComesBefore, IsChordal, IsRising}
+use Rattle.cu_chordal.specs.Graphs.{ChordalValue, IsChordal}
 use Rattle.cu_chordal.proofs.Members.{all_from_members, place_of}
 use Rattle.cu_interval.specs.declared.ways.Dir.{Dir}
 use Rattle.cu_interval.specs.declared.ways.Dir.TheVariants.{Up, Down}
@@ -24,12 +24,14 @@ use Rattle.cu_interval.specs.EdgeArcs.{AreEdgeArcs}
 use Rattle.cu_interval.specs.FirstWays.{IsBuiltList}
 use Rattle.cu_interval.specs.Hierarchies.{end_of, list_number, number_from, start_of}
 use Rattle.cu_interval.proofs.Lookups.{number_found}
-use Rattle.cu_interval.proofs.EndsLaws.{below_low, number_parts, number_within}
-use Rattle.cu_customize.specs.Functions.{AreFunctionsOf, IsLowFunction, IsRoadFunction, kept_state, road_if, value_kept}
+use Rattle.cu_interval.proofs.EndsLaws.{below_low, number_below, number_edge, number_parts, number_within}
+use Rattle.cu_interval.proofs.LowLists.{HasLeastBelow, low_edge, low_edge_back}
+use Rattle.cu_customize.specs.Functions.{AreFunctionsOf, IsLowFunction, IsRoadFunction, kept_state, road_if}
+use Rattle.cu_runs.specs.Layers.{value_kept}
 use Rattle.cu_customize.specs.Settling.{IsSettledList, KnowsHalves}
 use Rattle.cu_customize.specs.Steps.Kept.{IsBuiltTo}
-use Rattle.cu_customize.proofs.Lows.{HasLeastBelow, IsDailyValueOf, settled_low}
-use Rattle.cu_customize.proofs.LowFunctions.{least_low, low_edge, low_edge_back, settled_built}
+use Rattle.cu_customize.proofs.Lows.{IsDailyValueOf, settled_low}
+use Rattle.cu_customize.proofs.LowFunctions.{least_low, settled_built}
 use Rattle.cu_customize.proofs.Settles.{setting_at}
 
 road_is : (g : NetworkValue) (a : ℕ) (b : Bool) → is_closed_arc g a ≡ b → IsRoadFunction g a (road_if b g a)
@@ -46,26 +48,6 @@ kept_are g o edges count functions lists is = record {
       let long = is.functions_long in
       is.low edge dir ends at (omega (arith, lt, long));
 }
-
--- an edge with a lower lower end has a lower number
-pub number_below : (edges : List Ends) → IsRising edges → (j k : ℕ) (a b : Ends) → slice_get edges j ≡ Some a → slice_get edges k ≡ Some b → a.low < b.low → j < k
-number_below edges rising j k a b at there lt =
-    elim (cases_lt j k) [
-      | inl less ↦ less
-      | inr more ↦
-          let one : get_or edges j a ≡ a = get_or_from_slice_get edges j a a at in
-          let two : get_or edges k a ≡ b = get_or_from_slice_get edges k b a there in
-          elim (cases_eq j k) [
-            | inl same ↦
-                let equal : a ≡ b = sym one ∙ ap (λ (i : ℕ). get_or edges i a) same ∙ two in
-                let low : a.low ≡ b.low = ap (λ (e : Ends). e.low) equal in
-                absurd (omega (arith, low, lt))
-            | inr apart ↦
-                let before : ComesBefore (get_or edges k a) (get_or edges j a) = rising k j a (omega (arith, more, apart)) (slice_get_within edges j a at) in
-                let is : ComesBefore b a = subst (λ (x : Ends). ComesBefore x a) two (subst (λ (x : Ends). ComesBefore (get_or edges k a) x) one before) in
-                elim is [ inl less ↦ absurd (omega (arith, less, lt)) | inr tie ↦ absurd (let e = tie.0 in omega (arith, e, lt)) ]
-          ]
-    ]
 
 number_in : (edge j : ℕ) (dir other : Dir) → j < edge → list_number j other < list_number edge dir
 number_in edge j Up Up lt = omega (arith, lt)
@@ -100,18 +82,6 @@ kept_least g o edges functions lists edge dir ends listed is at x y t w lt l =
           let (j, there) = place_of edges (record { low = y; high = x }) (low_edge_back g o edges listed x y (w, l) less) in
           let before = number_below edges listed.sorted j edge (record { low = y; high = x }) ends there at (omega (arith, lt, less)) in
           least_low g o x y t (value_kept (slice_get functions (list_number j Down))) (is.low j Down (record { low = y; high = x }) there (number_in edge j dir Down before)) (w, l)
-    ]
-
--- each list number is that of an edge and a direction
-pub number_edge : (edges : List Ends) (k : ℕ) → k < 2 * length edges → (edge : ℕ) × (dir : Dir) × (ends : Ends) × (k ≡ list_number edge dir) × (slice_get edges edge ≡ Some ends)
-number_edge edges k h =
-    let edge = k / 2 in
-    elim (slice_get_cases edges edge).1 [
-      | inl (ends, inside, at, same) ↦ elim (cases_eq (k % 2) 0) [
-        | inl even ↦ (edge, Up, ends, omega (arith, even), at)
-        | inr odd ↦ (edge, Down, ends, omega (arith, odd), at)
-      ]
-      | inr past ↦ absurd (let over = past.0 in omega (arith, over, h))
     ]
 
 -- the roads of each edge are roads

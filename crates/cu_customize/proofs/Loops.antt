@@ -18,10 +18,11 @@ use Rattle.cu_interval.specs.declared.ways.Way.{Way}
 use Rattle.cu_interval.specs.declared.ways.Way.TheVariants.{Road, Via}
 use Rattle.cu_interval.specs.declared.ways.Entry.{Entry}
 use Rattle.cu_interval.specs.WayLists.{GoesFirst, IsRunsOf}
+use Rattle.cu_interval.proofs.LowLists.{runs_by}
 use Rattle.cu_customize.specs.Functions.{FunctionsState}
 use Rattle.cu_customize.specs.Settling.{ArrivesBy, IsCandidateBy, IsSettledList}
 use Rattle.cu_customize.specs.Steps.Best.{IsOpenAmong}
-use Rattle.cu_customize.proofs.LowFunctions.{down_edge, runs_by, up_edge}
+use Rattle.cu_customize.proofs.LowFunctions.{down_edge, up_edge}
 
 pub map_member : (f : ℕ → Way) (xs : List ℕ) (w : Way) → Contains (map f xs) w → (x : ℕ) × Contains xs x × (f x ≡ w)
 map_member f [] w c = absurd (none_in_nil w c)

@@ -7,9 +7,8 @@ use Rattle.cu_model.specs.Days.{day}
 use Rattle.cu_model.specs.Roads.{drive, is_closed_arc}
 use Rattle.cu_model.proofs.RoadLaws.{links_within}
 use Rattle.cu_chordal.specs.declared.graph.Ends.{Ends}
-use Rattle.cu_chordal.specs.Edges.{JoinedBelow, LinksRanks, ListsEdges}
+use Rattle.cu_chordal.specs.Edges.{LinksRanks, ListsEdges}
 use Rattle.cu_chordal.specs.Graphs.{HasEdge}
-use Rattle.cu_chordal.proofs.Joined.{joined_back}
 use Rattle.cu_chordal.proofs.Members.{member_at, place_of}
 use Rattle.cu_interval.specs.declared.ways.Dir.{Dir}
 use Rattle.cu_interval.specs.declared.ways.Dir.TheVariants.{Up, Down}
@@ -20,12 +19,12 @@ use Rattle.cu_interval.specs.EdgeArcs.{AreArcsFrom}
 use Rattle.cu_interval.specs.FirstWays.{Arrives, IsBuiltList, IsCandidate}
 use Rattle.cu_interval.specs.Hierarchies.{number_from}
 use Rattle.cu_interval.specs.Low.{HasLowWalk, IsLeastLowDrive}
-use Rattle.cu_interval.specs.WayLists.{IsRunsOf}
-use Rattle.cu_interval.proofs.BuiltWalks.{least_unique, walk_path}
+use Rattle.cu_interval.proofs.BuiltWalks.{least_unique}
 use Rattle.cu_interval.proofs.Lookups.{number_at, number_found}
 use Rattle.cu_customize.specs.Functions.{AreFunctionsOf, FunctionsState, IsLowFunction, IsRoadFunction}
 use Rattle.cu_customize.specs.Settling.{ArrivesBy, IsCandidateBy, IsSettledList, KnowsHalves, function_from, shortcut_of, through, value_at}
-use Rattle.cu_customize.proofs.Bounds.{least-near}
+use Rattle.cu_interval.proofs.Bounds.{least-near}
+use Rattle.cu_interval.proofs.LowLists.{low_edge, low_edge_back, runs_by}
 
 -- what a shortcut of a network and order is settled by
 pub record IsSetting (g : NetworkValue) (o : OrderValue) (edges : List Ends) (arcs : List ℕ) (f : FunctionsState) (u v : ℕ) : Type 0 where
@@ -35,38 +34,6 @@ pub record IsSetting (g : NetworkValue) (o : OrderValue) (edges : List Ends) (ar
   pub roads : AreArcsFrom g o u v arcs
   pub functions : AreFunctionsOf g o edges f
   pub halves : KnowsHalves edges f u v
-
--- the same first ways where the candidates and their values are the same
-pub runs_by : (C D : Way → Type 0) (A B : ℕ → Way → ℕ → Type 0) (entries : List Entry) → ((way : Way) → C way → D way) → ((way : Way) → D way → C way)
-    → ((s a : ℕ) (way : Way) → s < day → D way → A s way a → B s way a) → ((s a : ℕ) (way : Way) → s < day → D way → B s way a → A s way a)
-    → IsRunsOf C A entries → IsRunsOf D B entries
-runs_by C D A B entries to back there home f = record {
-  spelled = f.spelled;
-  first = λ s way lt e.
-      let first = f.first s way lt e in
-      let candidate = to way first.candidate in
-      record {
-        candidate = candidate;
-        arrival = first.arrival;
-        arrives = there s first.arrival way lt candidate first.arrives;
-        first = λ other later d b. first.first other later (back other d) (home s later other lt d b);
-      };
-  none = λ empty way d. f.none empty way (back way d);
-}
-
--- a low walk joins the ends of an edge
-pub low_edge : (g : NetworkValue) (o : OrderValue) (edges : List Ends) → ListsEdges g o edges → (u v : ℕ) → HasLowWalk g o u v → u < v → HasEdge edges u v
-low_edge g o edges f u v h lt =
-    let (w, l) = h in
-    (f.exact u v).1 (lt, (l.0, walk_path g o (min u v) u w v l.1))
-
-pub low_edge_back : (g : NetworkValue) (o : OrderValue) (edges : List Ends) → ListsEdges g o edges → (u v : ℕ) → HasLowWalk g o u v → v < u → HasEdge edges v u
-low_edge_back g o edges f u v h lt =
-    let (w, l) = h in
-    let path = walk_path g o (min u v) u w v l.1 in
-    let back = joined_back g o (min u v) u path.0 v path.1 in
-    let same : min u v ≡ min v u = omega arith in
-    (f.exact v u).1 (lt, ((λ e. absurd (omega (arith, e, lt))), subst (λ (m : ℕ). JoinedBelow g o m v u) same back))
 
 pub down_function : (edges : List Ends) (f : FunctionsState) (u m : ℕ) → m < u → function_from edges f u m ≡ shortcut_of f (number_from 0 edges m u) Down
 down_function edges f u m lt = let test : ltb u m ≡ false = grind (arith, lt) in rw test refl

@@ -1,28 +1,23 @@
 -- The value of a settled list is the least arrival over the low walks.
-use Rattle.std.proofs.Common.{◌≡◌, ◌≢◌, ◌<◌, ◌+◌, ◌*◌, ◌∙◌, ◌++◌, ℕ, List, [], ◌∷◌, Option, Some, None, sym, ap, subst, arith, min}
+use Rattle.std.proofs.Common.{◌≡◌, ◌≢◌, ◌<◌, ◌+◌, ◌*◌, ℕ, List, [], Option, Some, None, sym, subst, arith, min}
 use Rattle.std.specs.Option.{option_map}
-use Rattle.std.proofs.Math.Nat.{min-eq_left, min-eq_right}
-use Rattle.cu_model.specs.Networks.{NetworkValue, IsNetwork}
+use Rattle.cu_model.specs.Networks.{NetworkValue}
 use Rattle.cu_model.specs.Orders.{OrderValue}
 use Rattle.cu_model.specs.Days.{day, RepeatsDaily}
-use Rattle.cu_model.specs.Roads.{drive}
 use Rattle.cu_model.proofs.DayLaws.{day_parts}
-use Rattle.cu_model.proofs.RoadLaws.{drive-append}
 use Rattle.cu_arrival.specs.declared.runs.Run.{Run}
 use Rattle.cu_arrival.specs.Runs.{arrival_value}
 use Rattle.cu_chordal.specs.declared.graph.Ends.{Ends}
 use Rattle.cu_interval.specs.declared.ways.Entry.{Entry}
 use Rattle.cu_interval.specs.declared.ways.Way.{Way}
-use Rattle.cu_interval.specs.declared.ways.Way.TheVariants.{Road, Via}
-use Rattle.cu_interval.specs.FirstWays.{Arrives, IsBuiltList, IsCandidate, IsFirstWay}
-use Rattle.cu_interval.specs.Low.{HasLowWalk, IsLeastLowDrive, IsLowWalk, WalkBelow}
+use Rattle.cu_interval.specs.FirstWays.{IsFirstWay}
+use Rattle.cu_interval.specs.Low.{IsLeastLowDrive}
 use Rattle.cu_interval.specs.WayLists.{way_in}
 use Rattle.cu_interval.proofs.BuiltWalks.{arrives_once}
-use Rattle.cu_interval.proofs.Candidates.{candidate_below}
 use Rattle.cu_interval.proofs.Days.{least-days}
 use Rattle.cu_interval.proofs.Middles.{first_least}
 use Rattle.cu_interval.proofs.Unpacked.{way_there}
-use Rattle.cu_interval.proofs.Walks.{below-append, below-more}
+use Rattle.cu_interval.proofs.LowLists.{HasLeastBelow, built_some, candidate_walk}
 use Rattle.cu_customize.specs.Functions.{FunctionsState, IsLowFunction}
 use Rattle.cu_customize.specs.Settling.{ArrivesBy, IsSettledList}
 use Rattle.cu_customize.proofs.LowFunctions.{IsSetting, settled_built, value_there}
@@ -32,33 +27,6 @@ abbrev pub IsDailyValueOf : List Ends → FunctionsState → ℕ → ℕ → Lis
 IsDailyValueOf edges f u v entries None = entries ≡ []
 IsDailyValueOf edges f u v entries (Some runs) = (entries ≢ []) × RepeatsDaily (arrival_value runs)
     × ((t : ℕ) (way : Way) → t < day → way_in entries t ≡ Some way → ArrivesBy edges f u v t way (arrival_value runs t))
-
--- wherever a low walk joins two ranks of which one is below this, there is a least one
-abbrev pub HasLeastBelow : NetworkValue → OrderValue → ℕ → Type 0
-HasLeastBelow g o m = (x y t : ℕ) (w : List ℕ) → min x y < m → IsLowWalk g o x w y → (a : ℕ) × IsLeastLowDrive g o x y t a
-
--- a candidate's arrival is that of a low walk
-pub candidate_walk : (g : NetworkValue) (o : OrderValue) (u v t : ℕ) (way : Way) (a : ℕ) → u ≢ v → IsCandidate g o u v way → Arrives g o u v t way a
-    → (w : List ℕ) × IsLowWalk g o u w v × (drive g w t ≡ a)
-candidate_walk g o u v t (Road r) a apart leads arrives = (r ∷ [], (apart, leads), arrives)
-candidate_walk g o u v t (Via m) a apart (mu, mv, one, two) (between, first, second) =
-    let (w1, l1, e1) = first.reached in
-    let (w2, l2, e2) = second.reached in
-    let low_u : min u m ≡ m = min-eq_right (omega (arith, mu)) in
-    let low_v : min m v ≡ m = min-eq_left (omega (arith, mv)) in
-    let below : m < min u v = omega (arith, mu, mv) in
-    let to = below-more g o m (min u v) u w1 m (omega (arith, below)) (subst (λ (k : ℕ). WalkBelow g o k u w1 m) low_u l1.1) in
-    let on = below-more g o m (min u v) m w2 v (omega (arith, below)) (subst (λ (k : ℕ). WalkBelow g o k m w2 v) low_v l2.1) in (
-      w1 ++ w2,
-      (apart, below-append g o (min u v) u m w1 w2 v below to on),
-      drive-append g w1 w2 t ∙ ap (drive g w2) e1 ∙ e2,
-    )
-
--- where a low walk leads, the built list has a way
-pub built_some : (g : NetworkValue) (o : OrderValue) → IsNetwork g → (u v : ℕ) → HasLeastBelow g o (min u v) → (entries : List Entry) → IsBuiltList g o u v entries → HasLowWalk g o u v → entries ≢ []
-built_some g o n u v has entries built (w, l) empty =
-    let c = candidate_below g o n u v has (min u v) (omega arith) (omega arith) w 0 l.1 in
-    built.none empty c.way c.candidate
 
 module _ (g : NetworkValue) (o : OrderValue) (edges : List Ends) (arcs : List ℕ) (f : FunctionsState) (u v : ℕ) (s : IsSetting g o edges arcs f u v) where
   -- over the day

@@ -15,27 +15,26 @@ use Rattle.cu_chordal.specs.Graphs.{FindsEdge}
 use Rattle.cu_interval.specs.declared.ways.Dir.TheVariants.{Up, Down}
 use Rattle.cu_interval.specs.declared.ways.Way.TheVariants.{Road, Via}
 use Rattle.cu_interval.specs.Hierarchies.{list_number}
-use Rattle.cu_customize.specs.declared.settling.Leg.{Leg}
+use Rattle.cu_interval.specs.declared.shortcuts.Leg.{Leg}
 use Rattle.cu_customize.specs.declared.task.Task.{Task}
 use Rattle.cu_customize.specs.declared.triangles.Triangle.{Triangle}
-use Rattle.cu_customize.specs.declared.windows.TheConstants.{WINDOWS}
-use Rattle.cu_customize.specs.declared.windows.Windows.{Windows}
-use Rattle.cu_customize.specs.declared.words.TheConstants.{MAX_NUMBER}
-use Rattle.cu_customize.specs.Functions.{value_kept}
-use Rattle.cu_customize.specs.Least.{Held, least_arrival, least_way, way_with}
-use Rattle.cu_customize.specs.Settling.{TakeLonger, function_from, through}
+use Rattle.cu_runs.specs.declared.windows.TheConstants.{WINDOWS}
+use Rattle.cu_runs.specs.declared.windows.Windows.{Windows}
+use Rattle.cu_runs.specs.declared.packed_runs.TheConstants.{MAX_NUMBER}
+use Rattle.cu_runs.specs.Layers.{value_kept}
+use Rattle.cu_runs.specs.Least.{Held, least_arrival, least_way, way_with, IsAddedWithin}
+use Rattle.cu_customize.specs.Settling.{function_from, through}
+use Rattle.cu_runs.specs.Travels.{TakeLonger, Takes, TakesAtLeast, TakesAtMost}
 use Rattle.cu_customize.specs.Steps.Gathering.{AreLimits, ArrivesIn, FindsHalves, Gathers, HasBy, HasHalves, HasTriangles, IsBeaten, IsBound, IsFar, IsLower, IsNear, IsTask, state_of, ways_of}
-use Rattle.cu_customize.specs.Steps.Merging.{IsAddedWithin}
 use Rattle.cu_customize.specs.Steps.Triangles.{IsTriangle, middles_in}
-use Rattle.cu_customize.specs.Travels.{Takes, TakesAtLeast, TakesAtMost}
-use Rattle.cu_customize.specs.Words.{IsFunctionWords, composed}
-use Rattle.cu_customize.proofs.AddLaws.{composed_order}
+use Rattle.cu_runs.specs.PackedRuns.{IsPackedFunction, composed}
+use Rattle.cu_runs.proofs.AddLaws.{composed_order}
 use Rattle.cu_customize.proofs.Gathers.{HasFunction, at_once, gathers_at, gathers_none, gathers_one}
 use Rattle.cu_customize.proofs.Loops.{member_map}
-use Rattle.cu_customize.proofs.SeenLaws.{window_found}
-use Rattle.cu_customize.specs.Windows.{TakesInWindows}
-use Rattle.cu_customize.proofs.WindowLaws.{starts_in_day}
-use Rattle.cu_customize.proofs.TravelLaws.{least_always, most_always, take_longer}
+use Rattle.cu_runs.proofs.SeenLaws.{window_found}
+use Rattle.cu_runs.specs.Windows.{TakesInWindows}
+use Rattle.cu_runs.proofs.WindowLaws.{starts_in_day}
+use Rattle.cu_runs.proofs.TravelLaws.{least_always, most_always, take_longer}
 use Rattle.cu_customize.proofs.Halves.{both_some, first_is, knows_first, knows_second, second_is}
 
 -- what may be settled has triangles
@@ -92,7 +91,7 @@ near_none g task m none t arrival lt at =
 -- and so is one whose halves don't take long
 pub near_some : (g : NetworkValue) (task : Task) (m one two most : ℕ) (a b : List Run)
     → (function_from task.graph.now.edges (state_of g task) task.leg.from m ≡ Some (arrival_value a)) × (function_from task.graph.now.edges (state_of g task) m task.leg.to ≡ Some (arrival_value b))
-    → IsFunctionWords b → IsOnward (arrival_value a) → IsOnward (arrival_value b) → TakesAtMost a one → TakesAtMost b two
+    → IsPackedFunction b → IsOnward (arrival_value a) → IsOnward (arrival_value b) → TakesAtMost a one → TakesAtMost b two
     → most ≡ min (one + two) (2 ^ 64 - 1) → most ≤ MAX_NUMBER - day → IsNear g task (Via m)
 near_some g task m one two most a b halves good late early soon quick is_most few t arrival lt at =
     let capped : through (function_from task.graph.now.edges (state_of g task) task.leg.from m)
@@ -128,7 +127,7 @@ module _ (g : NetworkValue) (task : Task) (is : IsTask g task) (m : ℕ) (below 
       let same : min (composed a b t) (2 ^ 62) ≡ composed a b t = omega (arith, few) in
       subst (λ (x : ℕ). ArrivesIn g task t (Via m) x) same capped
 
-  module _ (one : IsFunctionWords a) (two : IsFunctionWords b) where
+  module _ (one : IsPackedFunction a) (two : IsPackedFunction b) where
     pub gathers_middle : (number : ℕ) (old new : List Held) → slice_get (ways_of task) number ≡ Some (Via m) → ((t : ℕ) → t < day → least_arrival new t ≡ min (least_arrival old t) (composed a b t))
         → ((t : ℕ) → t < day → least_way new t ≡ way_with old (composed a b t) number t) → Gathers g task (Via m) old new
     gathers_middle number old new there least_is way_is =
@@ -165,7 +164,7 @@ module _ (g : NetworkValue) (task : Task) (is : IsTask g task) (m : ℕ) (below 
       is_lower window inside t (composed a b t) (late, early) (middle_arrives t (omega (arith, early, in_day)))
 
   -- some candidate is earlier where it takes longer at each second than one does
-  pub slow_beaten : (most one two least t : ℕ) → t < day → IsBound g task most → IsFunctionWords b → TakesAtLeast a one → TakesAtLeast b two
+  pub slow_beaten : (most one two least t : ℕ) → t < day → IsBound g task most → IsPackedFunction b → TakesAtLeast a one → TakesAtLeast b two
       → least ≡ min (one + two) (2 ^ 64 - 1) → most < least → IsBeaten g task t (Via m)
   slow_beaten most one two least t lt bound good first second is_least slow =
       elim bound [
@@ -190,7 +189,7 @@ module _ (g : NetworkValue) (task : Task) (is : IsTask g task) (m : ℕ) (below 
   )
 
   -- and it never takes longer than both halves do
-  pub middle_bound : (one two most : ℕ) → Contains (middles_in task.triangles.now) m → IsFunctionWords b → TakesAtMost a one → TakesAtMost b two → most ≡ min (one + two) (2 ^ 64 - 1)
+  pub middle_bound : (one two most : ℕ) → Contains (middles_in task.triangles.now) m → IsPackedFunction b → TakesAtMost a one → TakesAtMost b two → most ≡ min (one + two) (2 ^ 64 - 1)
       → IsBound g task most
   middle_bound one two most held good first second is_most = inr (λ t lt.
       let to = first t lt in

@@ -20,24 +20,24 @@ use Rattle.cu_interval.specs.declared.ways.Entry.{Entry}
 use Rattle.cu_interval.specs.declared.ways.Way.{Way}
 use Rattle.cu_interval.specs.declared.ways.Way.TheVariants.{Road, Via}
 use Rattle.cu_interval.specs.WayLists.{IsRunsOf, way_in}
-use Rattle.cu_customize.specs.declared.merging.TheConstants.{NOBODY}
+use Rattle.cu_runs.specs.declared.merging.TheConstants.{NOBODY}
 use Rattle.cu_customize.specs.declared.task.Task.{Task}
 use Rattle.cu_customize.specs.declared.triangles.Triangle.{Triangle}
 use Rattle.cu_customize.specs.Functions.{FunctionsState, IsLowFunction, kept_state}
-use Rattle.cu_customize.specs.Least.{Held, least_arrival, least_way}
+use Rattle.cu_runs.specs.Least.{Held, least_arrival, least_way}
 use Rattle.cu_customize.specs.Settling.{ArrivesBy, IsDayValueOf, IsSettledList, KnowsHalves, function_from, through}
 use Rattle.cu_customize.specs.Steps.Gathering.{ArrivesIn, IsGathered, IsInTime, IsLeastWay, IsOpenIn, IsPulled, IsTask, state_of, ways_of}
 use Rattle.cu_customize.specs.Steps.Kept.{IsBuiltTo, Keeps}
 use Rattle.cu_customize.specs.Steps.Triangles.{AreTriangles, middles_in}
-use Rattle.cu_customize.specs.Words.{IsFunctionWords}
+use Rattle.cu_runs.specs.PackedRuns.{IsPackedFunction}
 use Rattle.cu_customize.proofs.Keeping.{arcs_in, kept_are, kept_halves, next_built}
 use Rattle.cu_customize.proofs.Dropped.{AreAlike, arrives_alike, daily_alike, kept_alike, settled_alike}
 use Rattle.cu_customize.proofs.Loops.{few_rising}
 use Rattle.cu_customize.proofs.EdgeTasks.{all_below, leads, task_settled, triangles_between}
 use Rattle.cu_customize.proofs.Halves.{both_some}
 use Rattle.cu_customize.proofs.Settles.{setting_at}
-use Rattle.cu_customize.proofs.Bounds.{least-near, least-onward}
-use Rattle.cu_customize.proofs.DayLists.{repeats}
+use Rattle.cu_interval.proofs.Bounds.{least-near, least-onward}
+use Rattle.cu_runs.proofs.DayLists.{repeats}
 use Rattle.cu_customize.proofs.LowFunctions.{IsSetting, down_edge, halves_at, up_edge}
 use Rattle.cu_customize.proofs.Lows.{IsDailyValueOf}
 
@@ -108,7 +108,7 @@ module _ (g : NetworkValue) (task : Task) (held : List Held) (is : IsTask g task
   -- what is pulled are the runs of the first least ways, and their value
   pub pulled_runs : (entries : List Entry) (function : Option (List Run)) → IsPulled (ways_of task) held entries function → Runs entries × Values entries function
   pulled_runs entries None (nobody, empty) = (subst (λ (es : List Entry). Runs es) (sym empty) (no_list nobody), empty)
-  pulled_runs entries (Some words) (some, list, more, good, read) =
+  pulled_runs entries (Some packed) (some, list, more, good, read) =
       let least_in : (t : ℕ) (way : Way) → t < day → way_in entries t ≡ Some way → IsLeastWay g task (IsOpenIn g task (ways_of task)) (ways_of task) held t way = λ t way lt e.
       let (w, least) = some_open some t lt in
       let (is_way, is_value) = read t lt in
@@ -136,7 +136,7 @@ module _ (g : NetworkValue) (task : Task) (held : List Held) (is : IsTask g task
 daily_value : (edges : List Ends) (f : FunctionsState) (u v : ℕ) (entries : List Entry) (function : Option (List Run)) → IsDayValueOf edges f u v entries function
     → IsDailyValueOf edges f u v entries function
 daily_value edges f u v entries None empty = empty
-daily_value edges f u v entries (Some words) (more, good, onward, value) = (more, repeats words good.over_day, value)
+daily_value edges f u v entries (Some packed) (more, good, onward, value) = (more, repeats packed good.over_day, value)
 
 -- the next list, of which the task is to be settled
 module _ (g : NetworkValue) (task : Task) (o : OrderValue) (lists : List (List ℕ)) (edge : ℕ) (dir : Dir) (ends : Ends) (n : IsNetwork g) (k : IsOrder o) (chordal : IsChordal task.graph.now)
@@ -173,7 +173,7 @@ module _ (g : NetworkValue) (task : Task) (o : OrderValue) (lists : List (List �
   next_arcs = all_at (λ (xs : List ℕ). All (λ (a : ℕ). a < length g.arcs) xs) lists (list_number edge dir) task.arcs.now (arcs_in g o task.graph.now.edges lists are) listed
 
   -- it may be settled
-  pub next_task : IsStrictlyIncreasing task.arcs.now → IsFunctionWords task.stay.now → ((t : ℕ) → t < day → arrival_value task.stay.now t ≡ t) → IsTask g task
+  pub next_task : IsStrictlyIncreasing task.arcs.now → IsPackedFunction task.stay.now → ((t : ℕ) → t < day → arrival_value task.stay.now t ≡ t) → IsTask g task
   next_task arcs_rise stays stay = record {
     chordal = chordal;
     ranks = ((leads task edge dir ends chordal at found from to).start_in, (leads task edge dir ends chordal at found from to).end_in);

@@ -15,13 +15,13 @@ use Rattle.cu_interval.specs.declared.ways.Entry.{Entry}
 use Rattle.cu_interval.specs.declared.ways.Way.{Way}
 use Rattle.cu_interval.specs.declared.ways.Way.TheVariants.{Road, Via}
 use Rattle.cu_interval.specs.WayLists.{BeginsAtZero, IsWayList, way_in}
-use Rattle.cu_customize.specs.declared.merging.TheConstants.{NOBODY}
-use Rattle.cu_customize.specs.declared.merging.WayRun.{WayRun}
+use Rattle.cu_runs.specs.declared.merging.TheConstants.{NOBODY}
+use Rattle.cu_runs.specs.declared.merging.WayRun.{WayRun}
 use Rattle.cu_customize.specs.declared.task.Task.{Task}
-use Rattle.cu_customize.specs.Least.{Held, IsWayRuns, least_arrival, least_way}
+use Rattle.cu_runs.specs.Least.{Held, IsWayRuns, least_arrival, least_way}
 use Rattle.cu_customize.specs.Steps.Gathering.{IsPulled, IsTask, IsWithin, read_of, said_by, ways_of}
 use Rattle.cu_customize.specs.Steps.Triangles.{middles_in}
-use Rattle.cu_customize.specs.Words.{IsFunctionWords}
+use Rattle.cu_runs.specs.PackedRuns.{IsPackedFunction}
 use Rattle.cu_customize.proofs.Places.{way_place}
 
 module _ (held : List Held) (runs : List WayRun) (is : IsWayRuns held runs) where
@@ -117,11 +117,11 @@ module _ (xs ys : List ℕ) (roads : IsStrictlyIncreasing xs) (middles : IsStric
       said_way ways (last_begun (λ (e : Entry). e.from) entries t) (last_begun (λ (r : WayRun). r.from) runs t) (least_way held t) begun (is.ways t lt)
 
 -- what is pulled of a merger whose least is somebody's
-pub pulled : (g : NetworkValue) (task : Task) (held : List Held) (read runs : List WayRun) (entries list : List Entry) (words function : List Run) → IsTask g task → least_way held 0 ≢ NOBODY
+pub pulled : (g : NetworkValue) (task : Task) (held : List Held) (read runs : List WayRun) (entries list : List Entry) (packed function : List Run) → IsTask g task → least_way held 0 ≢ NOBODY
     → IsWayRuns held runs → read ≡ runs
-    → map said_by entries ≡ map (read_of (ways_of task)) read → list ≡ entries → function ≡ words → IsFunctionWords words → ((t : ℕ) → t < day → arrival_value words t ≡ least_arrival held t)
+    → map said_by entries ≡ map (read_of (ways_of task)) read → list ≡ entries → function ≡ packed → IsPackedFunction packed → ((t : ℕ) → t < day → arrival_value packed t ≡ least_arrival held t)
     → IsPulled (ways_of task) held list (Some function)
-pulled g task held read runs entries list words function is some ways same said is_list is_function good value =
+pulled g task held read runs entries list packed function is some ways same said is_list is_function good value =
     let here = subst (λ (rs : List WayRun). map said_by entries ≡ map (read_of (ways_of task)) rs) same said in
     let (spelled, more) = entries_list task.arcs.now (middles_in task.triangles.now) is.arcs_rise is.middles_rise held runs entries ways here in
     let at = entries_way task.arcs.now (middles_in task.triangles.now) is.arcs_rise is.middles_rise held runs entries ways here in

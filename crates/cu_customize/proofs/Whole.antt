@@ -23,12 +23,12 @@ use Rattle.cu_interval.specs.Low.{HasLowWalk}
 use Rattle.cu_interval.specs.WayLists.{IsWayList, way_in}
 use Rattle.cu_interval.proofs.Lookups.{number_at}
 use Rattle.cu_interval.proofs.Spelled.{entries_rise}
-use Rattle.cu_interval.proofs.EndsLaws.{number_within}
-use Rattle.cu_customize.specs.Functions.{value_kept}
+use Rattle.cu_interval.proofs.EndsLaws.{number_edge, number_within}
+use Rattle.cu_interval.proofs.LowLists.{HasLeastBelow, built_some, low_edge, low_edge_back}
+use Rattle.cu_runs.specs.Layers.{value_kept}
 use Rattle.cu_customize.specs.Steps.Kept.{IsBuiltTo}
-use Rattle.cu_customize.proofs.Keeping.{list_there, number_edge}
-use Rattle.cu_customize.proofs.LowFunctions.{least_low, low_edge, low_edge_back}
-use Rattle.cu_customize.proofs.Lows.{HasLeastBelow, built_some}
+use Rattle.cu_customize.proofs.Keeping.{list_there}
+use Rattle.cu_customize.proofs.LowFunctions.{least_low}
 
 -- each entry is in force at its own second
 own_second : (entries : List Entry) → IsWayList entries → (k : ℕ) (d : Entry) → k < length entries → way_in entries (get_or entries k d).from ≡ Some (get_or entries k d).way

@@ -1,17 +1,15 @@
 -- The functions that settling asks for: when each road and each shortcut arrives.
 use Rattle.std.specs.Prelude.{ℕ, List, Bool, true, false, Option, Some, None, ◌≡◌, ◌<◌, nat_lt, length, slice_get}
-use Rattle.std.specs.Option.{option_map}
 use Rattle.cu_model.specs.Networks.{NetworkValue}
 use Rattle.cu_model.specs.Orders.{OrderValue}
 use Rattle.cu_model.specs.Roads.{arc_value, is_closed_arc}
 use Rattle.cu_arrival.specs.declared.runs.Run.{Run}
-use Rattle.cu_arrival.specs.declared.travels.Travels.{Travels}
 use Rattle.cu_arrival.specs.Runs.{arrival_value, IsArrivalFunction}
-use Rattle.cu_arrival.specs.Travels.{AreTravels}
 use Rattle.cu_chordal.specs.declared.graph.Ends.{Ends}
 use Rattle.cu_interval.specs.declared.ways.Dir.{Dir}
 use Rattle.cu_interval.specs.Hierarchies.{end_of, list_number, start_of}
 use Rattle.cu_interval.specs.Low.{HasLowWalk, IsLeastLowDrive}
+use Rattle.cu_runs.specs.Layers.{value_kept}
 
 -- how many roads there are; when each arrives at every second, none where it is closed; which shortcuts, by edge and direction, are known;
 -- and when each of these arrives at every second, none where it has no function
@@ -27,13 +25,6 @@ IsFunction None None = Unit {0}
 IsFunction (Some runs) (Some f) = IsArrivalFunction runs × ((t : ℕ) → arrival_value runs t ≡ f t)
 IsFunction None (Some f) = ⊥
 IsFunction (Some runs) None = ⊥
-
--- how long a function takes, or none where there is none
-abbrev pub AreTravelsOf : Option Travels → Option (ℕ → ℕ) → Type 0
-AreTravelsOf None None = Unit {0}
-AreTravelsOf (Some travels) (Some f) = AreTravels f travels
-AreTravelsOf None (Some f) = ⊥
-AreTravelsOf (Some travels) None = ⊥
 
 -- the function of a road of a network: its value at every second, none where it is closed
 abbrev pub IsRoadFunction : NetworkValue → ℕ → Option (ℕ → ℕ) → Type 0
@@ -60,11 +51,6 @@ road_if false g a = Some (arc_value g a)
 -- a road's function, none where it is closed
 abbrev pub road_function : NetworkValue → ℕ → Option (ℕ → ℕ)
 road_function g a = road_if (is_closed_arc g a) g a
-
--- what a kept function says
-abbrev pub value_kept : Option (Option (List Run)) → Option (ℕ → ℕ)
-value_kept None = None
-value_kept (Some function) = option_map arrival_value function
 
 -- the functions of the roads of a network, and those of shortcuts that stand in a list, by list number
 abbrev pub kept_state : NetworkValue → List (Option (List Run)) → FunctionsState

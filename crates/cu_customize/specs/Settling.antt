@@ -1,5 +1,5 @@
 -- What settling a shortcut gives, for whatever functions it is handed.
-use Rattle.std.specs.Prelude.{ℕ, List, [], true, Option, Some, None, IsSome, ◌≡◌, ◌≢◌, ◌<◌, ◌+◌, ◌-◌, ◌^◌, min, nat_lt, if◌then◌else◌}
+use Rattle.std.specs.Prelude.{ℕ, List, [], true, Option, Some, None, IsSome, ◌≡◌, ◌≢◌, ◌<◌, ◌-◌, ◌^◌, min, nat_lt, if◌then◌else◌}
 use Rattle.std.specs.List.{Contains}
 use Rattle.cu_model.specs.Days.{day, IsOnward}
 use Rattle.cu_arrival.specs.declared.runs.Run.{Run}
@@ -13,9 +13,10 @@ use Rattle.cu_interval.specs.declared.ways.Way.{Way}
 use Rattle.cu_interval.specs.declared.ways.Way.TheVariants.{Road, Via}
 use Rattle.cu_interval.specs.Hierarchies.{number_from}
 use Rattle.cu_interval.specs.WayLists.{IsRunsOf, way_in}
-use Rattle.cu_customize.specs.declared.words.TheConstants.{MAX_NUMBER}
+use Rattle.cu_runs.specs.declared.packed_runs.TheConstants.{MAX_NUMBER}
 use Rattle.cu_customize.specs.Functions.{FunctionsState}
-use Rattle.cu_customize.specs.Words.{IsFunctionWords}
+use Rattle.cu_runs.specs.PackedRuns.{IsPackedFunction}
+use Rattle.cu_runs.specs.Travels.{TakeLonger}
 
 abbrev pub shortcut_of : FunctionsState → Option ℕ → Dir → Option (ℕ → ℕ)
 shortcut_of f None dir = None
@@ -54,19 +55,13 @@ IsValueOf edges f u v entries None = entries ≡ []
 IsValueOf edges f u v entries (Some runs) = (entries ≢ []) × IsArrivalFunction runs
     × ((t : ℕ) (way : Way) → t < day → way_in entries t ≡ Some way → ArrivesBy edges f u v t way (arrival_value runs t))
 
--- the value of the ways of a list at each second of a day, by words; none where the list is empty
+-- the value of the ways of a list at each second of a day, by packed runs; none where the list is empty
 abbrev pub IsDayValueOf : List Ends → FunctionsState → ℕ → ℕ → List Entry → Option (List Run) → Type 0
 IsDayValueOf edges f u v entries None = entries ≡ []
-IsDayValueOf edges f u v entries (Some words) = (entries ≢ []) × IsFunctionWords words × IsOnward (arrival_value words)
-    × ((t : ℕ) (way : Way) → t < day → way_in entries t ≡ Some way → ArrivesBy edges f u v t way (arrival_value words t))
+IsDayValueOf edges f u v entries (Some packed) = (entries ≢ []) × IsPackedFunction packed × IsOnward (arrival_value packed)
+    × ((t : ℕ) (way : Way) → t < day → way_in entries t ≡ Some way → ArrivesBy edges f u v t way (arrival_value packed t))
 
--- two functions that, each at some second of a day, take longer than this together
-abbrev pub TakeLonger : ℕ → Option (ℕ → ℕ) → Option (ℕ → ℕ) → Type 0
-TakeLonger most (Some first) (Some second) = (t s : ℕ) × (t < day) × (s < day) × ((t + s) + most < first t + second s)
-TakeLonger most None second = ⊥
-TakeLonger most (Some first) None = ⊥
-
--- the halves of some way by a lower middle take so long that, with a day more, words can't say it
+-- the halves of some way by a lower middle take so long that, with a day more, packed runs can't say it
 abbrev pub HasFarWay : List Ends → FunctionsState → ℕ → ℕ → Type 0
 HasFarWay edges f u v = (m : ℕ) × (m < u) × (m < v) × TakeLonger (MAX_NUMBER - day) (function_from edges f u m) (function_from edges f m v)
 

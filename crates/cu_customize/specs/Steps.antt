@@ -2,10 +2,6 @@
 pub mod Choosing
 pub mod Best
 pub mod Kept
-pub mod Bounded
 pub mod Gathering
 pub mod Building
-pub mod Linking
-pub mod Merging
 pub mod Triangles
-pub mod ByMiddles

@@ -2,24 +2,21 @@
 
 ghost use Rattle.std.specs.Prelude.{◌≡◌, ◌<◌, ◌+◌, ◌*◌, IfOk, OnOk, length};
 ghost use Rattle.cu_chordal.specs.Edges.{IsClosureOf};
-ghost use Rattle.cu_interval.specs.Hierarchies.{IsBuilt, list_number};
+ghost use Rattle.cu_interval.specs.Hierarchies.{IsBuilt};
+ghost use Rattle.cu_interval.specs.Shortcuts.{number_of};
 ghost use Rattle.cu_customize.specs.Steps.Building.{AreParts};
 ghost use Rattle.cu_customize.specs.Steps.Kept.{AreBuilt, IsBuilding, IsBuildingFrom};
 ghost use Rattle.cu_customize.specs.Steps.Triangles.{AreTrianglesOf};
 
-use crate::day_function::DayFunction;
-use crate::day_functions::DayFunctions;
 use crate::dropping::drop_edges_to;
 use crate::gathering::Gatherer;
 use crate::pulling::pull;
-use crate::settling::leg_of;
 use crate::task::Task;
 use crate::triangles::{Triangle, Triangles};
-use crate::windows::Windows;
-use crate::words::{Word, staying};
 use cu_chordal::Chordal;
-use cu_interval::{Dir, EdgeArcs, Hierarchy, WayList};
+use cu_interval::{Dir, EdgeArcs, Hierarchy, Shortcut, WayList, leg_of};
 use cu_model::{Network, NoMemory, Order, Roads};
+use cu_runs::{DayFunction, LayeredFunctions, PackedRun, Windows, staying};
 use std::alloc::Global;
 
 // What is customized, with the function of a road that takes no time. What the edges of the graph are is said by the
@@ -30,7 +27,7 @@ struct Parts<'a> {
     order: &'a Order,
     graph: &'a Chordal,
     arcs: &'a EdgeArcs,
-    stay: &'a [Word],
+    stay: &'a [PackedRun],
     windows: Windows,
 }
 
@@ -46,31 +43,30 @@ struct Building {
 fn settle_next(
     alloc: Global,
     parts: &Parts<'_>,
-    edge: u32,
-    dir: Dir,
+    shortcut: Shortcut,
     triangles: &[Triangle],
     gatherer: &mut Gatherer,
     building: &mut Building,
 ) -> Result<(), NoMemory>
     requires parts { AreParts parts.now }
-    requires edge { edge < length parts.now.graph.now.edges }
-    requires triangles { AreTrianglesOf parts.now.graph.now.edges edge triangles.now }
+    requires edge { shortcut.edge < length parts.now.graph.now.edges }
+    requires triangles { AreTrianglesOf parts.now.graph.now.edges shortcut.edge triangles.now }
     requires built { IsBuilding parts.now.network.now parts.now.order.now
-        parts.now.graph.now.edges edge (list_number edge dir)
+        parts.now.graph.now.edges shortcut.edge (number_of shortcut)
         building.old.functions.items building.old.lists.items }
     ensures { OnOk result (IsBuilding parts.now.network.now parts.now.order.now
-        parts.now.graph.now.edges edge (list_number edge dir + 1)
+        parts.now.graph.now.edges shortcut.edge (number_of shortcut + 1)
         building.new.functions.items building.new.lists.items) }
 {
-    let ends = parts.graph.ends(edge);
-    let functions = DayFunctions::of(&building.functions);
+    let ends = parts.graph.ends(shortcut.edge);
+    let functions = LayeredFunctions::of(&building.functions);
     let task = Task {
         graph: parts.graph,
         functions: &functions,
         stay: parts.stay,
         windows: parts.windows,
-        leg: leg_of(ends, dir),
-        arcs: parts.arcs.arcs(edge, dir),
+        leg: leg_of(ends, shortcut.dir),
+        arcs: parts.arcs.arcs(shortcut.edge, shortcut.dir),
         triangles,
     };
     gatherer.gather(parts.network, &task)?;
@@ -99,8 +95,13 @@ fn settle_edge(
         parts.now.graph.now.edges (edge + 1) (2 * (edge + 1))
         building.new.functions.items building.new.lists.items) }
 {
-    settle_next(alloc, parts, edge, Dir::Up, triangles, gatherer, building)?;
-    settle_next(alloc, parts, edge, Dir::Down, triangles, gatherer, building)?;
+    let up = Shortcut { edge, dir: Dir::Up };
+    settle_next(alloc, parts, up, triangles, gatherer, building)?;
+    let down = Shortcut {
+        edge,
+        dir: Dir::Down,
+    };
+    settle_next(alloc, parts, down, triangles, gatherer, building)?;
     Ok(())
 }
 

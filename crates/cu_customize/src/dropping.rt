@@ -5,8 +5,9 @@ ghost use Rattle.cu_arrival.specs.declared.runs.Run.{Run};
 ghost use Rattle.cu_chordal.specs.Graphs.{first_edge_of};
 ghost use Rattle.cu_customize.specs.Steps.Kept.{AreDropped, DropsEdge, Keeps};
 
-use crate::day_function::DayFunction;
 use cu_chordal::Chordal;
+use cu_interval::{Dir, Shortcut};
+use cu_runs::DayFunction;
 
 /// Drops the functions of the edges to this rank from lower ones. A list takes halves from edges to its own ends alone,
 /// and the lists that are still to be settled have both ends above the rank.
@@ -30,7 +31,7 @@ fn drop_edge(edge: u32, functions: &mut [Option<DayFunction>])
     requires { 2 * edge + 1 < length functions.old }
     ensures { DropsEdge edge functions.old functions.new }
 {
-    let number = 2 * edge as usize;
-    functions[number] = None;
-    functions[number + 1] = None;
+    let up = Shortcut { edge, dir: Dir::Up }.list();
+    functions[up] = None;
+    functions[up + 1] = None;
 }

@@ -1,9 +1,9 @@
 //! The functions that settling asks for.
 
 ghost use Rattle.std.specs.Prelude.{◌≡◌, ◌<◌, IfOk, true};
-ghost use Rattle.cu_customize.specs.Functions.{AreTravelsOf, FunctionsState, IsFunction};
+ghost use Rattle.cu_customize.specs.Functions.{FunctionsState, IsFunction};
 
-use cu_arrival::{Arrival, Travels};
+use cu_arrival::Arrival;
 use cu_interval::Dir;
 use cu_model::NoMemory;
 use std::alloc::Global;
@@ -26,9 +26,4 @@ pub trait Functions {
         ensures function { IfOk result
             (λ function. IsFunction function ((state self.old).shortcut edge dir)) }
         ensures same { state self.new ≡ state self.old };
-
-    /// How long a shortcut that is known takes, leaving at any second. None exactly where it has no function.
-    fn travels(&self, edge: u32, dir: Dir) -> Option<Travels>
-        requires { (state self.now).knows edge dir ≡ true }
-        ensures { AreTravelsOf result ((state self.now).shortcut edge dir) };
 }

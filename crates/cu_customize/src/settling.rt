@@ -20,8 +20,8 @@ use crate::by_middles::best_way;
 use crate::choosing::{choose_ways, list_of};
 use crate::functions::Functions;
 use cu_arrival::{Arrival, lesser};
-use cu_chordal::{Chordal, Ends};
-use cu_interval::{Dir, EdgeArcs, Entry, Way, WayList};
+use cu_chordal::Chordal;
+use cu_interval::{Dir, EdgeArcs, Entry, Way, WayList, leg_of};
 use cu_model::NoMemory;
 use std::alloc::Global;
 
@@ -30,13 +30,6 @@ use std::alloc::Global;
 pub struct Settled {
     pub ways: WayList,
     pub function: Option<Arrival>,
-}
-
-/// The ranks that a shortcut leads from and to.
-#[derive(Clone, Copy)]
-pub struct Leg {
-    pub from: u32,
-    pub to: u32,
 }
 
 // No ways.
@@ -132,23 +125,6 @@ fn best_road<F: Functions>(
         best = with_road(alloc, best, *arc, functions)?;
     }
     Ok(best)
-}
-
-/// The ranks that an edge leads from and to in a direction.
-pub fn leg_of(ends: Ends, dir: Dir) -> Leg
-    ensures from { result.from ≡ start_of ends dir }
-    ensures to { result.to ≡ end_of ends dir }
-{
-    match dir {
-        Dir::Up => Leg {
-            from: ends.low,
-            to: ends.high,
-        },
-        Dir::Down => Leg {
-            from: ends.high,
-            to: ends.low,
-        },
-    }
 }
 
 /// Settles the shortcut of an edge in a direction by these functions: the maximal runs, over a day, of its first

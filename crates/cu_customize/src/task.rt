@@ -1,12 +1,9 @@
-//! What one list is settled from, where functions are words.
+//! What one list is settled from, where functions are packed runs.
 
-use crate::day_function::DayFunction;
-use crate::day_functions::DayFunctions;
-use crate::settling::Leg;
 use crate::triangles::Triangle;
-use crate::windows::Windows;
-use crate::words::Word;
 use cu_chordal::Chordal;
+use cu_interval::Leg;
+use cu_runs::{DayFunction, LayeredFunctions, PackedRun, Windows};
 
 /// A list to be settled: between which ranks it leads; its candidates, which are these roads, by rising number, and the
 /// lower triangles of its edge, by rising middle; and the functions of the lists before it, by list number. Staying is
@@ -15,8 +12,8 @@ use cu_chordal::Chordal;
 #[derive(Clone, Copy)]
 pub struct Task<'a> {
     pub graph: &'a Chordal,
-    pub functions: &'a DayFunctions<'a>,
-    pub stay: &'a [Word],
+    pub functions: &'a LayeredFunctions<'a>,
+    pub stay: &'a [PackedRun],
     pub windows: Windows,
     pub leg: Leg,
     pub arcs: &'a [u32],

@@ -1,5 +1,6 @@
 -- Orders by nested dissection: a part of a network is cut in two halves and a separator, and each half is a part again.
-use Rattle.std.specs.Prelude.{ℕ, zero, suc, Bool, not, true, false, List, [], ◌∷◌, ◌++◌, ◌-◌, ◌/◌, ◌&&◌, ◌||◌, ◌==◌, nat_le, nat_lt, min, max, if◌then◌else◌, length, map, count_by, slice_index, slice_index_or}
+use Rattle.std.specs.Prelude.{ℕ, zero, suc, Bool, not, true, false, List, [], ◌∷◌, ◌++◌, ◌-◌, ◌/◌, ◌&&◌, ◌||◌, ◌==◌, nat_le, nat_lt, min, max, if◌then◌else◌, length, map, count_by}
+use Rattle.std.specs.Prelude.{slice_index, slice_index_or}
 use Rattle.std.specs.List.{filter, fold, list_any, range_with_len}
 use Rattle.cu_model.specs.declared.roads.RoadArc.{RoadArc}
 use Rattle.cu_model.specs.Networks.{NetworkValue}

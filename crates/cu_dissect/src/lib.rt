@@ -13,8 +13,6 @@ mod dissecting;
 mod halving;
 mod splits;
 mod splitting;
-#[cfg(test)]
-mod tests;
 
 pub use dissecting::dissect;
 pub use splits::Split;

@@ -11,8 +11,8 @@ use Rattle.cu_interval.specs.declared.ways.Way.{Way}
 use Rattle.cu_interval.specs.declared.ways.Way.TheVariants.{Road, Via}
 use Rattle.cu_interval.specs.Hierarchies.{HierarchyValue, IsHierarchyOf, list_number, list_of}
 use Rattle.cu_interval.specs.Touching.{IsChanged}
-use Rattle.cu_unpack.specs.RebuiltWords.{WordsValue}
-use Rattle.cu_edits.specs.Steps.ByWords.{AreAtHandIfMoved, AreCandidatesAtHand, IsAtHand, IsWayAtHand, LearnsWords}
+use Rattle.cu_unpack.specs.RebuiltRuns.{PackedValue}
+use Rattle.cu_edits.specs.Steps.Packed.{AreAtHandIfMoved, AreCandidatesAtHand, IsAtHand, IsWayAtHand, LearnsPacked}
 use Rattle.cu_edits.specs.Steps.Moving.{AreWaysUnmoved, HalvesAre, IsUnmoved, IsUnmovedWay, KeepsWays, MayStand, MovedValue}
 
 module _ (h : HierarchyValue) (graph : ChordalValue) (of : IsHierarchyOf graph h) where
@@ -50,24 +50,24 @@ module _ (h : HierarchyValue) (graph : ChordalValue) (of : IsHierarchyOf graph h
     ways_unmoved = of_all_ends (λ es ends. All (λ (entry : Entry). IsUnmovedWay h.network edit es moved ends dir entry.way) (list_of h edge dir)) edge
 
     -- all halves are at hand
-    pub all_at_hand : (words : WordsValue) (ends : Ends) → slice_get graph.edges edge ≡ Some ends → ((middle : ℕ) → HalvesAre (IsAtHand moved words) graph.edges ends dir middle)
-        → AreCandidatesAtHand h edit marks moved words edge dir
-    all_at_hand words ends at halves = inl (of_ends (λ es given. (middle : ℕ) → HalvesAre (IsAtHand moved words) es given dir middle) edge ends at halves)
+    pub all_at_hand : (packed : PackedValue) (ends : Ends) → slice_get graph.edges edge ≡ Some ends → ((middle : ℕ) → HalvesAre (IsAtHand moved packed) graph.edges ends dir middle)
+        → AreCandidatesAtHand h edit marks moved packed edge dir
+    all_at_hand packed ends at halves = inl (of_ends (λ es given. (middle : ℕ) → HalvesAre (IsAtHand moved packed) es given dir middle) edge ends at halves)
 
-    still_at_hand : (words learnt : WordsValue) → LearnsWords h words learnt → (es : List Ends) (ends : Ends) (way : Way) → IsWayAtHand moved words es ends dir way
+    still_at_hand : (packed learnt : PackedValue) → LearnsPacked h packed learnt → (es : List Ends) (ends : Ends) (way : Way) → IsWayAtHand moved packed es ends dir way
         → IsWayAtHand moved learnt es ends dir way
-    still_at_hand words learnt learns es ends (Road a) hand = hand
-    still_at_hand words learnt learns es ends (Via m) hand = λ first second are.
+    still_at_hand packed learnt learns es ends (Road a) hand = hand
+    still_at_hand packed learnt learns es ends (Via m) hand = λ first second are.
         let both = hand first second are in (λ unmoved. learns.still first Down (both.0 unmoved), λ unmoved. learns.still second Up (both.1 unmoved))
 
     -- those of some candidates are
-    pub some_at_hand : (words learnt : WordsValue) (ends : Ends) → slice_get graph.edges edge ≡ Some ends → KeepsWays h edit marks moved edge dir
-        → ((given : Ends) → slice_get graph.edges edge ≡ Some given → All (λ (entry : Entry). IsWayAtHand moved words graph.edges given dir entry.way) (list_of h edge dir))
-        → LearnsWords h words learnt
+    pub some_at_hand : (packed learnt : PackedValue) (ends : Ends) → slice_get graph.edges edge ≡ Some ends → KeepsWays h edit marks moved edge dir
+        → ((given : Ends) → slice_get graph.edges edge ≡ Some given → All (λ (entry : Entry). IsWayAtHand moved packed graph.edges given dir entry.way) (list_of h edge dir))
+        → LearnsPacked h packed learnt
         → ((middle : ℕ) → AreAtHandIfMoved moved learnt graph.edges ends dir middle) → AreCandidatesAtHand h edit marks moved learnt edge dir
-    some_at_hand words learnt ends at keeps ways learns halves = inr (
+    some_at_hand packed learnt ends at keeps ways learns halves = inr (
       keeps,
       of_all_ends (λ es given. All (λ (entry : Entry). IsWayAtHand moved learnt es given dir entry.way) (list_of h edge dir)) edge
-          (λ given there k d lt. still_at_hand words learnt learns graph.edges given _ (ways given there k d lt)),
+          (λ given there k d lt. still_at_hand packed learnt learns graph.edges given _ (ways given there k d lt)),
       of_ends (λ es given. (middle : ℕ) → AreAtHandIfMoved moved learnt es given dir middle) edge ends at halves,
     )

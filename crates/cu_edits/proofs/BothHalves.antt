@@ -11,10 +11,11 @@ use Rattle.cu_interval.specs.declared.ways.Dir.{Dir}
 use Rattle.cu_interval.specs.declared.ways.Dir.TheVariants.{Up, Down}
 use Rattle.cu_interval.specs.Hierarchies.{end_of, start_of}
 use Rattle.cu_interval.proofs.Lookups.{one_number}
-use Rattle.cu_edits.specs.Steps.Moving.{AreHalves, HalvesAre}
+use Rattle.cu_interval.specs.Shortcuts.{AreHalfEdges}
+use Rattle.cu_edits.specs.Steps.Moving.{HalvesAre}
 
 -- there are no others
-pub halves_are : (Good : ℕ → Dir → Type 0) (edges : List Ends) → IsRising edges → (ends : Ends) (dir : Dir) (middle first second : ℕ) → AreHalves edges ends dir middle first second
+pub halves_are : (Good : ℕ → Dir → Type 0) (edges : List Ends) → IsRising edges → (ends : Ends) (dir : Dir) (middle first second : ℕ) → AreHalfEdges edges ends dir middle first second
     → Good first Down → Good second Up → HalvesAre Good edges ends dir middle
 halves_are Good edges rising ends dir middle first second are one two e f halves = (
   subst (λ (k : ℕ). Good k Down) (one_number edges rising first e middle (start_of ends dir) are.to halves.to) one,
@@ -22,7 +23,7 @@ halves_are Good edges rising ends dir middle first second are one two e f halves
 )
 
 -- the middle is joined to the lower end
-pub joins_low : (edges : List Ends) (ends : Ends) (dir : Dir) (middle first second : ℕ) → AreHalves edges ends dir middle first second → HasEdge edges middle ends.low
+pub joins_low : (edges : List Ends) (ends : Ends) (dir : Dir) (middle first second : ℕ) → AreHalfEdges edges ends dir middle first second → HasEdge edges middle ends.low
 joins_low edges ends Up middle first second are = member_at edges (record { low = middle; high = ends.low }) first are.to
 joins_low edges ends Down middle first second are = member_at edges (record { low = middle; high = ends.low }) second are.on
 

@@ -3,7 +3,7 @@ use Rattle.std.proofs.Common.{ℕ, zero, suc, arith, min}
 use Rattle.cu_interval.specs.Hierarchies.{HierarchyValue, IsBuilt, end_of, list_of, start_of}
 use Rattle.cu_interval.proofs.BuiltWalks.{built_list}
 use Rattle.cu_edits.specs.Customized.{IsCustomizedEdge}
-use Rattle.cu_edits.proofs.ResettledValues.{AreRebuiltBelow, built_list_resettled, built_rebuilt}
+use Rattle.cu_resettled.proofs.ResettledValues.{AreRebuiltBelow, built_list_resettled, built_rebuilt}
 
 -- its rebuilt values are the least low drives
 values_below : (h : HierarchyValue) → IsBuilt h → (m : ℕ) → AreRebuiltBelow h m

@@ -21,7 +21,7 @@ use Rattle.cu_interval.specs.Touching.{IsTouchedEdge}
 use Rattle.cu_customize.specs.Functions.{FunctionsState}
 use Rattle.cu_customize.specs.Settling.{IsValueOf}
 use Rattle.cu_unpack.specs.Rebuilds.{IsRebuiltFunction, Keeps, RebuiltValue}
-use Rattle.cu_edits.specs.declared.known.EdgeFunctions.{EdgeFunctions}
+use Rattle.cu_edits.specs.declared.edge_functions.EdgeFunctions.{EdgeFunctions}
 use Rattle.cu_edits.specs.Settling.{HasFinalSides, IsFinal, IsLowerSide, IsResettledEdge, IsSettled, SettlingValue, list_in, settled_so_far}
 use Rattle.cu_edits.specs.Steps.Holding.{IsSettledEdge, IsSettling}
 use Rattle.cu_edits.specs.Steps.Known.{AreRebuilt, HasFunctions, IsSide, Learns, function_in, functions_of}

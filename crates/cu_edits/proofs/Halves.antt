@@ -25,13 +25,13 @@ use Rattle.cu_customize.specs.Functions.{FunctionsState}
 use Rattle.cu_customize.specs.Settling.{ArrivesBy, IsCandidateBy, function_from, through, value_at}
 use Rattle.cu_customize.proofs.LowFunctions.{down_edge, up_edge}
 use Rattle.cu_unpack.specs.Rebuilds.{IsRebuiltFunction}
-use Rattle.cu_edits.specs.declared.known.EdgeFunctions.{EdgeFunctions}
+use Rattle.cu_edits.specs.declared.edge_functions.EdgeFunctions.{EdgeFunctions}
 use Rattle.cu_edits.specs.Settling.{SettlingValue, settled_so_far}
 use Rattle.cu_edits.specs.Steps.Known.{AreRebuilt, function_in, functions_of, known_function, road_in, values_of}
 use Rattle.cu_edits.specs.Steps.Frames.{LeadsOver}
 use Rattle.cu_edits.proofs.Frames.{ChoosesAlike}
 use Rattle.cu_edits.proofs.Sides.{edge_down, edge_up, list_at}
-use Rattle.cu_edits.proofs.Unchanged.{joins_leads, leads_joins, ranks_edited, ranks_kept}
+use Rattle.cu_resettled.proofs.Unchanged.{joins_leads, leads_joins, ranks_edited, ranks_kept}
 
 -- the function that is asked for between the ends of an edge is the edge's
 function_at_ends : (h : HierarchyValue) → IsHierarchy h → (f : FunctionsState) (edge : ℕ) (dir : Dir) (ends : Ends) → slice_get h.edges edge ≡ Some ends

@@ -11,7 +11,7 @@ use Rattle.cu_chordal.specs.Graphs.{HasEdge, IsRising}
 use Rattle.cu_chordal.proofs.Members.{member_at}
 use Rattle.cu_interval.specs.Hierarchies.{HierarchyValue}
 use Rattle.cu_interval.proofs.Lookups.{one_number}
-use Rattle.cu_edits.specs.declared.known.EdgeFunctions.{EdgeFunctions}
+use Rattle.cu_edits.specs.declared.edge_functions.EdgeFunctions.{EdgeFunctions}
 use Rattle.cu_edits.specs.Steps.Known.{AreRebuilt, HasFunctions, IsSide, IsSideOver, Learns}
 
 none_or_some : (o : Option (Option EdgeFunctions)) (f : EdgeFunctions) → o ≡ Some None → o ≡ Some (Some f) → ⊥

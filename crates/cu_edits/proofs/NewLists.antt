@@ -27,14 +27,14 @@ use Rattle.cu_interval.specs.WayLists.{GoesFirst, IsFirstEarliest}
 use Rattle.cu_interval.proofs.Lookups.{way_held}
 use Rattle.cu_interval.proofs.Unpacked.{way_there}
 use Rattle.cu_interval.proofs.EndsLaws.{number_within}
-use Rattle.cu_customize.specs.Functions.{FunctionsState, kept_state, road_if, value_kept}
-use Rattle.cu_customize.specs.Layers.{layered}
+use Rattle.cu_customize.specs.Functions.{FunctionsState, kept_state, road_if}
+use Rattle.cu_runs.specs.Layers.{value_kept, layered}
 use Rattle.cu_customize.specs.Settling.{ArrivesBy, IsCandidateBy, IsDayValueOf, IsSettledList, function_from}
-use Rattle.cu_customize.proofs.Layers.{layered_newer, layered_older}
-use Rattle.cu_unpack.specs.RebuiltWords.{IsKnownList, IsRebuiltWords, WordsValue}
+use Rattle.cu_runs.proofs.Layers.{layered_newer, layered_older}
+use Rattle.cu_unpack.specs.RebuiltRuns.{IsKnownList, IsRebuiltRuns, PackedValue}
 use Rattle.cu_edits.specs.Customized.{AreCustomized}
 use Rattle.cu_edits.specs.Settling.{HasFinalSides, IsLowerSide, SettlingValue, settled_so_far}
-use Rattle.cu_edits.specs.Steps.ByWords.{IsAtHand, IsSettlingByWords, IsWayAtHand}
+use Rattle.cu_edits.specs.Steps.Packed.{IsAtHand, IsSettlingPacked, IsWayAtHand}
 use Rattle.cu_edits.specs.Steps.Frames.{IsFramed, LeadsOver}
 use Rattle.cu_edits.specs.Steps.Known.{values_of}
 use Rattle.cu_edits.specs.Steps.Moving.{HalvesAre, IsUnmoved, IsUnmovedWay, MayStand, MovedValue, SayValue, StandingPair}
@@ -44,16 +44,16 @@ use Rattle.cu_edits.proofs.SettledOnce.{listed}
 use Rattle.cu_edits.proofs.SettledValues as values
 use Rattle.cu_edits.proofs.Sides.{halves_at, edge_down, edge_up, list_at, over}
 use Rattle.cu_edits.proofs.StandingChoices as standing
-use Rattle.cu_edits.proofs.Unchanged.{leads_joins, unchanged_alike}
-use Rattle.cu_edits.proofs.WordsStay.{words_stay}
+use Rattle.cu_resettled.proofs.Unchanged.{leads_joins, unchanged_alike}
+use Rattle.cu_edits.proofs.PackedStay.{packed_stay}
 
-pub word_values : (h : HierarchyValue) (edge : ℕ) (dir : Dir) (function : Option (List Run)) → IsRebuiltWords h edge dir function → HasValues h edge dir function
-word_values h edge dir None is = is
-word_values h edge dir (Some words) (some, is, onward, values) = (some, values)
+pub packed_values : (h : HierarchyValue) (edge : ℕ) (dir : Dir) (function : Option (List Run)) → IsRebuiltRuns h edge dir function → HasValues h edge dir function
+packed_values h edge dir None is = is
+packed_values h edge dir (Some packed) (some, is, onward, values) = (some, values)
 
 kept_values : (function : Option (List Run)) → value_kept (Some function) ≡ values_of function
 kept_values None = refl
-kept_values (Some words) = refl
+kept_values (Some packed) = refl
 
 road_same : (g : NetworkValue) (a : ℕ) (closed : Bool) → road_if closed g a ≡ (if closed then None else Some (arc_value g a))
 road_same g a true = refl
@@ -71,7 +71,7 @@ first_of_three (Via m) (Road a) z (inr first) (inr second) = absurd first
 first_of_three (Via m) (Via n) (Road a) (inr first) (inr second) = absurd second
 first_of_three (Via m) (Via n) (Via k) (inr first) (inr second) = inr (omega (arith, first, second))
 
-module _ (s : SettlingValue) (graph : ChordalValue) (arcs : List (List ℕ)) (words : WordsValue) (moved : MovedValue) (holds : IsSettlingByWords s graph arcs words moved) (edge : ℕ) (dir : Dir)
+module _ (s : SettlingValue) (graph : ChordalValue) (arcs : List (List ℕ)) (packed : PackedValue) (moved : MovedValue) (holds : IsSettlingPacked s graph arcs packed moved) (edge : ℕ) (dir : Dir)
     (sides : HasFinalSides s edge) (ends : Ends) (at : slice_get s.before.edges edge ≡ Some ends) where
   abbrev pub now : HierarchyValue
   now = settled_so_far s
@@ -143,26 +143,27 @@ module _ (s : SettlingValue) (graph : ChordalValue) (arcs : List (List ℕ)) (wo
 
   -- else it is settled by functions of the hierarchy before, but of moved lists by their functions after
   abbrev pub asked : FunctionsState
-  asked = kept_state (edited s.before.network s.edit) (layered words.functions moved.places moved.functions)
+  asked = kept_state (edited s.before.network s.edit) (layered packed.functions moved.places moved.functions)
 
-  -- the words of a half that stands
-  half_before : (e : ℕ) (d : Dir) (x y : ℕ) (l : LeadsOver s.before.edges e d x y) → IsLowerSide s.before.edges edge e → IsUnmoved moved e d → IsKnownList words (list_number e d)
+  -- the packed runs of a half that stands
+  half_before : (e : ℕ) (d : Dir) (x y : ℕ) (l : LeadsOver s.before.edges e d x y) → IsLowerSide s.before.edges edge e → IsUnmoved moved e d → IsKnownList packed (list_number e d)
       → IsHalf now asked x y
   half_before e d x y l side unmoved known =
       let inside = number_within e (length s.before.edges) d (slice_get_within s.before.edges e l.ends l.at) in
       let long = holds.known.size.functions in
-      let function = get_or words.functions (list_number e d) None in
-      let there : slice_get words.functions (list_number e d) ≡ Some function = slice_get-get_or words.functions (list_number e d) None (omega (arith, inside, long)) in
+      let function = get_or packed.functions (list_number e d) None in
+      let there : slice_get packed.functions (list_number e d) ≡ Some function = slice_get-get_or packed.functions (list_number e d) None (omega (arith, inside, long)) in
       let pair : StandingPair s moved x y = (e, d, l, sides e side, unmoved) in
       let list : list_of now e d ≡ list_of s.before e d =
       sym (list_at s.before now holds.are.sound refl e d x y l) ∙ sym (holds.stands.lists x y pair) ∙ list_at s.before s.before holds.are.sound refl e d x y l in
-      let is : IsRebuiltWords now e d function =
-      words_stay s.before now (StandingPair s moved) holds.stands s.before.edges refl refl e d function
+      let is : IsRebuiltRuns now e d function =
+      packed_stay s.before now (StandingPair s moved) holds.stands s.before.edges refl refl e d function
       (λ given here. (e, d, over s.before.edges e d given here, sides e side, unmoved)) list (holds.known.keeps e d tt known function there) in
       record {
         function = function;
-        is = function_at s.before holds.are.sound asked e d x y l ∙ ap value_kept (layered_older words.functions moved.places moved.functions (list_number e d) unmoved ∙ there) ∙ kept_values function;
-        rebuilds = by_ranks s.before now holds.are.sound refl e d x y function l (word_values now e d function is);
+        is = function_at s.before holds.are.sound asked e d x y l
+            ∙ ap value_kept (layered_older packed.functions moved.places moved.functions (list_number e d) unmoved ∙ there) ∙ kept_values function;
+        rebuilds = by_ranks s.before now holds.are.sound refl e d x y function l (packed_values now e d function is);
       }
 
   -- of one that was moved
@@ -177,14 +178,14 @@ module _ (s : SettlingValue) (graph : ChordalValue) (arcs : List (List ℕ)) (wo
       record {
         function = function;
         is = function_at s.before holds.are.sound asked e d x y l
-            ∙ ap value_kept (layered_newer words.functions moved.places moved.functions (list_number e d) place (omega (arith, inside, long)) there
+            ∙ ap value_kept (layered_newer packed.functions moved.places moved.functions (list_number e d) place (omega (arith, inside, long)) there
             (omega (arith, within)) ∙ is_there) ∙ kept_values function;
-        rebuilds = by_ranks s.before now holds.are.sound refl e d x y function l (word_values now e d function is);
+        rebuilds = by_ranks s.before now holds.are.sound refl e d x y function l (packed_values now e d function is);
       }
 
   -- what is at hand is a half
   half_by : (e : ℕ) (d : Dir) (x y place : ℕ) (l : LeadsOver s.before.edges e d x y) → IsLowerSide s.before.edges edge e → slice_get moved.places (list_number e d) ≡ Some place
-      → IsAtHand moved words e d → IsHalf now asked x y
+      → IsAtHand moved packed e d → IsHalf now asked x y
   half_by e d x y zero l side there hand = half_before e d x y l side there (hand there)
   half_by e d x y (suc place) l side there hand = half_moved e d x y place l there
 
@@ -194,10 +195,10 @@ module _ (s : SettlingValue) (graph : ChordalValue) (arcs : List (List ℕ)) (wo
       let long = holds.places in
       slice_get-get_or moved.places (list_number e d) 0 (omega (arith, inside, long))
 
-  half_at_hand : (e : ℕ) (d : Dir) (x y : ℕ) (l : LeadsOver s.before.edges e d x y) → IsLowerSide s.before.edges edge e → IsAtHand moved words e d → IsHalf now asked x y
+  half_at_hand : (e : ℕ) (d : Dir) (x y : ℕ) (l : LeadsOver s.before.edges e d x y) → IsLowerSide s.before.edges edge e → IsAtHand moved packed e d → IsHalf now asked x y
   half_at_hand e d x y l side hand = half_by e d x y (get_or moved.places (list_number e d) 0) l side (placed e d x y l) hand
 
-  pub both_at_hand : (m : ℕ) → HalvesAre (IsAtHand moved words) s.before.edges ends dir m → HasEdge s.before.edges m u → HasEdge s.before.edges m v → IsHalf now asked u m × IsHalf now asked m v
+  pub both_at_hand : (m : ℕ) → HalvesAre (IsAtHand moved packed) s.before.edges ends dir m → HasEdge s.before.edges m u → HasEdge s.before.edges m v → IsHalf now asked u m × IsHalf now asked m v
   both_at_hand m hand to on =
       let halves = halves_at s.before.edges edge dir u v m leads to on in
       let both = hand halves.first halves.second (record { to = halves.to; on = halves.on }) in (
@@ -210,26 +211,26 @@ module _ (s : SettlingValue) (graph : ChordalValue) (arcs : List (List ℕ)) (wo
   knows_road a = road_same (edited s.before.network s.edit) a (is_closed_arc (edited s.before.network s.edit) a)
 
   -- and so is each way at hand
-  pub knows_at_hand : (way : Way) → IsWayAtHand moved words s.before.edges ends dir way → KnowsWay now asked u v way
+  pub knows_at_hand : (way : Way) → IsWayAtHand moved packed s.before.edges ends dir way → KnowsWay now asked u v way
   knows_at_hand (Road a) hand = knows_road a
   knows_at_hand (Via m) hand = λ to on first second. both_at_hand m hand first second
 
   -- a function that is there is a half
   half_there : (e : ℕ) (d : Dir) (x y place : ℕ) (known : Bool) (l : LeadsOver s.before.edges e d x y) → IsLowerSide s.before.edges edge e → slice_get moved.places (list_number e d) ≡ Some place
-      → slice_get words.known (list_number e d) ≡ Some known → IsSome (function_from s.before.edges asked x y) → IsHalf now asked x y
+      → slice_get packed.known (list_number e d) ≡ Some known → IsSome (function_from s.before.edges asked x y) → IsHalf now asked x y
   half_there e d x y (suc place) known l side there at_known some = half_moved e d x y place l there
   half_there e d x y zero true l side there at_known some = half_before e d x y l side there at_known
   half_there e d x y zero false l side there at_known some =
       let none = holds.known.unknown (list_number e d) at_known in
       absurd (none_some (function_from s.before.edges asked x y)
-      (function_at s.before holds.are.sound asked e d x y l ∙ ap value_kept (layered_older words.functions moved.places moved.functions (list_number e d) there ∙ none)) some)
+      (function_at s.before holds.are.sound asked e d x y l ∙ ap value_kept (layered_older packed.functions moved.places moved.functions (list_number e d) there ∙ none)) some)
 
   half_with : (e : ℕ) (d : Dir) (x y : ℕ) (l : LeadsOver s.before.edges e d x y) → IsLowerSide s.before.edges edge e → IsSome (function_from s.before.edges asked x y) → IsHalf now asked x y
   half_with e d x y l side some =
       let inside = number_within e (length s.before.edges) d (slice_get_within s.before.edges e l.ends l.at) in
       let long = holds.known.size.known in
-      half_there e d x y (get_or moved.places (list_number e d) 0) (get_or words.known (list_number e d) false) l side (placed e d x y l)
-      (slice_get-get_or words.known (list_number e d) false (omega (arith, inside, long))) some
+      half_there e d x y (get_or moved.places (list_number e d) 0) (get_or packed.known (list_number e d) false) l side (placed e d x y l)
+      (slice_get-get_or packed.known (list_number e d) false (omega (arith, inside, long))) some
 
   -- so what settling calls a candidate is known
   pub knows_candidate : (list : List ℕ) (way : Way) → IsCandidateBy s.before.edges list asked u v way → KnowsWay now asked u v way
@@ -354,7 +355,7 @@ module _ (s : SettlingValue) (graph : ChordalValue) (arcs : List (List ℕ)) (wo
         let c = by_candidates k d lt in
         values.way_arrives now asked u v t _ (knows_candidate list _ c) (there _ c)
 
-    -- and its words say when its ways arrive
+    -- and its packed runs say when its ways arrive
     pub new_value : (function : Option (List Run)) → IsDayValueOf s.before.edges asked u v es function → SayValue now u v es function
     new_value None empty = empty
     new_value (Some runs) (some, is, onward, says) = (

@@ -7,17 +7,17 @@ use Rattle.cu_arrival.specs.declared.runs.Run.{Run}
 use Rattle.cu_interval.specs.declared.ways.Dir.{Dir}
 use Rattle.cu_interval.specs.declared.ways.Dir.TheVariants.{Up, Down}
 use Rattle.cu_interval.specs.Hierarchies.{list_number}
-use Rattle.cu_edits.specs.declared.new_list.Fate.{Fate}
-use Rattle.cu_edits.specs.declared.new_list.Fate.TheVariants.{Stands, Moves}
-use Rattle.cu_edits.specs.Steps.Moving.{KeepsFate, MovedValue}
+use Rattle.cu_edits.specs.declared.new_list.Outcome.{Outcome}
+use Rattle.cu_edits.specs.declared.new_list.Outcome.TheVariants.{Stands, Moves}
+use Rattle.cu_edits.specs.Steps.Moving.{KeepsOutcome, MovedValue}
 use Rattle.cu_edits.proofs.Replaced.{numbers_apart}
 use Rattle.cu_edits.proofs.StandingLists.{ArePlaced, IsPlacedAs}
-use Rattle.cu_edits.proofs.Unchanged.{all_set}
+use Rattle.cu_edits.proofs.EditedNetworks.{all_set}
 
--- the fate of a list by its direction
-abbrev pub fate_in : Fate → Fate → Dir → Fate
-fate_in up down Up = up
-fate_in up down Down = down
+-- the outcome of a list by its direction
+abbrev pub outcome_in : Outcome → Outcome → Dir → Outcome
+outcome_in up down Up = up
+outcome_in up down Down = down
 
 -- functions are kept behind those before
 record Grows (old new : List (Option (List Run))) : Type 0 where
@@ -37,11 +37,11 @@ before_last [] function place lt = absurd (omega (arith, lt))
 before_last (f ∷ fs) function zero lt = refl
 before_last (f ∷ fs) function (suc place) lt = before_last fs function place (omega (arith, lt))
 
-pub keeping_places : (old new : MovedValue) (fate : Fate) (place : ℕ) → KeepsFate old new fate place → new.places ≡ old.places
+pub keeping_places : (old new : MovedValue) (outcome : Outcome) (place : ℕ) → KeepsOutcome old new outcome place → new.places ≡ old.places
 keeping_places old new Stands place (none, same) = ap (λ (m : MovedValue). m.places) same
 keeping_places old new (Moves function) place (here, same) = ap (λ (m : MovedValue). m.places) same
 
-keeping_grows : (old new : MovedValue) (fate : Fate) (place : ℕ) → KeepsFate old new fate place → Grows old.functions new.functions
+keeping_grows : (old new : MovedValue) (outcome : Outcome) (place : ℕ) → KeepsOutcome old new outcome place → Grows old.functions new.functions
 keeping_grows old new Stands place (none, same) =
     let is : new.functions ≡ old.functions = ap (λ (m : MovedValue). m.functions) same in
     subst (Grows old.functions) (sym is) (record { longer = omega arith; still = λ p lt. refl })
@@ -50,7 +50,7 @@ keeping_grows old new (Moves function) place (here, same) =
     let more = behind_all old.functions function in
     subst (Grows old.functions) (sym is) (record { longer = omega (arith, more); still = before_last old.functions function })
 
-keeping_inside : (old new : MovedValue) (fate : Fate) (place : ℕ) → KeepsFate old new fate place → place ≤ length new.functions
+keeping_inside : (old new : MovedValue) (outcome : Outcome) (place : ℕ) → KeepsOutcome old new outcome place → place ≤ length new.functions
 keeping_inside old new Stands place (none, same) = omega (arith, none)
 keeping_inside old new (Moves function) place (here, same) =
     let long : length new.functions ≡ length (old.functions ++ (function ∷ [])) = ap (λ (m : MovedValue). length m.functions) same in
@@ -64,8 +64,8 @@ grows_then old mid new first second = record {
 }
 
 -- what is kept at a place stays there
-placed_as : (old mid new : MovedValue) (edge : ℕ) (dir : Dir) (fate : Fate) (place : ℕ) → KeepsFate old mid fate place → Grows mid.functions new.functions
-    → slice_get new.places (list_number edge dir) ≡ Some place → IsPlacedAs new edge dir fate
+placed_as : (old mid new : MovedValue) (edge : ℕ) (dir : Dir) (outcome : Outcome) (place : ℕ) → KeepsOutcome old mid outcome place → Grows mid.functions new.functions
+    → slice_get new.places (list_number edge dir) ≡ Some place → IsPlacedAs new edge dir outcome
 placed_as old mid new edge dir Stands place (none, same) grows at = at ∙ ap Some none
 placed_as old mid new edge dir (Moves function) place (here, same) grows at =
     let is : mid.functions ≡ old.functions ++ (function ∷ []) = ap (λ (m : MovedValue). m.functions) same in
@@ -76,9 +76,9 @@ placed_as old mid new edge dir (Moves function) place (here, same) grows at =
       grows.still (length old.functions) (omega (arith, long, more)) ∙ ap (λ (fs : List (Option (List Run))). slice_get fs (length old.functions)) is ∙ last_of old.functions function,
     )
 
--- both fates of an edge are kept, and then put in their places
-module _ (old one two new : MovedValue) (edge : ℕ) (up down : Fate) (upwards downwards : ℕ) (within : list_number edge Down < length old.places)
-    (inside : All (λ (place : ℕ). place ≤ length old.functions) old.places) (first : KeepsFate old one up upwards) (second : KeepsFate one two down downwards)
+-- both outcomes of an edge are kept, and then put in their places
+module _ (old one two new : MovedValue) (edge : ℕ) (up down : Outcome) (upwards downwards : ℕ) (within : list_number edge Down < length old.places)
+    (inside : All (λ (place : ℕ). place ≤ length old.functions) old.places) (first : KeepsOutcome old one up upwards) (second : KeepsOutcome one two down downwards)
     (places : new.places ≡ slice_set (slice_set two.places (list_number edge Up) upwards) (list_number edge Down) downwards) (functions : new.functions ≡ two.functions) where
   same_places : two.places ≡ old.places
   same_places = keeping_places one two down downwards second ∙ keeping_places old one up upwards first
@@ -117,11 +117,11 @@ module _ (old one two new : MovedValue) (edge : ℕ) (up down : Fate) (upwards d
       ∙ get_here (slice_set two.places (list_number edge Up) upwards) (list_number edge Down) downwards
       (let long = length-set two.places (list_number edge Up) upwards in omega (arith, long_two, long))
 
-  own : (dir : Dir) → IsPlacedAs new edge dir (fate_in up down dir)
+  own : (dir : Dir) → IsPlacedAs new edge dir (outcome_in up down dir)
   own Up = placed_as old one new edge Up up upwards first later up_at
   own Down = placed_as one two new edge Down down downwards second last down_at
 
-  pub placed_both : ArePlaced old new edge (fate_in up down)
+  pub placed_both : ArePlaced old new edge (outcome_in up down)
   placed_both = record {
     long = ap length places ∙ length-set (slice_set two.places (list_number edge Up) upwards) (list_number edge Down) downwards
         ∙ length-set two.places (list_number edge Up) upwards ∙ ap length same_places;

@@ -1,106 +1,105 @@
--- Recustomization: the edges taken out so far are those that were settled.
-use Rattle.std.proofs.Common.{◌≡◌, ◌<◌, ◌-◌, ◌∙◌, ℕ, List, [], ◌∷◌, ◌++◌, Some, ap, sym, subst, arith, inl, inr, length}
-use Rattle.std.specs.List.Sorted.{IsNonDecreasingBy, IsPermutation}
-use Rattle.std.proofs.lemmas.List.{length-map, map-append}
-use Rattle.std.proofs.lemmas.List.Sorted.{Contains-permutation, IsPermutation-map, IsPermutation-sym}
+-- Recustomization: the edges settled so far are the first of the touched ones.
+use Rattle.std.proofs.Common.{◌≡◌, ◌≤◌, ◌<◌, ◌+◌, ◌∙◌, ℕ, List, [], ◌∷◌, ◌++◌, Some, ap, refl, sym, subst, arith, length, get_or}
+use Rattle.std.specs.Prelude.{slice_get}
+use Rattle.std.specs.List.{Contains}
+use Rattle.std.specs.List.Sorted.{IsPermutation}
+use Rattle.std.proofs.lemmas.List.{length-map, length_push, map-append}
+use Rattle.std.proofs.lemmas.List.Sorted.{Contains-permutation, IsPermutation-map, IsPermutation-refl, IsPermutation-sym}
+use Rattle.std.proofs.lemmas.Option.{slice_get-get_or}
 use Rattle.cu_model.specs.declared.roads.Edit.{Edit}
 use Rattle.cu_model.specs.Edits.{IsEditInRange}
-use Rattle.cu_chordal.specs.declared.graph.Ends.{Ends}
-use Rattle.cu_chordal.specs.Graphs.{ChordalValue}
 use Rattle.cu_interval.specs.declared.ways.TouchedEdge.{TouchedEdge}
-use Rattle.cu_interval.specs.Hierarchies.{HierarchyValue, IsHierarchy, IsHierarchyOf}
+use Rattle.cu_interval.specs.Hierarchies.{HierarchyValue, IsHierarchy}
 use Rattle.cu_interval.specs.Replacing.{hierarchy_with}
 use Rattle.cu_interval.specs.Resettling.{IsResettled}
 use Rattle.cu_interval.specs.Touching.{IsTouchedEdge, NumbersTouched}
-use Rattle.cu_links.specs.Buckets.{BucketsValue, IsHeld, cleared}
-use Rattle.cu_chordal.proofs.Decided.{member_decided}
-use Rattle.cu_edits.specs.Settling.{HasFinalSides, IsResettledEdge, IsSettled, SettlingValue, numbers_of, settled_so_far}
+use Rattle.cu_edits.specs.Settling.{IsResettledEdge, IsSettled, SettlingValue, numbers_of, settled_so_far}
+use Rattle.cu_edits.specs.Steps.Holding.{IsNext, settling_of}
 use Rattle.cu_edits.specs.Steps.Known.{IsEditSound}
 use Rattle.cu_edits.specs.Steps.Settled.{AreSettled}
-use Rattle.cu_edits.specs.Steps.Spreading.{Adds, IsOfChanged, Takes}
-use Rattle.cu_edits.proofs.SettledAll.{AllSettled, all_resettled, all_sound, sorted_numbers, sorted_same}
+use Rattle.cu_edits.proofs.RisingEdges.{next_of_rising, split_at, whole_front}
+use Rattle.cu_edits.proofs.SettledAll.{AllSettled, all_resettled, all_sound}
 use Rattle.cu_edits.proofs.SettledFrames.{settled_more, settled_none}
-use Rattle.cu_edits.proofs.Spreading.{lower_first, spreading_end}
-use Rattle.cu_edits.proofs.TakingOut.{AreTaken, taken_next, taken_none}
 
-abbrev pub settling_of : HierarchyValue → Edit → List TouchedEdge → SettlingValue
-settling_of h edit lists = record { before = h; edit = edit; settled = lists }
-
--- the lists so far are those that the settler gave, of the edges taken out
-pub record AreRecustomized (h : HierarchyValue) (edit : Edit) (buckets : BucketsValue) (lists : List TouchedEdge) (s : SettlingValue) : Type 0 where
-  pub taken : AreTaken h edit buckets (numbers_of lists)
+-- the lists so far are those that the settler gave, of so many first edges
+pub record AreFirstSettled (h : HierarchyValue) (edit : Edit) (edges : List ℕ) (index : ℕ) (lists : List TouchedEdge) (s : SettlingValue) : Type 0 where
   pub state : s ≡ settling_of h edit lists
   pub are : AreSettled (settling_of h edit lists)
+  pub count : length lists ≡ index
+  pub rest : List ℕ
+  pub parts : numbers_of lists ++ rest ≡ edges
 
-pub recustomized_none : (h : HierarchyValue) (graph : ChordalValue) → IsHierarchyOf graph h → (edit : Edit) (ranks edges : ℕ) (buckets : BucketsValue) (s : SettlingValue)
-    → ranks ≡ graph.ranks → edges ≡ length graph.edges → Adds graph.edges (IsOfChanged h edit) (cleared ranks edges) buckets → s ≡ settling_of h edit []
-    → AreRecustomized h edit buckets [] s
-recustomized_none h graph of edit ranks edges buckets s ranks_are edges_are adds state = record {
-  taken = taken_none h graph of edit ranks edges buckets ranks_are edges_are adds;
+pub first_none : (h : HierarchyValue) → IsHierarchy h → (edit : Edit) (edges : List ℕ) (s : SettlingValue) → s ≡ settling_of h edit [] → AreFirstSettled h edit edges 0 [] s
+first_none h sound edit edges s state = record {
   state = state;
-  are = settled_none h edit of.1;
+  are = settled_none h edit sound;
+  count = refl;
+  rest = edges;
+  parts = refl;
 }
 
--- what settling the next edge asks for
-pub record IsNext (s : SettlingValue) (edge : ℕ) : Type 0 where
-  pub touched : IsTouchedEdge s.before s.edit edge
-  pub fresh : IsSettled s edge → ⊥
-  pub sides : HasFinalSides s edge
+module _ (h : HierarchyValue) (edit : Edit) (edges : List ℕ) (touched : NumbersTouched h edit edges) (index : ℕ) (lists : List TouchedEdge) (s : SettlingValue)
+    (first : AreFirstSettled h edit edges index lists s) where
+  -- the edges in their parts, before the next one is settled
+  front_here : index < length edges → (more : List ℕ) × (numbers_of lists ++ (get_or edges index 0 ∷ more) ≡ edges)
+  front_here lt =
+      let edge = get_or edges index 0 in
+      let long = length-map lists (λ (t : TouchedEdge). t.edge) in
+      let there : slice_get edges (length (numbers_of lists)) ≡ Some edge =
+      subst (λ (k : ℕ). slice_get edges k ≡ Some edge) (sym (long ∙ first.count)) (slice_get-get_or edges index 0 lt) in
+      let place = subst (λ (xs : List ℕ). slice_get xs (length (numbers_of lists)) ≡ Some edge) (sym first.parts) there in
+      let (more, same) = split_at (numbers_of lists) first.rest edge place in
+      (more, ap (λ (xs : List ℕ). numbers_of lists ++ xs) (sym same) ∙ first.parts)
 
-next_here : (h : HierarchyValue) → IsHierarchy h → (edit : Edit) (old new : BucketsValue) (lists : List TouchedEdge) (edge : ℕ) → AreTaken h edit old (numbers_of lists)
-    → Takes h.edges old new (Some edge) → IsNext (settling_of h edit lists) edge
-next_here h sound edit old new lists edge taken (rank, lowest, adds) =
-    let (ends, at, low) = taken.spreading.fit.held edge rank lowest.held in
-    record {
-      touched = taken.spreading.held edge rank lowest.held;
-      fresh = λ c. absurd (cc ((taken.listed edge).0 c, lowest.held));
-      sides = λ side (same, m, there, lower, higher, which). elim (member_decided (numbers_of lists) side) [
-        | inl c ↦ inl c
-        | inr n ↦ inr (λ touched.
-            let (given, place, is_touched) = touched in
-            let is : ends ≡ same = cc (at, there) in
-            let first = ((sound.edges.exact m same.low).0 lower).0 in
-            let rank_is : same.low ≡ rank = subst (λ (x : Ends). x.low ≡ rank) is low in
-            let begins : given.low ≡ m = elim which [
-              | inl one ↦ let same_ends : given ≡ record { low = m; high = same.low } = cc (place, one) in ap (λ (x : Ends). x.low) same_ends
-              | inr one ↦ let same_ends : given ≡ record { low = m; high = same.high } = cc (place, one) in ap (λ (x : Ends). x.low) same_ends
-            ] in
-            n ((taken.listed side).1 (lower_first h sound edit old taken.spreading edge rank lowest side given place (omega (arith, first, rank_is, begins)) touched)))
-      ];
-    }
+  -- what settling the next edge asks for
+  pub first_asks : index < length edges → IsNext s (get_or edges index 0)
+  first_asks lt =
+      let edge = get_or edges index 0 in
+      let (more, parts) = front_here lt in
+      subst (λ (x : SettlingValue). IsNext x edge) (sym first.state)
+      (next_of_rising (settling_of h edit lists) first.are.sound edge more (subst (NumbersTouched h edit) (sym parts) touched))
 
-pub recustomized_asks : (h : HierarchyValue) (graph : ChordalValue) → IsHierarchyOf graph h → (edit : Edit) (old new : BucketsValue) (lists : List TouchedEdge) (s : SettlingValue) (edge : ℕ)
-    → AreRecustomized h edit old lists s → Takes graph.edges old new (Some edge) → IsNext s edge
-recustomized_asks h graph (same, sound) edit old new lists s edge r takes =
-    subst (λ (x : SettlingValue). IsNext x edge) (sym r.state)
-    (next_here h sound edit old new lists edge r.taken (subst (λ (k : ChordalValue). Takes k.edges old new (Some edge)) same takes))
-
--- one more edge is taken out and settled
-pub recustomized_next : (h : HierarchyValue) (graph : ChordalValue) → IsHierarchyOf graph h
-    → (edit : Edit) (old new : BucketsValue) (lists grown : List TouchedEdge) (s next : SettlingValue) (edge : ℕ) (t : TouchedEdge)
-    → AreRecustomized h edit old lists s → Takes graph.edges old new (Some edge) → t.edge ≡ edge → next ≡ record s { settled = s.settled ++ (t ∷ []) }
-    → IsResettledEdge (settled_so_far next) t → grown ≡ lists ++ (t ∷ [])
-    → AreRecustomized h edit new grown next × (length graph.edges - length grown < length graph.edges - length lists)
-recustomized_next h graph of edit old new lists grown s next edge t r takes named state resettled grows =
-    let number : TouchedEdge → ℕ = λ (x : TouchedEdge). x.edge in
-    let asked : IsNext (settling_of h edit lists) t.edge = subst (IsNext (settling_of h edit lists)) (sym named)
-    (subst (λ (x : SettlingValue). IsNext x edge) r.state (recustomized_asks h graph of edit old new lists s edge r takes)) in
-    let moved : next ≡ settling_of h edit (lists ++ (t ∷ [])) = state ∙ ap (λ (x : SettlingValue). record x { settled = x.settled ++ (t ∷ []) }) r.state in
-    let numbers : numbers_of grown ≡ numbers_of lists ++ (edge ∷ []) =
-    ap numbers_of grows ∙ map-append number lists (t ∷ []) ∙ ap (λ (e : ℕ). numbers_of lists ++ (e ∷ [])) named in
-    let (taken, shorter) = taken_next h graph of edit old new (numbers_of lists) (numbers_of grown) edge r.taken takes numbers in
-    let long = length-map lists number in
-    let longer = length-map grown number in
-    let are = settled_more (settling_of h edit lists) r.are t asked.touched asked.fresh asked.sides (subst (λ (x : SettlingValue). IsResettledEdge (settled_so_far x) t) moved resettled) in (
+  -- one more edge is settled
+  pub first_next : index < length edges → (grown : List TouchedEdge) (next : SettlingValue) (t : TouchedEdge) → t.edge ≡ get_or edges index 0
+      → next ≡ record s { settled = s.settled ++ (t ∷ []) } → IsResettledEdge (settled_so_far next) t → grown ≡ lists ++ (t ∷ [])
+      → AreFirstSettled h edit edges (index + 1) grown next
+  first_next lt grown next t named state resettled grows =
+      let number : TouchedEdge → ℕ = λ (x : TouchedEdge). x.edge in
+      let (more, parts) = front_here lt in
+      let own = subst (λ (e : ℕ). numbers_of lists ++ (e ∷ more) ≡ edges) (sym named) parts in
+      let asked = next_of_rising (settling_of h edit lists) first.are.sound t.edge more (subst (NumbersTouched h edit) (sym own) touched) in
+      let moved : next ≡ settling_of h edit (lists ++ (t ∷ [])) = state ∙ ap (λ (x : SettlingValue). record x { settled = x.settled ++ (t ∷ []) }) first.state in
+      let are = settled_more (settling_of h edit lists) first.are t asked.touched asked.fresh asked.sides (subst (λ (x : SettlingValue). IsResettledEdge (settled_so_far x) t) moved resettled) in
+      let long : length grown ≡ length (lists ++ (t ∷ [])) = ap (λ (x : List TouchedEdge). length x) grows in
+      let longer = length_push lists t in
+      let count = first.count in
       record {
-        taken = taken;
         state = moved ∙ ap (settling_of h edit) (sym grows);
         are = subst (λ (x : List TouchedEdge). AreSettled (settling_of h edit x)) (sym grows) are;
-      },
-      omega (arith, shorter, long, longer),
-    )
+        count = omega (arith, long, longer, count);
+        rest = more;
+        parts = ap (λ (x : List TouchedEdge). numbers_of x ++ more) grows ∙ ap (λ (xs : List ℕ). xs ++ more) (map-append number lists (t ∷ []))
+            ∙ append_one (numbers_of lists) t.edge more ∙ own;
+      }
+    where
+      append_one : (front : List ℕ) (edge : ℕ) (rest : List ℕ) → (front ++ (edge ∷ [])) ++ rest ≡ front ++ (edge ∷ rest)
+      append_one [] edge rest = refl
+      append_one (x ∷ front) edge rest = ap (λ (xs : List ℕ). x ∷ xs) (append_one front edge rest)
 
--- in the end all touched edges were
+  -- in the end all edges are
+  pub first_all : length edges ≤ index → numbers_of lists ≡ edges
+  first_all done =
+      let long = length-map lists (λ (t : TouchedEdge). t.edge) in
+      let count = first.count in
+      let parts = ap (λ (xs : List ℕ). length xs) first.parts in
+      let within = front_within (numbers_of lists) first.rest in
+      whole_front (numbers_of lists) first.rest edges first.parts (omega (arith, done, long, count, parts, within))
+    where
+      front_within : (xs ys : List ℕ) → length xs ≤ length (xs ++ ys)
+      front_within [] ys = omega arith
+      front_within (x ∷ xs) ys = let h = front_within xs ys in omega (arith, h)
+
+-- all touched edges were settled
 pub record IsRecustomized (h : HierarchyValue) (edit : Edit) (s : SettlingValue) (lists : List TouchedEdge) : Type 0 where
   pub touched : NumbersTouched h edit (numbers_of lists)
   pub settled : IsPermutation s.settled lists
@@ -108,29 +107,18 @@ pub record IsRecustomized (h : HierarchyValue) (edit : Edit) (s : SettlingValue)
   pub sound : IsHierarchy (hierarchy_with h edit lists)
   pub same : settled_so_far s ≡ hierarchy_with h edit lists
 
-pub recustomized_all : (h : HierarchyValue) → IsHierarchy h → (edit : Edit) (buckets : BucketsValue) (lists sorted : List TouchedEdge) (s : SettlingValue)
-    → AreRecustomized h edit buckets lists s → ((e rank : ℕ) → IsHeld buckets e rank → ⊥) → IsEditInRange h.network edit → IsEditSound edit
-    → IsPermutation lists sorted → IsNonDecreasingBy (λ (t : TouchedEdge). t.edge) sorted → IsRecustomized h edit s sorted
-recustomized_all h sound edit buckets lists sorted s r none range sets moved up =
+pub recustomized_all : (h : HierarchyValue) (edit : Edit) (edges : List ℕ) → NumbersTouched h edit edges → (index : ℕ) (lists : List TouchedEdge) (s : SettlingValue)
+    → AreFirstSettled h edit edges index lists s → length edges ≤ index → IsEditInRange h.network edit → IsEditSound edit → IsRecustomized h edit s lists
+recustomized_all h edit edges touched index lists s first done range sets =
     let settled = settling_of h edit lists in
-    let ends = spreading_end h sound edit buckets r.taken.spreading none in
-    let all : AllSettled settled = λ e touched. (r.taken.listed e).1 ((ends e).1 touched) in
-    let rising = sorted_numbers lists sorted r.are.once moved up in
-    let same = sorted_same settled r.are sorted moved rising in
-    let numbers = IsPermutation-map (λ (t : TouchedEdge). t.edge) lists sorted moved in
-    let back = IsPermutation-sym (numbers_of lists) (numbers_of sorted) numbers in
+    let whole = first_all h edit edges touched index lists s first done in
+    let all : AllSettled settled = λ e is. subst (λ (xs : List ℕ). Contains xs e) (sym whole) ((touched.exact e).1 is) in
     record {
-      touched = record {
-        rising = rising;
-        exact = λ e. (
-          (λ c. (ends e).0 ((r.taken.listed e).0 (Contains-permutation (numbers_of sorted) (numbers_of lists) e back c))),
-          λ touched. Contains-permutation (numbers_of lists) (numbers_of sorted) e numbers ((r.taken.listed e).1 ((ends e).1 touched)),
-        );
-      };
-      settled = subst (λ (x : SettlingValue). IsPermutation x.settled sorted) (sym r.state) moved;
-      resettled = subst (IsResettled h edit) same (all_resettled settled r.are all);
-      sound = subst IsHierarchy same (all_sound settled r.are all range sets);
-      same = ap settled_so_far r.state ∙ same;
+      touched = subst (NumbersTouched h edit) (sym whole) touched;
+      settled = subst (λ (x : SettlingValue). IsPermutation x.settled lists) (sym first.state) (IsPermutation-refl lists);
+      resettled = all_resettled settled first.are all;
+      sound = all_sound settled first.are all range sets;
+      same = ap settled_so_far first.state;
     }
 
 -- so each of them is among those that the settler settled

@@ -5,16 +5,14 @@ use Rattle.std.specs.List.{AllPairs, Contains}
 use Rattle.std.proofs.lemmas.List.Elements.{All-contains}
 use Rattle.std.proofs.lemmas.List.{length-set}
 use Rattle.cu_model.specs.declared.roads.Edit.{Edit}
-use Rattle.cu_model.proofs.ListLaws.{get_here, get_other, same_items}
+use Rattle.cu_model.proofs.ListLaws.{get_here, get_other}
 use Rattle.cu_chordal.proofs.Members.{here, member_cases, none_in_nil, pairs_head, pairs_tail, there}
-use Rattle.cu_chordal.proofs.Decided.{member_decided}
 use Rattle.cu_interval.specs.declared.ways.Dir.{Dir}
 use Rattle.cu_interval.specs.declared.ways.Dir.TheVariants.{Up, Down}
 use Rattle.cu_interval.specs.declared.ways.Entry.{Entry}
 use Rattle.cu_interval.specs.declared.ways.TouchedEdge.{TouchedEdge}
 use Rattle.cu_interval.specs.Hierarchies.{HierarchyValue, entries_or_none, list_number, list_of}
 use Rattle.cu_interval.specs.Replacing.{hierarchy_with, replaced, replaced_by}
-use Rattle.cu_interval.proofs.EndsLaws.{each_number}
 use Rattle.cu_interval.proofs.Replacing.{replaced_by_long}
 use Rattle.cu_edits.specs.Settling.{list_in, numbers_of}
 
@@ -99,21 +97,3 @@ module _ (h : HierarchyValue) (edit : Edit) (edges : List TouchedEdge) where
   list_pushed t e d ne =
       ap (λ (lists : List (List Entry)). entries_or_none (slice_get lists (list_number e d))) (replaced_push edges h.lists t)
       ∙ ap entries_or_none (replaced_by_other (replaced h.lists edges) t e d ne)
-
--- the order in which lists are replaced doesn't matter
-pub replaced_same : (first second : List TouchedEdge) (lists : List (List Entry)) → AreApart first → AreApart second → ((t : TouchedEdge) → Contains first t → Contains second t)
-    → ((t : TouchedEdge) → Contains second t → Contains first t) → ((t : TouchedEdge) → Contains first t → 2 * t.edge + 1 < length lists)
-    → replaced lists first ≡ replaced lists second
-replaced_same first second lists apart differ there_too back within =
-    same_items (replaced lists first) (replaced lists second) (λ i.
-    let (e, d, is) = each_number i in
-    subst (λ (n : ℕ). slice_get (replaced lists first) n ≡ slice_get (replaced lists second) n) is
-    (elim (member_decided (numbers_of first) e) [
-      | inl c ↦
-          let (t, among, same) = number_of_one first e c in
-          subst (λ (n : ℕ). slice_get (replaced lists first) (list_number n d) ≡ slice_get (replaced lists second) (list_number n d)) same
-          (replaced_here first lists t d apart among (within t among) ∙ sym (replaced_here second lists t d differ (there_too t among) (within t among)))
-      | inr n ↦
-          replaced_other first lists e d n
-          ∙ sym (replaced_other second lists e d (λ c. let (t, among, same) = number_of_one second e c in n (subst (Contains (numbers_of first)) same (number_among first t (back t among)))))
-    ]))

@@ -1,21 +1,15 @@
 -- Where all touched edges are settled the hierarchy is the resettled one.
-use Rattle.std.proofs.Common.{◌≡◌, ◌≢◌, ◌∙◌, ℕ, List, [], Some, refl, ap, sym, subst, arith, inl, inr, get_or, eqb}
+use Rattle.std.proofs.Common.{◌≡◌, ◌≢◌, ◌∙◌, ℕ, List, [], Some, refl, ap, sym, subst, arith, inl, inr, get_or}
 use Rattle.std.specs.Prelude.{All, slice_get}
-use Rattle.std.specs.List.{AllPairs}
-use Rattle.std.specs.List.Sorted.{IsNonDecreasing, IsNonDecreasingBy, IsPermutation, IsStrictlyIncreasing}
-use Rattle.std.proofs.lemmas.Bool.Decides.{Decides-eqb}
+use Rattle.std.specs.List.Sorted.{IsStrictlyIncreasing}
 use Rattle.std.proofs.lemmas.List.{get_or-map, length-map}
 use Rattle.std.proofs.lemmas.List.Kept.{AllPairs-from_increasing}
-use Rattle.std.proofs.lemmas.List.Sorted.{Contains-permutation, IsPermutation-map, IsPermutation-sym}
-use Rattle.std.proofs.lemmas.Map.Keys.{IsDistinct-IsPermutation, IsStrictlyIncreasing-from_distinct}
-use Rattle.std.proofs.lemmas.Map.Made.{IsDistinct-from_AllPairs}
-use Rattle.std.proofs.lemmas.Option.{slice_get-get_or, slice_get_within}
-use Rattle.cu_model.specs.Edits.{IsEditInRange, edited}
+use Rattle.std.proofs.lemmas.Option.{slice_get-get_or}
+use Rattle.cu_model.specs.Edits.{IsEditInRange}
 use Rattle.cu_model.proofs.RoadLaws.{all_at}
 use Rattle.cu_model.proofs.EditLaws.{nodes_edited}
 use Rattle.cu_chordal.specs.declared.graph.Ends.{Ends}
 use Rattle.cu_chordal.specs.Graphs.{IsChordal}
-use Rattle.cu_chordal.proofs.Members.{flips}
 use Rattle.cu_chordal.proofs.Decided.{member_decided}
 use Rattle.cu_interval.specs.declared.ways.Dir.{Dir}
 use Rattle.cu_interval.specs.declared.ways.Way.{Way}
@@ -23,7 +17,6 @@ use Rattle.cu_interval.specs.declared.ways.Way.TheVariants.{Road, Via}
 use Rattle.cu_interval.specs.declared.ways.Entry.{Entry}
 use Rattle.cu_interval.specs.declared.ways.TouchedEdge.{TouchedEdge}
 use Rattle.cu_interval.specs.Hierarchies.{IsHierarchy, IsWellFormed, end_of, entries_or_none, graph_of, list_number, list_of, start_of}
-use Rattle.cu_interval.specs.Replacing.{hierarchy_with}
 use Rattle.cu_interval.specs.Resettling.{ArrivesIn, IsCandidateIn, IsResettled, IsResettledList}
 use Rattle.cu_interval.specs.Touching.{IsTouchedEdge}
 use Rattle.cu_interval.specs.WayLists.{IsWayList}
@@ -34,11 +27,12 @@ use Rattle.cu_edits.specs.Steps.Known.{IsEditSound}
 use Rattle.cu_edits.specs.Steps.Settled.{AreSettled}
 use Rattle.cu_edits.specs.Steps.Frames.{LeadsOver}
 use Rattle.cu_edits.proofs.Frames.{candidates_alone}
-use Rattle.cu_edits.proofs.Replaced.{AreApart, number_among, number_of_one, replaced_other, replaced_same}
+use Rattle.cu_edits.proofs.Replaced.{AreApart, number_of_one, replaced_other}
 use Rattle.cu_edits.proofs.SettledFrames.{all_so, leads_touched, settled_list, untouched_frame, untouched_list, untouched_sides}
 use Rattle.cu_edits.proofs.Sides.{edge_down, edge_up, halves_good, over}
-use Rattle.cu_edits.proofs.Unchanged.{edited_network, leads_joins, leads_still}
-use Rattle.cu_edits.proofs.Unmoved.{closure_edited}
+use Rattle.cu_edits.proofs.EditedNetworks.{edited_network}
+use Rattle.cu_resettled.proofs.Unchanged.{leads_joins, leads_still}
+use Rattle.cu_resettled.proofs.Unmoved.{closure_edited}
 
 -- every touched edge was settled
 abbrev pub AllSettled : SettlingValue → Type 0
@@ -135,18 +129,7 @@ all_sound s are all range sets =
       formed = λ edge dir ends at. formed_at s are all edge dir ends at;
     }
 
--- the edges in another order
-no_edge : TouchedEdge
-no_edge = record { edge = 0; up = []; down = [] }
-
-numbers_differ : (edges : List TouchedEdge) → AreApart edges → AllPairs (λ x y. x ≢ y) (numbers_of edges)
-numbers_differ edges apart = λ i j d lt inside.
-    let number : TouchedEdge → ℕ = λ (t : TouchedEdge). t.edge in
-    let long = length-map edges number in
-    let first = get_or-map number edges i no_edge d (omega (arith, lt, inside, long)) in
-    let second = get_or-map number edges j no_edge d (omega (arith, inside, long)) in
-    λ same. apart i j no_edge lt (omega (arith, inside, long)) (sym first ∙ same ∙ second)
-
+-- edges by rising number differ
 pub edges_differ : (edges : List TouchedEdge) → IsStrictlyIncreasing (numbers_of edges) → AreApart edges
 edges_differ edges rising = λ i j d lt inside.
     let number : TouchedEdge → ℕ = λ (t : TouchedEdge). t.edge in
@@ -155,32 +138,3 @@ edges_differ edges rising = λ i j d lt inside.
     let first = get_or-map number edges i d 0 (omega (arith, lt, inside)) in
     let second = get_or-map number edges j d 0 inside in
     λ same. omega (arith, less, first, second, same)
-
-numbers_rise : (edges : List TouchedEdge) → IsNonDecreasingBy (λ (t : TouchedEdge). t.edge) edges → IsNonDecreasing (numbers_of edges)
-numbers_rise edges up = λ i j d le inside.
-    let number : TouchedEdge → ℕ = λ (t : TouchedEdge). t.edge in
-    let long = length-map edges number in
-    let first = get_or-map number edges i no_edge d (omega (arith, le, inside, long)) in
-    let second = get_or-map number edges j no_edge d (omega (arith, inside, long)) in
-    let step = up i j no_edge le (omega (arith, inside, long)) in
-    omega (arith, step, first, second)
-
-pub sorted_numbers : (settled sorted : List TouchedEdge) → AreApart settled → IsPermutation settled sorted → IsNonDecreasingBy (λ (t : TouchedEdge). t.edge) sorted
-    → IsStrictlyIncreasing (numbers_of sorted)
-sorted_numbers settled sorted apart moved up =
-    IsStrictlyIncreasing-from_distinct (numbers_of sorted) (numbers_rise sorted up)
-    (IsDistinct-IsPermutation eqb flips (numbers_of settled) (numbers_of sorted) (IsPermutation-map (λ (t : TouchedEdge). t.edge) settled sorted moved)
-    (IsDistinct-from_AllPairs Decides-eqb (numbers_of settled) (numbers_differ settled apart)))
-
-pub sorted_same : (s : SettlingValue) → AreSettled s → (sorted : List TouchedEdge) → IsPermutation s.settled sorted → IsStrictlyIncreasing (numbers_of sorted)
-    → settled_so_far s ≡ hierarchy_with s.before s.edit sorted
-sorted_same s are sorted moved rising =
-    let back = IsPermutation-sym s.settled sorted moved in
-    let same = replaced_same s.settled sorted s.before.lists are.once (edges_differ sorted rising) (λ t c. Contains-permutation s.settled sorted t moved c)
-    (λ t c. Contains-permutation sorted s.settled t back c)
-    (λ t c.
-    let (ends, at, touched) = are.touched t.edge (number_among s.settled t c) in
-    let inside = slice_get_within s.before.edges t.edge ends at in
-    let long = are.sound.lists in
-    omega (arith, inside, long)) in
-    ap (λ (lists : List (List Entry)). record s.before { network = edited s.before.network s.edit; lists = lists }) same

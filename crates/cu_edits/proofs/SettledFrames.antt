@@ -27,7 +27,7 @@ use Rattle.cu_edits.specs.Steps.Frames.{IsFrame, IsFramed, LeadsOver, PairOf}
 use Rattle.cu_edits.proofs.Frames.{ChoosesAlike, candidates_alone, runs_alike, via_same}
 use Rattle.cu_edits.proofs.Replaced.{list_kept, list_pushed, list_replaced, number_among, number_of_one}
 use Rattle.cu_edits.proofs.Sides.{edge_down, edge_up, halves_good, list_at, over, side_touched}
-use Rattle.cu_edits.proofs.Unchanged.{leads_joins, unchanged_alike}
+use Rattle.cu_resettled.proofs.Unchanged.{leads_joins, unchanged_alike}
 
 -- one more edge is settled
 abbrev pub settled_with : SettlingValue → TouchedEdge → SettlingValue

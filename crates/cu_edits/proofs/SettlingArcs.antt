@@ -1,5 +1,5 @@
 -- What settling an edge asks of the roads and of its lower sides.
-use Rattle.std.proofs.Common.{◌≡◌, ◌<◌, ℕ, List, Option, Some, ap, sym, subst, arith, inl, inr, length, true}
+use Rattle.std.proofs.Common.{◌≡◌, ◌<◌, ◌*◌, ◌∙◌, ℕ, List, Option, Some, ap, sym, subst, arith, inl, inr, length, true}
 use Rattle.std.specs.Prelude.{All, slice_get}
 use Rattle.std.specs.List.Sorted.{IsStrictlyIncreasing}
 use Rattle.std.proofs.lemmas.Option.{slice_get-get_or}
@@ -11,6 +11,7 @@ use Rattle.cu_model.proofs.RoadLaws.{links_within}
 use Rattle.cu_model.proofs.EditLaws.{arcs_edited}
 use Rattle.cu_arrival.specs.declared.runs.Run.{Run}
 use Rattle.cu_chordal.specs.declared.graph.Ends.{Ends}
+use Rattle.cu_chordal.specs.Graphs.{ChordalValue}
 use Rattle.cu_chordal.proofs.Members.{all_from_members}
 use Rattle.cu_interval.specs.declared.ways.Dir.{Dir}
 use Rattle.cu_interval.specs.declared.ways.Dir.TheVariants.{Up, Down}
@@ -21,10 +22,11 @@ use Rattle.cu_interval.specs.Hierarchies.{end_of, list_number, start_of}
 use Rattle.cu_interval.proofs.Lookups.{number_found}
 use Rattle.cu_customize.specs.Functions.{FunctionsState}
 use Rattle.cu_customize.specs.Settling.{IsSettledList, IsValueOf, KnowsHalves}
-use Rattle.cu_edits.specs.declared.known.EdgeFunctions.{EdgeFunctions}
+use Rattle.cu_edits.specs.declared.edge_functions.EdgeFunctions.{EdgeFunctions}
 use Rattle.cu_edits.specs.Settling.{IsLowerSide, list_in}
 use Rattle.cu_edits.specs.Steps.Holding.{IsSettledEdge}
 use Rattle.cu_edits.specs.Steps.Known.{HasFunctions, function_in, functions_of, is_known}
+use Rattle.cu_edits.specs.Steps.Parts.{FitTogether, PartsValue}
 
 -- the roads of an edge are roads of the edited network
 pub arcs_within : (g : NetworkValue) (o : OrderValue) (edges : List Ends) (lists : List (List ℕ)) (edit : Edit) (edge : ℕ) (dir : Dir) → AreEdgeArcs g o edges lists → edge < length edges
@@ -89,3 +91,36 @@ settled_both edges arcs f edge lists functions named up down = record { number =
     values : (dir : Dir) (ends : Ends) → slice_get edges edge ≡ Some ends → IsValueOf edges f (start_of ends dir) (end_of ends dir) (list_in lists dir) (function_in functions dir)
     values Up = up.value
     values Down = down.value
+
+-- what settling the list of an edge in a direction by these functions asks for
+pub record AsksList (edges : List Ends) (lists : List (List ℕ)) (f : FunctionsState) (edge : ℕ) (dir : Dir) : Type 0 where
+  pub inside : edge < length edges
+  pub long : length lists ≡ 2 * length edges
+  pub arcs : (list : List ℕ) → slice_get lists (list_number edge dir) ≡ Some list → All (λ a. a < f.arcs) list
+  pub halves : (ends : Ends) → slice_get edges edge ≡ Some ends → KnowsHalves edges f (start_of ends dir) (end_of ends dir)
+
+module _ (p : PartsValue) (graph : ChordalValue) (lists : List (List ℕ)) (of_graph : graph ≡ p.graph) (of_lists : lists ≡ p.arcs) where
+  -- over what stands for the graph and the roads of these parts, and for these functions
+  pub asks_list : FitTogether p → (known : List (Option EdgeFunctions)) (f : FunctionsState) → f ≡ functions_of (record { network = edited p.before.network p.edit; known = known }) → (edge : ℕ)
+      → edge < length p.graph.edges → ((side : ℕ) → IsLowerSide p.graph.edges edge side → HasFunctions known side) → (dir : Dir) → AsksList graph.edges lists f edge dir
+  asks_list fit known f meant edge inside sides dir =
+      let h = p.before in
+      let asked = functions_of (record { network = edited h.network p.edit; known = known }) in
+      let same : p.graph.edges ≡ h.edges = ap (λ (k : ChordalValue). k.edges) fit.0.hierarchy.0 in
+      let own = subst (λ (es : List Ends). edge < length es) same inside in
+      subst (λ (s : FunctionsState). AsksList graph.edges lists s edge dir) (sym meant)
+      (subst (λ (ls : List (List ℕ)). AsksList graph.edges ls asked edge dir) (sym of_lists)
+      (subst (λ (k : ChordalValue). AsksList k.edges p.arcs asked edge dir) (sym of_graph) (record {
+        inside = inside;
+        long = fit.0.roads.long ∙ ap (λ (es : List Ends). 2 * length es) (sym same);
+        arcs = arcs_within h.network h.order h.edges p.arcs p.edit edge dir fit.0.roads own;
+        halves = halves_known p.graph.edges (edited h.network p.edit) known edge dir sides;
+      })))
+
+  -- what was settled over these is settled over the parts
+  pub settled_over : (f asked : FunctionsState) → f ≡ asked → (edge : ℕ) (dir : Dir) (list : List Entry) (function : Option (List Run)) → IsSettledIn graph.edges lists f edge dir list function
+      → IsSettledIn p.graph.edges p.arcs asked edge dir list function
+  settled_over f asked same edge dir list function is =
+      subst (λ (s : FunctionsState). IsSettledIn p.graph.edges p.arcs s edge dir list function) same
+      (subst (λ (ls : List (List ℕ)). IsSettledIn p.graph.edges ls f edge dir list function) of_lists
+      (subst (λ (k : ChordalValue). IsSettledIn k.edges lists f edge dir list function) of_graph is))

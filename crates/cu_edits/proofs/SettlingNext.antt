@@ -8,11 +8,10 @@ use Rattle.cu_model.proofs.RoadLaws.{all_at}
 use Rattle.cu_chordal.specs.declared.graph.Ends.{Ends}
 use Rattle.cu_chordal.specs.Graphs.{ChordalValue, IsChordal}
 use Rattle.cu_interval.specs.declared.ways.TouchedEdge.{TouchedEdge}
-use Rattle.cu_interval.specs.EdgeArcs.{AreEdgeArcs}
 use Rattle.cu_interval.specs.Hierarchies.{HierarchyValue}
 use Rattle.cu_interval.specs.Touching.{IsTouchedEdge}
 use Rattle.cu_unpack.specs.Rebuilds.{Keeps, RebuiltValue}
-use Rattle.cu_edits.specs.declared.known.EdgeFunctions.{EdgeFunctions}
+use Rattle.cu_edits.specs.declared.edge_functions.EdgeFunctions.{EdgeFunctions}
 use Rattle.cu_edits.specs.Settling.{HasFinalSides, IsLowerSide, IsResettledEdge, IsSettled, SettlingValue, settled_so_far}
 use Rattle.cu_edits.specs.Steps.Holding.{IsNext, IsSettledEdge, IsSettling, settling_of}
 use Rattle.cu_edits.specs.Steps.Known.{HasFunctions, IsSide, Learns, functions_of}
@@ -30,10 +29,6 @@ module _ (s : SettlingValue) (graph : ChordalValue) (arcs : List (List ℕ)) (re
       let inside = slice_get_within s.before.edges edge ends at in
       let long : length graph.edges ≡ length s.before.edges = ap (λ (es : List Ends). length es) (same_edges old) in
       omega (arith, inside, long)
-
-  pub next_roads : IsSettling s graph arcs rebuilt known → AreEdgeArcs s.before.network s.before.order graph.edges arcs
-  next_roads old =
-      subst (λ (es : List Ends). AreEdgeArcs s.before.network s.before.order es arcs) (sym (same_edges old)) old.roads
 
 pub ends_within : (graph : ChordalValue) (edge : ℕ) (ends : Ends) → IsChordal graph → slice_get graph.edges edge ≡ Some ends → (ends.low < graph.ranks) × (ends.high < graph.ranks)
 ends_within graph edge ends sound at =

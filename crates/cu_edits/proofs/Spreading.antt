@@ -17,7 +17,7 @@ use Rattle.cu_interval.specs.Touching.{IsTouched, IsTouchedEdge, by_first, by_ro
 use Rattle.cu_interval.proofs.EndsLaws.{ends_rise}
 use Rattle.cu_links.specs.declared.buckets.EdgeState.{EdgeState}
 use Rattle.cu_links.specs.declared.buckets.EdgeState.TheVariants.{Free, Held, Done}
-use Rattle.cu_links.specs.Buckets.{BucketsValue, IsDone, IsFree, IsHeld, IsLowestHeld, cleared, popped}
+use Rattle.cu_links.specs.Buckets.{BucketsValue, IsDone, IsFree, IsHeld, cleared, popped}
 use Rattle.cu_edits.specs.Steps.Spreading.{Adds, AreBucketsOf, IsAbove, IsBetween, IsLowEnd, IsOfChanged, Takes}
 use Rattle.cu_edits.proofs.AddingEdges.{buckets_of_added, done_before, free_before}
 
@@ -201,12 +201,6 @@ module _ (h : HierarchyValue) (sound : IsHierarchy h) (edit : Edit) (buckets : B
         let other : HasEdge h.edges m x = (sound.edges.exact m x).1 (low, first) in
         let before = reached m y touched (omega (arith, low, below)) k side in
         done_below x y e below at (s.above k e before (record { low = m; high = y }, x, side, other, between_up h.edges x y e lt at))
-
-  -- each touched edge of a lower rank was taken out before an edge of the lowest rank held
-  pub lower_first : (edge rank : ℕ) → IsLowestHeld buckets edge rank → (e : ℕ) (ends : Ends) → slice_get h.edges e ≡ Some ends → ends.low < rank → IsTouchedEdge h edit e → IsDone buckets e
-  lower_first edge rank lowest e ends at below (same, there, touched) =
-      let is : same ≡ ends = same_value (slice_get h.edges e) same ends there at in
-      reached rank lowest.lowest same.low same.high touched (subst (λ (x : Ends). x.low < rank) (sym is) below) e there
 
   -- where none is held any more, the edges taken out are the touched ones
   pub spreading_end : ((e rank : ℕ) → IsHeld buckets e rank → ⊥) → (e : ℕ) → IsDone buckets e ↔ IsTouchedEdge h edit e

@@ -15,7 +15,7 @@ use Rattle.cu_interval.specs.Touching.{IsChanged}
 use Rattle.cu_edits.specs.Steps.Frames.{IsFrame}
 use Rattle.cu_edits.proofs.Frames.{ChoosesAlike, via_same}
 use Rattle.cu_edits.proofs.Sides.{edge_down, edge_up}
-use Rattle.cu_edits.proofs.Unchanged.{joins_leads, leads_joins, leads_still, ranks_kept, unchanged_alike}
+use Rattle.cu_resettled.proofs.Unchanged.{joins_leads, leads_joins, leads_still, ranks_kept, unchanged_alike}
 
 module _ (before : HierarchyValue) (edit : Edit) (ts : List TouchedEdge) (Pair : ℕ → ℕ → Type 0) (frame : IsFrame before (hierarchy_with before edit ts) Pair) (u v : ℕ) where
   abbrev pub after : HierarchyValue

@@ -13,17 +13,17 @@ use Rattle.cu_interval.specs.declared.ways.Entry.{Entry}
 use Rattle.cu_interval.specs.declared.ways.TouchedEdge.{TouchedEdge}
 use Rattle.cu_interval.specs.Hierarchies.{HierarchyValue, end_of, list_from, list_number, list_of, start_of}
 use Rattle.cu_interval.specs.Touching.{IsTouchedEdge}
-use Rattle.cu_unpack.specs.RebuiltWords.{IsRebuiltWords}
-use Rattle.cu_edits.specs.declared.new_list.Fate.{Fate}
-use Rattle.cu_edits.specs.declared.new_list.Fate.TheVariants.{Stands, Moves}
+use Rattle.cu_unpack.specs.RebuiltRuns.{IsRebuiltRuns}
+use Rattle.cu_edits.specs.declared.new_list.Outcome.{Outcome}
+use Rattle.cu_edits.specs.declared.new_list.Outcome.TheVariants.{Stands, Moves}
 use Rattle.cu_edits.specs.Settling.{IsFinal, IsSettled, SettlingValue, list_in, settled_so_far}
 use Rattle.cu_edits.specs.Steps.Frames.{IsFrame, IsFramed, LeadsOver}
-use Rattle.cu_edits.specs.Steps.Moving.{IsFate, IsMovedTo, IsUnmoved, MovedValue, SayValue, StandingPair}
+use Rattle.cu_edits.specs.Steps.Moving.{IsOutcome, IsMovedTo, IsUnmoved, MovedValue, SayValue, StandingPair}
 use Rattle.cu_edits.specs.Steps.Settled.{AreSettled}
 use Rattle.cu_edits.proofs.Replaced.{list_pushed}
 use Rattle.cu_edits.proofs.SettledFrames.{FinalPair, all_so, final_still, other_edge, settled_cases, settled_itself, settled_list, settled_still, settled_with, stays_frame, untouched_frame}
 use Rattle.cu_edits.proofs.Sides.{list_at, over}
-use Rattle.cu_edits.proofs.WordsStay.{words_stay}
+use Rattle.cu_edits.proofs.PackedStay.{packed_stay}
 
 -- the pairs of a frame may be more
 pub framed_as : (a b : HierarchyValue) (P Q : ℕ → ℕ → Type 0) → ((x y : ℕ) → P x y → Q x y) → (u v : ℕ) (way : Way) → IsFramed a b P u v way → IsFramed a b Q u v way
@@ -31,24 +31,24 @@ framed_as a b P Q so u v (Road road) framed = framed
 framed_as a b P Q so u v (Via m) (to, on, first, second) = (to, on, so u m first, so m v second)
 
 -- what became of both lists of an edge is in its place
-abbrev pub IsPlacedAs : MovedValue → ℕ → Dir → Fate → Type 0
+abbrev pub IsPlacedAs : MovedValue → ℕ → Dir → Outcome → Type 0
 IsPlacedAs moved edge dir Stands = IsUnmoved moved edge dir
 IsPlacedAs moved edge dir (Moves function) = IsMovedTo moved edge dir function
 
-pub record ArePlaced (old new : MovedValue) (edge : ℕ) (fate : Dir → Fate) : Type 0 where
+pub record ArePlaced (old new : MovedValue) (edge : ℕ) (outcome : Dir → Outcome) : Type 0 where
   pub long : length new.places ≡ length old.places
   pub inside : All (λ (place : ℕ). place ≤ length new.functions) new.places
   pub others : (e : ℕ) (dir : Dir) → edge ≢ e → slice_get new.places (list_number e dir) ≡ slice_get old.places (list_number e dir)
   pub functions : (place : ℕ) → place < length old.functions → slice_get new.functions place ≡ slice_get old.functions place
-  pub own : (dir : Dir) → IsPlacedAs new edge dir (fate dir)
+  pub own : (dir : Dir) → IsPlacedAs new edge dir (outcome dir)
 
 -- a list that isn't moved stands
-stood : (moved : MovedValue) (edge : ℕ) (dir : Dir) (fate : Fate) → IsPlacedAs moved edge dir fate → IsUnmoved moved edge dir → fate ≡ Stands
+stood : (moved : MovedValue) (edge : ℕ) (dir : Dir) (outcome : Outcome) → IsPlacedAs moved edge dir outcome → IsUnmoved moved edge dir → outcome ≡ Stands
 stood moved edge dir Stands is unmoved = refl
 stood moved edge dir (Moves function) (place, at, there) unmoved = let no : Some (suc place) ≡ Some 0 = sym at ∙ unmoved in absurd (cc no)
 
 -- and one that is has the function that it was moved to
-went : (moved : MovedValue) (edge : ℕ) (dir : Dir) (fate : Fate) (function : Option (List Run)) → IsPlacedAs moved edge dir fate → IsMovedTo moved edge dir function → fate ≡ Moves function
+went : (moved : MovedValue) (edge : ℕ) (dir : Dir) (outcome : Outcome) (function : Option (List Run)) → IsPlacedAs moved edge dir outcome → IsMovedTo moved edge dir function → outcome ≡ Moves function
 went moved edge dir Stands function unmoved (place, at, there) = let no : Some 0 ≡ Some (suc place) = sym unmoved ∙ at in absurd (cc no)
 went moved edge dir (Moves given) function (p, at, there) (q, here, is) =
     let same : p ≡ q = cc (at, here) in
@@ -80,8 +80,8 @@ stands_none s are moved none unmoved nothing = record { lists = lists; ways = wa
 
 -- one edge more is settled, of whose lists it is known what became of them
 module _ (s : SettlingValue) (are : AreSettled s) (t : TouchedEdge) (touched : IsTouchedEdge s.before s.edit t.edge) (fresh : IsSettled s t.edge → ⊥) (more : AreSettled (settled_with s t))
-    (moved after : MovedValue) (fate : Dir → Fate) (placed : ArePlaced moved after t.edge fate)
-    (became : (dir : Dir) (ends : Ends) → slice_get s.before.edges t.edge ≡ Some ends → IsFate s moved t.edge dir ends (list_in t dir) (fate dir)) where
+    (moved after : MovedValue) (outcome : Dir → Outcome) (placed : ArePlaced moved after t.edge outcome)
+    (became : (dir : Dir) (ends : Ends) → slice_get s.before.edges t.edge ≡ Some ends → IsOutcome s moved t.edge dir ends (list_in t dir) (outcome dir)) where
   abbrev pub now : HierarchyValue
   now = settled_so_far s
 
@@ -109,8 +109,8 @@ module _ (s : SettlingValue) (are : AreSettled s) (t : TouchedEdge) (touched : I
   own : (dir : Dir) (u v : ℕ) → LeadsOver s.before.edges t.edge dir u v → IsUnmoved after t.edge dir
       → (list_in t dir ≡ list_of s.before t.edge dir) × All (λ (entry : Entry). IsFramed s.before now (StandingPair s moved) u v entry.way) (list_in t dir)
   own dir u v leads unmoved =
-      let stands = stood after t.edge dir (fate dir) (placed.own dir) unmoved in
-      let (list, all) = subst (IsFate s moved t.edge dir leads.ends (list_in t dir)) stands (became dir leads.ends leads.at) in (
+      let stands = stood after t.edge dir (outcome dir) (placed.own dir) unmoved in
+      let (list, all) = subst (IsOutcome s moved t.edge dir leads.ends (list_in t dir)) stands (became dir leads.ends leads.at) in (
         list,
         subst (λ (x : ℕ). All (λ (entry : Entry). IsFramed s.before now (StandingPair s moved) x v entry.way) (list_in t dir)) leads.from
             (subst (λ (y : ℕ). All (λ (entry : Entry). IsFramed s.before now (StandingPair s moved) (start_of leads.ends dir) y entry.way) (list_in t dir)) leads.to all),
@@ -156,25 +156,25 @@ module _ (s : SettlingValue) (are : AreSettled s) (t : TouchedEdge) (touched : I
   -- the functions of lists that were moved
   pub moves_more : All (λ (place : ℕ). place ≤ length moved.functions) moved.places
       → ((dir : Dir) (function : Option (List Run)) (ends : Ends) → slice_get s.before.edges t.edge ≡ Some ends
-      → SayValue now (start_of ends dir) (end_of ends dir) (list_in t dir) function → IsRebuiltWords next t.edge dir function)
-      → ((edge : ℕ) (dir : Dir) (function : Option (List Run)) → IsMovedTo moved edge dir function → IsSettled s edge × IsRebuiltWords now edge dir function)
-      → (edge : ℕ) (dir : Dir) (function : Option (List Run)) → IsMovedTo after edge dir function → IsSettled (settled_with s t) edge × IsRebuiltWords next edge dir function
+      → SayValue now (start_of ends dir) (end_of ends dir) (list_in t dir) function → IsRebuiltRuns next t.edge dir function)
+      → ((edge : ℕ) (dir : Dir) (function : Option (List Run)) → IsMovedTo moved edge dir function → IsSettled s edge × IsRebuiltRuns now edge dir function)
+      → (edge : ℕ) (dir : Dir) (function : Option (List Run)) → IsMovedTo after edge dir function → IsSettled (settled_with s t) edge × IsRebuiltRuns next edge dir function
   moves_more inside says moves edge dir function at = elim (cases_eq t.edge edge) [
     | inl same ↦
         let here : IsMovedTo after t.edge dir function = subst (λ (e : ℕ). IsMovedTo after e dir function) (sym same) at in
-        let went_there = went after t.edge dir (fate dir) function (placed.own dir) here in
+        let went_there = went after t.edge dir (outcome dir) function (placed.own dir) here in
         let (ends, there, is) = touched in
-        let value = subst (IsFate s moved t.edge dir ends (list_in t dir)) went_there (became dir ends there) in (
+        let value = subst (IsOutcome s moved t.edge dir ends (list_in t dir)) went_there (became dir ends there) in (
           subst (IsSettled (settled_with s t)) same (settled_itself s t),
-          subst (λ (e : ℕ). IsRebuiltWords next e dir function) same (says dir function ends there value),
+          subst (λ (e : ℕ). IsRebuiltRuns next e dir function) same (says dir function ends there value),
         )
     | inr other ↦
         let (place, there, is) = at in
         let before : slice_get moved.places (list_number edge dir) ≡ Some (suc place) = sym (placed.others edge dir other) ∙ there in
         let lt = all_at (λ (k : ℕ). k ≤ length moved.functions) moved.places (list_number edge dir) (suc place) inside before in
-        let (settled, words) = moves edge dir function (place, before, sym (placed.functions place (omega (arith, lt))) ∙ is) in (
+        let (settled, packed) = moves edge dir function (place, before, sym (placed.functions place (omega (arith, lt))) ∙ is) in (
           settled_still s t edge settled,
-          words_stay now next (FinalPair s) (stays_frame s are t touched fresh) s.before.edges refl refl edge dir function
-              (λ ends given. (edge, dir, over s.before.edges edge dir ends given, inl settled)) (list_pushed s.before s.edit s.settled t edge dir other) words,
+          packed_stay now next (FinalPair s) (stays_frame s are t touched fresh) s.before.edges refl refl edge dir function
+              (λ ends given. (edge, dir, over s.before.edges edge dir ends given, inl settled)) (list_pushed s.before s.edit s.settled t edge dir other) packed,
         )
   ]

@@ -17,49 +17,49 @@ use Rattle.cu_interval.specs.declared.ways.TouchedEdge.{TouchedEdge}
 use Rattle.cu_interval.specs.Hierarchies.{HierarchyValue, IsHierarchy, end_of, list_number, list_of, start_of}
 use Rattle.cu_interval.specs.Touching.{IsTouchedEdge}
 use Rattle.cu_interval.proofs.EndsLaws.{each_number, number_parts}
-use Rattle.cu_unpack.specs.RebuiltWords.{IsKnownList, IsRebuiltWords, IsSameList, IsSized, WordsValue, with_list}
-use Rattle.cu_edits.specs.Learned.{AreWordsOf}
+use Rattle.cu_unpack.specs.RebuiltRuns.{IsKnownList, IsRebuiltRuns, IsSameList, IsSized, PackedValue, with_list}
+use Rattle.cu_edits.specs.Learned.{ArePackedOf}
 use Rattle.cu_edits.specs.Settling.{IsFinal, IsSettled, SettlingValue, numbers_of, settled_so_far}
-use Rattle.cu_edits.specs.Steps.ByWords.{IsSettlingByWords}
+use Rattle.cu_edits.specs.Steps.Packed.{IsSettlingPacked}
 use Rattle.cu_edits.specs.Steps.Frames.{IsFrame}
-use Rattle.cu_edits.specs.Steps.Held.{IsSettlingNone}
+use Rattle.cu_edits.specs.Steps.SettlerStates.{IsSettlingNone}
 use Rattle.cu_edits.specs.Steps.Moving.{MovedValue, StandingPair}
 use Rattle.cu_edits.specs.Steps.Settled.{AreSettled}
 use Rattle.cu_edits.specs.Steps.Taking.{HasTaken, IsTaken, TakesList}
-use Rattle.cu_edits.proofs.HeldLaws.{no_edge}
+use Rattle.cu_edits.proofs.StateLaws.{no_edge}
 use Rattle.cu_edits.proofs.SettledFrames.{UntouchedPair, settled_none, untouched_frame}
 use Rattle.cu_edits.proofs.Sides.{list_at, over}
-use Rattle.cu_edits.proofs.WordsStay.{words_stay}
+use Rattle.cu_edits.proofs.PackedStay.{packed_stay}
 
-same_then : (a b c : WordsValue) (number : ℕ) → IsSameList a b number → IsSameList b c number → IsSameList a c number
+same_then : (a b c : PackedValue) (number : ℕ) → IsSameList a b number → IsSameList b c number → IsSameList a c number
 same_then a b c number (known, functions) (later, others) = (later ∙ known, others ∙ functions)
 
 -- a list that was put leaves every other as it was
-other_same : (before : WordsValue) (number other : ℕ) (function : Option (List Run)) → number ≢ other → IsSameList before (with_list before number function) other
+other_same : (before : PackedValue) (number other : ℕ) (function : Option (List Run)) → number ≢ other → IsSameList before (with_list before number function) other
 other_same before number other function apart = (get_other before.known number other true apart, get_other before.functions number other function apart)
 
-still_taken : (moved : MovedValue) (a b c : WordsValue) (edge : ℕ) (dir : Dir) → IsTaken moved a b edge dir → IsSameList b c (list_number edge dir) → IsTaken moved a c edge dir
+still_taken : (moved : MovedValue) (a b c : PackedValue) (edge : ℕ) (dir : Dir) → IsTaken moved a b edge dir → IsSameList b c (list_number edge dir) → IsTaken moved a c edge dir
 still_taken moved a b c edge dir (inl (unmoved, same)) still = inl (unmoved, same_then a b c (list_number edge dir) same still)
 still_taken moved a b c edge dir (inr (function, at, known, is)) (same, there) = inr (function, at, same ∙ known, there ∙ is)
 
-module _ (moved : MovedValue) (a b c : WordsValue) (edge : ℕ) (dir : Dir) (takes : TakesList moved b c edge dir) where
+module _ (moved : MovedValue) (a b c : PackedValue) (edge : ℕ) (dir : Dir) (takes : TakesList moved b c edge dir) where
   -- one list is taken
   one_taken : list_number edge dir < length b.known → list_number edge dir < length b.functions → IsSameList a b (list_number edge dir) → IsTaken moved a c edge dir
   one_taken known functions same = elim takes [
-    | inl (unmoved, is) ↦ inl (unmoved, subst (λ (w : WordsValue). IsSameList a w (list_number edge dir)) (sym is) same)
+    | inl (unmoved, is) ↦ inl (unmoved, subst (λ (w : PackedValue). IsSameList a w (list_number edge dir)) (sym is) same)
     | inr (function, at, is) ↦ inr (
       function,
       at,
-      subst (λ (w : WordsValue). IsKnownList w (list_number edge dir)) (sym is) (get_here b.known (list_number edge dir) true known),
-      subst (λ (w : WordsValue). slice_get w.functions (list_number edge dir) ≡ Some function) (sym is) (get_here b.functions (list_number edge dir) function functions),
+      subst (λ (w : PackedValue). IsKnownList w (list_number edge dir)) (sym is) (get_here b.known (list_number edge dir) true known),
+      subst (λ (w : PackedValue). slice_get w.functions (list_number edge dir) ≡ Some function) (sym is) (get_here b.functions (list_number edge dir) function functions),
     )
   ]
 
   -- and no other
   others_same : (number : ℕ) → list_number edge dir ≢ number → IsSameList b c number
   others_same number apart = elim takes [
-    | inl (unmoved, is) ↦ subst (λ (w : WordsValue). IsSameList b w number) (sym is) (refl, refl)
-    | inr (function, at, is) ↦ subst (λ (w : WordsValue). IsSameList b w number) (sym is) (other_same b (list_number edge dir) number function apart)
+    | inl (unmoved, is) ↦ subst (λ (w : PackedValue). IsSameList b w number) (sym is) (refl, refl)
+    | inr (function, at, is) ↦ subst (λ (w : PackedValue). IsSameList b w number) (sym is) (other_same b (list_number edge dir) number function apart)
   ]
 
   pub size_stays : (edges : ℕ) → IsSized edges b → IsSized edges c
@@ -72,7 +72,7 @@ module _ (moved : MovedValue) (a b c : WordsValue) (edge : ℕ) (dir : Dir) (tak
   ]
 
 -- none is, before the first edge
-pub taken_none : (moved : MovedValue) (before : WordsValue) → HasTaken moved before before 0
+pub taken_none : (moved : MovedValue) (before : PackedValue) → HasTaken moved before before 0
 taken_none moved before = record {
   size = λ edges size. size;
   taken = λ edge dir lt. absurd (omega (arith, lt));
@@ -80,7 +80,8 @@ taken_none moved before = record {
 }
 
 -- those of one edge more
-pub taken_more : (moved : MovedValue) (before now up down : WordsValue) (edge : ℕ) → HasTaken moved before now edge → list_number edge Down < length now.known → list_number edge Down < length now.functions
+pub taken_more : (moved : MovedValue) (before now up down : PackedValue) (edge : ℕ) → HasTaken moved before now edge → list_number edge Down < length now.known
+    → list_number edge Down < length now.functions
     → TakesList moved now up edge Up → TakesList moved up down edge Down → HasTaken moved before down (edge + 1)
 taken_more moved before now up down edge has known functions first second = record {
   size = λ edges size. size_stays moved before up down edge Down second edges (size_stays moved before now up edge Up first edges (has.size edges size));
@@ -98,10 +99,10 @@ taken_more moved before now up down edge has known functions first second = reco
 
     long : (length up.known ≡ length now.known) × (length up.functions ≡ length now.functions)
     long = elim first [
-      | inl (unmoved, is) ↦ (ap (λ (w : WordsValue). length w.known) is, ap (λ (w : WordsValue). length w.functions) is)
+      | inl (unmoved, is) ↦ (ap (λ (w : PackedValue). length w.known) is, ap (λ (w : PackedValue). length w.functions) is)
       | inr (function, at, is) ↦ (
-        ap (λ (w : WordsValue). length w.known) is ∙ length-set now.known (list_number edge Up) true,
-        ap (λ (w : WordsValue). length w.functions) is ∙ length-set now.functions (list_number edge Up) function,
+        ap (λ (w : PackedValue). length w.known) is ∙ length-set now.known (list_number edge Up) true,
+        ap (λ (w : PackedValue). length w.functions) is ∙ length-set now.functions (list_number edge Up) function,
       )
     ]
 
@@ -119,11 +120,11 @@ edge_below : (edges edge : ℕ) (dir : Dir) → list_number edge dir < 2 * edges
 edge_below edges edge Up lt = omega (arith, lt)
 edge_below edges edge Down lt = omega (arith, lt)
 
--- the words of a list in a hierarchy are those of its list in another that agrees with it on all that the list leads over
-words_in_frame : (a b : HierarchyValue) (Pair : ℕ → ℕ → Type 0) → IsFrame a b Pair → IsHierarchy a → b.edges ≡ a.edges → (edge : ℕ) (dir : Dir) → edge < length a.edges
-    → ((ends : Ends) → slice_get a.edges edge ≡ Some ends → Pair (start_of ends dir) (end_of ends dir)) → (function : Option (List Run)) → IsRebuiltWords a edge dir function
-    → IsRebuiltWords b edge dir function
-words_in_frame a b Pair frame sound same edge dir lt pair function words =
+-- the packed runs of a list in a hierarchy are those of its list in another that agrees with it on all that the list leads over
+packed_in_frame : (a b : HierarchyValue) (Pair : ℕ → ℕ → Type 0) → IsFrame a b Pair → IsHierarchy a → b.edges ≡ a.edges → (edge : ℕ) (dir : Dir) → edge < length a.edges
+    → ((ends : Ends) → slice_get a.edges edge ≡ Some ends → Pair (start_of ends dir) (end_of ends dir)) → (function : Option (List Run)) → IsRebuiltRuns a edge dir function
+    → IsRebuiltRuns b edge dir function
+packed_in_frame a b Pair frame sound same edge dir lt pair function packed =
     let none : Ends = record { low = 0; high = 0 } in
     let at = slice_get-get_or a.edges edge none lt in
     let ends = get_or a.edges edge none in
@@ -131,11 +132,11 @@ words_in_frame a b Pair frame sound same edge dir lt pair function words =
     let list : list_of b edge dir ≡ list_of a edge dir =
     sym (list_at a b sound same edge dir (start_of ends dir) (end_of ends dir) leads) ∙ sym (frame.lists (start_of ends dir) (end_of ends dir) (pair ends at))
     ∙ list_at a a sound refl edge dir (start_of ends dir) (end_of ends dir) leads in
-    words_stay a b Pair frame a.edges refl same edge dir function pair list words
+    packed_stay a b Pair frame a.edges refl same edge dir function pair list packed
 
 -- functions known before an edit and those of the lists that it moved, once all edges are settled
-module _ (s : SettlingValue) (graph : ChordalValue) (arcs : List (List ℕ)) (words : WordsValue) (moved : MovedValue) (holds : IsSettlingByWords s graph arcs words moved)
-    (final : (edge : ℕ) → IsFinal s edge) (now : WordsValue) (has : HasTaken moved words now (length s.before.edges)) where
+module _ (s : SettlingValue) (graph : ChordalValue) (arcs : List (List ℕ)) (packed : PackedValue) (moved : MovedValue) (holds : IsSettlingPacked s graph arcs packed moved)
+    (final : (edge : ℕ) → IsFinal s edge) (now : PackedValue) (has : HasTaken moved packed now (length s.before.edges)) where
   abbrev after : HierarchyValue
   after = settled_so_far s
 
@@ -143,15 +144,15 @@ module _ (s : SettlingValue) (graph : ChordalValue) (arcs : List (List ℕ)) (wo
   size_now = has.size (length s.before.edges) holds.known.size
 
   kept : (edge : ℕ) (dir : Dir) → edge < length s.before.edges → IsKnownList now (list_number edge dir) → (function : Option (List Run))
-      → slice_get now.functions (list_number edge dir) ≡ Some function → IsTaken moved words now edge dir → IsRebuiltWords after edge dir function
+      → slice_get now.functions (list_number edge dir) ≡ Some function → IsTaken moved packed now edge dir → IsRebuiltRuns after edge dir function
   kept edge dir lt known function at (inl (unmoved, (same, there))) =
-      words_in_frame s.before after (StandingPair s moved) holds.stands holds.are.sound refl edge dir lt (λ ends given. (edge, dir, over s.before.edges edge dir ends given, final edge, unmoved))
+      packed_in_frame s.before after (StandingPair s moved) holds.stands holds.are.sound refl edge dir lt (λ ends given. (edge, dir, over s.before.edges edge dir ends given, final edge, unmoved))
       function (holds.known.keeps edge dir tt (sym same ∙ known) function (sym there ∙ at))
   kept edge dir lt known function at (inr (new, moved_to, is, there)) =
-      subst (IsRebuiltWords after edge dir) (same_Some new function (sym there ∙ at)) (holds.moves edge dir new moved_to).1
+      subst (IsRebuiltRuns after edge dir) (same_Some new function (sym there ∙ at)) (holds.moves edge dir new moved_to).1
 
-  pub taken_words : AreWordsOf after now
-  taken_words = record {
+  pub taken_packed : ArePackedOf after now
+  taken_packed = record {
     size = size_now;
     keeps = λ edge dir own known function at.
         let inside = slice_get_within now.known (list_number edge dir) true known in
@@ -165,7 +166,7 @@ module _ (s : SettlingValue) (graph : ChordalValue) (arcs : List (List ℕ)) (wo
         let lt = edge_below (length s.before.edges) edge dir (omega (arith, inside, long, is)) in
         elim (has.taken edge dir lt) [
           | inl (unmoved, same) ↦
-              let (known, functions) = subst (IsSameList words now) is same in
+              let (known, functions) = subst (IsSameList packed now) is same in
               functions ∙ holds.known.unknown number (sym known ∙ unknown)
           | inr (function, at, known, there) ↦
               let yes : slice_get now.known number ≡ Some true = subst (IsKnownList now) is known in
@@ -174,15 +175,15 @@ module _ (s : SettlingValue) (graph : ChordalValue) (arcs : List (List ℕ)) (wo
   }
 
 -- functions known before an edit that touches no edge
-pub untouched_words : (s : SettlingValue) (graph : ChordalValue) (arcs : List (List ℕ)) → IsSettlingNone s graph arcs → ((edge : ℕ) → IsFinal s edge) → (words : WordsValue)
-    → AreWordsOf s.before words → AreWordsOf (settled_so_far s) words
-untouched_words s graph arcs holds final words known = record {
+pub untouched_packed : (s : SettlingValue) (graph : ChordalValue) (arcs : List (List ℕ)) → IsSettlingNone s graph arcs → ((edge : ℕ) → IsFinal s edge) → (packed : PackedValue)
+    → ArePackedOf s.before packed → ArePackedOf (settled_so_far s) packed
+untouched_packed s graph arcs holds final packed known = record {
   size = known.size;
   keeps = λ edge dir own is function at.
-      let inside = slice_get_within words.known (list_number edge dir) true is in
+      let inside = slice_get_within packed.known (list_number edge dir) true is in
       let long = known.size.known in
       let lt = edge_below (length s.before.edges) edge dir (omega (arith, inside, long)) in
-      words_in_frame s.before (settled_so_far s) (UntouchedPair s.before s.edit) (untouched_frame s are) holds.parts.hierarchy.1 refl edge dir lt
+      packed_in_frame s.before (settled_so_far s) (UntouchedPair s.before s.edit) (untouched_frame s are) holds.parts.hierarchy.1 refl edge dir lt
       (λ ends given. (edge, dir, over s.before.edges edge dir ends given, untouched edge)) function (known.keeps edge dir tt is function at);
   unknown = known.unknown;
 }
@@ -208,14 +209,14 @@ module _ (s self : SettlingValue) (is : s ≡ self) (graph : ChordalValue) (arcs
   final : (edge : ℕ) → IsFinal s edge
   final = all_final s (subst (λ (x : SettlingValue). (edge : ℕ) → IsTouchedEdge x.before x.edit edge → IsSettled x edge) (sym is) all)
 
-  pub none_after : (learned : Option WordsValue) → IsSettlingNone s graph arcs → IfSome learned (AreWordsOf s.before) → IfSome learned (AreWordsOf (settled_so_far self))
+  pub none_after : (learned : Option PackedValue) → IsSettlingNone s graph arcs → IfSome learned (ArePackedOf s.before) → IfSome learned (ArePackedOf (settled_so_far self))
   none_after None none known = tt
-  none_after (Some words) none known = subst (λ (x : SettlingValue). AreWordsOf (settled_so_far x) words) is (untouched_words s graph arcs none final words known)
+  none_after (Some packed) none known = subst (λ (x : SettlingValue). ArePackedOf (settled_so_far x) packed) is (untouched_packed s graph arcs none final packed known)
 
-  pub words_after : (words : WordsValue) (moved : MovedValue) → IsSettlingByWords s graph arcs words moved → (edges : ℕ) → edges ≡ length graph.edges → (result : Result WordsValue NoMemory)
-      → IfOk result (λ now. HasTaken moved words now edges) → (found : Option WordsValue) → found ≡ result_ok result → IfSome found (AreWordsOf (settled_so_far self))
-  words_after words moved holds edges count (Err e) has found same = subst (λ (o : Option WordsValue). IfSome o (AreWordsOf (settled_so_far self))) (sym same) tt
-  words_after words moved holds edges count (Ok now) has found same =
+  pub packed_after : (packed : PackedValue) (moved : MovedValue) → IsSettlingPacked s graph arcs packed moved → (edges : ℕ) → edges ≡ length graph.edges → (result : Result PackedValue NoMemory)
+      → IfOk result (λ now. HasTaken moved packed now edges) → (found : Option PackedValue) → found ≡ result_ok result → IfSome found (ArePackedOf (settled_so_far self))
+  packed_after packed moved holds edges count (Err e) has found same = subst (λ (o : Option PackedValue). IfSome o (ArePackedOf (settled_so_far self))) (sym same) tt
+  packed_after packed moved holds edges count (Ok now) has found same =
       let long : edges ≡ length s.before.edges = count ∙ ap (λ (k : ChordalValue). length k.edges) holds.parts.hierarchy.0 in
-      let known = taken_words s graph arcs words moved holds final now (subst (HasTaken moved words now) long has) in
-      subst (λ (o : Option WordsValue). IfSome o (AreWordsOf (settled_so_far self))) (sym same) (subst (λ (x : SettlingValue). AreWordsOf (settled_so_far x) now) is known)
+      let known = taken_packed s graph arcs packed moved holds final now (subst (HasTaken moved packed now) long has) in
+      subst (λ (o : Option PackedValue). IfSome o (ArePackedOf (settled_so_far self))) (sym same) (subst (λ (x : SettlingValue). ArePackedOf (settled_so_far x) now) is known)

@@ -10,9 +10,6 @@ use cu_model::NoMemory;
 use std::alloc::Global;
 use std::marker::Model;
 
-#[cfg(test)]
-mod tests;
-
 /// Which edges of a hierarchy are known to be customized: their lists are what customization makes of the lists below them.
 /// Contracts see a mark for each edge.
 #[derive(Debug, Drop)]

@@ -1,16 +1,252 @@
 //! What an edit is settled over.
 
-use cu_chordal::Chordal;
-use cu_interval::{EdgeArcs, Ways};
-use cu_model::Edit;
+ghost use Rattle.std.specs.Prelude.{◌≡◌, ◌<◌, ◌*◌, ◌↔◌, ℕ, IfOk, IsTrue, Some, length, slice_get, true};
+ghost use Rattle.std.specs.List.{Contains};
+ghost use Rattle.cu_model.specs.Edits.{IsEditInRange, edited};
+ghost use Rattle.cu_chordal.specs.Graphs.{FindsEdge, HasEdge, IsChordal};
+ghost use Rattle.cu_interval.specs.EdgeArcs.{AreEdgeArcs};
+ghost use Rattle.cu_interval.specs.Hierarchies.{IsHierarchy, IsHierarchyOf, list_number, list_of};
+ghost use Rattle.cu_interval.specs.Shortcuts.{FindsHalves};
+ghost use Rattle.cu_interval.specs.Touching.{IsChanged};
+ghost use Rattle.cu_unpack.specs.Rebuilds.{IsRebuiltFunction, Keeps};
+ghost use Rattle.cu_unpack.specs.RebuiltRuns.{IsKnownList};
+ghost use Rattle.cu_edits.specs.Customized.{AreCustomized};
+ghost use Rattle.cu_edits.specs.Learned.{ArePackedOf};
+ghost use Rattle.cu_edits.specs.Steps.Packed.{IfNear, LearnsPacked};
+ghost use Rattle.cu_edits.specs.Steps.Parts.{FitTogether};
+
+use crate::edited_roads::EditedRoads;
+use crate::reading::read_edit;
+use crate::road_functions::is_changed;
+use cu_arrival::Arrival;
+use cu_chordal::{Chordal, Ends};
+use cu_interval::{Dir, EdgeArcs, Entry, Ways, find_halves};
+use cu_model::{Edit, NoMemory};
+use cu_unpack::{PackedFunctions, Rebuilt};
+use std::alloc::Global;
+use std::marker::Model;
 
 /// The hierarchy before an edit, the edit, and the graph and the roads of the hierarchy; and marks of edges whose lists are
-/// known to be what customization makes of the lists below them.
+/// known to be what customization makes of the lists below them. Contracts see all of them.
 #[derive(Drop)]
 pub struct EditParts<'a, W: Ways> {
-    pub ways: &'a W,
-    pub edit: &'a Edit,
-    pub graph: &'a Chordal,
-    pub arcs: &'a EdgeArcs,
-    pub customized: &'a [bool],
+    ways: &'a W,
+    edit: &'a Edit,
+    graph: &'a Chordal,
+    arcs: &'a EdgeArcs,
+    customized: &'a [bool],
+}
+
+impl<'a, W: Ways> Model for EditParts<'a, W> {
+    ghost use Rattle.cu_edits.specs.Steps.Parts.{FitTogether, PartsValue};
+
+    ghost Value = { PartsValue };
+
+    ghost view = { λ parts. record {
+      before = W.hierarchy parts.ways.now;
+      edit = parts.edit.now;
+      graph = parts.graph.now;
+      arcs = parts.arcs.now;
+      customized = parts.customized.now;
+    } };
+
+    ghost invariant = { λ parts. FitTogether (record {
+      before = W.hierarchy parts.ways.now;
+      edit = parts.edit.now;
+      graph = parts.graph.now;
+      arcs = parts.arcs.now;
+      customized = parts.customized.now;
+    }) };
+}
+
+impl<'a, W: Ways> EditParts<'a, W> {
+    /// These, of one hierarchy. Takes no memory.
+    pub fn of(
+        ways: &'a W,
+        edit: &'a Edit,
+        graph: &'a Chordal,
+        arcs: &'a EdgeArcs,
+        customized: &'a [bool],
+    ) -> EditParts<'a, W>
+        requires edit { IsEditInRange (W.hierarchy ways.now).network edit.now }
+        requires graph { IsHierarchyOf graph.now (W.hierarchy ways.now) }
+        requires arcs { AreEdgeArcs (W.hierarchy ways.now).network (W.hierarchy ways.now).order
+            graph.now.edges arcs.now }
+        requires customized { AreCustomized (W.hierarchy ways.now) customized.now }
+        ensures parts { result ≡ record {
+          before = W.hierarchy ways.now;
+          edit = edit.now;
+          graph = graph.now;
+          arcs = arcs.now;
+          customized = customized.now;
+        } }
+        ensures fit { FitTogether result }
+    {
+        read_edit(edit);
+        EditParts {
+            ways,
+            edit,
+            graph,
+            arcs,
+            customized,
+        }
+    }
+
+    /// The ways before the edit.
+    pub fn ways(&self) -> &'a W {
+        self.ways
+    }
+
+    /// The graph.
+    pub fn graph(&self) -> &'a Chordal
+        ensures same { result.now ≡ self.now.graph }
+        ensures fit { FitTogether self.now }
+    {
+        self.graph
+    }
+
+    /// The roads of all edges.
+    pub fn edge_arcs(&self) -> &'a EdgeArcs
+        ensures same { result.now ≡ self.now.arcs }
+    {
+        self.arcs
+    }
+
+    /// The roads after the edit. Takes no memory.
+    pub fn edited_roads(&self) -> EditedRoads<'a, W>
+        ensures roads { result ≡ edited self.now.before.network self.now.edit }
+    {
+        EditedRoads::of(self.ways, self.edit)
+    }
+
+    /// Does the edit change a road, below the number of roads?
+    pub fn is_changed(&self, arc: u32) -> bool
+        requires { arc < length self.now.before.network.arcs }
+        ensures { IsTrue result ↔ IsChanged self.now.before.network self.now.edit arc }
+    {
+        is_changed(self.ways, self.edit, arc)
+    }
+
+    /// Is an edge known to be customized?
+    pub fn is_marked(&self, edge: u32) -> bool
+        ensures marked { result ≡ true → slice_get self.now.customized edge ≡ Some true }
+        ensures fit { FitTogether self.now }
+    {
+        let place = edge as usize;
+        place < self.customized.len() && self.customized[place]
+    }
+
+    /// How many edges there are.
+    pub fn edges(&self) -> u32
+        ensures count { result ≡ length self.now.graph.edges }
+        ensures sound { IsChordal self.now.graph }
+        ensures fit { FitTogether self.now }
+    {
+        self.graph.edges()
+    }
+
+    /// The ends of an edge, below the number of edges.
+    pub fn ends(&self, edge: u32) -> Ends
+        requires { edge < length self.now.graph.edges }
+        ensures there { slice_get self.now.graph.edges edge ≡ Some result }
+        ensures sound { IsChordal self.now.graph }
+        ensures fit { FitTogether self.now }
+    {
+        self.graph.ends(edge)
+    }
+
+    /// The edge between two ranks, of which the lower is below the number of ranks. None exactly where there is no such edge.
+    pub fn edge(&self, low: u32, high: u32) -> Option<u32>
+        requires { low < self.now.graph.ranks }
+        ensures found { FindsEdge self.now.graph.edges low high result }
+        ensures sound { IsChordal self.now.graph }
+        ensures fit { FitTogether self.now }
+    {
+        self.graph.edge(low, high)
+    }
+
+    /// The lower neighbours of a rank below the number of ranks.
+    pub fn down(&self, rank: u32) -> &'a [u32]
+        requires { rank < self.now.graph.ranks }
+        ensures members { (x : ℕ)
+            → Contains result.now x ↔ HasEdge self.now.graph.edges x rank }
+        ensures sound { IsChordal self.now.graph }
+    {
+        self.graph.down(rank)
+    }
+
+    /// The edges of both halves of the way by a middle, below the number of ranks, of an edge with these ends. None where one
+    /// of them isn't there.
+    pub fn find_halves(&self, ends: Ends, dir: Dir, middle: u32) -> Option<(u32, u32)>
+        requires { middle < self.now.graph.ranks }
+        ensures found { FindsHalves self.now.graph.edges ends dir middle result }
+        ensures sound { IsChordal self.now.graph }
+    {
+        find_halves(self.graph, ends, dir, middle)
+    }
+
+    /// The roads of an edge in a direction.
+    pub fn arcs(&self, edge: u32, dir: Dir) -> &'a [u32]
+        requires { edge < length self.now.graph.edges }
+        ensures there { slice_get self.now.arcs (list_number edge dir) ≡ Some result.now }
+        ensures fit { FitTogether self.now }
+    {
+        self.arcs.arcs(edge, dir)
+    }
+
+    /// How many entries the list of an edge in a direction has before the edit.
+    pub fn entries(&self, edge: u32, dir: Dir) -> u32
+        requires { edge < length self.now.graph.edges }
+        ensures count { result ≡ length (list_of self.now.before edge dir) }
+        ensures sound { IsHierarchy self.now.before }
+    {
+        self.ways.entries(edge, dir)
+    }
+
+    /// The entry with this index, below the number of entries, of the list of an edge in a direction before the edit.
+    pub fn entry(&self, edge: u32, dir: Dir, index: u32) -> Entry
+        requires edge { edge < length self.now.graph.edges }
+        requires index { index < length (list_of self.now.before edge dir) }
+        ensures there { slice_get (list_of self.now.before edge dir) index ≡ Some result }
+        ensures sound { IsHierarchy self.now.before }
+    {
+        self.ways.entry(edge, dir, index)
+    }
+
+    /// The function of the list of an edge in a direction before the edit, rebuilt where it isn't kept. What is kept stays so
+    /// after a refusal too.
+    pub fn function_before(
+        &self,
+        alloc: Global,
+        rebuilt: &mut Rebuilt,
+        edge: u32,
+        dir: Dir,
+    ) -> Result<Option<Arrival>, NoMemory>
+        requires edge { edge < length self.now.before.edges }
+        requires size { length rebuilt.old.kept ≡ 2 * length self.now.before.edges }
+        requires keeps { Keeps self.now.before rebuilt.old }
+        ensures function { IfOk result
+            (λ function. IsRebuiltFunction self.now.before edge dir function) }
+        ensures size { length rebuilt.new.kept ≡ length rebuilt.old.kept }
+        ensures keeps { Keeps self.now.before rebuilt.new }
+    {
+        rebuilt.function(alloc, self.ways, edge, dir)
+    }
+
+    /// Makes sure that the packed function of the list of an edge in a direction before the edit is known. False where a way takes
+    /// longer than packed runs can say. What was learned stays after a refusal too.
+    pub fn learn(
+        &self,
+        alloc: Global,
+        packed: &mut PackedFunctions,
+        edge: u32,
+        dir: Dir,
+    ) -> Result<bool, NoMemory>
+        requires edge { edge < length self.now.graph.edges }
+        requires known { ArePackedOf self.now.before packed.old }
+        ensures known { IfNear result (IsKnownList packed.new (list_number edge dir)) }
+        ensures learns { LearnsPacked self.now.before packed.old packed.new }
+    {
+        packed.learn(alloc, self.ways, edge, dir)
+    }
 }

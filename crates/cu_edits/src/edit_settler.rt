@@ -2,26 +2,28 @@
 
 ghost use Rattle.std.specs.Prelude.{◌≡◌, ◌<◌, ◌++◌, ◌∷◌, [], ℕ, List, IfNone, IfOk, IfSome, OnErr, OnOk, length};
 ghost use Rattle.cu_model.specs.Edits.{IsEditInRange, edited};
+ghost use Rattle.cu_interval.specs.declared.ways.TouchedEdge.{TouchedEdge};
 ghost use Rattle.cu_interval.specs.EdgeArcs.{AreEdgeArcs};
 ghost use Rattle.cu_interval.specs.Hierarchies.{HierarchyValue, IsHierarchyOf};
 ghost use Rattle.cu_interval.specs.Touching.{IsTouchedEdge};
 ghost use Rattle.cu_edits.specs.Customized.{AreCustomized};
-ghost use Rattle.cu_edits.specs.Learned.{AreWordsOf};
-ghost use Rattle.cu_edits.specs.Settling.{IsLowerSide, IsResettledEdge, IsSettled, SettlingValue, settled_so_far};
-ghost use Rattle.cu_edits.specs.Steps.Held.{Holds, IsBegun, IsPlain};
-ghost use Rattle.cu_edits.specs.Steps.Holding.{IsNext, IsSettledEdge, IsSettling, settling_of};
-ghost use Rattle.cu_edits.specs.Steps.Known.{HasFunctions, IsEditSound, functions_of};
+ghost use Rattle.cu_edits.specs.Learned.{ArePackedOf};
+ghost use Rattle.cu_edits.specs.Settling.{IsLowerSide, IsResettledEdge, IsSettled, settled_so_far};
+ghost use Rattle.cu_edits.specs.Steps.SettlerStates.{HoldsOver, HoldsPacked, IsBegun, IsPlain};
+ghost use Rattle.cu_edits.specs.Steps.Holding.{IsNext, IsSettledEdge, IsSettling};
+ghost use Rattle.cu_edits.specs.Steps.Known.{HasFunctions, functions_of};
+ghost use Rattle.cu_edits.specs.Steps.Parts.{settling_over};
 
-use crate::by_words::settle_by_words;
 use crate::copied_lists::copy_touched;
+use crate::edge_functions::{EdgeFunctions, KnownFunctions};
 use crate::edit_parts::EditParts;
-use crate::going_over::plain_of_words;
-use crate::held::{Held, HeldWords};
-use crate::known::{EdgeFunctions, KnownFunctions};
 use crate::learned::Learned;
 use crate::learning::learn_sides;
 use crate::moved_lists::MovedLists;
+use crate::plain_functions::plain_of_packed;
 use crate::settler::Settler;
+use crate::settler_state::{PackedState, SettlerState};
+use crate::settling_packed::settle_packed;
 use cu_chordal::Chordal;
 use cu_customize::settle;
 use cu_interval::{Dir, EdgeArcs, TouchedEdge, Ways};
@@ -30,47 +32,29 @@ use cu_unpack::Rebuilt;
 use std::alloc::Global;
 use std::marker::Model;
 
-#[cfg(test)]
-mod tests;
-
 /// Settles the edges that an edit touches, by the roads of the edited network and by the functions of lower edges: of those
 /// that it settled, and of those whose lists stand, whose functions it rebuilds from their ways as they are needed. They
-/// are kept as words until a way takes longer than words can say. Where it is known that a list is what customization makes
+/// are kept as packed runs until a way takes longer than packed runs can say. Where it is known that a list is what customization makes
 /// of the lists below it, and nothing of these has changed, the list stands and isn't settled anew. Room is made once an
 /// edge is settled. Contracts see the hierarchy before the edit, the edit, and the edges settled so far.
 #[derive(Drop)]
 pub struct EditSettler<'a, W: Ways> {
-    ways: &'a W,
-    edit: &'a Edit,
-    graph: &'a Chordal,
-    arcs: &'a EdgeArcs,
-    customized: &'a [bool],
+    parts: EditParts<'a, W>,
     settled: Vec<TouchedEdge>,
     // The functions of edges whose lists won't change any more, as far as they are known.
-    held: Held,
+    state: SettlerState,
 }
 
 impl<'a, W: Ways> Model for EditSettler<'a, W> {
-    ghost use Rattle.cu_edits.specs.Customized.{AreCustomized};
     ghost use Rattle.cu_edits.specs.Settling.{SettlingValue};
-    ghost use Rattle.cu_edits.specs.Steps.Held.{Holds};
+    ghost use Rattle.cu_edits.specs.Steps.SettlerStates.{HoldsOver};
+    ghost use Rattle.cu_edits.specs.Steps.Parts.{settling_over};
 
     ghost Value = { SettlingValue };
 
-    ghost view = { λ settler. record {
-      before = W.hierarchy settler.ways.now;
-      edit = settler.edit.now;
-      settled = settler.settled.items;
-    } };
+    ghost view = { λ settler. settling_over settler.parts settler.settled.items };
 
-    ghost invariant = { λ settler. Holds
-        (record {
-          before = W.hierarchy settler.ways.now;
-          edit = settler.edit.now;
-          settled = settler.settled.items;
-        })
-        settler.graph.now settler.arcs.now settler.held
-        × AreCustomized (W.hierarchy settler.ways.now) settler.customized.now };
+    ghost invariant = { λ settler. HoldsOver settler.parts settler.settled.items settler.state };
 }
 
 impl<'a, W: Ways> EditSettler<'a, W> {
@@ -109,35 +93,31 @@ impl<'a, W: Ways> EditSettler<'a, W> {
         requires arcs { AreEdgeArcs (W.hierarchy ways.now).network (W.hierarchy ways.now).order
             graph.now.edges arcs.now }
         requires customized { AreCustomized (W.hierarchy ways.now) customized.now }
-        requires learned { IfSome learned (AreWordsOf (W.hierarchy ways.now)) }
+        requires learned { IfSome learned (ArePackedOf (W.hierarchy ways.now)) }
         ensures { IfOk result (λ settler. settler
             ≡ record { before = W.hierarchy ways.now; edit = edit.now; settled = [] }) }
     {
-        read_edit(edit);
+        let parts = EditParts::of(ways, edit, graph, arcs, customized);
         let settled = Vec::new(alloc);
         Ok(EditSettler {
-            ways,
-            edit,
-            graph,
-            arcs,
-            customized,
+            parts,
             settled,
-            held: Held::Nothing(learned),
+            state: SettlerState::Nothing(learned),
         })
     }
 
-    /// What is known of lists once all touched edges are settled. None where nothing is, since a way takes longer than words
+    /// What is known of lists once all touched edges are settled. None where nothing is, since a way takes longer than packed runs
     /// can say or memory ran out.
     pub fn into_learned(self, alloc: Global) -> Option<Learned>
         requires all { (edge : ℕ) → IsTouchedEdge self.before self.edit edge → IsSettled self edge }
-        ensures { IfSome result (AreWordsOf (settled_so_far self.entry)) }
+        ensures { IfSome result (ArePackedOf (settled_so_far self.entry)) }
     {
-        let EditSettler { graph, held, .. } = self;
-        let edges = graph.edges();
-        match held {
-            Held::Nothing(learned) => learned,
-            Held::Words(words) => Learned::after(alloc, words, edges).ok(),
-            Held::Plain(_plain) => None,
+        let EditSettler { parts, state, .. } = self;
+        let edges = parts.edges();
+        match state {
+            SettlerState::Nothing(learned) => learned,
+            SettlerState::Packed(packed) => Learned::after(alloc, packed, edges).ok(),
+            SettlerState::Plain(_plain) => None,
         }
     }
 }
@@ -146,63 +126,50 @@ impl<'a, W: Ways> Settler for EditSettler<'a, W> {
     ghost state = { λ settler. settler };
 
     fn settle(&mut self, alloc: Global, edge: u32) -> Result<TouchedEdge, NoMemory> {
-        let parts = EditParts {
-            ways: self.ways,
-            edit: self.edit,
-            graph: self.graph,
-            arcs: self.arcs,
-            customized: self.customized,
-        };
-        settle_held(alloc, &parts, &mut self.held, &mut self.settled, edge)
+        settle_by_state(alloc, &self.parts, &mut self.state, &mut self.settled, edge)
     }
 }
 
-// Settles one edge more by what is held: by words as long as they can say how long ways take, and then plainly.
-fn settle_held<W: Ways>(
+// Settles one edge more by what is state: by packed runs as long as they can say how long ways take, and then plainly.
+fn settle_by_state<W: Ways>(
     alloc: Global,
     parts: &EditParts<'_, W>,
-    held: &mut Held,
+    state: &mut SettlerState,
     settled: &mut Vec<TouchedEdge>,
     edge: u32,
 ) -> Result<TouchedEdge, NoMemory>
-    requires holds { Holds
-        (settling_of (W.hierarchy parts.now.ways.now) parts.now.edit.now settled.old.items)
-        parts.now.graph.now parts.now.arcs.now held.old }
-    requires customized { AreCustomized (W.hierarchy parts.now.ways.now) parts.now.customized.now }
-    requires asked { IsNext
-        (settling_of (W.hierarchy parts.now.ways.now) parts.now.edit.now settled.old.items) edge }
+    requires holds { HoldsOver parts.now settled.old.items state.old }
+    requires asked { IsNext (settling_over parts.now settled.old.items) edge }
     ensures edge { IfOk result (λ touched. touched.edge ≡ edge) }
     ensures settled { IfOk result
         (λ touched. settled.new.items ≡ settled.old.items ++ touched ∷ []) }
     ensures resettled { IfOk result (IsResettledEdge (settled_so_far
-        (settling_of (W.hierarchy parts.now.ways.now) parts.now.edit.now settled.new.items))) }
+        (settling_over parts.now settled.new.items))) }
     ensures kept { OnErr result (settled.new.items ≡ settled.old.items) }
-    ensures holds { Holds
-        (settling_of (W.hierarchy parts.now.ways.now) parts.now.edit.now settled.new.items)
-        parts.now.graph.now parts.now.arcs.now held.new }
+    ensures holds { HoldsOver parts.now settled.new.items state.new }
 {
-    hold_words(alloc, parts, held)?;
-    if let Some(touched) = settle_in_words(alloc, parts, held, settled, edge)? {
+    hold_packed(alloc, parts, state)?;
+    if let Some(touched) = settle_in_packed(alloc, parts, state, settled, edge)? {
         return Ok(touched);
     }
-    go_over(alloc, parts, settled, held)?;
-    settle_plainly(alloc, parts, held, settled, edge)
+    turn_plain(alloc, parts, settled, state)?;
+    settle_plainly(alloc, parts, state, settled, edge)
 }
 
-// Makes room for words where nothing is held yet.
-fn hold_words<W: Ways>(
+// Makes room for packed runs where nothing is state yet.
+fn hold_packed<W: Ways>(
     alloc: Global,
     parts: &EditParts<'_, W>,
-    held: &mut Held,
+    state: &mut SettlerState,
 ) -> Result<(), NoMemory>
-    ensures begun { OnOk result (IsBegun held.new) }
-    ensures holds { (s : SettlingValue) (arcs : List (List ℕ))
-        → Holds s parts.now.graph.now arcs held.old → Holds s parts.now.graph.now arcs held.new }
+    ensures begun { OnOk result (IsBegun state.new) }
+    ensures holds { (settled : List TouchedEdge)
+        → HoldsOver parts.now settled state.old → HoldsOver parts.now settled state.new }
 {
-    if let Held::Nothing(learned) = held {
+    if let SettlerState::Nothing(learned) = state {
         let learned = begin(alloc, parts, learned.take())?;
-        let moved = MovedLists::new(alloc, parts.graph.edges())?;
-        *held = Held::Words(learned.held_with(moved));
+        let moved = MovedLists::new(alloc, parts.edges())?;
+        *state = SettlerState::Packed(learned.packed_with(moved));
     }
     Ok(())
 }
@@ -214,140 +181,113 @@ fn begin<W: Ways>(
     earlier: Option<Learned>,
 ) -> Result<Learned, NoMemory>
     ensures { IfOk result (λ learned. (h : HierarchyValue)
-        → length h.edges ≡ length parts.now.graph.now.edges
-        → IfSome earlier (AreWordsOf h) → AreWordsOf h learned) }
+        → length h.edges ≡ length parts.now.graph.edges
+        → IfSome earlier (ArePackedOf h) → ArePackedOf h learned) }
 {
     if let Some(learned) = earlier {
         return Ok(learned);
     }
-    Learned::nothing(alloc, parts.ways, parts.graph.edges())
+    Learned::nothing(alloc, parts.ways(), parts.edges())
 }
 
-// Settles one edge more by words where they are held. None where they aren't, and where a way takes longer than they can say.
-fn settle_in_words<W: Ways>(
+// Settles one edge more by packed runs where they are state. None where they aren't, and where a way takes longer than they can say.
+fn settle_in_packed<W: Ways>(
     alloc: Global,
     parts: &EditParts<'_, W>,
-    held: &mut Held,
+    state: &mut SettlerState,
     settled: &mut Vec<TouchedEdge>,
     edge: u32,
 ) -> Result<Option<TouchedEdge>, NoMemory>
-    requires begun { IsBegun held.old }
-    requires holds { Holds
-        (settling_of (W.hierarchy parts.now.ways.now) parts.now.edit.now settled.old.items)
-        parts.now.graph.now parts.now.arcs.now held.old }
-    requires customized { AreCustomized (W.hierarchy parts.now.ways.now) parts.now.customized.now }
-    requires asked { IsNext
-        (settling_of (W.hierarchy parts.now.ways.now) parts.now.edit.now settled.old.items) edge }
+    requires begun { IsBegun state.old }
+    requires holds { HoldsOver parts.now settled.old.items state.old }
+    requires asked { IsNext (settling_over parts.now settled.old.items) edge }
     ensures edge { IfOk result (λ found. IfSome found (λ touched. touched.edge ≡ edge)) }
     ensures settled { IfOk result (λ found. IfSome found
         (λ touched. settled.new.items ≡ settled.old.items ++ touched ∷ [])) }
     ensures resettled { IfOk result (λ found. IfSome found (IsResettledEdge (settled_so_far
-        (settling_of (W.hierarchy parts.now.ways.now) parts.now.edit.now settled.new.items)))) }
+        (settling_over parts.now settled.new.items)))) }
     ensures far { IfOk result (λ found. IfNone found (settled.new.items ≡ settled.old.items)) }
     ensures kept { OnErr result (settled.new.items ≡ settled.old.items) }
-    ensures begun { IsBegun held.new }
-    ensures holds { Holds
-        (settling_of (W.hierarchy parts.now.ways.now) parts.now.edit.now settled.new.items)
-        parts.now.graph.now parts.now.arcs.now held.new }
+    ensures begun { IsBegun state.new }
+    ensures holds { HoldsOver parts.now settled.new.items state.new }
 {
-    let Held::Words(words) = held else {
+    let SettlerState::Packed(packed) = state else {
         return Ok(None);
     };
-    settle_by_words(alloc, parts, words, settled, edge)
+    settle_packed(alloc, parts, packed, settled, edge)
 }
 
-// Goes over from words to plain functions, if it isn't done yet.
-fn go_over<W: Ways>(
+// Goes over from packed runs to plain functions, if it isn't done yet.
+fn turn_plain<W: Ways>(
     alloc: Global,
     parts: &EditParts<'_, W>,
     settled: &[TouchedEdge],
-    held: &mut Held,
+    state: &mut SettlerState,
 ) -> Result<(), NoMemory>
-    requires begun { IsBegun held.old }
-    requires holds { Holds
-        (settling_of (W.hierarchy parts.now.ways.now) parts.now.edit.now settled.now)
-        parts.now.graph.now parts.now.arcs.now held.old }
-    ensures plain { OnOk result (IsPlain held.new) }
-    ensures holds { Holds
-        (settling_of (W.hierarchy parts.now.ways.now) parts.now.edit.now settled.now)
-        parts.now.graph.now parts.now.arcs.now held.new }
+    requires begun { IsBegun state.old }
+    requires holds { HoldsOver parts.now settled.now state.old }
+    ensures plain { OnOk result (IsPlain state.new) }
+    ensures holds { HoldsOver parts.now settled.now state.new }
 {
-    let Held::Words(words) = held else {
+    let SettlerState::Packed(packed) = state else {
         return Ok(());
     };
-    let plain = plain_of_words(alloc, parts, settled, &words.moved)?;
-    *held = Held::Plain(plain);
+    let plain = plain_of_packed(alloc, parts, settled, &packed.moved)?;
+    *state = SettlerState::Plain(plain);
     Ok(())
 }
 
-// Settles one edge more by plain functions, which are held.
+// Settles one edge more by plain functions, which are state.
 fn settle_plainly<W: Ways>(
     alloc: Global,
     parts: &EditParts<'_, W>,
-    held: &mut Held,
+    state: &mut SettlerState,
     settled: &mut Vec<TouchedEdge>,
     edge: u32,
 ) -> Result<TouchedEdge, NoMemory>
-    requires plain { IsPlain held.old }
-    requires holds { Holds
-        (settling_of (W.hierarchy parts.now.ways.now) parts.now.edit.now settled.old.items)
-        parts.now.graph.now parts.now.arcs.now held.old }
-    requires asked { IsNext
-        (settling_of (W.hierarchy parts.now.ways.now) parts.now.edit.now settled.old.items) edge }
+    requires plain { IsPlain state.old }
+    requires holds { HoldsOver parts.now settled.old.items state.old }
+    requires asked { IsNext (settling_over parts.now settled.old.items) edge }
     ensures edge { IfOk result (λ touched. touched.edge ≡ edge) }
     ensures settled { IfOk result
         (λ touched. settled.new.items ≡ settled.old.items ++ touched ∷ []) }
     ensures resettled { IfOk result (IsResettledEdge (settled_so_far
-        (settling_of (W.hierarchy parts.now.ways.now) parts.now.edit.now settled.new.items))) }
+        (settling_over parts.now settled.new.items))) }
     ensures kept { OnErr result (settled.new.items ≡ settled.old.items) }
-    ensures holds { Holds
-        (settling_of (W.hierarchy parts.now.ways.now) parts.now.edit.now settled.new.items)
-        parts.now.graph.now parts.now.arcs.now held.new }
+    ensures holds { HoldsOver parts.now settled.new.items state.new }
 {
-    let Held::Plain(plain) = held else {
+    let SettlerState::Plain(plain) = state else {
         unreachable!()
     };
-    settle_next(
-        alloc,
-        parts.ways,
-        parts.edit,
-        parts.graph,
-        parts.arcs,
-        &mut plain.rebuilt,
-        &mut plain.known,
-        settled,
-        edge,
-    )
+    let (rebuilt, known) = (&mut plain.rebuilt, &mut plain.known);
+    settle_next(alloc, parts, rebuilt, known, settled, edge)
 }
 
 // Settles one edge more: learns the functions of its lower sides, and settles it by them. What was learnt stays after a refusal,
 // too.
 fn settle_next<W: Ways>(
     alloc: Global,
-    ways: &W,
-    edit: &Edit,
-    graph: &Chordal,
-    arcs: &EdgeArcs,
+    parts: &EditParts<'_, W>,
     rebuilt: &mut Rebuilt,
     known: &mut [Option<EdgeFunctions>],
     settled: &mut Vec<TouchedEdge>,
     edge: u32,
 ) -> Result<TouchedEdge, NoMemory>
-    requires holds { IsSettling (settling_of (W.hierarchy ways.now) edit.now settled.old.items)
-        graph.now arcs.now rebuilt.old known.old }
-    requires asked { IsNext (settling_of (W.hierarchy ways.now) edit.now settled.old.items) edge }
+    requires holds { IsSettling (settling_over parts.now settled.old.items)
+        parts.now.graph parts.now.arcs rebuilt.old known.old }
+    requires asked { IsNext (settling_over parts.now settled.old.items) edge }
     ensures edge { IfOk result (λ touched. touched.edge ≡ edge) }
     ensures settled { IfOk result
         (λ touched. settled.new.items ≡ settled.old.items ++ touched ∷ []) }
-    ensures resettled { IfOk result (IsResettledEdge (settled_so_far
-        (settling_of (W.hierarchy ways.now) edit.now settled.new.items))) }
+    ensures resettled { IfOk result (IsResettledEdge
+        (settled_so_far (settling_over parts.now settled.new.items))) }
     ensures kept { OnErr result (settled.new.items ≡ settled.old.items) }
-    ensures holds { IsSettling (settling_of (W.hierarchy ways.now) edit.now settled.new.items)
-        graph.now arcs.now rebuilt.new known.new }
+    ensures holds { IsSettling (settling_over parts.now settled.new.items)
+        parts.now.graph parts.now.arcs rebuilt.new known.new }
 {
-    let ends = graph.ends(edge);
-    learn_sides(alloc, ways, graph, ends, rebuilt, known)?;
-    let (lists, functions) = settle_edge(alloc, ways, edit, graph, arcs, known, edge)?;
+    let ends = parts.ends(edge);
+    learn_sides(alloc, parts, ends, rebuilt, known)?;
+    let (lists, functions) = settle_edge(alloc, parts, known, edge)?;
     let copy = copy_touched(alloc, &lists)?;
     settled.push(copy)?;
     known[edge as usize] = Some(functions);
@@ -357,29 +297,25 @@ fn settle_next<W: Ways>(
 // Settles an edge in both directions by what is known, which has both sides of each of its lower triangles.
 fn settle_edge<W: Ways>(
     alloc: Global,
-    ways: &W,
-    edit: &Edit,
-    graph: &Chordal,
-    arcs: &EdgeArcs,
+    parts: &EditParts<'_, W>,
     known: &[Option<EdgeFunctions>],
     edge: u32,
 ) -> Result<(TouchedEdge, EdgeFunctions), NoMemory>
-    requires edge { edge < length graph.now.edges }
-    requires graph { IsHierarchyOf graph.now (W.hierarchy ways.now) }
-    requires arcs { AreEdgeArcs (W.hierarchy ways.now).network (W.hierarchy ways.now).order
-        graph.now.edges arcs.now }
-    requires range { IsEditInRange (W.hierarchy ways.now).network edit.now }
-    requires pieces { IsEditSound edit.now }
-    requires sides { (side : ℕ) → IsLowerSide graph.now.edges edge side
+    requires edge { edge < length parts.now.graph.edges }
+    requires sides { (side : ℕ) → IsLowerSide parts.now.graph.edges edge side
         → HasFunctions known.now side }
-    ensures { IfOk result (λ (lists, functions). IsSettledEdge graph.now.edges arcs.now
+    ensures { IfOk result (λ (lists, functions).
+        IsSettledEdge parts.now.graph.edges parts.now.arcs
         (functions_of (record {
-          network = edited (W.hierarchy ways.now).network edit.now;
+          network = edited parts.now.before.network parts.now.edit;
           known = known.now;
         }))
         edge lists functions) }
 {
-    let mut functions = KnownFunctions::of(ways, edit, known);
+    let graph = parts.graph();
+    let arcs = parts.edge_arcs();
+    let roads = parts.edited_roads();
+    let mut functions = KnownFunctions::of(&roads, known);
     let up = settle(alloc, graph, arcs, edge, Dir::Up, &mut functions)?;
     let down = settle(alloc, graph, arcs, edge, Dir::Down, &mut functions)?;
     let lists = TouchedEdge {
@@ -387,14 +323,9 @@ fn settle_edge<W: Ways>(
         up: up.ways,
         down: down.ways,
     };
-    Ok((lists, EdgeFunctions::of(up.function, down.function)))
-}
-
-/// Learns that what an edit sets is a profile.
-pub fn read_edit(edit: &Edit)
-    ensures { IsEditSound edit.now }
-{
-    if let Edit::Set { pieces, .. } = edit {
-        let _pieces = pieces.pieces();
-    }
+    let functions = EdgeFunctions {
+        up: up.function,
+        down: down.function,
+    };
+    Ok((lists, functions))
 }

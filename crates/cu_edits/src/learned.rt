@@ -3,32 +3,33 @@
 ghost use Rattle.std.specs.Prelude.{◌≡◌, ◌≤◌, ◌<◌, ◌*◌, ℕ, IfOk, OnOk, length};
 ghost use Rattle.cu_chordal.specs.declared.graph.TheConstants.{MAX_EDGES};
 ghost use Rattle.cu_interval.specs.Hierarchies.{HierarchyValue, list_number};
-ghost use Rattle.cu_unpack.specs.RebuiltWords.{IsSized};
-ghost use Rattle.cu_edits.specs.Learned.{AreWordsOf};
+ghost use Rattle.cu_unpack.specs.RebuiltRuns.{IsSized};
+ghost use Rattle.cu_edits.specs.Learned.{ArePackedOf};
 ghost use Rattle.cu_edits.specs.Steps.Taking.{HasTaken, TakesList};
 
-use crate::held::HeldWords;
 use crate::moved_lists::MovedLists;
+use crate::settler_state::PackedState;
 use cu_chordal::MAX_EDGES;
-use cu_customize::{DayFunction, WordSettling};
+use cu_customize::PackedSettling;
 use cu_interval::{Dir, Ways};
 use cu_model::NoMemory;
-use cu_unpack::WordFunctions;
+use cu_runs::DayFunction;
+use cu_unpack::PackedFunctions;
 use std::alloc::Global;
 use std::marker::Model;
 
-/// Functions of lists of a hierarchy, as words, and the room that settling by them takes. An edit hands them on to the next,
-/// so that no function is rebuilt twice. Contracts see which lists are known, and their functions.
+/// Functions of lists of a hierarchy, as packed runs, and the room that settling by them takes. An edit hands them on to the next,
+/// so that a function which is known needn't be rebuilt. Contracts see which lists are known, and their functions.
 #[derive(Debug, Drop)]
 pub struct Learned {
-    functions: WordFunctions,
-    settling: WordSettling,
+    functions: PackedFunctions,
+    settling: PackedSettling,
 }
 
 impl Model for Learned {
-    ghost use Rattle.cu_unpack.specs.RebuiltWords.{WordsValue};
+    ghost use Rattle.cu_unpack.specs.RebuiltRuns.{PackedValue};
 
-    ghost Value = { WordsValue };
+    ghost Value = { PackedValue };
 
     ghost view = { λ learned. learned.functions };
 }
@@ -39,22 +40,22 @@ impl Learned {
     pub(crate) fn nothing<W: Ways>(alloc: Global, ways: &W, edges: u32) -> Result<Learned, NoMemory>
         requires edges { edges ≤ MAX_EDGES }
         ensures { IfOk result (λ learned. (h : HierarchyValue)
-            → length h.edges ≡ edges → AreWordsOf h learned) }
+            → length h.edges ≡ edges → ArePackedOf h learned) }
     {
-        let settling = WordSettling::new(alloc, ways)?;
+        let settling = PackedSettling::new(alloc, ways)?;
         let windows = settling.windows();
         Ok(Learned {
-            functions: WordFunctions::new(alloc, edges, windows)?,
+            functions: PackedFunctions::new(alloc, edges, windows)?,
             settling,
         })
     }
 
     /// With lists none of which was moved yet.
-    pub(crate) fn held_with(self, moved: MovedLists) -> HeldWords
+    pub(crate) fn packed_with(self, moved: MovedLists) -> PackedState
         ensures functions { result.functions ≡ self }
         ensures moved { result.moved ≡ moved }
     {
-        HeldWords {
+        PackedState {
             functions: self.functions,
             moved,
             settling: self.settling,
@@ -62,16 +63,16 @@ impl Learned {
     }
 
     /// What is known after an edit of so many edges: the functions of lists that stand, and those of lists that were moved.
-    pub(crate) fn after(alloc: Global, held: HeldWords, edges: u32) -> Result<Learned, NoMemory>
-        requires places { length held.moved.places ≡ 2 * edges }
-        requires size { IsSized edges held.functions }
-        ensures { IfOk result (λ learned. HasTaken held.moved held.functions learned edges) }
+    pub(crate) fn after(alloc: Global, state: PackedState, edges: u32) -> Result<Learned, NoMemory>
+        requires places { length state.moved.places ≡ 2 * edges }
+        requires size { IsSized edges state.functions }
+        ensures { IfOk result (λ learned. HasTaken state.moved state.functions learned edges) }
     {
-        let HeldWords {
+        let PackedState {
             functions,
             moved,
             settling,
-        } = held;
+        } = state;
         let mut functions = functions;
         take_moved(alloc, &moved, edges, &mut functions)?;
         Ok(Learned {
@@ -86,7 +87,7 @@ fn take_moved(
     alloc: Global,
     moved: &MovedLists,
     edges: u32,
-    functions: &mut WordFunctions,
+    functions: &mut PackedFunctions,
 ) -> Result<(), NoMemory>
     requires places { length moved.now.places ≡ 2 * edges }
     requires size { IsSized edges functions.old }
@@ -103,7 +104,7 @@ fn take_moved(
 fn take_list(
     alloc: Global,
     moved: &MovedLists,
-    functions: &mut WordFunctions,
+    functions: &mut PackedFunctions,
     edge: u32,
     dir: Dir,
 ) -> Result<(), NoMemory>

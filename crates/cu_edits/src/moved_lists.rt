@@ -2,16 +2,16 @@
 
 ghost use Rattle.std.specs.Prelude.{◌≡◌, ◌≤◌, ◌<◌, ◌*◌, ◌↔◌, All, IfNone, IfOk, IfSome, IsTrue, OnErr, length, slice_set};
 ghost use Rattle.cu_chordal.specs.declared.graph.TheConstants.{MAX_EDGES};
-ghost use Rattle.cu_customize.specs.Layers.{layered};
+ghost use Rattle.cu_runs.specs.Layers.{layered};
 ghost use Rattle.cu_interval.specs.declared.ways.Dir.TheVariants.{Up, Down};
 ghost use Rattle.cu_interval.specs.Hierarchies.{list_number};
-ghost use Rattle.cu_edits.specs.Steps.Moving.{IsMovedTo, IsUnmoved, KeepsFate};
+ghost use Rattle.cu_edits.specs.Steps.Moving.{IsMovedTo, IsUnmoved, KeepsOutcome};
 
-use crate::new_list::Fate;
+use crate::new_list::Outcome;
 use cu_chordal::MAX_EDGES;
-use cu_customize::{DayFunction, DayFunctions};
-use cu_interval::Dir;
+use cu_interval::{Dir, Shortcut};
 use cu_model::NoMemory;
+use cu_runs::{DayFunction, LayeredFunctions};
 use std::alloc::Global;
 use std::marker::Model;
 
@@ -57,7 +57,7 @@ impl MovedLists {
         requires { list_number edge dir < length self.now.places }
         ensures { IsTrue result ↔ IsUnmoved self.now edge dir }
     {
-        self.places[list_index(edge, dir)] == 0
+        self.places[Shortcut { edge, dir }.list()] == 0
     }
 
     /// The function of the list of an edge in a direction, if it was moved.
@@ -66,7 +66,7 @@ impl MovedLists {
         ensures unmoved { IfNone result (IsUnmoved self.now edge dir) }
         ensures moved { IfSome result (λ function. IsMovedTo self.now edge dir function.now) }
     {
-        let place = self.places[list_index(edge, dir)];
+        let place = self.places[Shortcut { edge, dir }.list()];
         if place == 0 {
             return None;
         }
@@ -74,18 +74,18 @@ impl MovedLists {
     }
 
     /// These functions by list number, but those of moved lists in their place. Takes no memory.
-    pub fn over<'a>(&'a self, functions: &'a [Option<DayFunction>]) -> DayFunctions<'a>
+    pub fn over<'a>(&'a self, functions: &'a [Option<DayFunction>]) -> LayeredFunctions<'a>
         ensures { result ≡ layered functions.now self.now.places self.now.functions }
     {
-        DayFunctions::with_newer(functions, &self.places, &self.functions)
+        LayeredFunctions::with_newer(functions, &self.places, &self.functions)
     }
 
     /// Keeps what became of a list, until [`place`] says which list it is. Answers where.
-    pub fn keep(&mut self, fate: Fate) -> Result<u32, NoMemory>
-        ensures kept { IfOk result (KeepsFate self.old self.new fate) }
+    pub fn keep(&mut self, outcome: Outcome) -> Result<u32, NoMemory>
+        ensures kept { IfOk result (KeepsOutcome self.old self.new outcome) }
         ensures same { OnErr result (self.new ≡ self.old) }
     {
-        let Fate::Moves(function) = fate else {
+        let Outcome::Moves(function) = outcome else {
             return Ok(0);
         };
         let place = self.functions.len();
@@ -105,17 +105,8 @@ impl MovedLists {
             (list_number edge Up) up) (list_number edge Down) down }
         ensures functions { self.new.functions ≡ self.old.functions }
     {
-        self.places[list_index(edge, Dir::Up)] = up;
-        self.places[list_index(edge, Dir::Down)] = down;
-    }
-}
-
-// The number of the list of an edge in a direction.
-fn list_index(edge: u32, dir: Dir) -> usize
-    ensures { result ≡ list_number edge dir }
-{
-    match dir {
-        Dir::Up => 2 * edge as usize,
-        Dir::Down => 2 * edge as usize + 1,
+        let list = Shortcut { edge, dir: Dir::Up }.list();
+        self.places[list] = up;
+        self.places[list + 1] = down;
     }
 }

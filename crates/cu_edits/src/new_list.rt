@@ -1,11 +1,11 @@
 //! The list of an edge that is settled next.
 
-use cu_customize::DayFunction;
 use cu_interval::WayList;
+use cu_runs::DayFunction;
 
 /// What became of a list.
 #[derive(Debug, Drop)]
-pub enum Fate {
+pub enum Outcome {
     /// Its ways are those of before, and so is when they arrive.
     Stands,
     /// It may be another, and has this function; none where it is empty.
@@ -16,5 +16,5 @@ pub enum Fate {
 #[derive(Debug, Drop)]
 pub struct NewList {
     pub ways: WayList,
-    pub fate: Fate,
+    pub outcome: Outcome,
 }

@@ -41,9 +41,8 @@ pub fn touched_edges<W: Ways>(
     Ok(touched)
 }
 
-// Takes out an edge of the lowest rank, and adds the edges above it. So each edge is taken out after the touched edges of
-// its lower triangles.
-pub(crate) fn next_touched(graph: &Chordal, buckets: &mut RankBuckets) -> Option<u32>
+// Takes out an edge of the lowest rank, and adds the edges above it, which are of higher ranks: so each is taken out once.
+fn next_touched(graph: &Chordal, buckets: &mut RankBuckets) -> Option<u32>
     requires fit { AreBucketsOf graph.now buckets.old }
     ensures takes { Takes graph.now.edges buckets.old buckets.new result }
 {
@@ -66,12 +65,7 @@ fn add_above(graph: &Chordal, buckets: &mut RankBuckets, edge: u32)
 }
 
 // Adds the edges of the changed roads.
-pub(crate) fn add_changed<W: Ways>(
-    ways: &W,
-    edit: &Edit,
-    graph: &Chordal,
-    buckets: &mut RankBuckets,
-)
+fn add_changed<W: Ways>(ways: &W, edit: &Edit, graph: &Chordal, buckets: &mut RankBuckets)
     requires edit { IsEditInRange (W.hierarchy ways.now).network edit.now }
     requires graph { IsHierarchyOf graph.now (W.hierarchy ways.now) }
     requires fit { AreBucketsOf graph.now buckets.old }

@@ -15,11 +15,3 @@ ancestors_in graph rank = ancestors_of (parents_in graph) rank
 -- a sweep arc of a rank: the edge between one of its ancestors and a higher neighbour of that one
 abbrev pub IsSweepArc : ChordalValue → ℕ → ℕ → ℕ → Type 0
 IsSweepArc graph rank low high = Contains (ancestors_in graph rank) low × HasEdge graph.edges low high
-
--- the sweep from a rank takes its sweep arcs upwards: from an ancestor x to a higher neighbour y
-abbrev pub IsUpArc : ChordalValue → ℕ → ℕ → ℕ → Type 0
-IsUpArc graph from x y = IsSweepArc graph from x y
-
--- the sweep to a rank takes its sweep arcs downwards: from a higher neighbour x to an ancestor y
-abbrev pub IsDownArc : ChordalValue → ℕ → ℕ → ℕ → Type 0
-IsDownArc graph to x y = IsSweepArc graph to y x

@@ -7,8 +7,6 @@
 //! It stands on `cu_chordal`, whose graph it reads, and on `cu_model`. Private is how the parents are kept.
 #![tactic(auto)]
 
-#[cfg(test)]
-mod tests;
 mod tree;
 
 pub use tree::{Ancestors, Tree};

@@ -1,9 +1,11 @@
 -- The ends of an edge in a direction, and the numbers of its lists.
-use Rattle.std.proofs.Common.{◌≡◌, ◌≢◌, ◌<◌, ◌*◌, ◌/◌, ◌%◌, ℕ, Some, refl, arith, inl, inr, min}
+use Rattle.std.proofs.Common.{◌≡◌, ◌≢◌, ◌<◌, ◌*◌, ◌/◌, ◌%◌, ◌∙◌, ℕ, List, Some, refl, sym, ap, subst, arith, inl, inr, get_or, length, min}
 use Rattle.std.specs.Prelude.{slice_get}
-use Rattle.std.proofs.lemmas.Bool.{cases_eq}
+use Rattle.std.proofs.lemmas.Bool.{cases_eq, cases_lt}
+use Rattle.std.proofs.lemmas.Option.{get_or_from_slice_get, slice_get_cases, slice_get_within}
 use Rattle.cu_model.proofs.RoadLaws.{all_at}
 use Rattle.cu_chordal.specs.declared.graph.Ends.{Ends}
+use Rattle.cu_chordal.specs.Graphs.{ComesBefore, IsRising}
 use Rattle.cu_interval.specs.declared.ways.Dir.{Dir}
 use Rattle.cu_interval.specs.declared.ways.Dir.TheVariants.{Up, Down}
 use Rattle.cu_interval.specs.Hierarchies.{HierarchyValue, IsHierarchy, end_of, list_number, start_of}
@@ -46,6 +48,18 @@ each_number number = elim (cases_eq (number % 2) 0) [
   | inr odd ↦ (number / 2, Down, omega (arith, odd))
 ]
 
+-- each list number is that of an edge and a direction
+pub number_edge : (edges : List Ends) (k : ℕ) → k < 2 * length edges → (edge : ℕ) × (dir : Dir) × (ends : Ends) × (k ≡ list_number edge dir) × (slice_get edges edge ≡ Some ends)
+number_edge edges k h =
+    let edge = k / 2 in
+    elim (slice_get_cases edges edge).1 [
+      | inl (ends, inside, at, same) ↦ elim (cases_eq (k % 2) 0) [
+        | inl even ↦ (edge, Up, ends, omega (arith, even), at)
+        | inr odd ↦ (edge, Down, ends, omega (arith, odd), at)
+      ]
+      | inr past ↦ absurd (let over = past.0 in omega (arith, over, h))
+    ]
+
 -- there are two for each edge
 pub number_within : (edge count : ℕ) (dir : Dir) → edge < count → list_number edge dir < 2 * count
 number_within edge count Up lt = omega (arith, lt)
@@ -58,3 +72,23 @@ module _ (h : HierarchyValue) (sound : IsHierarchy h) (e : ℕ) (ends : Ends) (a
 
   pub ends_rise : ends.low < ends.high
   ends_rise = ends_range.0
+
+-- an edge with a lower lower end has a lower number
+pub number_below : (edges : List Ends) → IsRising edges → (j k : ℕ) (a b : Ends) → slice_get edges j ≡ Some a → slice_get edges k ≡ Some b → a.low < b.low → j < k
+number_below edges rising j k a b at there lt =
+    elim (cases_lt j k) [
+      | inl less ↦ less
+      | inr more ↦
+          let one : get_or edges j a ≡ a = get_or_from_slice_get edges j a a at in
+          let two : get_or edges k a ≡ b = get_or_from_slice_get edges k b a there in
+          elim (cases_eq j k) [
+            | inl same ↦
+                let equal : a ≡ b = sym one ∙ ap (λ (i : ℕ). get_or edges i a) same ∙ two in
+                let low : a.low ≡ b.low = ap (λ (e : Ends). e.low) equal in
+                absurd (omega (arith, low, lt))
+            | inr apart ↦
+                let before : ComesBefore (get_or edges k a) (get_or edges j a) = rising k j a (omega (arith, more, apart)) (slice_get_within edges j a at) in
+                let is : ComesBefore b a = subst (λ (x : Ends). ComesBefore x a) two (subst (λ (x : Ends). ComesBefore (get_or edges k a) x) one before) in
+                elim is [ inl less ↦ absurd (omega (arith, less, lt)) | inr tie ↦ absurd (let e = tie.0 in omega (arith, e, lt)) ]
+          ]
+    ]

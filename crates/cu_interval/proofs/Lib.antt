@@ -1,4 +1,5 @@
 pub mod ArcLists
+pub mod Bounds
 pub mod BuiltWalks
 pub mod Candidates
 pub mod Days
@@ -8,8 +9,9 @@ pub mod Examples
 pub mod FirstExamples
 pub mod FormedExamples
 pub mod Fuel
-pub mod Halves
+pub mod HalfLaws
 pub mod Lookups
+pub mod LowLists
 pub mod Middles
 pub mod Near
 pub mod Rebuilding

@@ -19,7 +19,7 @@ use Rattle.cu_interval.specs.Unpacking.{unpacked, unpacked_walk, unpacked_way}
 use Rattle.cu_interval.proofs.BuiltWalks.{has_least, own_walk, right_below}
 use Rattle.cu_interval.proofs.Days.{built_first}
 use Rattle.cu_interval.proofs.Fuel.{unpacked-via}
-use Rattle.cu_interval.proofs.Halves.{halves_apart}
+use Rattle.cu_interval.proofs.HalfLaws.{halves_apart}
 use Rattle.cu_interval.proofs.Lookups.{middles_fall}
 use Rattle.cu_interval.proofs.Simple.{Through, bound, inner_below}
 use Rattle.cu_interval.proofs.Unpacked.{list_from_spelled, way_there}

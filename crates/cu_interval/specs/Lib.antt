@@ -2,6 +2,7 @@ pub mod Low
 pub mod WayLists
 pub mod FirstWays
 pub mod Hierarchies
+pub mod Shortcuts
 pub mod Unpacking
 pub mod Calls
 pub mod Touching

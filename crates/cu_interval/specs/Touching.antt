@@ -8,7 +8,6 @@ use Rattle.cu_model.specs.declared.roads.Edit.TheVariants.{Set, Assign}
 use Rattle.cu_model.specs.Networks.{NetworkValue}
 use Rattle.cu_model.specs.Orders.{OrderValue}
 use Rattle.cu_chordal.specs.declared.graph.Ends.{Ends}
-use Rattle.cu_chordal.specs.Graphs.{HasEdge, IsRising}
 use Rattle.cu_chordal.specs.Edges.{LinksRanks, IsEdge}
 use Rattle.cu_interval.specs.Hierarchies.{HierarchyValue}
 
@@ -22,11 +21,6 @@ pub data IsTouched (g : NetworkValue) (o : OrderValue) (edit : Edit) : ℕ → �
   by_road : (a x y : ℕ) → IsChanged g edit a → LinksRanks g o a x y ⊎ LinksRanks g o a y x → x < y → IsTouched g o edit x y
   by_first : (m x y : ℕ) → IsTouched g o edit m x → m < x → x < y → IsEdge g o m x → IsEdge g o m y → IsTouched g o edit x y
   by_second : (m x y : ℕ) → IsTouched g o edit m y → m < x → x < y → IsEdge g o m x → IsEdge g o m y → IsTouched g o edit x y
-
--- the touched edges by their ends, each once, by lower rank and then by higher rank
-pub record ListsTouched (g : NetworkValue) (o : OrderValue) (edit : Edit) (touched : List Ends) : Type 0 where
-  pub rising : IsRising touched
-  pub exact : (x y : ℕ) → HasEdge touched x y ↔ IsTouched g o edit x y
 
 -- the edge with this number is touched
 abbrev pub IsTouchedEdge : HierarchyValue → Edit → ℕ → Type 0

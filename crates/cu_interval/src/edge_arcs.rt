@@ -9,6 +9,7 @@ ghost use Rattle.cu_interval.specs.EdgeArcs.{AreEdgeArcs};
 ghost use Rattle.cu_interval.specs.Hierarchies.{list_number};
 ghost use Rattle.cu_interval.specs.Steps.ArcLists.{AreListed, IsListOf};
 
+use crate::shortcuts::Shortcut;
 use crate::ways::Dir;
 use cu_chordal::{Chordal, Groups};
 use cu_model::{MAX_ARCS, NoMemory, Order, Roads};
@@ -61,10 +62,8 @@ impl EdgeArcs {
         ensures rising { IsStrictlyIncreasing result.now }
         ensures few { length result.now ≤ MAX_ARCS }
     {
-        match dir {
-            Dir::Up => self.lists.group(2 * edge),
-            Dir::Down => self.lists.group(2 * edge + 1),
-        }
+        let list = Shortcut { edge, dir }.list();
+        self.lists.group(list as u32)
     }
 }
 

@@ -5,6 +5,7 @@ ghost use Rattle.cu_chordal.specs.Graphs.{FindsEdge};
 ghost use Rattle.cu_interval.specs.WayLists.{way_at};
 ghost use Rattle.cu_interval.specs.Hierarchies.{HierarchyValue, IsHierarchy, IsHierarchyOf, graph_of, list_of};
 
+use crate::shortcuts::Shortcut;
 use crate::ways::{Dir, Entry, Way, WayList};
 use cu_chordal::{Chordal, Ends};
 use cu_model::{Network, Order, Piece, RoadArc, Roads};
@@ -129,17 +130,6 @@ impl Hierarchy {
         }
     }
 
-    /// Gives it another network and other lists, which fit its order and its graph. Takes no memory.
-    pub fn replace(&mut self, network: Network, lists: Vec<WayList>)
-        requires fits { IsHierarchyOf (graph_of self.old)
-            (record self.old { network = network; lists = lists.items }) }
-        ensures replaced { self.new
-            ≡ record self.old { network = network; lists = lists.items } }
-    {
-        self.network = network;
-        self.lists = lists;
-    }
-
     /// Its network.
     pub fn network(&self) -> &Network
         ensures { result.now ≡ self.now.network }
@@ -167,10 +157,7 @@ impl Hierarchy {
         ensures list { result.now ≡ list_of self.now edge dir }
         ensures sound { IsHierarchy self.now }
     {
-        match dir {
-            Dir::Up => &self.lists[2 * edge as usize],
-            Dir::Down => &self.lists[2 * edge as usize + 1],
-        }
+        &self.lists[Shortcut { edge, dir }.list()]
     }
 }
 

@@ -6,6 +6,9 @@
 //! (`specs/WayLists.antt`). [`Hierarchy`] is one in memory; it is built where each list is the maximal runs of the first
 //! ways over a day (`IsBuilt`).
 //!
+//! A [`Shortcut`] is an edge in a direction, a [`Leg`] the ranks that it leads from and to; [`halves`] and [`find_halves`] are
+//! the edges of its halves at a middle (`specs/Shortcuts.antt`).
+//!
 //! [`EdgeArcs`] promises the roads of each edge in each direction, and that they are few (`specs/EdgeArcs.antt`).
 //! [`Relaxer`] is whatever asks a shortcut at a second: it promises the drive of the unpacked walk, where that has fewer
 //! roads than there are nodes (`specs/Unpacking.antt`).
@@ -21,11 +24,11 @@
 mod edge_arcs;
 mod hierarchy;
 mod relaxing;
-#[cfg(test)]
-mod tests;
+mod shortcuts;
 mod ways;
 
 pub use edge_arcs::EdgeArcs;
 pub use hierarchy::{Hierarchy, Ways};
 pub use relaxing::{Call, Relaxed, Relaxer};
+pub use shortcuts::{Leg, Shortcut, find_halves, halves, leg_of};
 pub use ways::{Dir, Entry, TouchedEdge, Way, WayList};

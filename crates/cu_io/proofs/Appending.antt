@@ -1,5 +1,5 @@
 -- Texts written piece by piece: what the pieces so far and the next one come to.
-use Rattle.std.proofs.Common.{◌≡◌, ℕ, zero, suc, ◌+◌, ◌-◌, ◌<◌, ◌≤◌, ◌∙◌, List, [], ◌∷◌, ◌++◌, length, take, drop, get_or, flat_map, refl, sym, ap, subst, append_assoc, arith, length-append}
+use Rattle.std.proofs.Common.{◌≡◌, ℕ, ◌+◌, ◌-◌, ◌<◌, ◌≤◌, ◌∙◌, List, [], ◌∷◌, ◌++◌, length, take, drop, refl, sym, ap, subst, append_assoc, arith, length-append}
 use Rattle.std.proofs.lemmas.List.{append-nil, take-append-le, take_rest}
 use Rattle.std.proofs.Math.Seq.{take-add, take-append-add}
 use Rattle.std.specs.Prelude.{Option, None, Some, Result, Ok, Err, OnOk, OnErr, IsErr, is_some}
@@ -55,6 +55,11 @@ cause_then : {T E : Type 0} (r : Result T E) (a b c : ℕ) → a ≤ b → OnErr
 cause_then (Ok x) a b c h k = tt
 cause_then (Err e) a b c h k = omega (arith, h, k)
 
+-- a count that stayed, and then stayed
+quiet_then : {T E : Type 0} (r : Result T E) (a b c : ℕ) → b ≡ a → OnOk r (c ≡ b) → OnOk r (c ≡ a)
+quiet_then (Ok x) a b c h k = k ∙ h
+quiet_then (Err e) a b c h k = tt
+
 -- nothing was written
 pub wrote_nothing : {T E : Type 0} (a : SinkState) (x : T) → Wrote {T = T} {E = E} a a (Ok x) []
 wrote_nothing a x = record {
@@ -64,6 +69,7 @@ wrote_nothing a x = record {
   flushed = omega arith;
   later = omega arith;
   cause = tt;
+  quiet = refl;
 }
 
 -- a whole text, and after it another, with whatever outcome
@@ -75,6 +81,7 @@ wrote_then {a = a} {b = b} {c = c} {r = r} {xs = xs} {ys = ys} h k = record {
   flushed = omega (arith, h.flushed, k.flushed);
   later = omega (arith, h.later, k.later);
   cause = cause_then r a.faults b.faults c.faults h.later k.cause;
+  quiet = quiet_then r a.faults b.faults c.faults h.quiet k.quiet;
 }
 
 ok_of_err : {S F : Type 0} (P : Type 0) (r : Result S F) → IsErr r → OnOk r P
@@ -90,26 +97,28 @@ wrote_stops {a = a} {b = b} {r = r} {xs = xs} rest is h = record {
   flushed = h.flushed;
   later = h.later;
   cause = on_err r h.cause;
+  quiet = ok_of_err _ r is;
 }
 
 -- the same, where nothing would follow it
 pub wrote_err : {T E S F : Type 0} {a b : SinkState} {e : E} {r : Result S F} {xs : List ℕ} → IsErr r → Wrote {T = T} {E = E} a b (Err e) xs → Wrote a b r xs
-wrote_err {r = r} is h = record { ok = ok_of_err _ r is; err = on_err r h.err; tells = h.tells; flushed = h.flushed; later = h.later; cause = on_err r h.cause }
+wrote_err {r = r} is h = record { ok = ok_of_err _ r is; err = on_err r h.err; tells = h.tells; flushed = h.flushed; later = h.later; cause = on_err r h.cause; quiet = ok_of_err _ r is }
 
 -- a text that is written, told with another value
 pub wrote_ok : {T E S F : Type 0} {a b : SinkState} {x : T} {y : S} {xs : List ℕ} → Wrote {T = T} {E = E} a b (Ok x) xs → Wrote {T = S} {E = F} a b (Ok y) xs
-wrote_ok h = record { ok = h.ok; err = tt; tells = h.tells; flushed = h.flushed; later = h.later; cause = tt }
+wrote_ok h = record { ok = h.ok; err = tt; tells = h.tells; flushed = h.flushed; later = h.later; cause = tt; quiet = h.quiet }
 
 -- the first bytes of a text, and what one more write takes of the rest
 pub wrote_next : {a b c : SinkState} (text : List ℕ) (i n : ℕ) → WroteAll a b (take i text) → Appends b.written c.written (take n (take (length text - i) (drop i text)))
-    → is_some c.written ≡ is_some b.written → b.flushed ≤ c.flushed → b.faults ≤ c.faults → WroteAll a c (take (i + n) text)
-wrote_next {a = a} {b = b} {c = c} text i n h appends tells flushed later = record {
+    → is_some c.written ≡ is_some b.written → b.flushed ≤ c.flushed → b.faults ≤ c.faults → c.faults ≡ b.faults → WroteAll a c (take (i + n) text)
+wrote_next {a = a} {b = b} {c = c} text i n h appends tells flushed later quiet = record {
   ok = appends_next a.written b.written c.written text i n h.ok appends;
   err = tt;
   tells = tells ∙ h.tells;
   flushed = omega (arith, h.flushed, flushed);
   later = omega (arith, h.later, later);
   cause = tt;
+  quiet = quiet ∙ h.quiet;
 }
 
 -- a text that is the other
@@ -125,13 +134,3 @@ line_stops {r = r} is h = record { wrote = wrote_stops _ is h; flushed = ok_of_e
 
 pub line_same : {T E : Type 0} {a b : SinkState} {r : Result T E} {xs ys : List ℕ} → xs ≡ ys → WroteLine a b r xs → WroteLine a b r ys
 line_same {a = a} {b = b} {r = r} same h = subst (λ (t : List ℕ). WroteLine a b r t) same h
-
--- the texts of a list, cut at one of its elements
-pub flat_map_cut : (f : ℕ → List ℕ) (xs : List ℕ) (i d : ℕ) → i < length xs
-    → flat_map f xs ≡ flat_map f (take i xs) ++ (f (get_or xs i d) ++ flat_map f (drop (i + 1) xs))
-flat_map_cut f [] i d h = absurd (omega (arith, h))
-flat_map_cut f (x ∷ xs) zero d h = refl
-flat_map_cut f (x ∷ xs) (suc i) d h =
-    let rest = flat_map_cut f xs i d (omega (arith, h)) in
-    let same : suc i + 1 ≡ suc (i + 1) = omega arith in
-    rw (same, append_assoc) (ap (λ (t : List ℕ). f x ++ t) rest)

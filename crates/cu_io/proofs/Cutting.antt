@@ -65,7 +65,7 @@ cut_line {a = a} {b = b} {chunk = chunk} bytes lines line cut took first = recor
 -- the end of input: these were all lines
 pub cut_end : {a b : ReaderState} {s t : SourceState} {chunk : List ℕ} (bytes : List ℕ) (lines : List (List ℕ))
     → IsCut bytes lines a.held a.shown → TakesLine a b s t chunk → Finds a b s t chunk found.End → lines_of (bytes ++ chunk) ≡ lines
-cut_end {a = a} {chunk = chunk} bytes lines cut took (nil, none, shown) =
+cut_end {a = a} {chunk = chunk} bytes lines cut took (nil, none, shown, quiet) =
     cut.cut chunk (λ before. (took.rests before).2) ∙ ap (λ (t : List ℕ). lines ++ lines_of t) nil ∙ append-nil lines
 
 -- a fault, or too many bytes: these were all lines that have ended

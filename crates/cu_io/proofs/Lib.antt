@@ -1,7 +1,6 @@
 pub mod Appending
 pub mod Cutting
 pub mod LineLaws
-mod Known
 mod Moving
 mod Noting
 mod Reading

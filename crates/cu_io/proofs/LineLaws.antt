@@ -1,5 +1,6 @@
 -- Lines: the first one, and those that have ended.
-use Rattle.std.proofs.Common.{◌≡◌, ◌<◌, ◌+◌, ◌-◌, ◌∙◌, ◌==◌, ℕ, zero, suc, Bool, List, [], ◌∷◌, ◌++◌, Some, None, length, take, drop, get_or, false, refl, sym, ap, arith, inl, inr, cond, position, All}
+use Rattle.std.proofs.Common.{◌≡◌, ◌<◌, ◌+◌, ◌-◌, ◌∙◌, ◌==◌, ℕ, zero, suc, Bool, List, [], ◌∷◌, ◌++◌, Some, None, length, take, drop, get_or, false, refl, sym, ap, arith, inl, inr}
+use Rattle.std.proofs.Common.{cond, position, All}
 use Rattle.std.specs.List.{onto_first}
 use Rattle.std.specs.List.{position_or_len}
 use Rattle.std.proofs.lemmas.Bool.{cases_Bool, cases_lt, lt-ltb, eqb-true}

@@ -1,5 +1,6 @@
 -- The steps of a line reader on its way to a line.
-use Rattle.std.proofs.Common.{◌≡◌, ◌<◌, ◌≤◌, ◌+◌, ◌++◌, ◌∙◌, ◌==◌, ℕ, zero, suc, List, [], ◌∷◌, Bool, false, length, take, drop, get_or, position, refl, sym, ap, subst, arith, inl, inr, append_assoc, length-append, length-take, length-drop}
+use Rattle.std.proofs.Common.{◌≡◌, ◌<◌, ◌≤◌, ◌+◌, ◌++◌, ◌∙◌, ◌==◌, ℕ, zero, suc, List, [], ◌∷◌, Bool, false, length, take, drop, get_or, position, refl, sym, ap, subst, arith, inl}
+use Rattle.std.proofs.Common.{inr, append_assoc, length-append, length-take, length-drop}
 use Rattle.std.specs.Prelude.{Option, None, Some, IfSome, if◌then◌else◌}
 use Rattle.std.proofs.Math.Seq.{take-add}
 use Rattle.std.proofs.lemmas.Bool.{cases_Bool, eqb-true}
@@ -123,25 +124,25 @@ searched_more held chunk all none is =
 
 -- a line feed ends the line
 pub found_text : (a b : ReaderState) (s t : SourceState) (chunk : List ℕ) (at : ℕ) → Holds a b s t chunk → IsFeed b.held (Some at) → length b.held ≤ b.line_limit + 1
-    → Steps a (record b { held = drop (at + 1) b.held; line = take at b.held }) s t found.Text
-found_text a b s t chunk at (took, held, over) (lt, none, parts) limit =
+    → t.faults ≡ s.faults → Steps a (record b { held = drop (at + 1) b.held; line = take at b.held }) s t found.Text
+found_text a b s t chunk at (took, held, over) (lt, none, parts) limit quiet =
     let short : length (take at b.held) ≤ a.line_limit = omega (arith, length-take at b.held, lt, limit, took.line_limit) in
-    (chunk, takes_line_same (drop (at + 1) b.held) (take at b.held) b.over took, ((none, inl (sym held ∙ parts)), short), over)
+    (chunk, takes_line_same (drop (at + 1) b.held) (take at b.held) b.over took, ((none, inl (sym held ∙ parts)), short, quiet), over)
 
 -- the end of input ends it, or shows that there is none
 pub found_rest : (a b c : ReaderState) (s t u : SourceState) (chunk : List ℕ) → Holds a b s t chunk → TakesMore b c t u more.End → HasNoFeed b.held → length b.held ≤ b.line_limit
-    → Steps a (record c { held = []; line = c.held }) s u (if length c.held == 0 then found.End else found.Text)
-found_rest a b c s t u chunk has (more, next, (shown, nothing)) none limit =
+    → t.faults ≡ s.faults → Steps a (record c { held = []; line = c.held }) s u (if length c.held == 0 then found.End else found.Text)
+found_rest a b c s t u chunk has (more, next, (shown, nothing, still)) none limit quiet =
     let (took, held, over) = holds_more has next in
     let same : c.held ≡ b.held = next.1 ∙ ap (λ (t : List ℕ). b.held ++ t) nothing ∙ append-nil b.held in
     let plain : HasNoFeed c.held = subst HasNoFeed (sym same) none in
     let taken = takes_line_same [] c.held c.over took in
     elim (cases_Bool (length c.held == 0)) [
-      | inl naught ↦ rw naught (chunk ++ more, taken, (sym held ∙ empty c.held (eqb-true (length c.held) 0 naught), refl, shown), over)
+      | inl naught ↦ rw naught (chunk ++ more, taken, (sym held ∙ empty c.held (eqb-true (length c.held) 0 naught), refl, shown, still ∙ quiet), over)
       | inr some ↦
           let size : 0 < length c.held = positive (length c.held) some in
           let short : length c.held ≤ a.line_limit = omega (arith, limit, has.0.line_limit, ap (λ (t : List ℕ). length t) same) in
-          rw some (chunk ++ more, taken, ((plain, inr (shown, size, sym held, refl)), short), over)
+          rw some (chunk ++ more, taken, ((plain, inr (shown, size, sym held, refl)), short, still ∙ quiet), over)
     ]
   where
     empty : (xs : List ℕ) → length xs ≡ 0 → xs ≡ []
@@ -153,23 +154,24 @@ found_rest a b c s t u chunk has (more, next, (shown, nothing)) none limit =
     positive (suc n) h = omega arith
 
 -- what later steps find in the bytes held
-pub found_later : (a b c : ReaderState) (s t u : SourceState) (chunk : List ℕ) (what : Found) → Holds a b s t chunk → Steps b c t u what → Steps a c s u what
-found_later a b c s t u chunk what (took, held, over) (more, next, finds, same) =
+pub found_later : (a b c : ReaderState) (s t u : SourceState) (chunk : List ℕ) (what : Found) → Holds a b s t chunk → t.faults ≡ s.faults → Steps b c t u what
+    → Steps a c s u what
+found_later a b c s t u chunk what (took, held, over) quiet (more, next, finds, same) =
     (chunk ++ more, takes_line_then took next, later what finds, same ∙ over)
   where
     bytes : b.held ++ more ≡ a.held ++ (chunk ++ more)
     bytes = ap (λ (t : List ℕ). t ++ more) held ∙ append_assoc a.held chunk more
 
     later : (what : Found) → Finds b c t u more what → Finds a c s u (chunk ++ more) what
-    later found.Text (first, short) = (subst (λ (t : List ℕ). IsFirstLine t c.shown c.line c.held) bytes first, omega (arith, short, took.line_limit))
-    later found.Long (line, first, long) = (line, subst (λ (t : List ℕ). IsFirstLine t c.shown line c.held) bytes first, omega (arith, long, took.line_limit))
-    later found.End (none, nil, shown) = (sym bytes ∙ none, nil, shown)
+    later found.Text (first, short, still) = (subst (λ (t : List ℕ). IsFirstLine t c.shown c.line c.held) bytes first, omega (arith, short, took.line_limit), still ∙ quiet)
+    later found.Long (line, first, long, still) = (line, subst (λ (t : List ℕ). IsFirstLine t c.shown line c.held) bytes first, omega (arith, long, took.line_limit), still ∙ quiet)
+    later found.End (none, nil, shown, still) = (sym bytes ∙ none, nil, shown, still ∙ quiet)
     later found.Fault (none, hidden, below, rose) = (subst HasNoFeed bytes none, hidden, omega (arith, below, took.take_limit), omega (arith, took.later, rose))
-    later found.Spent (none, hidden, all) = (subst HasNoFeed bytes none, hidden, all ∙ took.take_limit)
+    later found.Spent (none, hidden, all, still) = (subst HasNoFeed bytes none, hidden, all ∙ took.take_limit, still ∙ quiet)
 
 -- a long line is passed over: bytes that came, and what is held of them
 module _ (a b : ReaderState) (s t : SourceState) (chunk : List ℕ) (took : TakesLine a b s t chunk) (none : HasNoFeed (a.held ++ chunk))
-    (long : a.line_limit < length a.held) (over : b.over ≡ a.over) where
+    (long : a.line_limit < length a.held) (over : b.over ≡ a.over) (quiet : t.faults ≡ s.faults) where
   abbrev pub drops : ReaderState
   drops = record b { held = [] }
 
@@ -178,7 +180,7 @@ module _ (a b : ReaderState) (s t : SourceState) (chunk : List ℕ) (took : Take
 
   pub passed_feed : (c : ReaderState) (u : SourceState) (at : ℕ) → TakesMore drops c t u more.Bytes → IsFeed c.held (Some at)
       → Steps a (record c { held = drop (at + 1) c.held; line = take at c.held }) s u found.Long
-  passed_feed c u at (more, next, (hidden, some)) (lt, plain, parts) =
+  passed_feed c u at (more, next, (hidden, some, still)) (lt, plain, parts) =
       let (all, held, same) = came c u more next in
       let line = (a.held ++ chunk) ++ take at c.held in
       let bytes : a.held ++ (chunk ++ more) ≡ line ++ 10 ∷ drop (at + 1) c.held =
@@ -186,19 +188,19 @@ module _ (a b : ReaderState) (s t : SourceState) (chunk : List ℕ) (took : Take
       ∙ sym (append_assoc (a.held ++ chunk) (take at c.held) (10 ∷ drop (at + 1) c.held)) in
       let far : a.line_limit < length line = omega (arith, long, length-append (a.held ++ chunk) (take at c.held), length-append a.held chunk) in
       let clear = All-append (λ byte. (byte == 10) ≡ false) (a.held ++ chunk) (take at c.held) none plain in
-      (chunk ++ more, takes_line_same (drop (at + 1) c.held) (take at c.held) c.over all, (line, (clear, inl bytes), far), same)
+      (chunk ++ more, takes_line_same (drop (at + 1) c.held) (take at c.held) c.over all, (line, (clear, inl bytes), far, still ∙ quiet), same)
 
   pub passed_end : (c : ReaderState) (u : SourceState) → TakesMore drops c t u more.End → Steps a c s u found.Long
-  passed_end c u (more, next, (shown, nothing)) =
+  passed_end c u (more, next, (shown, nothing, still)) =
       let (all, held, same) = came c u more next in
       let bytes : a.held ++ (chunk ++ more) ≡ a.held ++ chunk = ap (λ (t : List ℕ). a.held ++ (chunk ++ t)) nothing ∙ ap (λ (t : List ℕ). a.held ++ t) (append-nil chunk) in
       let far : a.line_limit < length (a.held ++ chunk) = omega (arith, long, length-append a.held chunk) in
       let some : 0 < length (a.held ++ chunk) = omega (arith, far) in
-      (chunk ++ more, all, (a.held ++ chunk, (none, inr (shown, some, bytes, held ∙ nothing)), far), same)
+      (chunk ++ more, all, (a.held ++ chunk, (none, inr (shown, some, bytes, held ∙ nothing)), far, still ∙ quiet), same)
 
   pub passed_more : (c : ReaderState) (u : SourceState) → TakesMore drops c t u more.Bytes → HasNoFeed c.held
-      → (more : List ℕ) × TakesLine a c s u (chunk ++ more) × HasNoFeed (a.held ++ (chunk ++ more)) × (c.over ≡ a.over) × (0 < length more)
-  passed_more c u (more, next, (hidden, some)) plain =
+      → (more : List ℕ) × TakesLine a c s u (chunk ++ more) × HasNoFeed (a.held ++ (chunk ++ more)) × (c.over ≡ a.over) × (u.faults ≡ s.faults) × (0 < length more)
+  passed_more c u (more, next, (hidden, some, still)) plain =
       let (all, held, same) = came c u more next in
       let clear = All-append (λ byte. (byte == 10) ≡ false) (a.held ++ chunk) more none (subst HasNoFeed held plain) in
-      (more, all, subst HasNoFeed (append_assoc a.held chunk more) clear, same, some)
+      (more, all, subst HasNoFeed (append_assoc a.held chunk more) clear, same, still ∙ quiet, some)

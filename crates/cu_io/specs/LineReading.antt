@@ -28,13 +28,14 @@ is_last found.End = true
 is_last found.Fault = true
 is_last found.Spent = true
 
--- what was found in the bytes that were held, and those that were taken then
+-- what was found in the bytes that were held, and those that were taken then; the source's count of faults rose where a fault was
+-- found, and stayed where anything else was
 abbrev pub Finds : ReaderState → ReaderState → SourceState → SourceState → List ℕ → Found → Type 0
-Finds reader after source left chunk found.Text = IsFirstLine (reader.held ++ chunk) after.shown after.line after.held × (length after.line ≤ reader.line_limit)
-Finds reader after source left chunk found.Long = (line : List ℕ) × IsFirstLine (reader.held ++ chunk) after.shown line after.held × (reader.line_limit < length line)
-Finds reader after source left chunk found.End = (reader.held ++ chunk ≡ []) × (after.held ≡ []) × (after.shown ≡ true)
+Finds reader after source left chunk found.Text = IsFirstLine (reader.held ++ chunk) after.shown after.line after.held × (length after.line ≤ reader.line_limit) × (left.faults ≡ source.faults)
+Finds reader after source left chunk found.Long = (line : List ℕ) × IsFirstLine (reader.held ++ chunk) after.shown line after.held × (reader.line_limit < length line) × (left.faults ≡ source.faults)
+Finds reader after source left chunk found.End = (reader.held ++ chunk ≡ []) × (after.held ≡ []) × (after.shown ≡ true) × (left.faults ≡ source.faults)
 Finds reader after source left chunk found.Fault = HasNoFeed (reader.held ++ chunk) × (after.shown ≡ false) × (after.taken < reader.take_limit) × Rose source.faults left.faults
-Finds reader after source left chunk found.Spent = HasNoFeed (reader.held ++ chunk) × (after.shown ≡ false) × (after.taken ≡ reader.take_limit)
+Finds reader after source left chunk found.Spent = HasNoFeed (reader.held ++ chunk) × (after.shown ≡ false) × (after.taken ≡ reader.take_limit) × (left.faults ≡ source.faults)
 
 -- one call took these bytes, no more than the limit allows, and none once the end was shown
 pub record TakesLine (reader after : ReaderState) (source left : SourceState) (chunk : List ℕ) : Type 0 where
@@ -67,6 +68,7 @@ abbrev pub Shows : ReaderState → Line → Type 0
 Shows after (line.Text text) = text.now ≡ without_return after.line
 Shows after _ = Unit {0}
 
--- one call of a line reader, and the line that it shows
+-- one call of a line reader, the line that it shows, and no more bytes held behind it than it has room for
 abbrev pub NextLine : ReaderState → ReaderState → SourceState → SourceState → Line → Type 0
-NextLine reader after source left shown = Reads reader after source left (found_of shown) × Shows after shown
+NextLine reader after source left shown =
+    Reads reader after source left (found_of shown) × Shows after shown × (length after.held ≤ after.line_limit + 1)

@@ -1,10 +1,7 @@
 -- What the objects in memory are, as plain data. Their calls are numbered from 0, and those named fail.
-use Rattle.std.specs.Prelude.{ℕ, ◌+◌, ◌-◌, ◌^◌, min, Bool, ◌&&◌, ◌||◌, ◌==◌, List, length, nat_lt}
+use Rattle.std.specs.Prelude.{ℕ, ◌-◌, Bool, ◌&&◌, ◌||◌, ◌==◌, List, length, nat_lt}
 use Rattle.std.specs.List.{list_any}
-
--- one more, up to 2 ^ 64 - 1
-abbrev pub one_more : ℕ → ℕ
-one_more n = min (n + 1) (2 ^ 64 - 1)
+use Rattle.cu_io.specs.Counts.{one_more}
 
 -- the numbers of the calls that fail, and the number of the next call
 pub record CallList : Type 0 where

@@ -21,6 +21,7 @@ pub record Wrote {T E : Type 0} (before now : SinkState) (result : Result T E) (
   pub flushed : before.flushed ≤ now.flushed
   pub later : before.faults ≤ now.faults
   pub cause : OnErr result (Rose before.faults now.faults)
+  pub quiet : OnOk result (now.faults ≡ before.faults)
 
 -- a text was written whole
 abbrev pub WroteAll : SinkState → SinkState → List ℕ → Type 0

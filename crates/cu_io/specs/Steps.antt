@@ -1,2 +1,3 @@
 pub mod LineSteps
 pub mod Cuts
+pub mod Noted

@@ -5,18 +5,21 @@ ghost use Rattle.cu_io.specs.Adapters.{SomeGives, SomeGivesMore, SomeTakes, disk
 ghost use Rattle.cu_io.specs.Counts.{Rose};
 ghost use Rattle.cu_io.specs.Holdings.{Holds, HoldsMore, KeepsOthers, OnTooLong, OnLoadFault, OnStoreFault, UnlessLoadFault, UnlessStoreFault};
 
+use crate::faults::Faults;
+use crate::fresh::fresh_file;
 use crate::shelf::{LoadFailed, Shelf, StoreFailed};
+use crate::shelf_file::ShelfFile;
 use crate::standard::read_some;
-use std::alloc::{AllocError, Global};
-use std::fs::{Files, OpenFile, OpenOptions, Permissions};
+use std::alloc::Global;
+use std::fs::{Files, OpenFile, Permissions};
 use std::io::{ErrorKind, Read, Write};
 use std::{fs, io};
 
 // The most bytes of a file that can be loaded, 2^32.
 const LIMIT: u64 = 4_294_967_296;
 
-// How many bytes a read asks for.
-const PART: usize = 65_536;
+// How many bytes a read asks for at most. They stand on the stack.
+const PART: u64 = 16_384;
 
 /// A shelf of the files that `R` opens, under their paths, of which those with more than 2^32 bytes can't be loaded. It
 /// tells no bytes. Each fault of a load is in the one count of loads that all names share, and each fault of a store in
@@ -24,11 +27,14 @@ const PART: usize = 65_536;
 #[derive(Drop)]
 pub struct DiskShelf<R: Files + Drop> {
     files: R,
-    load_faults: u64,
+    load_faults: Faults,
     store_faults: u64,
 }
 
-impl<R: Files + Drop> DiskShelf<R> {
+impl<R: Files + Drop> DiskShelf<R>
+where
+    R::File: ShelfFile,
+{
     /// A shelf of these files, which has met no fault.
     pub fn new(files: R) -> DiskShelf<R>
         ensures loads { (name : List ℕ) → (⟦<DiskShelf<R> as Shelf>⟧.state result).load_faults name
@@ -38,13 +44,16 @@ impl<R: Files + Drop> DiskShelf<R> {
     {
         DiskShelf {
             files,
-            load_faults: 0,
+            load_faults: Faults::none(),
             store_faults: 0,
         }
     }
 }
 
-impl<R: Files + Drop> Shelf for DiskShelf<R> {
+impl<R: Files + Drop> Shelf for DiskShelf<R>
+where
+    R::File: ShelfFile,
+{
     ghost state = { disk_state };
 
     fn limit(&self) -> u64
@@ -53,6 +62,8 @@ impl<R: Files + Drop> Shelf for DiskShelf<R> {
         LIMIT
     }
 
+    /// A file whose length is past the limit isn't read, and of one that tells no length one byte past the limit is read.
+    ///
     /// No clause says that the file under the name is the one that is opened: the system's calls promise nothing of names.
     fn load(&mut self, _alloc: Global, name: &str, into: &mut Vec<u8>) -> Result<(), LoadFailed>
         ensures limit { (disk_state self.new).most ≡ (disk_state self.old).most }
@@ -73,21 +84,20 @@ impl<R: Files + Drop> Shelf for DiskShelf<R> {
         ensures given { OnOk result (SomeGives R.File.remaining into.new.items) }
         ensures over { OnTooLong result (SomeGivesMore R.File.remaining LIMIT) }
     {
-        let loaded = load_file(&self.files, name, into);
+        let loaded = load_file(&self.files, name, into, &mut self.load_faults);
         if loaded.is_err() {
             into.clear();
-        }
-        if loaded == Err(LoadFailed::Fault) {
-            self.load_faults = self.load_faults.saturating_add(1);
         }
         loaded
     }
 
     /// Where the name is a regular file, a link to one, or nothing is there, a fresh file is made in the same folder,
-    /// under a name `.stored-N` that is free: it is given the old file's mode, written, synced and renamed over the old
-    /// file, and then the folder is synced, where its file system can do so. Where the fresh file can't be filled or
-    /// renamed, it is removed. A link stays as it is, and what it leads to is replaced. Anything else, as a device, a
-    /// pipe or a link to nothing, is written in place.
+    /// under a name `.catchup-stored-N` that is free: it is given the old file's mode, written, synced and renamed over
+    /// the old file, and then the folder is synced, where its file system can do so. Where the fresh file can't be filled
+    /// or renamed, it is removed. It is locked while it is open, where its file system has locks; so a file of such a
+    /// name that isn't locked was left by a store that was killed, and the next store in the folder removes it. A link
+    /// stays as it is, and what it leads to is replaced. Anything else, as a device, a pipe or a link to nothing, is
+    /// written in place.
     ///
     /// Of all this a clause says that some opened file took the bytes. The order of these steps, that mode and links
     /// stay, and what a name holds after a store that met no fault are tested. What each step does is trusted to the
@@ -119,45 +129,67 @@ impl<R: Files + Drop> Shelf for DiskShelf<R> {
 }
 
 // Replaces `into` by the bytes of a file.
-fn load_file<R: Files>(files: &R, name: &str, into: &mut Vec<u8>) -> Result<(), LoadFailed>
+fn load_file<R: Files>(
+    files: &R,
+    name: &str,
+    into: &mut Vec<u8>,
+    faults: &mut Faults,
+) -> Result<(), LoadFailed>
+where
+    R::File: ShelfFile,
     ensures short { OnOk result (length into.new.items ≤ LIMIT) }
     ensures given { OnOk result (SomeGives R.File.remaining into.new.items) }
     ensures over { OnTooLong result (SomeGivesMore R.File.remaining LIMIT) }
+    ensures later { faults.old ≤ faults.new }
+    ensures cause { OnLoadFault result (Rose faults.old faults.new) }
+    ensures quiet { UnlessLoadFault result (faults.new ≡ faults.old) }
 {
     into.clear();
-    let Ok(mut file) = fs::open(files, name) else {
+    let Some(mut file) = faults.note(fs::open(files, name)) else {
         return Err(LoadFailed::Fault);
     };
-    read_whole(&mut file, into)
+    if file.least_length() > LIMIT {
+        return Err(LoadFailed::TooLong);
+    }
+    read_whole(&mut file, into, faults)
 }
 
-// Adds what the reader gives up to its end.
-fn read_whole<R: Read>(reader: &mut R, into: &mut Vec<u8>) -> Result<(), LoadFailed>
+// Adds what the reader gives up to its end, or one byte past the limit. An answer that is an error is a fault, and
+// nothing else is one.
+fn read_whole<R: Read>(
+    reader: &mut R,
+    into: &mut Vec<u8>,
+    faults: &mut Faults,
+) -> Result<(), LoadFailed>
     requires { length into.old.items ≤ LIMIT }
     ensures short { OnOk result (length into.new.items ≤ LIMIT) }
     ensures whole { OnOk result (IfSome (R.remaining reader.old)
         (λ bytes. into.new.items ≡ into.old.items ++ bytes)) }
     ensures long { OnTooLong result (IfSome (R.remaining reader.old)
         (λ bytes. LIMIT < length into.old.items + length bytes)) }
+    ensures later { faults.old ≤ faults.new }
+    ensures cause { OnLoadFault result (Rose faults.old faults.new) }
+    ensures quiet { UnlessLoadFault result (faults.new ≡ faults.old) }
 {
-    let mut part = [0; PART];
-    for _ in 0..u64::MAX {
-        let Ok(count) = read_some(reader, &mut part) else {
+    let mut part = [0; PART as usize];
+    loop {
+        let room = LIMIT - into.len() as u64;
+        let most = PART.min(room + 1) as usize;
+        let Some(count) = faults.note(read_some(reader, &mut part[..most])) else {
             return Err(LoadFailed::Fault);
         };
         if count == 0 {
             return Ok(());
         }
-        if count as u64 > LIMIT - into.len() as u64 {
+        if count as u64 > room {
             return Err(LoadFailed::TooLong);
         }
         into.extend_from_slice(&part[..count])?;
     }
-    Err(LoadFailed::Fault)
 }
 
 // What a file system answers, as a store answers it.
-fn stored<T: Drop>(answer: io::Result<T>) -> Result<T, StoreFailed>
+pub(crate) fn stored<T: Drop>(answer: io::Result<T>) -> Result<T, StoreFailed>
     ensures { IfOk result (λ value. answer ≡ Ok value) }
 {
     match answer {
@@ -174,6 +206,8 @@ fn store_file<R: Files>(
     name: &str,
     bytes: &[u8],
 ) -> Result<(), StoreFailed>
+where
+    R::File: ShelfFile,
     ensures { OnOk result (SomeTakes R.File.contents bytes.now) }
 {
     if !stored(is_link(files, name))? {
@@ -214,6 +248,8 @@ fn standing_of<R: Files>(files: &R, name: &str) -> io::Result<Standing> {
 
 // Sets the bytes under a name that is no link.
 fn store_at<R: Files>(alloc: Global, files: &R, name: &str, bytes: &[u8]) -> Result<(), StoreFailed>
+where
+    R::File: ShelfFile,
     ensures { OnOk result (SomeTakes R.File.contents bytes.now) }
 {
     match stored(standing_of(files, name))? {
@@ -239,11 +275,13 @@ fn replace<R: Files>(
     permissions: Option<Permissions>,
     bytes: &[u8],
 ) -> Result<(), StoreFailed>
+where
+    R::File: ShelfFile,
     ensures { OnOk result (SomeTakes R.File.contents bytes.now) }
 {
     let folder = folder_of(name);
-    let (mut file, beside) = new_file(alloc, files, folder)?;
-    let path = beside.as_str();
+    let (mut file, fresh) = fresh_file(alloc, files, folder)?;
+    let path = fresh.as_str();
     let moved = fill_and_rename(files, &mut file, permissions, bytes, path, name);
     if let Err(error) = moved {
         let _ = fs::remove_file(files, path);
@@ -273,32 +311,6 @@ fn folder_of(name: &str) -> &str {
         Some(at) => &name[..at + 1],
         None => "",
     }
-}
-
-// Makes a file under a name that is free in the folder, so that none is lost, and answers its path too. Its name is
-// short, so that it is no longer than may be where the name that it will take isn't.
-fn new_file<R: Files>(
-    alloc: Global,
-    files: &R,
-    folder: &str,
-) -> Result<(R::File, String), StoreFailed> {
-    for number in 0..u32::MAX {
-        let path = format!(in alloc; "{folder}.stored-{number}")?;
-        match create_new(files, path.as_str()) {
-            Ok(file) => return Ok((file, path)),
-            Err(error) if error.kind() == ErrorKind::AlreadyExists => {}
-            Err(error) => return stored(Err(error)),
-        }
-    }
-    Err(StoreFailed::Fault)
-}
-
-// Makes a file where there is none.
-fn create_new<R: Files>(files: &R, name: &str) -> io::Result<R::File> {
-    OpenOptions::new()
-        .write(true)
-        .create_new(true)
-        .open(files, name)
 }
 
 // Gives a new file its permissions and bytes, and syncs it.

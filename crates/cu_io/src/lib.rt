@@ -9,9 +9,12 @@
 #![tactic(auto)]
 
 mod disk;
+mod faults;
+mod fresh;
 mod line_reader;
 mod memory;
 mod shelf;
+mod shelf_file;
 mod sink;
 mod source;
 mod standard;
@@ -22,11 +25,9 @@ pub use disk::DiskShelf;
 pub use line_reader::{Line, LineReader, MAX_LINE};
 pub use memory::{MemoryShelf, MemorySink, MemorySource};
 pub use shelf::{LoadFailed, Shelf, StoreFailed};
+pub use shelf_file::{Lock, ShelfFile};
 pub use sink::{Sink, SinkFailed, put_all};
 pub use source::{Source, SourceFailed};
 pub use standard::{StdSink, StdSource};
 pub use sure::{SureShelf, SureSink, SureSource};
-pub use text::{end_line, put_line, put_number, put_numbers};
-
-#[cfg(test)]
-mod tests;
+pub use text::{end_line, put_line, put_number};

@@ -1,5 +1,5 @@
 //! Lines of a source, as they come.
-ghost use Rattle.std.specs.Prelude.{◌≡◌, ℕ, ◌+◌, ◌<◌, ◌≤◌, ◌==◌, [], ◌++◌, List, true, false, length, take, drop, is_some, IfOk, OnErr, position, vec_len, vec_capacity, if◌then◌else◌};
+ghost use Rattle.std.specs.Prelude.{◌≡◌, ℕ, ◌+◌, ◌<◌, ◌≤◌, ◌==◌, [], ◌++◌, List, true, false, length, take, drop, is_some, IfOk, OnOk, OnErr, position, vec_len, vec_capacity, if◌then◌else◌};
 ghost use Rattle.std.specs.Borrow.{sem};
 ghost use Rattle.std.specs.Io.BufRead.{Rests};
 ghost use Rattle.cu_io.specs.Counts.{Rose};
@@ -123,8 +123,8 @@ impl LineReader {
     /// over. Takes no memory. No call may follow one that answered `End`, `Fault` or `Spent`.
     ///
     /// What is handed out depends on the bytes alone, and not on how many of them a read gives. At `Fault` and `Spent`
-    /// the bytes taken and not handed out have no line feed. `Fault` comes only where the source's count rose. Once a
-    /// read showed the end of input, no more is made.
+    /// the bytes taken and not handed out have no line feed. `Fault` comes where the source's count rose, and only there:
+    /// with any other answer it stays. Once a read showed the end of input, no more is made.
     pub fn next_line<S: Source>(&mut self, source: &mut S) -> Line<'_>
         requires { self.old.over ≡ false }
         ensures* after_borrow { sem 𝓛 (Rests the_row self.entry (λ after.
@@ -142,7 +142,8 @@ impl LineReader {
     // Finds the next line, and keeps its text.
     fn advance<S: Source>(&mut self, source: &mut S) -> Found
         requires { self.old.over ≡ false }
-        ensures { Reads self.old self.new (S.state source.old) (S.state source.new) result }
+        ensures reads { Reads self.old self.new (S.state source.old) (S.state source.new) result }
+        ensures room { length self.new.held ≤ self.new.line_limit + 1 }
     {
         let found = self.find_line(source);
         self.over = is_last(found);
@@ -229,6 +230,7 @@ impl LineReader {
         ensures later { (S.state source.old).faults ≤ (S.state source.new).faults }
         ensures cause { OnErr result (Rose (S.state source.old).faults
             (S.state source.new).faults) }
+        ensures quiet { OnOk result ((S.state source.new).faults ≡ (S.state source.old).faults) }
     {
         let room = self.line_limit + 1 - self.held().len();
         let most = (self.take_limit - self.taken).min(room.min(CHUNK) as u64) as usize;

@@ -32,7 +32,8 @@ pub trait Sink {
         ensures bounded { IfSome (state self.new).written
             (λ bytes. (state self.new).flushed ≤ length bytes) }
         ensures later { (state self.old).faults ≤ (state self.new).faults }
-        ensures cause { OnErr result (Rose (state self.old).faults (state self.new).faults) };
+        ensures cause { OnErr result (Rose (state self.old).faults (state self.new).faults) }
+        ensures quiet { OnOk result ((state self.new).faults ≡ (state self.old).faults) };
 
     /// Makes sure that all bytes written have left, and leaves the bytes written as they are.
     ///
@@ -44,7 +45,8 @@ pub trait Sink {
         ensures bounded { IfSome (state self.new).written
             (λ bytes. (state self.new).flushed ≤ length bytes) }
         ensures later { (state self.old).faults ≤ (state self.new).faults }
-        ensures cause { OnErr result (Rose (state self.old).faults (state self.new).faults) };
+        ensures cause { OnErr result (Rose (state self.old).faults (state self.new).faults) }
+        ensures quiet { OnOk result ((state self.new).faults ≡ (state self.old).faults) };
 }
 
 /// Writes a whole piece, in as many writes as it takes. Takes no memory.

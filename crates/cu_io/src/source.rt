@@ -1,5 +1,5 @@
 //! Sources of bytes.
-ghost use Rattle.std.specs.Prelude.{◌≡◌, ◌<◌, ◌≤◌, length, is_some, IfOk, OnErr};
+ghost use Rattle.std.specs.Prelude.{◌≡◌, ◌<◌, ◌≤◌, length, is_some, IfOk, OnOk, OnErr};
 ghost use Rattle.cu_io.specs.Counts.{Rose};
 ghost use Rattle.cu_io.specs.Sources.{SourceState};
 ghost use Rattle.cu_io.specs.Transfers.{Moves};
@@ -19,7 +19,8 @@ pub trait Source {
     /// Moves the next bytes to the front of `into`, which isn't empty, and answers how many: at most its length, and 0
     /// at the end of input. The rest of `into` may hold anything afterwards.
     ///
-    /// Refused only for a fault, which the count shows. The bytes left are then as before.
+    /// Refused only for a fault, which the count shows: it stays where the read is not refused. The bytes left are then as
+    /// before.
     fn read(&mut self, into: &mut [u8]) -> Result<usize, SourceFailed>
         requires { 0 < length into.old }
         ensures within { IfOk result (λ n. n ≤ length into.new) }
@@ -27,5 +28,6 @@ pub trait Source {
         ensures err { OnErr result ((state self.new).left ≡ (state self.old).left) }
         ensures tells { is_some (state self.new).left ≡ is_some (state self.old).left }
         ensures later { (state self.old).faults ≤ (state self.new).faults }
-        ensures cause { OnErr result (Rose (state self.old).faults (state self.new).faults) };
+        ensures cause { OnErr result (Rose (state self.old).faults (state self.new).faults) }
+        ensures quiet { OnOk result ((state self.new).faults ≡ (state self.old).faults) };
 }

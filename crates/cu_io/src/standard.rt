@@ -8,6 +8,7 @@ ghost use Rattle.cu_io.specs.Counts.{Rose};
 ghost use Rattle.cu_io.specs.Sinks.{IsFlushed};
 ghost use Rattle.cu_io.specs.Transfers.{Appends, Moves};
 
+use crate::faults::Faults;
 use crate::sink::{Sink, SinkFailed};
 use crate::source::{Source, SourceFailed};
 use std::io;
@@ -31,7 +32,7 @@ macro_rules! retried {
 #[derive(Drop)]
 pub struct StdSource<R: Read + Drop> {
     reader: R,
-    faults: u64,
+    faults: Faults,
 }
 
 impl<R: Read + Drop> StdSource<R> {
@@ -40,7 +41,10 @@ impl<R: Read + Drop> StdSource<R> {
         ensures faults { (source_state result).faults ≡ 0 }
         ensures reader { source_remaining R.remaining result ≡ R.remaining reader }
     {
-        StdSource { reader, faults: 0 }
+        StdSource {
+            reader,
+            faults: Faults::none(),
+        }
     }
 }
 
@@ -60,15 +64,12 @@ impl<R: Read + Drop> Source for StdSource<R> {
             (source_state self.new).faults) }
         ensures bytes { ReadConsumes (source_remaining R.remaining self.old)
             (source_remaining R.remaining self.new) result into.new }
-        ensures same { OnOk result ((source_state self.new).faults
+        ensures quiet { OnOk result ((source_state self.new).faults
             ≡ (source_state self.old).faults) }
     {
-        match read_some(&mut self.reader, into) {
-            Ok(count) => Ok(count),
-            Err(_) => {
-                self.faults = self.faults.saturating_add(1);
-                Err(SourceFailed)
-            }
+        match self.faults.note(read_some(&mut self.reader, into)) {
+            Some(count) => Ok(count),
+            None => Err(SourceFailed),
         }
     }
 }
@@ -88,7 +89,7 @@ pub(crate) fn read_some<R: Read>(reader: &mut R, into: &mut [u8]) -> io::Result<
 #[derive(Drop)]
 pub struct StdSink<W: Write + Drop> {
     writer: W,
-    faults: u64,
+    faults: Faults,
 }
 
 impl<W: Write + Drop> StdSink<W> {
@@ -97,7 +98,10 @@ impl<W: Write + Drop> StdSink<W> {
         ensures faults { (sink_state result).faults ≡ 0 }
         ensures writer { sink_contents W.contents result ≡ W.contents writer }
     {
-        StdSink { writer, faults: 0 }
+        StdSink {
+            writer,
+            faults: Faults::none(),
+        }
     }
 }
 
@@ -121,18 +125,15 @@ impl<W: Write + Drop> Sink for StdSink<W> {
             (sink_state self.new).faults) }
         ensures bytes { WriteAppends (sink_contents W.contents self.old)
             (sink_contents W.contents self.new) result piece.now }
-        ensures same { OnOk result ((sink_state self.new).faults
+        ensures quiet { OnOk result ((sink_state self.new).faults
             ≡ (sink_state self.old).faults) }
     {
         if piece.is_empty() {
             return Ok(0);
         }
-        match write_some(&mut self.writer, piece) {
-            Ok(count) if count > 0 => Ok(count),
-            _ => {
-                self.faults = self.faults.saturating_add(1);
-                Err(SinkFailed)
-            }
+        match self.faults.note(write_some(&mut self.writer, piece)) {
+            Some(count) => Ok(count),
+            None => Err(SinkFailed),
         }
     }
 
@@ -147,21 +148,30 @@ impl<W: Write + Drop> Sink for StdSink<W> {
             (sink_state self.new).faults) }
         ensures bytes { Keeps (sink_contents W.contents self.old)
             (sink_contents W.contents self.new) }
-        ensures faults { OnOk result ((sink_state self.new).faults
+        ensures quiet { OnOk result ((sink_state self.new).faults
             ≡ (sink_state self.old).faults) }
     {
-        match flush_all(&mut self.writer) {
-            Ok(()) => Ok(()),
-            Err(_) => {
-                self.faults = self.faults.saturating_add(1);
-                Err(SinkFailed)
-            }
+        match self.faults.note(flush_all(&mut self.writer)) {
+            Some(()) => Ok(()),
+            None => Err(SinkFailed),
         }
     }
 }
 
-// Writes once, and again while a signal interrupts the write.
+// Writes once, and again while a signal interrupts the write. A writer that takes nothing has failed.
 fn write_some<W: Write>(writer: &mut W, piece: &[u8]) -> io::Result<usize>
+    ensures some { IfOk result (λ n. 0 < n) }
+    ensures within { IfOk result (λ n. n ≤ length piece.now) }
+    ensures bytes { WriteAppends (W.contents writer.old) (W.contents writer.new) result piece.now }
+{
+    match write_once(writer, piece) {
+        Ok(0) => Err(Error::from(ErrorKind::WriteZero)),
+        answer => answer,
+    }
+}
+
+// Writes once, and again while a signal interrupts the write.
+fn write_once<W: Write>(writer: &mut W, piece: &[u8]) -> io::Result<usize>
     ensures within { IfOk result (λ n. n ≤ length piece.now) }
     ensures bytes { WriteAppends (W.contents writer.old) (W.contents writer.new) result piece.now }
     ensures retried { IfErr result (λ error. error_kind error ≢ ErrorKind.Interrupted) }

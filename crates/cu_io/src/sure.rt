@@ -1,6 +1,8 @@
 //! A source, a sink and a shelf that never fail: what a program answers over them has no fault for its cause.
-ghost use Rattle.std.specs.Prelude.{◌≡◌, ℕ, List, [], None, Some};
-ghost use Rattle.cu_io.specs.Sure.{file_or_empty, sure_limit};
+ghost use Rattle.std.specs.Prelude.{◌≡◌, ◌<◌, ◌≤◌, ℕ, List, [], None, Some, IfOk, IfSome, OnOk, OnErr, is_some, length, min, take};
+ghost use Rattle.cu_io.specs.Counts.{Rose};
+ghost use Rattle.cu_io.specs.Transfers.{Appends, Moves};
+ghost use Rattle.cu_io.specs.Sure.{file_or_empty, sure_limit, sure_sink, sure_source};
 
 use crate::memory::copy_front;
 use crate::shelf::{LoadFailed, Shelf, StoreFailed};
@@ -10,7 +12,8 @@ use std::alloc::Global;
 use std::collections::BTreeMap;
 use std::marker::Model;
 
-/// A source of the bytes of a list. It tells them, and no read fails. Contracts see the bytes left.
+/// A source of the bytes of a list. It tells them, no read fails, and a read gives all that there is room for. Contracts
+/// see the bytes left.
 #[derive(Drop)]
 pub struct SureSource {
     bytes: Vec<u8>,
@@ -37,9 +40,22 @@ impl SureSource {
 }
 
 impl Source for SureSource {
-    ghost state = { λ s. record { left = Some s; faults = 0 } };
+    ghost state = { sure_source };
 
-    fn read(&mut self, into: &mut [u8]) -> Result<usize, SourceFailed> {
+    fn read(&mut self, into: &mut [u8]) -> Result<usize, SourceFailed>
+        requires { 0 < length into.old }
+        ensures within { IfOk result (λ n. n ≤ length into.new) }
+        ensures moves { IfOk result (Moves (sure_source self.old).left
+            (sure_source self.new).left into.new) }
+        ensures err { OnErr result ((sure_source self.new).left ≡ (sure_source self.old).left) }
+        ensures tells { is_some (sure_source self.new).left ≡ is_some (sure_source self.old).left }
+        ensures later { (sure_source self.old).faults ≤ (sure_source self.new).faults }
+        ensures cause { OnErr result (Rose (sure_source self.old).faults
+            (sure_source self.new).faults) }
+        ensures quiet { OnOk result ((sure_source self.new).faults
+            ≡ (sure_source self.old).faults) }
+        ensures whole { IfOk result (λ n. n ≡ min (length self.old) (length into.new)) }
+    {
         let room = into.len();
         let count = copy_front(&self.bytes[self.taken..], into, room);
         self.taken += count;
@@ -59,9 +75,21 @@ impl SureSink {
 }
 
 impl Sink for SureSink {
-    ghost state = { λ _. record { written = None; flushed = 0; faults = 0 } };
+    ghost state = { λ _. sure_sink };
 
-    fn write(&mut self, piece: &[u8]) -> Result<usize, SinkFailed> {
+    fn write(&mut self, piece: &[u8]) -> Result<usize, SinkFailed>
+        ensures some { IfOk result (λ n. 0 < length piece.now → 0 < n) }
+        ensures within { IfOk result (λ n. n ≤ length piece.now) }
+        ensures appends { IfOk result (λ n. Appends sure_sink.written sure_sink.written (take n piece.now)) }
+        ensures err { OnErr result (sure_sink.written ≡ sure_sink.written) }
+        ensures tells { is_some sure_sink.written ≡ is_some sure_sink.written }
+        ensures rises { sure_sink.flushed ≤ sure_sink.flushed }
+        ensures bounded { IfSome sure_sink.written (λ bytes. sure_sink.flushed ≤ length bytes) }
+        ensures later { sure_sink.faults ≤ sure_sink.faults }
+        ensures cause { OnErr result (Rose sure_sink.faults sure_sink.faults) }
+        ensures quiet { OnOk result (sure_sink.faults ≡ sure_sink.faults) }
+        ensures whole { IfOk result (λ n. n ≡ length piece.now) }
+    {
         Ok(piece.len())
     }
 

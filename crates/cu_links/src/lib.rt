@@ -15,8 +15,6 @@
 
 mod buckets;
 mod chain;
-#[cfg(test)]
-mod tests;
 
 pub use buckets::{EdgeState, RankBuckets};
 pub use chain::Chain;

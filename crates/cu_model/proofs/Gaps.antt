@@ -7,7 +7,8 @@ use Rattle.cu_model.specs.declared.profiles.Rule.{Rule}
 use Rattle.cu_model.specs.declared.profiles.Rule.TheVariants.{Travel, Until, Closed}
 use Rattle.cu_model.specs.Days.{day}
 use Rattle.cu_model.specs.Profiles.{piece_at, piece_value, rule_value, profile_value}
-use Rattle.cu_model.specs.Checker.{last_from, first_between, early_of, early_until, overtaken, overtaken_by, overtaken_at_midnight}
+use Rattle.cu_model.specs.Checker.{last_from, first_between, early_of, early_until, overtaken, overtaken_by}
+use Rattle.cu_model.specs.Steps.Checking.{overtaken_at_midnight}
 use Rattle.cu_model.proofs.Begun.{later_some}
 use Rattle.cu_model.proofs.ProfileLaws.{rule_shift, value_at, value_in_day}
 use Rattle.cu_model.proofs.Firsts.{IsFirst, first_joined, first_one}

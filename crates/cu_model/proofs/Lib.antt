@@ -14,6 +14,7 @@ pub mod Gaps
 pub mod Stands
 pub mod NumberWords
 pub mod LineCuts
+pub mod Copied
 pub mod FourFields
 pub mod OrderLaws
 pub mod WrittenOut

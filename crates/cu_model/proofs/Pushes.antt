@@ -11,7 +11,8 @@ use Rattle.cu_model.specs.declared.checker.Ends.{Ends}
 use Rattle.cu_model.specs.declared.checker.PieceChecker.{PieceChecker}
 use Rattle.cu_model.specs.Profiles.{is_closed_piece, is_in_limit}
 use Rattle.cu_model.specs.Faults.{first_fallen}
-use Rattle.cu_model.specs.Checker.{last_from, first_between, early_until, overtaken_by, behind, Checks}
+use Rattle.cu_model.specs.Checker.{last_from, first_between, early_until, overtaken_by, Checks}
+use Rattle.cu_model.specs.Steps.Checking.{behind}
 
 pub option_or-assoc : {A : Type 0} (a b c : Option A) → option_or (option_or a b) c ≡ option_or a (option_or b c)
 option_or-assoc None b c = refl

@@ -9,7 +9,8 @@ use Rattle.cu_model.specs.declared.checker.PieceChecker.{PieceChecker}
 use Rattle.cu_model.specs.Days.{day}
 use Rattle.cu_model.specs.Profiles.{piece_at, is_in_limit}
 use Rattle.cu_model.specs.Faults.{least, first_fallen, limit_fault, start_fault, rising_fault, closed_fault, early_fault, piece_fault}
-use Rattle.cu_model.specs.Checker.{last_from, first_between, early_until, overtaken_by, overtaken_at_midnight, kept_fault, Checks}
+use Rattle.cu_model.specs.Checker.{last_from, first_between, early_until, overtaken_by, Checks}
+use Rattle.cu_model.specs.Steps.Checking.{overtaken_at_midnight, kept_fault}
 use Rattle.cu_model.proofs.Firsts.{IsFirst, least_is}
 use Rattle.cu_model.proofs.FaultLaws.{start-none, cond-some, position-none, piece_begins}
 use Rattle.cu_model.proofs.Gaps.{Follow, is_early, is_overtaken, begins, early_gaps, fifo_gaps}

@@ -40,24 +40,11 @@ overtaken rule second next = if nat_lt next (rule_value rule 0 second) then Some
 abbrev pub overtaken_by : Piece → Piece → Option ℕ
 overtaken_by piece next = overtaken piece.rule (next.from - 1) (rule_value next.rule 0 next.from)
 
--- the last second of a day, where the first of the next day overtakes it
-abbrev pub overtaken_at_midnight : Piece → Piece → Option ℕ
-overtaken_at_midnight last first = overtaken last.rule (day - 1) (day + rule_value first.rule 0 0)
-
 -- the first find between neighbours
 abbrev pub first_between : (Piece → Piece → Option ℕ) → List Piece → Option ℕ
 first_between find [] = None
 first_between find (piece ∷ []) = None
 first_between find (piece ∷ next ∷ pieces) = option_or (find piece next) (first_between find (next ∷ pieces))
-
--- a checker after one more piece, but for the count and the limits
-abbrev pub behind : PieceChecker → Ends → Piece → PieceChecker
-behind checker ends piece = record checker {
-  ends = Some (record { first = ends.first; last = piece });
-  rising = option_or checker.rising (if nat_lt ends.last.from piece.from then None else Some checker.count);
-  early = option_or checker.early (early_until ends.last piece.from);
-  fifo = option_or checker.fifo (overtaken_by ends.last piece);
-}
 
 -- how many pieces a checker was given
 abbrev pub pushed : PieceChecker → ℕ
@@ -72,24 +59,3 @@ pub record Checks (checker : PieceChecker) (pieces : List Piece) : Type 0 where
   pub closed : checker.closed ≡ position is_closed_piece pieces
   pub early : checker.early ≡ first_between (λ piece next. early_until piece next.from) pieces
   pub fifo : checker.fifo ≡ first_between overtaken_by pieces
-
--- the first closed piece is a fault where there is more than one piece
-abbrev pub kept_closed : PieceChecker → Option PieceFault
-kept_closed checker = if nat_lt 1 checker.count then option_map fault.Closed checker.closed else None
-
--- the fault of the seconds, where the pieces rise from second 0
-abbrev pub kept_seconds : PieceChecker → Ends → Option PieceFault
-kept_seconds checker ends =
-    option_or (option_map fault.Early (option_or checker.early (early_until ends.last day)))
-    (option_map fault.Fifo (option_or checker.fifo (overtaken_at_midnight ends.last ends.first)))
-
--- the fault that follows from what a checker keeps, where no piece is past a limit
-abbrev pub ends_fault : PieceChecker → Option Ends → Option PieceFault
-ends_fault checker None = Some fault.Start
-ends_fault checker (Some ends) =
-    option_or (if ends.first.from == 0 then None else Some fault.Start) (option_or (option_map fault.Rising checker.rising)
-    (option_or (kept_closed checker) (kept_seconds checker ends)))
-
--- the fault that follows from what a checker keeps
-abbrev pub kept_fault : PieceChecker → Option PieceFault
-kept_fault checker = option_or (option_map fault.Limit checker.limit) (ends_fault checker checker.ends)

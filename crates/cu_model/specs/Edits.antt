@@ -1,5 +1,5 @@
--- The network after edits: a profile's pieces replaced, or the profile of one road.
-use Rattle.std.specs.Prelude.{ℕ, List, [], ◌∷◌, Option, Some, None, ◌<◌, length, slice_get, slice_set}
+-- The network after an edit: a profile's pieces replaced, or the profile of one road.
+use Rattle.std.specs.Prelude.{ℕ, List, Option, Some, None, ◌<◌, length, slice_get, slice_set}
 use Rattle.cu_model.specs.declared.roads.RoadArc.{RoadArc}
 use Rattle.cu_model.specs.declared.roads.Edit.{Edit}
 use Rattle.cu_model.specs.declared.roads.Edit.TheVariants.{Set, Assign}
@@ -18,8 +18,3 @@ edited g (Assign a profile) = record g { arcs = reassigned (slice_get g.arcs a) 
 abbrev pub IsEditInRange : NetworkValue → Edit → Type 0
 IsEditInRange g (Set profile pieces) = profile < length g.profiles
 IsEditInRange g (Assign a profile) = (a < length g.arcs) × (profile < length g.profiles)
-
--- the network after edits, made in order
-abbrev pub edited_all : NetworkValue → List Edit → NetworkValue
-edited_all g [] = g
-edited_all g (edit ∷ edits) = edited_all (edited g edit) edits

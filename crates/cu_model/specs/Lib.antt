@@ -10,5 +10,6 @@ pub mod Orders
 pub mod Roads
 pub mod Edits
 pub mod Queries
+pub mod Fields
 pub mod Steps
 pub mod Answers

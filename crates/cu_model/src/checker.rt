@@ -2,15 +2,13 @@
 
 ghost use Rattle.std.specs.Prelude.{◌≡◌, ◌<◌, ◌+◌, ◌-◌, ◌^◌, ◌++◌, ◌∷◌, [], List, MatchResult, OnOk, length, nat_lt, if◌then◌else◌};
 ghost use Rattle.cu_model.specs.declared.profiles.Piece.{Piece};
-ghost use Rattle.cu_model.specs.Checker.{Checks, pushed, behind, kept_closed, kept_fault, kept_seconds, early_until, overtaken, overtaken_by, overtaken_at_midnight};
+ghost use Rattle.cu_model.specs.Checker.{Checks, pushed, early_until, overtaken, overtaken_by};
+ghost use Rattle.cu_model.specs.Steps.Checking.{behind, kept_closed, kept_fault, kept_seconds, overtaken_at_midnight};
 ghost use Rattle.cu_model.specs.Faults.{piece_fault};
 ghost use Rattle.cu_model.specs.Profiles.{IsProfile, is_closed_piece, is_in_limit, rule_value};
 
 use crate::limits::{DAY, MAX_TRAVEL, MAX_UNTIL};
 use crate::profiles::{Piece, PieceFault, Rule};
-
-#[cfg(test)]
-mod tests;
 
 /// Checks the pieces of a day profile one by one, and keeps none of them but the first and the last. Takes time by the
 /// number of pieces, however many seconds they hold: an arrival before its departure begins inside an `until` piece, and

@@ -7,6 +7,8 @@
 #![tactic(auto)]
 
 mod checker;
+mod copying;
+mod fields;
 mod limits;
 mod memory;
 mod numbers;
@@ -16,6 +18,8 @@ mod queries;
 mod roads;
 
 pub use checker::{PieceChecker, check_pieces};
+pub use copying::{copy_network, copy_profile};
+pub use fields::cut_field;
 pub use limits::{DAY, MAX_ARCS, MAX_NODES, MAX_PROFILES, MAX_TRAVEL, MAX_UNTIL};
 pub use memory::NoMemory;
 pub use numbers::{Number, parse_number};

@@ -1,10 +1,11 @@
 //! Query lines of a script: `q,FROM,TO,SECOND`.
 
-ghost use Rattle.std.specs.Prelude.{◌≡◌, ◌==◌, ℕ, position};
-ghost use Rattle.cu_model.specs.Steps.LineFields.{CutsField, HasFour};
+ghost use Rattle.std.specs.Prelude.{◌≡◌, ℕ};
+ghost use Rattle.cu_model.specs.Steps.LineFields.{HasFour};
 ghost use Rattle.cu_model.specs.Numbers.{as_number, value_below};
 ghost use Rattle.cu_model.specs.Queries.{checked_query, fields_of_line, query_of};
 
+use crate::fields::cut_field;
 use crate::limits::DAY;
 use crate::numbers::{Number, parse_number};
 use thiserror::Error;
@@ -106,20 +107,4 @@ fn four_fields(line: &[u8]) -> Option<Fields<'_>>
             second,
         }),
     }
-}
-
-// A line's first field, and what stands behind its comma.
-fn cut_field(line: &[u8]) -> (&[u8], Option<&[u8]>)
-    ensures { CutsField line.now result.0.now result.1 }
-{
-    match comma(line) {
-        Some(end) => (&line[..end], Some(&line[end + 1..])),
-        None => (line, None),
-    }
-}
-
-fn comma(line: &[u8]) -> Option<usize>
-    ensures { result ≡ position (λ byte. byte == 44) line.now }
-{
-    line.iter().position(|byte| *byte == b',')
 }

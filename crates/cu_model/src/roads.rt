@@ -9,9 +9,6 @@ ghost use Rattle.cu_model.specs.Roads.{arc_value, is_closed_arc, pieces_of};
 use crate::profiles::{Piece, Profile};
 use std::marker::Model;
 
-#[cfg(test)]
-mod tests;
-
 /// A road from one node to another, and the number of its profile.
 #[derive(Clone, Copy, Debug, PartialEq, Eq)]
 pub struct RoadArc {

@@ -14,8 +14,8 @@ use Rattle.cu_order.specs.OrderTexts.{node_fault, node_of_row, nodes_from, order
 abbrev pub takes_node : ListedNodes → List (List ℕ) → ListedNodes → Type 0
 takes_node s row t = (length t.seen.items ≡ length s.seen.items) × Adds (node_fault (length s.seen.items) s.nodes.items row) (node_of_row row) s.nodes.items t.nodes.items
 
-abbrev pub refuses_node : ListedNodes → List (List ℕ) → OrderRefusal → Type 0
-refuses_node s row why = node_fault (length s.seen.items) s.nodes.items row ≡ Some why
+abbrev pub refuses_node : ListedNodes → List (List ℕ) → OrderRefusal → ListedNodes → Type 0
+refuses_node s row why t = (node_fault (length s.seen.items) s.nodes.items row ≡ Some why) × (t ≡ s)
 
 -- there is a flag for each of so many nodes
 abbrev pub HasFlags : ℕ → ListedNodes → Type 0
@@ -29,7 +29,7 @@ follows : (nodes : ℕ) → Follows takes_node refuses_node (HasFlags nodes) (no
 follows nodes = record {
   kept = λ s row t h k. rw h.0 k;
   taken = λ s row t rest h k. rw (h.1.1, rw k at h.1.0) refl;
-  refused = λ s row why rest h k. rw (rw k at h) refl;
+  refused = λ s row why t rest h k. rw (rw k at h.0) refl;
 }
 
 -- what the text gives, once it was gone through

@@ -1,5 +1,6 @@
 -- What is written is read as the same order.
-use Rattle.std.proofs.Common.{◌≡◌, ◌∙◌, ◌≤◌, ◌<◌, ◌+◌, ◌^◌, ℕ, List, [], ◌∷◌, ◌++◌, Bool, true, false, Option, Some, None, arith, eqb, length, get_or, take, map, refl, sym, ap, subst, append_assoc, length-append}
+use Rattle.std.proofs.Common.{◌≡◌, ◌∙◌, ◌≤◌, ◌<◌, ◌+◌, ◌^◌, ℕ, List, [], ◌∷◌, ◌++◌, Bool, true, false, Option, Some, None, arith, eqb, length, get_or, take, map, refl, sym, ap}
+use Rattle.std.proofs.Common.{subst, append_assoc, length-append}
 use Rattle.std.specs.Prelude.{All, Ok, decimal, slice_get, nat_lt, not, if◌then◌else◌}
 use Rattle.std.specs.List.{IsDistinct, list_any}
 use Rattle.std.specs.Str.Parse.{AllDigits}

@@ -14,6 +14,3 @@ mod writer;
 pub use reader::read_order;
 pub use refusals::OrderRefusal;
 pub use writer::write_order;
-
-#[cfg(test)]
-mod tests;

@@ -46,7 +46,8 @@ impl TakesRows for ListedNodes {
         × Adds (node_fault (length s.seen.items) s.nodes.items row) (node_of_row row)
         s.nodes.items t.nodes.items };
 
-    ghost refuses = { λ s row why. node_fault (length s.seen.items) s.nodes.items row ≡ Some why };
+    ghost refuses = { λ s row why t. (node_fault (length s.seen.items) s.nodes.items row ≡ Some why)
+        × (t ≡ s) };
 
     fn take_row(
         &mut self,

@@ -16,9 +16,10 @@ use Rattle.cu_pack.specs.declared.refusals.Field.TheVariants as field
 use Rattle.cu_pack.specs.declared.refusals.PackRefusal.{PackRefusal}
 use Rattle.cu_pack.specs.declared.refusals.PackRefusal.TheVariants as refused
 use Rattle.cu_pack.specs.Layouts.{AreInLimits, file_length}
-use Rattle.cu_pack.specs.Places.{long_at, word_at}
+use Rattle.cu_pack.specs.Places.{long_at, short_at}
 use Rattle.cu_pack.specs.Spelling.{spelling}
-use Rattle.cu_pack.specs.Reading.{arc_in, counts_in, decoded, entry_kind, list_in, network_in, node_at_in, piece_kind, profile_in, profile_start, order_in, rank_of_in, uppers_in, edge_starts_in, way_start}
+use Rattle.cu_pack.specs.Reading.{arc_in, counts_in, decoded, entry_kind, list_in, network_in, node_at_in, piece_kind, profile_in, profile_start, order_in, rank_of_in, uppers_in}
+use Rattle.cu_pack.specs.Reading.{edge_starts_in, way_start}
 
 -- none of the first so many is wrong
 abbrev pub NoneWrong : (ℕ → Type 0) → ℕ → Type 0
@@ -44,7 +45,7 @@ pub record IsOurs (bytes : List ℕ) : Type 0 where
 
 pub record IsOfVersion (bytes : List ℕ) : Type 0 where
   pub ours : IsOurs bytes
-  pub version : word_at bytes 8 ≡ 1
+  pub version : short_at bytes 8 ≡ 1
 
 pub record IsWhole (bytes : List ℕ) : Type 0 where
   pub version : IsOfVersion bytes
@@ -164,7 +165,7 @@ AreBeforeInLimits bytes field.Entries =
 abbrev pub IsRefused : List ℕ → PackRefusal → Type 0
 IsRefused bytes refused.Short = length bytes < 84
 IsRefused bytes refused.Magic = IsLong bytes × (take 8 bytes ≢ codes "CATCHUPH")
-IsRefused bytes (refused.Version found) = IsOurs bytes × (found ≡ word_at bytes 8) × (found ≢ 1)
+IsRefused bytes (refused.Version found) = IsOurs bytes × (found ≡ short_at bytes 8) × (found ≢ 1)
 IsRefused bytes (refused.Length said found) = IsOfVersion bytes × (said ≡ long_at bytes 44) × (found ≡ length bytes) × (said ≢ found)
 IsRefused bytes refused.Digest = IsWhole bytes × (digest_in bytes ≢ sha256 (body_in bytes))
 IsRefused bytes (refused.Limit field) = IsSealed bytes × AreBeforeInLimits bytes field × IsPastLimit bytes field

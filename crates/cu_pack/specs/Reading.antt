@@ -14,32 +14,32 @@ use Rattle.cu_interval.specs.declared.ways.Way.TheVariants.{Road, Via}
 use Rattle.cu_interval.specs.Hierarchies.{HierarchyValue}
 use Rattle.cu_pack.specs.declared.layout.Counts.{Counts}
 use Rattle.cu_pack.specs.Layouts.{arcs_at, edge_starts_at, entries_at, pieces_at, profile_starts_at, rank_of_at, uppers_at, way_starts_at}
-use Rattle.cu_pack.specs.Places.{long_at, word_at}
+use Rattle.cu_pack.specs.Places.{long_at, short_at}
 
 -- the counts of the header
 unfoldable pub counts_in : List ℕ → Counts
 counts_in bytes = record {
-  nodes = word_at bytes 12;
-  arcs = word_at bytes 16;
-  profiles = word_at bytes 20;
-  edges = word_at bytes 24;
+  nodes = short_at bytes 12;
+  arcs = short_at bytes 16;
+  profiles = short_at bytes 20;
+  edges = short_at bytes 24;
   pieces = long_at bytes 28;
   entries = long_at bytes 36;
 }
 
 -- so many numbers from a place on
-abbrev pub words_in : List ℕ → (at count : ℕ) → List ℕ
-words_in bytes at count = map (λ index. word_at bytes (at + 4 * index)) (range_with_len 0 count)
+abbrev pub shorts_in : List ℕ → (at count : ℕ) → List ℕ
+shorts_in bytes at count = map (λ index. short_at bytes (at + 4 * index)) (range_with_len 0 count)
 
 -- the node at a rank, and the rank of a node
 abbrev pub node_at_in : List ℕ → ℕ → ℕ
-node_at_in bytes rank = word_at bytes (52 + 4 * rank)
+node_at_in bytes rank = short_at bytes (52 + 4 * rank)
 
 abbrev pub rank_of_in : List ℕ → ℕ → ℕ
-rank_of_in bytes node = word_at bytes (rank_of_at (counts_in bytes) + 4 * node)
+rank_of_in bytes node = short_at bytes (rank_of_at (counts_in bytes) + 4 * node)
 
 abbrev pub arc_from : List ℕ → ℕ → RoadArc
-arc_from bytes at = record { tail = word_at bytes at; head = word_at bytes (at + 4); profile = word_at bytes (at + 8) }
+arc_from bytes at = record { tail = short_at bytes at; head = short_at bytes (at + 4); profile = short_at bytes (at + 8) }
 
 -- the road with this number
 abbrev pub arc_in : List ℕ → ℕ → RoadArc
@@ -56,14 +56,14 @@ rule_of (suc zero) value = Until value
 rule_of (suc (suc kind)) value = Closed value
 
 abbrev pub piece_from : List ℕ → ℕ → Piece
-piece_from bytes at = record { from = word_at bytes at; rule = rule_of (word_at bytes (at + 4)) (word_at bytes (at + 8)) }
+piece_from bytes at = record { from = short_at bytes at; rule = rule_of (short_at bytes (at + 4)) (short_at bytes (at + 8)) }
 
 -- where a piece stands, and its kind
 abbrev pub piece_place : List ℕ → ℕ → ℕ
 piece_place bytes piece = pieces_at (counts_in bytes) + 12 * piece
 
 abbrev pub piece_kind : List ℕ → ℕ → ℕ
-piece_kind bytes piece = word_at bytes (piece_place bytes piece + 4)
+piece_kind bytes piece = short_at bytes (piece_place bytes piece + 4)
 
 -- the pieces of a profile
 abbrev pub profile_in : List ℕ → ℕ → List Piece
@@ -73,18 +73,18 @@ profile_in bytes profile =
 
 -- how many edges are before a rank
 abbrev pub edge_start : List ℕ → ℕ → ℕ
-edge_start bytes rank = word_at bytes (edge_starts_at (counts_in bytes) + 4 * rank)
+edge_start bytes rank = short_at bytes (edge_starts_at (counts_in bytes) + 4 * rank)
 
 -- the higher rank of an edge
 abbrev pub upper_in : List ℕ → ℕ → ℕ
-upper_in bytes edge = word_at bytes (uppers_at (counts_in bytes) + 4 * edge)
+upper_in bytes edge = short_at bytes (uppers_at (counts_in bytes) + 4 * edge)
 
 -- all of these, and the higher ranks of all edges
 abbrev pub edge_starts_in : List ℕ → List ℕ
-edge_starts_in bytes = words_in bytes (edge_starts_at (counts_in bytes)) (suc (counts_in bytes).nodes)
+edge_starts_in bytes = shorts_in bytes (edge_starts_at (counts_in bytes)) (suc (counts_in bytes).nodes)
 
 abbrev pub uppers_in : List ℕ → List ℕ
-uppers_in bytes = words_in bytes (uppers_at (counts_in bytes)) (counts_in bytes).edges
+uppers_in bytes = shorts_in bytes (uppers_at (counts_in bytes)) (counts_in bytes).edges
 
 -- how many entries are before a way list
 abbrev pub way_start : List ℕ → ℕ → ℕ
@@ -96,14 +96,14 @@ way_of zero number = Road number
 way_of (suc kind) number = Via number
 
 abbrev pub entry_from : List ℕ → ℕ → Entry
-entry_from bytes at = record { from = word_at bytes at; way = way_of (word_at bytes (at + 4)) (word_at bytes (at + 8)) }
+entry_from bytes at = record { from = short_at bytes at; way = way_of (short_at bytes (at + 4)) (short_at bytes (at + 8)) }
 
 -- where an entry stands, and its kind
 abbrev pub entry_place : List ℕ → ℕ → ℕ
 entry_place bytes entry = entries_at (counts_in bytes) + 12 * entry
 
 abbrev pub entry_kind : List ℕ → ℕ → ℕ
-entry_kind bytes entry = word_at bytes (entry_place bytes entry + 4)
+entry_kind bytes entry = short_at bytes (entry_place bytes entry + 4)
 
 -- the entries of a way list
 abbrev pub list_in : List ℕ → ℕ → List Entry
@@ -121,8 +121,8 @@ network_in bytes = record {
 
 unfoldable pub order_in : List ℕ → OrderValue
 order_in bytes = record {
-  node_at = words_in bytes 52 (counts_in bytes).nodes;
-  rank_of = words_in bytes (rank_of_at (counts_in bytes)) (counts_in bytes).nodes;
+  node_at = shorts_in bytes 52 (counts_in bytes).nodes;
+  rank_of = shorts_in bytes (rank_of_at (counts_in bytes)) (counts_in bytes).nodes;
 }
 
 unfoldable pub decoded : List ℕ → HierarchyValue

@@ -17,15 +17,15 @@ use Rattle.cu_pack.specs.declared.layout.Counts.{Counts}
 use Rattle.cu_pack.specs.Layouts.{file_length}
 
 -- a number in four bytes, and in eight, the lowest first
-abbrev pub word : ℕ → List ℕ
-word number = to_le_bytes w32 number
+abbrev pub short : ℕ → List ℕ
+short number = to_le_bytes w32 number
 
 abbrev pub long : ℕ → List ℕ
 long number = to_le_bytes w64 number
 
 -- three numbers in twelve bytes
 abbrev pub triple : ℕ → ℕ → ℕ → List ℕ
-triple first second third = word first ++ (word second ++ word third)
+triple first second third = short first ++ (short second ++ short third)
 
 unfoldable pub arc_bytes : RoadArc → List ℕ
 arc_bytes arc = triple arc.tail arc.head arc.profile
@@ -68,12 +68,12 @@ counts_of h = record {
 -- the header: whose file it is, the version, the counts, and how many bytes there are with the digest
 unfoldable pub header : Counts → List ℕ
 header c =
-    codes "CATCHUPH" ++ (word 1 ++ (word c.nodes ++ (word c.arcs ++ (word c.profiles ++ (word c.edges
+    codes "CATCHUPH" ++ (short 1 ++ (short c.nodes ++ (short c.arcs ++ (short c.profiles ++ (short c.edges
     ++ (long c.pieces ++ (long c.entries ++ long (file_length c))))))))
 
 -- the node at each rank, and the rank of each node
 abbrev pub order_section : HierarchyValue → List ℕ
-order_section h = flat_map word h.order.node_at ++ flat_map word h.order.rank_of
+order_section h = flat_map short h.order.node_at ++ flat_map short h.order.rank_of
 
 -- the tail, the head and the profile of each road
 abbrev pub arcs_section : HierarchyValue → List ℕ
@@ -89,7 +89,7 @@ edge_starts h = map (first_edge_of h.edges) (range_with_len 0 (suc h.network.nod
 
 -- that, and the higher rank of each edge
 abbrev pub edges_section : HierarchyValue → List ℕ
-edges_section h = flat_map word (edge_starts h) ++ flat_map word (map (λ (ends : Ends). ends.high) h.edges)
+edges_section h = flat_map short (edge_starts h) ++ flat_map short (map (λ (ends : Ends). ends.high) h.edges)
 
 -- how many entries are before each way list, and in all; and the entries
 abbrev pub ways_section : HierarchyValue → List ℕ

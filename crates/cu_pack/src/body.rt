@@ -2,11 +2,11 @@
 
 ghost use Rattle.std.specs.Prelude.{◌≡◌, ◌≤◌, ◌+◌, ◌-◌, ◌*◌, length, slice_range};
 ghost use Rattle.cu_pack.specs.Checks.{sealed};
-ghost use Rattle.cu_pack.specs.Places.{long_at, word_at};
+ghost use Rattle.cu_pack.specs.Places.{long_at, short_at};
 ghost use Rattle.cu_pack.specs.Reading.{entry_from};
 ghost use Rattle.cu_pack.specs.Steps.Columns.{ColumnRises, IsCountUpTo};
 
-use crate::bytes::{entry, long, word};
+use crate::bytes::{entry, long, short};
 use crate::searching::count_up_to;
 use cu_interval::Entry;
 use std::marker::Model;
@@ -46,11 +46,11 @@ impl<'a> Body<'a> {
     }
 
     /// The number in the four bytes from a place.
-    pub fn word(&self, at: usize) -> u32
+    pub fn short(&self, at: usize) -> u32
         requires room { at + 4 ≤ length self.now - 32 }
-        ensures number { result ≡ word_at self.now at }
+        ensures number { result ≡ short_at self.now at }
     {
-        word(self.bytes, at)
+        short(self.bytes, at)
     }
 
     /// The number in the eight bytes from a place.

@@ -6,6 +6,4 @@ pub mod header;
 pub mod order;
 pub mod profiles;
 pub mod roads;
-#[cfg(test)]
-mod tests;
 pub mod ways;

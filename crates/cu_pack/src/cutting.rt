@@ -83,7 +83,7 @@ impl<'a> Sections<'a> {
         ensures node { result ≡ node_at_in self.now rank }
     {
         self.body
-            .word(self.layout.node_at as usize + 4 * rank as usize)
+            .short(self.layout.node_at as usize + 4 * rank as usize)
     }
 
     /// The rank of a node.
@@ -92,7 +92,7 @@ impl<'a> Sections<'a> {
         ensures rank { result ≡ rank_of_in self.now node }
     {
         self.body
-            .word(self.layout.rank_of as usize + 4 * node as usize)
+            .short(self.layout.rank_of as usize + 4 * node as usize)
     }
 
     /// The road with this number.
@@ -102,9 +102,9 @@ impl<'a> Sections<'a> {
     {
         let at = self.layout.arcs as usize + 12 * arc as usize;
         RoadArc {
-            tail: self.body.word(at),
-            head: self.body.word(at + 4),
-            profile: self.body.word(at + 8),
+            tail: self.body.short(at),
+            head: self.body.short(at + 4),
+            profile: self.body.short(at + 8),
         }
     }
 
@@ -123,7 +123,7 @@ impl<'a> Sections<'a> {
         ensures kind { result ≡ piece_kind self.now piece }
     {
         self.body
-            .word(self.layout.pieces as usize + 12 * piece as usize + 4)
+            .short(self.layout.pieces as usize + 12 * piece as usize + 4)
     }
 
     /// A piece, counted over all profiles.
@@ -132,14 +132,14 @@ impl<'a> Sections<'a> {
         ensures piece { result ≡ piece_from self.now (piece_place self.now piece) }
     {
         let at = self.layout.pieces as usize + 12 * piece as usize;
-        let value = self.body.word(at + 8);
-        let rule = match self.body.word(at + 4) {
+        let value = self.body.short(at + 8);
+        let rule = match self.body.short(at + 4) {
             0 => Rule::Travel(value),
             1 => Rule::Until(value),
             _ => Rule::Closed(value),
         };
         Piece {
-            from: self.body.word(at),
+            from: self.body.short(at),
             rule,
         }
     }
@@ -150,7 +150,7 @@ impl<'a> Sections<'a> {
         ensures start { result ≡ edge_start self.now rank }
     {
         self.body
-            .word(self.layout.edge_starts as usize + 4 * rank as usize)
+            .short(self.layout.edge_starts as usize + 4 * rank as usize)
     }
 
     /// The higher rank of an edge.
@@ -159,7 +159,7 @@ impl<'a> Sections<'a> {
         ensures rank { result ≡ upper_in self.now edge }
     {
         self.body
-            .word(self.layout.uppers as usize + 4 * edge as usize)
+            .short(self.layout.uppers as usize + 4 * edge as usize)
     }
 
     /// How many entries are before a way list; at the number of lists, how many there are in all.
@@ -177,7 +177,7 @@ impl<'a> Sections<'a> {
         ensures kind { result ≡ entry_kind self.now entry }
     {
         self.body
-            .word(self.layout.entries as usize + 12 * entry as usize + 4)
+            .short(self.layout.entries as usize + 12 * entry as usize + 4)
     }
 
     /// An entry, counted over all way lists.
@@ -237,7 +237,7 @@ impl<'a> Sections<'a> {
         ensures end { result ≡ edge_start self.now (suc low) }
     {
         let first = self.layout.edge_starts as usize;
-        self.body.word(first + 4 * (low as usize + 1))
+        self.body.short(first + 4 * (low as usize + 1))
     }
 
     /// The edge from a rank to a higher one, sought from a place on before which the rank's edges lead lower.

@@ -10,7 +10,7 @@ ghost use Rattle.cu_pack.specs.Steps.Cursors.{AreCursors};
 
 use crate::cutting::Sections;
 use cu_chordal::MAX_EDGES;
-use cu_interval::Dir;
+use cu_interval::{Dir, Shortcut};
 
 impl<'a> Sections<'a> {
     /// The number of the edge between two ranks. None exactly where there is no such edge.
@@ -49,8 +49,5 @@ pub fn list_number(edge: u32, dir: Dir) -> u32
     requires few { edge < MAX_EDGES }
     ensures { result ≡ list_number edge dir }
 {
-    match dir {
-        Dir::Up => 2 * edge,
-        Dir::Down => 2 * edge + 1,
-    }
+    Shortcut { edge, dir }.list() as u32
 }

@@ -22,8 +22,7 @@
 //! passed; the later checks (`checks`) and the view call the same ones. `sections` puts the sections of a hierarchy,
 //! `editing` and `replacing` those of a view's after an edit. What only private functions cite is in `specs/Steps`.
 //!
-//! It stands on `cu_model`, `cu_chordal` and `cu_interval`, on the crate `sha2` for the digest (FIPS 180-4), and on
-//! `cu_customize` for its tests alone.
+//! It stands on `cu_model`, `cu_chordal` and `cu_interval`, and on the crate `sha2` for the digest (FIPS 180-4).
 #![tactic(auto)]
 
 mod body;
@@ -47,8 +46,6 @@ mod replacing;
 mod sealing;
 mod searching;
 mod sections;
-#[cfg(test)]
-mod tests;
 mod view;
 mod way_slices;
 

@@ -1,14 +1,14 @@
 //! Numbers and rows of three numbers as bytes, the lowest byte first.
 
 ghost use Rattle.std.specs.Prelude.{◌≡◌, ◌++◌, OnOk};
-ghost use Rattle.cu_pack.specs.Spelling.{arc_bytes, entry_bytes, long, piece_bytes, triple, word};
+ghost use Rattle.cu_pack.specs.Spelling.{arc_bytes, entry_bytes, long, piece_bytes, triple, short};
 
 use cu_interval::{Entry, Way};
 use cu_model::{NoMemory, Piece, RoadArc, Rule};
 
 // Appends a number in four bytes.
-pub fn put_word(bytes: &mut Vec<u8>, number: u32) -> Result<(), NoMemory>
-    ensures { OnOk result (bytes.new.items ≡ bytes.old.items ++ word number) }
+pub fn put_short(bytes: &mut Vec<u8>, number: u32) -> Result<(), NoMemory>
+    ensures { OnOk result (bytes.new.items ≡ bytes.old.items ++ short number) }
 {
     bytes.extend_from_slice(&number.to_le_bytes())?;
     Ok(())

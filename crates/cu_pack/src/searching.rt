@@ -3,7 +3,7 @@
 ghost use Rattle.std.specs.Prelude.{◌≤◌, ◌+◌, ◌*◌, length};
 ghost use Rattle.cu_pack.specs.Steps.Columns.{ColumnRises, IsCountUpTo};
 
-use crate::bytes::word;
+use crate::bytes::short;
 
 // How many of the numbers are at most a bound. The first stands at this place, and each other one so many bytes behind
 // the one before.
@@ -17,7 +17,7 @@ pub fn count_up_to(bytes: &[u8], at: usize, width: usize, count: usize, bound: u
     let mut high = count;
     while low < high {
         let middle = low + (high - low) / 2;
-        if word(bytes, at + width * middle) <= bound {
+        if short(bytes, at + width * middle) <= bound {
             low = middle + 1;
         } else {
             high = middle;

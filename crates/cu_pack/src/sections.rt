@@ -8,10 +8,10 @@ ghost use Rattle.cu_chordal.specs.Graphs.{first_edge_of};
 ghost use Rattle.cu_interval.specs.Hierarchies.{list_of};
 ghost use Rattle.cu_interval.specs.declared.ways.Dir.TheVariants.{Up};
 ghost use Rattle.cu_pack.specs.Layouts.{file_length};
-ghost use Rattle.cu_pack.specs.Spelling.{arc_bytes, entry_bytes, header, long, piece_bytes, starts_from, total, word};
+ghost use Rattle.cu_pack.specs.Spelling.{arc_bytes, entry_bytes, header, long, piece_bytes, starts_from, total, short};
 
 use crate::layout::Counts;
-use crate::numbers::{put_arc, put_entry, put_long, put_piece, put_word};
+use crate::numbers::{put_arc, put_entry, put_long, put_piece, put_short};
 use cu_chordal::Chordal;
 use cu_interval::{Dir, Hierarchy, Ways};
 use cu_model::{Network, NoMemory, Order, Roads};
@@ -22,11 +22,11 @@ pub fn put_header(bytes: &mut Vec<u8>, counts: &Counts, length: u64) -> Result<(
     ensures { OnOk result (bytes.new.items ≡ bytes.old.items ++ header counts.now) }
 {
     bytes.extend_from_slice(b"CATCHUPH")?;
-    put_word(bytes, 1)?;
-    put_word(bytes, counts.nodes)?;
-    put_word(bytes, counts.arcs)?;
-    put_word(bytes, counts.profiles)?;
-    put_word(bytes, counts.edges)?;
+    put_short(bytes, 1)?;
+    put_short(bytes, counts.nodes)?;
+    put_short(bytes, counts.arcs)?;
+    put_short(bytes, counts.profiles)?;
+    put_short(bytes, counts.edges)?;
     put_long(bytes, counts.pieces)?;
     put_long(bytes, counts.entries)?;
     put_long(bytes, length)
@@ -35,7 +35,7 @@ pub fn put_header(bytes: &mut Vec<u8>, counts: &Counts, length: u64) -> Result<(
 // The node at each rank, and the rank of each node.
 pub fn put_order(bytes: &mut Vec<u8>, order: &Order) -> Result<(), NoMemory>
     ensures { OnOk result (bytes.new.items ≡ bytes.old.items
-        ++ (flat_map word order.now.node_at ++ flat_map word order.now.rank_of)) }
+        ++ (flat_map short order.now.node_at ++ flat_map short order.now.rank_of)) }
 {
     put_nodes(bytes, order)?;
     put_ranks(bytes, order)
@@ -43,20 +43,20 @@ pub fn put_order(bytes: &mut Vec<u8>, order: &Order) -> Result<(), NoMemory>
 
 fn put_nodes(bytes: &mut Vec<u8>, order: &Order) -> Result<(), NoMemory>
     ensures { OnOk result
-        (bytes.new.items ≡ bytes.old.items ++ flat_map word order.now.node_at) }
+        (bytes.new.items ≡ bytes.old.items ++ flat_map short order.now.node_at) }
 {
     for rank in 0..order.nodes() {
-        put_word(bytes, order.node(rank))?;
+        put_short(bytes, order.node(rank))?;
     }
     Ok(())
 }
 
 fn put_ranks(bytes: &mut Vec<u8>, order: &Order) -> Result<(), NoMemory>
     ensures { OnOk result
-        (bytes.new.items ≡ bytes.old.items ++ flat_map word order.now.rank_of) }
+        (bytes.new.items ≡ bytes.old.items ++ flat_map short order.now.rank_of) }
 {
     for node in 0..order.nodes() {
-        put_word(bytes, order.rank(node))?;
+        put_short(bytes, order.rank(node))?;
     }
     Ok(())
 }
@@ -118,30 +118,30 @@ fn put_pieces(bytes: &mut Vec<u8>, network: &Network, profile: u32) -> Result<()
 // How many edges are before each rank, and in all; and the higher rank of each.
 pub fn put_edges(bytes: &mut Vec<u8>, graph: &Chordal) -> Result<(), NoMemory>
     ensures { OnOk result (bytes.new.items ≡ bytes.old.items
-        ++ (flat_map word
+        ++ (flat_map short
         (map (first_edge_of graph.now.edges) (range_with_len 0 (suc graph.now.ranks)))
-        ++ flat_map word (map (λ (ends : Ends). ends.high) graph.now.edges))) }
+        ++ flat_map short (map (λ (ends : Ends). ends.high) graph.now.edges))) }
 {
     put_edge_starts(bytes, graph)?;
     put_uppers(bytes, graph)
 }
 
 fn put_edge_starts(bytes: &mut Vec<u8>, graph: &Chordal) -> Result<(), NoMemory>
-    ensures { OnOk result (bytes.new.items ≡ bytes.old.items ++ flat_map word
+    ensures { OnOk result (bytes.new.items ≡ bytes.old.items ++ flat_map short
         (map (first_edge_of graph.now.edges) (range_with_len 0 (suc graph.now.ranks)))) }
 {
     for rank in 0..graph.ranks() {
-        put_word(bytes, graph.first_edge(rank))?;
+        put_short(bytes, graph.first_edge(rank))?;
     }
-    put_word(bytes, graph.edges())
+    put_short(bytes, graph.edges())
 }
 
 fn put_uppers(bytes: &mut Vec<u8>, graph: &Chordal) -> Result<(), NoMemory>
     ensures { OnOk result (bytes.new.items ≡ bytes.old.items
-        ++ flat_map word (map (λ (ends : Ends). ends.high) graph.now.edges)) }
+        ++ flat_map short (map (λ (ends : Ends). ends.high) graph.now.edges)) }
 {
     for edge in 0..graph.edges() {
-        put_word(bytes, graph.ends(edge).high)?;
+        put_short(bytes, graph.ends(edge).high)?;
     }
     Ok(())
 }

@@ -15,8 +15,6 @@ mod hierarchy;
 mod in_force;
 mod parts;
 mod roads;
-#[cfg(test)]
-mod tests;
 
 /// The hierarchy whose packed file some borrowed bytes are. Contracts see the hierarchy.
 #[derive(Drop)]

@@ -26,7 +26,8 @@ use Rattle.cu_tables.proofs.Round.{table_of_rows}
 use Rattle.cu_profile.specs.declared.refusals.ProfileRefusal.{ProfileRefusal}
 use Rattle.cu_profile.specs.declared.refusals.ProfileRefusal.TheVariants.{Header, Fields, Number, Sequence, TooMany}
 use Rattle.cu_profile.specs.declared.rows.TheConstants.{MAX_ROWS}
-use Rattle.cu_profile.specs.ProfileTexts.{begin_with, by_profile, faulted, has_numbers, header, may_follow, missing, piece_of_fields, piece_of_row, piece_row_fault, profile_checked, profile_number, profile_of_rows, profiles_of_groups, profiles_of_rows, profiles_of_text, rows_fault, then_more, wrong_kind}
+use Rattle.cu_profile.specs.ProfileTexts.{begin_with, by_profile, faulted, has_numbers, header, may_follow, missing, piece_of_fields, piece_of_row, piece_row_fault}
+use Rattle.cu_profile.specs.ProfileTexts.{profile_checked, profile_number, profile_of_rows, profiles_of_groups, profiles_of_rows, profiles_of_text, rows_fault, then_more, wrong_kind}
 use Rattle.cu_profile.specs.Written.{kind_word, piece_row, rows_from, rule_number, table_of}
 use Rattle.cu_profile.proofs.RowFacts.{rows_next}
 

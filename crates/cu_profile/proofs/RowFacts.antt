@@ -13,7 +13,8 @@ use Rattle.cu_profile.specs.declared.refusals.ProfileRefusal.{ProfileRefusal}
 use Rattle.cu_profile.specs.declared.progress.ProfileRows.{ProfileRows}
 use Rattle.cu_profile.specs.declared.rows.PieceRow.{PieceRow}
 use Rattle.cu_profile.specs.declared.rows.TheConstants.{MAX_ROWS}
-use Rattle.cu_profile.specs.ProfileTexts.{begin_with, by_profile, has_numbers, may_follow, missing, onto, piece_of_row, piece_row_fault, profile_number, profiles_of_groups, rows_fault, then_more, wrong_kind}
+use Rattle.cu_profile.specs.ProfileTexts.{begin_with, by_profile, has_numbers, may_follow, missing, onto, piece_of_row, piece_row_fault, profile_number, profiles_of_groups}
+use Rattle.cu_profile.specs.ProfileTexts.{rows_fault, then_more, wrong_kind}
 use Rattle.cu_profile.specs.Steps.ReadRows.{AddsRow, BeginsRow, EndsProfile, EndsRows, groups_behind, IsBetweenRows, joined, last_profile, last_profile_with, RefusesRow, rows_behind, TakesRow}
 use Rattle.cu_profile.proofs.KeptProfiles.{joined_kept, kept_few}
 
@@ -199,5 +200,5 @@ pub follows : Follows TakesRow RefusesRow IsBetweenRows rows_behind
 follows = record {
   kept = λ s row t h between. (h between).0;
   taken = λ s row t rest h between. (h between).1 rest;
-  refused = λ s row why rest h between. rw (h between) refl;
+  refused = λ s row why t rest h between. rw (h.0 between) refl;
 }

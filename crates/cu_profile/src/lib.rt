@@ -16,6 +16,3 @@ pub use reader::read_profiles;
 pub use refusals::ProfileRefusal;
 pub use rows::piece_of;
 pub use writer::write_profiles;
-
-#[cfg(test)]
-mod tests;

@@ -2,7 +2,9 @@
 use Rattle.std.proofs.Common.{◌≡◌, ◌<◌, ◌+◌, ◌-◌, ◌*◌, ◌/◌, ◌∙◌, ◌↔◌, ℕ, List, [], Option, None, Some, refl, sym, ap, subst, arith, length}
 use Rattle.std.specs.Prelude.{IfSome, IsSome, slice_get}
 use Rattle.cu_chordal.specs.declared.graph.Ends.{Ends}
-use Rattle.cu_chordal.specs.Graphs.{HasEdge}
+use Rattle.cu_chordal.specs.Graphs.{ChordalValue, HasEdge, IsChordal}
+use Rattle.cu_chordal.proofs.Members.{place_of}
+use Rattle.cu_chordal.proofs.Tables.{edge_within}
 use Rattle.cu_interval.specs.declared.ways.Dir.{Dir}
 use Rattle.cu_interval.specs.declared.ways.Dir.TheVariants.{Up, Down}
 use Rattle.cu_interval.specs.declared.ways.Entry.{Entry}
@@ -10,12 +12,12 @@ use Rattle.cu_interval.specs.declared.ways.Way.{Way}
 use Rattle.cu_interval.specs.declared.ways.Way.TheVariants as way
 use Rattle.cu_interval.specs.WayLists.{way_at}
 use Rattle.cu_interval.specs.Hierarchies.{HierarchyValue, IsHierarchy, start_of, end_of, list_from, list_of, way_from}
+use Rattle.cu_interval.specs.Shortcuts.{AreHalfEdges, IsMiddle}
 use Rattle.cu_interval.proofs.Lookups.{well_formed}
 use Rattle.cu_model.proofs.RoadLaws.{leads_within}
 use Rattle.cu_model.proofs.OptionLaws.{same_value}
 use Rattle.cu_pack.specs.declared.way_slices.in_force.WayInForce.{WayInForce}
 use Rattle.cu_pack.specs.InForce.{FindsWayInForce}
-use Rattle.cu_unpack.specs.Steps.Legs.{IsMiddle}
 use Rattle.cu_recall.specs.declared.pending.Asked.{Asked}
 use Rattle.cu_recall.specs.declared.spans.Driven.{Driven}
 use Rattle.cu_recall.specs.declared.spans.Met.{Met}
@@ -67,16 +69,36 @@ parts_over h list dir m (part.Halves first second) u v from until parts d (ends,
     let v_is : end_of ends dir ≡ v = ap (end_of ends) d ∙ sym stop in
     (m, subst (λ (y : ℕ). AreHalvesAt h u y first second m) v_is (subst (λ (x : ℕ). AreHalvesAt h x (end_of ends dir) first second m) u_is both), taken)
 
-pub halves_at : (h : HierarchyValue) (edge m first second from to : ℕ) (dir : Dir) (ends : Ends) → slice_get h.edges edge ≡ Some ends → from ≡ start_of ends dir → to ≡ end_of ends dir
-    → slice_get h.edges first ≡ Some (record { low = m; high = from }) → slice_get h.edges second ≡ Some (record { low = m; high = to })
-    → HoldsPartsOf h edge dir m (part.Halves (2 * first + 1) (2 * second))
-halves_at h edge m first second from to dir ends at start stop one two = λ other there.
+-- a middle is a rank
+pub middle_rank : (graph : ChordalValue) → IsChordal graph → (h : HierarchyValue) → h.edges ≡ graph.edges → (edge : ℕ) (dir : Dir) (m : ℕ)
+    → IsMiddle h edge dir m → m < graph.ranks
+middle_rank graph sound h same edge dir m (ends, at, to, on) =
+    let range = edge_within graph sound m (start_of ends dir) (subst (λ (edges : List Ends). HasEdge edges m (start_of ends dir)) same to) in
+    omega (arith, range.0, range.1)
+
+-- and its halves are there
+pub middle_halves : (edges : List Ends) (h : HierarchyValue) → h.edges ≡ edges → (edge : ℕ) (dir : Dir) (m : ℕ) (ends : Ends)
+    → IsMiddle h edge dir m → slice_get edges edge ≡ Some ends → (first second : ℕ) × AreHalfEdges edges ends dir m first second
+middle_halves edges h same edge dir m ends (other, there, to, on) at =
+    let is : other ≡ ends = same_value (slice_get edges edge) other ends (ap (λ (es : List Ends). slice_get es edge) (sym same) ∙ there) at in
+    let low : HasEdge edges m (start_of ends dir) =
+    subst (λ (e : Ends). HasEdge edges m (start_of e dir)) is (subst (λ (es : List Ends). HasEdge es m (start_of other dir)) same to) in
+    let high : HasEdge edges m (end_of ends dir) =
+    subst (λ (e : Ends). HasEdge edges m (end_of e dir)) is (subst (λ (es : List Ends). HasEdge es m (end_of other dir)) same on) in
+    let (first, first_at) = place_of edges (record { low = m; high = start_of ends dir }) low in
+    let (second, second_at) = place_of edges (record { low = m; high = end_of ends dir }) high in
+    (first, second, record { to = first_at; on = second_at })
+
+-- by the numbers of their lists
+pub halves_at : (h : HierarchyValue) (edge m first second : ℕ) (dir : Dir) (ends : Ends) → slice_get h.edges edge ≡ Some ends
+    → AreHalfEdges h.edges ends dir m first second → HoldsPartsOf h edge dir m (part.Halves (2 * first + 1) (2 * second))
+halves_at h edge m first second dir ends at found = λ other there.
     let same : ends ≡ other = same_value (slice_get h.edges edge) ends other at there in
-    let low = list_of_edge h first Down (record { low = m; high = from }) one in
-    let high = list_of_edge h second Up (record { low = m; high = to }) two in
-    let from_is : from ≡ start_of other dir = start ∙ ap (λ (e : Ends). start_of e dir) same in
-    let to_is : to ≡ end_of other dir = stop ∙ ap (λ (e : Ends). end_of e dir) same in
-    (subst (λ (x : ℕ). IsListFrom h (2 * first + 1) x m) from_is low, subst (λ (y : ℕ). IsListFrom h (2 * second) m y) to_is high)
+    let low = list_of_edge h first Down (record { low = m; high = start_of ends dir }) found.to in
+    let high = list_of_edge h second Up (record { low = m; high = end_of ends dir }) found.on in (
+      subst (λ (e : Ends). IsListFrom h (2 * first + 1) (start_of e dir) m) same low,
+      subst (λ (e : Ends). IsListFrom h (2 * second) m (end_of e dir)) same high,
+    )
 
 -- the road of an entry in force is one
 pub met_road : (h : HierarchyValue) → IsHierarchy h → (asked : Asked) (met : Met) (road : ℕ) → IsAsked h asked → IsMetAt h asked met → met.parts ≡ part.Road road

@@ -1,9 +1,8 @@
 //! Looking a list up: in what is known, or else in the bytes, and then it is known.
 
-ghost use Rattle.std.specs.Prelude.{◌≡◌, ◌≤◌, ◌<◌, ◌-◌, ◌*◌, ◌/◌, ◌↔◌, ℕ, IfSome, IsTrue, Some, length, slice_get};
-ghost use Rattle.cu_chordal.specs.Graphs.{HasEdge, IsChordal};
-ghost use Rattle.cu_interval.specs.Hierarchies.{HierarchyValue, IsHierarchy, graph_of, start_of, end_of};
-ghost use Rattle.cu_unpack.specs.Steps.Legs.{IsMiddle};
+ghost use Rattle.std.specs.Prelude.{◌≡◌, ◌≤◌, ◌<◌, ◌-◌, ◌*◌, ◌/◌, ◌↔◌, ℕ, IfSome, IsTrue, length};
+ghost use Rattle.cu_interval.specs.Hierarchies.{HierarchyValue, IsHierarchy, graph_of};
+ghost use Rattle.cu_interval.specs.Shortcuts.{IsMiddle};
 ghost use Rattle.cu_recall.specs.Spans.{AreHalvesAt, HasSecond, IsListFrom, Knows, dir_of};
 ghost use Rattle.cu_recall.specs.declared.spans.Parts.TheVariants as part;
 ghost use Rattle.cu_recall.specs.Windows.{HoldsDriven};
@@ -13,8 +12,8 @@ use crate::driving::drive;
 use crate::pending::{Asked, Found, Parted};
 use crate::remembering::{meet, remember};
 use crate::spans::{Driven, Met, Parts, Row, Span};
-use cu_chordal::{Chordal, Ends};
-use cu_interval::{Dir, Way};
+use cu_chordal::Chordal;
+use cu_interval::{Dir, Way, find_halves};
 use cu_model::DAY;
 use cu_pack::PackedView;
 
@@ -157,43 +156,11 @@ fn halves(graph: &Chordal, edge: u32, dir: Dir, middle: u32) -> Parts
     ensures halves { (h : HierarchyValue) → h.edges ≡ graph.now.edges
         → HoldsPartsOf h edge dir middle result }
 {
-    let ends = graph.ends(edge);
-    let first = edge_to(graph, middle, rank_from(ends, dir));
-    let second = edge_to(graph, middle, rank_to(ends, dir));
+    let Some((first, second)) = find_halves(graph, graph.ends(edge), dir, middle) else {
+        unreachable!()
+    };
     Parts::Halves {
         first: 2 * first + 1,
         second: 2 * second,
     }
-}
-
-// The rank from which an edge leads in a direction.
-fn rank_from(ends: Ends, dir: Dir) -> u32
-    ensures { result ≡ start_of ends dir }
-{
-    match dir {
-        Dir::Up => ends.low,
-        Dir::Down => ends.high,
-    }
-}
-
-// The rank to which it leads.
-fn rank_to(ends: Ends, dir: Dir) -> u32
-    ensures { result ≡ end_of ends dir }
-{
-    match dir {
-        Dir::Up => ends.high,
-        Dir::Down => ends.low,
-    }
-}
-
-// The edge between two ranks, which there is.
-fn edge_to(graph: &Chordal, low: u32, high: u32) -> u32
-    requires sound { IsChordal graph.now }
-    requires there { HasEdge graph.now.edges low high }
-    ensures { slice_get graph.now.edges result ≡ Some (record { low = low; high = high }) }
-{
-    let Some(edge) = graph.edge(low, high) else {
-        unreachable!()
-    };
-    edge
 }

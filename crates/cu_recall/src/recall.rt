@@ -17,12 +17,12 @@ use crate::room::{Room, make_rows};
 use crate::spans::Driven;
 use crate::unpacking::unpack;
 use cu_chordal::Chordal;
-use cu_interval::{Dir, Relaxed, Relaxer, Ways};
+use cu_interval::{Dir, Relaxed, Relaxer, Shortcut, Ways};
 use cu_model::{DAY, Roads};
 use cu_pack::PackedView;
 use std::marker::Model;
 
-/// Relaxes the shortcuts of a packed file, with room of its own, in which it keeps what it learnt. Contracts see the
+/// Relaxes the shortcuts of a packed file, with room of its own for what it learns of their lists. Contracts see the
 /// hierarchy. It doesn't tell its calls.
 #[derive(Drop)]
 pub struct Recall<'a> {
@@ -123,19 +123,8 @@ pub fn asked_of(edge: u32, dir: Dir, at: u64) -> Asked
     ensures { result ≡ edge_asked edge dir at }
 {
     Asked {
-        list: number_of(edge, dir),
+        list: Shortcut { edge, dir }.list() as u32,
         second: (at % u64::from(DAY)) as u32,
-    }
-}
-
-// The number of the list of an edge in a direction.
-fn number_of(edge: u32, dir: Dir) -> u32
-    requires edge { edge < MAX_EDGES }
-    ensures { result ≡ list_number edge dir }
-{
-    match dir {
-        Dir::Up => 2 * edge,
-        Dir::Down => 2 * edge + 1,
     }
 }
 

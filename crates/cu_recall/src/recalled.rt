@@ -3,12 +3,10 @@
 ghost use Rattle.std.specs.Prelude.{◌≡◌, ◌<◌, ◌*◌, length};
 ghost use Rattle.cu_interval.specs.Hierarchies.{IsHierarchy, IsHierarchyOf, graph_of, list_of};
 ghost use Rattle.cu_interval.specs.WayLists.{way_at};
-ghost use Rattle.cu_recall.specs.Rooms.{Fits};
 ghost use Rattle.cu_recall.specs.Spans.{Knows};
 
 use crate::looking::met_last;
 use crate::recall::asked_of;
-use crate::room::Room;
 use crate::spans::{Parts, Row};
 use cu_chordal::{Chordal, Ends};
 use cu_interval::{Dir, Entry, Way, Ways};
@@ -16,36 +14,36 @@ use cu_model::{Piece, RoadArc, Roads};
 use cu_pack::PackedView;
 use std::marker::Model;
 
-/// The ways of a packed file, where queries met them by what they keep of them, and its edges by its graph. Contracts see the
-/// hierarchy.
+/// The ways of a packed file, where queries met them by the rows that they keep of them, and its edges by its graph. Contracts
+/// see the hierarchy.
 #[derive(Drop)]
 pub struct RecalledWays<'a> {
     view: &'a PackedView<'a>,
     graph: &'a Chordal,
-    room: &'a Room,
+    rows: &'a [Row],
 }
 
 impl<'a> Model for RecalledWays<'a> {
     ghost use Rattle.cu_interval.specs.Hierarchies.{HierarchyValue, IsHierarchyOf};
-    ghost use Rattle.cu_recall.specs.Rooms.{Fits};
+    ghost use Rattle.cu_recall.specs.Spans.{Knows};
 
     ghost Value = { HierarchyValue };
 
     ghost view = { λ ways. ways.view.now };
 
     ghost invariant = { λ ways. IsHierarchyOf ways.graph.now ways.view.now
-        × Fits ways.view.now ways.room.now };
+        × Knows ways.view.now ways.rows.now };
 }
 
 impl<'a> RecalledWays<'a> {
-    /// The ways of this file, whose graph this is, by room that was made for as many nodes and edges, and knows nothing but
-    /// what is so of its hierarchy. Takes no memory.
-    pub fn new(view: &'a PackedView<'a>, graph: &'a Chordal, room: &'a Room) -> RecalledWays<'a>
+    /// The ways of this file, whose graph this is, by the rows of its first lists, or of none, which say nothing but what is
+    /// so of its hierarchy. Takes no memory.
+    pub fn new(view: &'a PackedView<'a>, graph: &'a Chordal, rows: &'a [Row]) -> RecalledWays<'a>
         requires graph { IsHierarchyOf graph.now view.now }
-        requires fits { Fits view.now room.now }
+        requires knows { Knows view.now rows.now }
         ensures view { result ≡ view.now }
     {
-        RecalledWays { view, graph, room }
+        RecalledWays { view, graph, rows }
     }
 }
 
@@ -118,8 +116,7 @@ impl<'a> Ways for RecalledWays<'a> {
 
     #[inline(always)]
     fn way(&self, edge: u32, dir: Dir, second: u64) -> Option<Way> {
-        let room = self.room;
-        way_over(self.view, self.graph, &room.rows, edge, dir, second)
+        way_over(self.view, self.graph, self.rows, edge, dir, second)
     }
 
     fn entries(&self, edge: u32, dir: Dir) -> u32 {

@@ -1,4 +1,4 @@
-//! Keeping what was met, row by row.
+//! Taking in what was met, row by row.
 
 ghost use Rattle.std.specs.Prelude.{◌≡◌, ◌≤◌, ◌<◌, length};
 ghost use Rattle.cu_interval.specs.Hierarchies.{HierarchyValue};
@@ -9,7 +9,8 @@ use crate::kept::Kept;
 use crate::spans::{Driven, Met, Row};
 use cu_model::DAY;
 
-/// Keeps what driving a list from a second of the day took, where it finds room.
+/// Takes in what driving a list from a second of the day took, where it finds room. Rows that know only what is so of a
+/// hierarchy go on to do so.
 pub fn remember(rows: &mut [Row], list: u32, second: u32, driven: Driven)
     requires list { list < length rows.old }
     requires window { IsWindow second driven.back driven.ahead }
@@ -21,7 +22,7 @@ pub fn remember(rows: &mut [Row], list: u32, second: u32, driven: Driven)
     }
 }
 
-/// Keeps an entry of a list.
+/// Takes in an entry of a list. Rows that know only what is so of a hierarchy go on to do so.
 pub fn meet(rows: &mut [Row], list: u32, met: Met)
     requires list { list < length rows.old }
     requires order { met.from ≤ met.until }

@@ -60,6 +60,13 @@ impl Room {
         })
     }
 
+    /// The rows that were written: those of the first lists, or none. Takes no memory.
+    pub fn rows(&self) -> &[Row]
+        ensures knows { (h : HierarchyValue) → Knows h self.now.rows → Knows h result.now }
+    {
+        &self.rows
+    }
+
     /// Forgets all that is known, as must be done when the hierarchy was edited or is another. Takes no memory.
     pub fn forget(&mut self)
         ensures nodes { self.new.nodes ≡ self.old.nodes }

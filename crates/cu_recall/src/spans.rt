@@ -91,7 +91,8 @@ impl Row {
         met: Kept::NOTHING,
     };
 
-    /// A span that has this second of the day, if one does: first the one of its third of the day, which most often has it.
+    /// A span that has this second of the day, where one is found: first the one of its third of the day is asked, which most
+    /// often has it.
     #[inline(always)]
     pub fn at(&self, second: u32) -> Option<Span>
         ensures inside { IfSome result (λ span. HasSecond span second) }
@@ -141,8 +142,8 @@ impl Row {
         None
     }
 
-    /// Keeps a span that was met at this second of the day: as the latest, and for its third of the day where it is wider
-    /// than the one there.
+    /// Takes in a span that was met at this second of the day, where it may be of use: as the latest, and for its third of
+    /// the day where it is wider than the one there. A row that says what is so of a list goes on to do so.
     pub fn keep(&mut self, second: u32, span: Span)
         ensures holds { (h : HierarchyValue) (list : ℕ) → HoldsRow h list self.old
             → HoldsSpan h list span → HoldsRow h list self.new }
@@ -157,7 +158,7 @@ impl Row {
         }
     }
 
-    /// Keeps an entry that was met.
+    /// Takes in an entry that was met. A row that says what is so of a list goes on to do so.
     pub fn meet(&mut self, met: Kept)
         ensures holds { (h : HierarchyValue) (list : ℕ) → HoldsRow h list self.old
             → HoldsMet h list (met_of met) → HoldsRow h list self.new }
@@ -179,8 +180,8 @@ fn wider(span: Span, other: Span) -> Span
 }
 
 impl Driven {
-    /// What is kept of it, driven from this second of the day: of the seconds before and after, 32,767 each at most. None
-    /// where its travel or its roads find no room in a span.
+    /// A span of it, driven from this second of the day: of the seconds before and after, 32,767 each at most. None where it
+    /// finds no room in one, as of long travel or many roads.
     pub fn span(&self, second: u32) -> Option<Span>
         requires window { IsWindow second self.now.back self.now.ahead }
         ensures holds { (h : HierarchyValue) (list : ℕ) → HoldsDriven h list second self.now

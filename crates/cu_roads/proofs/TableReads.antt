@@ -19,14 +19,14 @@ use Rattle.cu_roads.proofs.RowWalks.{rest_failed, rest_of, rest_passed}
 abbrev pub takes_node : NodeRows → List (List ℕ) → NodeRows → Type 0
 takes_node s row t = Adds (node_fault (length s.places.items) row) (place_of_row row) s.places.items t.places.items
 
-abbrev pub refuses_node : NodeRows → List (List ℕ) → RoadRefusal → Type 0
-refuses_node s row why = (is_of_profiles why ≡ false) × (node_fault (length s.places.items) row ≡ Some why)
+abbrev pub refuses_node : NodeRows → List (List ℕ) → RoadRefusal → NodeRows → Type 0
+refuses_node s row why t = (is_of_profiles why ≡ false) × (node_fault (length s.places.items) row ≡ Some why) × (t ≡ s)
 
 abbrev pub takes_arc : ArcRows → List (List ℕ) → ArcRows → Type 0
 takes_arc s row t = (t.nodes ≡ s.nodes) × (t.profiles ≡ s.profiles) × Adds (arc_fault s.nodes s.profiles (length s.arcs.items) row) (arc_of_row row) s.arcs.items t.arcs.items
 
-abbrev pub refuses_arc : ArcRows → List (List ℕ) → RoadRefusal → Type 0
-refuses_arc s row why = (is_of_profiles why ≡ false) × (arc_fault s.nodes s.profiles (length s.arcs.items) row ≡ Some why)
+abbrev pub refuses_arc : ArcRows → List (List ℕ) → RoadRefusal → ArcRows → Type 0
+refuses_arc s row why t = (is_of_profiles why ≡ false) × (arc_fault s.nodes s.profiles (length s.arcs.items) row ≡ Some why) × (t ≡ s)
 
 -- what the rows behind those taken give
 abbrev pub nodes_rest : NodeRows → List (List (List ℕ)) → Result (List Place) RoadRefusal
@@ -46,14 +46,14 @@ nodes_follow : Follows takes_node refuses_node Any nodes_rest
 nodes_follow = record {
   kept = λ s row t h k. tt;
   taken = λ s row t rest h k. rest_passed node_fault place_of_row s.places.items t.places.items row rest h;
-  refused = λ s row why rest h k. rest_failed node_fault place_of_row s.places.items row rest why h.1;
+  refused = λ s row why t rest h k. rest_failed node_fault place_of_row s.places.items row rest why h.1;
 }
 
 arcs_follow : (nodes profiles : ℕ) → Follows takes_arc refuses_arc (HasCounts nodes profiles) (arcs_rest nodes profiles)
 arcs_follow nodes profiles = record {
   kept = λ s row t h k. (h.0 ∙ k.0, h.1 ∙ k.1);
   taken = λ s row t rest h k. rest_passed (arc_fault nodes profiles) arc_of_row s.arcs.items t.arcs.items row rest (rw (k.0, k.1) at h.2);
-  refused = λ s row why rest h k. rest_failed (arc_fault nodes profiles) arc_of_row s.arcs.items row rest why (rw (k.0, k.1) at h.1);
+  refused = λ s row why t rest h k. rest_failed (arc_fault nodes profiles) arc_of_row s.arcs.items row rest why (rw (k.0, k.1) at h.1);
 }
 
 -- what a table of nodes gives, once it was gone through

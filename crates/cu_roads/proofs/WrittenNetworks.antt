@@ -19,7 +19,8 @@ use Rattle.cu_roads.specs.declared.places.TheConstants.{MAX_COORDINATE}
 use Rattle.cu_roads.specs.declared.refusals.File.TheVariants.{Nodes, Roads}
 use Rattle.cu_roads.specs.declared.refusals.RoadRefusal.{RoadRefusal}
 use Rattle.cu_roads.specs.declared.refusals.RoadRefusal.TheVariants.{Header, Fields, Number, Sequence, TooManyNodes, TooManyArcs, NodeRange, ProfileRange}
-use Rattle.cu_roads.specs.NetworkTexts.{NetworkRead, arc_fault, arc_header, arc_of_row, arcs_of_rows, arcs_of_text, has_arc_numbers, has_node_numbers, is_coordinate, network_of, node_fault, node_header, place_of_row, places_of_rows, places_of_text, value_at}
+use Rattle.cu_roads.specs.NetworkTexts.{NetworkRead, arc_fault, arc_header, arc_of_row, arcs_of_rows, arcs_of_text, has_arc_numbers, has_node_numbers, is_coordinate, network_of}
+use Rattle.cu_roads.specs.NetworkTexts.{node_fault, node_header, place_of_row, places_of_rows, places_of_text, value_at}
 use Rattle.cu_roads.specs.Steps.TableRows.{IsBetween}
 use Rattle.cu_roads.specs.Written.{written_arc, arc_table, written_place, node_table, rows_from, written_network}
 use Rattle.cu_roads.proofs.NetworkReads.{arcs-joined}

@@ -109,8 +109,8 @@ impl TakesRows for ArcRows {
         × Adds (arc_fault s.nodes s.profiles (length s.arcs.items) row) (arc_of_row row)
         s.arcs.items t.arcs.items };
 
-    ghost refuses = { λ s row why. (is_of_profiles why ≡ false)
-        × (arc_fault s.nodes s.profiles (length s.arcs.items) row ≡ Some why) };
+    ghost refuses = { λ s row why t. (is_of_profiles why ≡ false)
+        × (arc_fault s.nodes s.profiles (length s.arcs.items) row ≡ Some why) × (t ≡ s) };
 
     fn take_row(
         &mut self,

@@ -21,6 +21,3 @@ pub use grids::{GridTexts, MAX_SIDE, draw_day, grid, grid_by_rows, grid_roads};
 pub use places::{MAX_COORDINATE, Place, Places};
 pub use reader::read_network;
 pub use refusals::{File, RoadRefusal};
-
-#[cfg(test)]
-mod tests;

@@ -95,8 +95,8 @@ impl TakesRows for NodeRows {
     ghost takes = { λ s row t. Adds (node_fault (length s.places.items) row) (place_of_row row)
         s.places.items t.places.items };
 
-    ghost refuses = { λ s row why. (is_of_profiles why ≡ false)
-        × (node_fault (length s.places.items) row ≡ Some why) };
+    ghost refuses = { λ s row why t. (is_of_profiles why ≡ false)
+        × (node_fault (length s.places.items) row ≡ Some why) × (t ≡ s) };
 
     fn take_row(
         &mut self,

@@ -3,10 +3,11 @@ use Rattle.std.proofs.Common.{◌≡◌, ◌++◌, ℕ, Result, Ok, Err, refl, i
 use Rattle.std.specs.Prelude.{codes}
 use Rattle.cu_model.specs.declared.roads.Edit.{Edit}
 use Rattle.cu_interval.specs.Hierarchies.{HierarchyValue}
-use Rattle.cu_edits.specs.declared.lines.EditRefusal.{EditRefusal}
+use Rattle.cu_script.specs.declared.lines.EditRefusal.{EditRefusal}
+use Rattle.cu_router.specs.Edited.{IsEdited}
 use Rattle.cu_session.specs.Held.{IsDoneReplyTo, IsHeldDone, IsHeldReplyTo}
-use Rattle.cu_session.specs.Replies.{asked_by_edit, edit_check_words}
-use Rattle.cu_session.specs.Steps.Routing.{IsEdited}
+use Rattle.cu_session.specs.Questions.{asked_by_edit}
+use Rattle.cu_session.specs.Refusals.{edit_check_words}
 
 -- the reply to an edit that was made
 module _ (old new : HierarchyValue) (edit : Edit) (count : ℕ) (made : IsEdited old edit new count) where

@@ -10,10 +10,10 @@ use Rattle.cu_interval.specs.Hierarchies.{HierarchyValue}
 use Rattle.cu_session.specs.declared.stops.SessionStop.{SessionStop}
 use Rattle.cu_session.specs.declared.stops.SessionStop.TheVariants as stop
 use Rattle.cu_session.specs.Held.{AreDone, IsDoneReply}
-use Rattle.cu_session.specs.Replies.{line_limit}
+use Rattle.cu_session.specs.Scripts.{line_limit}
 use Rattle.cu_session.specs.Sessions.{EndsEdits}
 use Rattle.cu_session.specs.Steps.Turns.{AnswersEdit, Edits}
-use Rattle.cu_session.proofs.Outputs.{done_more, front_lines}
+use Rattle.cu_session.proofs.Outputs.{front_lines, replied_more}
 
 -- nothing was made yet
 pub edits_begin : (h : HierarchyValue) (text : List ℕ) (sink : SinkState) → Edits h h text text sink sink
@@ -24,7 +24,7 @@ edits_begin h text sink = record {
   done = (refl, refl);
   appends = appends_nothing sink.written;
   flushed = inl refl;
-  later = omega arith;
+  quiet = refl;
   rises = omega arith;
 }
 
@@ -37,7 +37,8 @@ module _ (before held : HierarchyValue) (text rest : List ℕ) (sink_before k : 
     done = subst (λ (lines : List (List ℕ)). AreDone before lines h.output held) (sym all) h.done;
     flushed = λ _. h.flushed;
     sink_fault = λ sink. absurd (cc sink);
-    later = h.later;
+    quiet = λ _. h.quiet;
+    later = omega (arith, h.quiet);
     rises = h.rises;
   }
     where
@@ -49,10 +50,11 @@ module _ (before held : HierarchyValue) (text rest : List ℕ) (sink_before k : 
   edits_stop = record {
     output = h.output;
     appends = h.appends;
-    done = (length h.lines, held, subst (λ (lines : List (List ℕ)). AreDone before lines h.output held) (sym front) h.done);
+    done = (length h.lines, subst (λ (lines : List (List ℕ)). AreDone before lines h.output held) (sym front) h.done);
     flushed = λ _. h.flushed;
     sink_fault = λ sink. absurd (cc sink);
-    later = h.later;
+    quiet = λ _. h.quiet;
+    later = omega (arith, h.quiet);
     rises = h.rises;
   }
     where
@@ -69,10 +71,10 @@ module _ (before held : HierarchyValue) (text rest : List ℕ) (sink_before k : 
       lines = h.lines ++ line ∷ [];
       output = h.output ++ (reply ++ 10 ∷ []);
       cut = more;
-      done = done_more before held next h.lines line h.output reply h.done is;
+      done = replied_more IsDoneReply before held next h.lines line h.output reply h.done is;
       appends = appends_more sink_before.written k.written now.written h.output (reply ++ 10 ∷ []) h.appends wrote.wrote.ok;
       flushed = inr wrote.flushed;
-      later = omega (arith, h.later, wrote.wrote.later);
+      quiet = wrote.wrote.quiet ∙ h.quiet;
       rises = omega (arith, h.rises, wrote.wrote.flushed);
     }
 
@@ -87,14 +89,15 @@ module _ (before held : HierarchyValue) (text rest : List ℕ) (sink_before k : 
         let (count, within, app) = appends_then sink_before.written k.written now.written h.output (reply ++ 10 ∷ []) h.appends wrote.wrote.err in
         let lines = h.lines ++ line ∷ [] in
         let front : take (length lines) (lines_of text) ≡ lines = ap (λ (t : List (List ℕ)). take (length lines) t) more ∙ front_lines lines (lines_of behind) in
-        let done = done_more before held next h.lines line h.output reply h.done is in
+        let done = replied_more IsDoneReply before held next h.lines line h.output reply h.done is in
         record {
           output = take count text_now;
           appends = app;
-          done = (length lines, next, text_now, subst (λ (t : List (List ℕ)). AreDone before t text_now next) (sym front) done, (count, refl));
+          done = (length lines, text_now, subst (λ (t : List (List ℕ)). AreDone before t text_now next) (sym front) done, (count, refl));
           flushed = λ other. absurd (other refl);
-          sink_fault = λ _. omega (arith, h.later, wrote.wrote.cause);
-          later = omega (arith, h.later, wrote.wrote.later);
+          sink_fault = λ _. omega (arith, h.quiet, wrote.wrote.cause);
+          quiet = λ other. absurd (other refl);
+          later = omega (arith, h.quiet, wrote.wrote.later);
           rises = omega (arith, h.rises, wrote.wrote.flushed);
         }
 

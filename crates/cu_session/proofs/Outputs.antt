@@ -1,38 +1,39 @@
 -- Replies line by line.
 use Rattle.std.proofs.Common.{◌≡◌, ◌∙◌, ℕ, List, [], ◌∷◌, ◌++◌, length, take, refl, sym, ap, subst, append_assoc}
 use Rattle.std.proofs.lemmas.List.{append-nil}
-use Rattle.cu_interval.specs.Hierarchies.{HierarchyValue}
-use Rattle.cu_session.specs.Held.{AreDone, AreHeldReplies, IsDoneReply, IsHeldReply}
+use Rattle.cu_session.specs.Scripts.{AreReplied}
 
 -- one more line, and its reply
-pub replied_more : (h now after : HierarchyValue) (lines : List (List ℕ)) (line text reply : List ℕ) → AreHeldReplies h lines text now → IsHeldReply now line reply after
-    → AreHeldReplies h (lines ++ line ∷ []) (text ++ (reply ++ 10 ∷ [])) after
-replied_more h now after [] line text reply (none, same) is =
-    let here = subst (λ (n : HierarchyValue). IsHeldReply n line reply after) same is in
+pub replied_more : {State : Type 0} (Replies : State → List ℕ → List ℕ → State → Type 0) (state now after : State) (lines : List (List ℕ)) (line text reply : List ℕ)
+    → AreReplied Replies state lines text now → Replies now line reply after → AreReplied Replies state (lines ++ line ∷ []) (text ++ (reply ++ 10 ∷ [])) after
+replied_more {State = State} Replies state now after [] line text reply (none, same) is =
+    let here = subst (λ (s : State). Replies s line reply after) same is in
     (reply, after, [], here, (refl, refl), rw none (sym (append-nil (reply ++ 10 ∷ []))))
-replied_more h now after (first ∷ lines) line text reply (said, next, rest, right, more, parts) is = (
+replied_more Replies state now after (first ∷ lines) line text reply (said, next, rest, right, more, parts) is = (
   said,
   next,
   rest ++ (reply ++ 10 ∷ []),
   right,
-  replied_more next now after lines line rest reply more is,
+  replied_more Replies next now after lines line rest reply more is,
   ap (λ (t : List ℕ). t ++ (reply ++ 10 ∷ [])) parts ∙ append_assoc (said ++ 10 ∷ []) rest (reply ++ 10 ∷ []),
 )
 
--- one more line of edits, and its reply
-pub done_more : (h now after : HierarchyValue) (lines : List (List ℕ)) (line text reply : List ℕ) → AreDone h lines text now → IsDoneReply now line reply after
-    → AreDone h (lines ++ line ∷ []) (text ++ (reply ++ 10 ∷ [])) after
-done_more h now after [] line text reply (none, same) is =
-    let here = subst (λ (n : HierarchyValue). IsDoneReply n line reply after) same is in
-    (reply, after, [], here, (refl, refl), rw none (sym (append-nil (reply ++ 10 ∷ []))))
-done_more h now after (first ∷ lines) line text reply (said, next, rest, right, more, parts) is = (
-  said,
-  next,
-  rest ++ (reply ++ 10 ∷ []),
-  right,
-  done_more next now after lines line rest reply more is,
-  ap (λ (t : List ℕ). t ++ (reply ++ 10 ∷ [])) parts ∙ append_assoc (said ++ 10 ∷ []) rest (reply ++ 10 ∷ []),
-)
+-- what holds before a script, and after each line, holds after it
+pub kept_through : {State : Type 0} (Replies : State → List ℕ → List ℕ → State → Type 0) (Holds : State → Type 0)
+    → ((state after : State) (line reply : List ℕ) → Holds state → Replies state line reply after → Holds after)
+    → (state now : State) (lines : List (List ℕ)) (output : List ℕ) → AreReplied Replies state lines output now → Holds state → Holds now
+kept_through Replies Holds step state now [] output (none, same) holds = subst Holds (sym same) holds
+kept_through Replies Holds step state now (line ∷ lines) output (reply, after, rest, is, more, parts) holds =
+    kept_through Replies Holds step after now lines rest more (step state after line reply holds is)
+
+-- replies by one state are replies by another that is made of it
+pub followed : {S T : Type 0} (Replies : S → List ℕ → List ℕ → S → Type 0) (Others : T → List ℕ → List ℕ → T → Type 0) (of : S → T) (Holds : S → Type 0)
+    → ((state after : S) (line reply : List ℕ) → Holds state → Replies state line reply after → Others (of state) line reply (of after) × Holds after)
+    → (state now : S) (lines : List (List ℕ)) (output : List ℕ) → Holds state → AreReplied Replies state lines output now → AreReplied Others (of state) lines output (of now)
+followed Replies Others of Holds step state now [] output holds (none, same) = (none, ap of same)
+followed Replies Others of Holds step state now (line ∷ lines) output holds (reply, after, rest, is, more, parts) =
+    let (right, still) = step state after line reply holds is in
+    (reply, of after, rest, right, followed Replies Others of Holds step after now lines rest still more, parts)
 
 -- as many lines from the front
 pub front_lines : (lines behind : List (List ℕ)) → take (length lines) (lines ++ behind) ≡ lines

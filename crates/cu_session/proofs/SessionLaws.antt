@@ -1,23 +1,25 @@
 -- A script that is being answered, turn by turn.
-use Rattle.std.proofs.Common.{◌≡◌, ◌<◌, ◌≤◌, ◌++◌, ◌∙◌, ℕ, List, [], ◌∷◌, true, false, length, take, refl, sym, ap, subst, arith, inl, inr, length-append}
+use Rattle.std.proofs.Common.{◌≡◌, ◌<◌, ◌≤◌, ◌+◌, ◌++◌, ◌∙◌, ℕ, List, [], ◌∷◌, true, false, length, take, refl, sym, ap, subst, arith, inl, inr, append_assoc, length-append}
 use Rattle.std.specs.Prelude.{Bool, Option, Some, None, Result, Ok, Err, IfSome, IsErrAnd, codes, nat_lt}
 use Rattle.std.proofs.lemmas.Bool.{cases_Bool, ltb-true, lt-ltb}
 use Rattle.std.proofs.lemmas.List.{append-nil}
+use Rattle.std.proofs.lemmas.List.Sums.{sum_by_push}
 use Rattle.cu_io.specs.Lines.{IsFirstLine, without_return, lines_of}
 use Rattle.cu_io.specs.LineReading.{ReaderState, TakesLine, Finds}
 use Rattle.cu_io.specs.Sinks.{SinkState, WroteLine}
 use Rattle.cu_io.specs.Sources.{SourceState}
-use Rattle.cu_io.specs.Transfers.{Appends, Takes}
+use Rattle.cu_io.specs.Transfers.{Appends, AppendsSome, Takes}
 use Rattle.cu_io.specs.declared.line_reader.Found.TheVariants as found
-use Rattle.cu_io.proofs.Appending.{appends_nothing, appends_more, appends_then}
+use Rattle.cu_io.proofs.Appending.{appends_nothing, appends_more}
 use Rattle.cu_io.proofs.Cutting.{cut_none, cut_line, cut_end, cut_open}
 use Rattle.cu_io.proofs.Taking.{takes_more, takes_nothing}
 use Rattle.cu_interval.specs.Hierarchies.{HierarchyValue}
 use Rattle.cu_session.specs.declared.stops.SessionStop.{SessionStop}
 use Rattle.cu_session.specs.declared.stops.SessionStop.TheVariants as stop
 use Rattle.cu_session.specs.Held.{IsHeldOutput, IsHeldReply, IsHeldReplyTo}
-use Rattle.cu_session.specs.Replies.{asked_of, line_limit}
-use Rattle.cu_session.specs.Sessions.{AnswersBy, EndsSession, Leaves, session_status, take_limit}
+use Rattle.cu_session.specs.Questions.{asked_of}
+use Rattle.cu_session.specs.Scripts.{line_limit}
+use Rattle.cu_session.specs.Sessions.{AnswersBy, EndsSession, Leaves, line_bytes, session_status, take_limit}
 use Rattle.cu_session.specs.Steps.Turns.{Session, left_to_read}
 use Rattle.cu_session.proofs.Legal.{legal_where_built}
 use Rattle.cu_session.proofs.Outputs.{replied_more, front_lines}
@@ -52,13 +54,25 @@ falls_by {r = r} {after = after} {chunk = chunk} line took (none, inr (over, som
     let empty = ap (λ (t : List ℕ). length t) nil in
     omega (arith, size, empty, some, length-append r.held chunk, took.taken, took.within, took.take_limit)
 
+-- the bytes that were held and taken are those of the line and those that are held
+parts_of : {r after : ReaderState} {s t : SourceState} {chunk : List ℕ} (line : List ℕ) → TakesLine r after s t chunk → IsFirstLine (r.held ++ chunk) after.shown line after.held
+    → length r.held + length chunk ≤ length line + 1 + length after.held
+parts_of {r = r} {after = after} {chunk = chunk} line took (none, inl parts) =
+    let size = ap (λ (t : List ℕ). length t) parts in
+    omega (arith, size, length-append r.held chunk, length-append line (10 ∷ after.held))
+parts_of {r = r} {after = after} {chunk = chunk} line took (none, inr (over, some, parts, nil)) =
+    let size = ap (λ (t : List ℕ). length t) parts in
+    omega (arith, size, length-append r.held chunk)
+
 -- nothing was read, taken or written
 pub leaves_all : (script : Bool) (status : ℕ) (source : SourceState) (sink : SinkState) → (status ≡ 0 → ⊥) → (status ≡ 7 → ⊥) → (status ≡ 8 → ⊥) → Leaves script status source source sink sink
 leaves_all script status source sink some read wrote = record {
   whole = λ _ zero. absurd (some zero);
   flushed = λ other. inl refl;
   source_fault = λ seven. absurd (read seven);
+  source_quiet = λ _. refl;
   sink_fault = λ eight. absurd (wrote eight);
+  sink_quiet = λ _. refl;
   later = omega arith;
   rises = omega arith;
 }
@@ -80,7 +94,7 @@ ends h why source_before source_now sink_before sink_now taken output takes appe
 -- memory ran out before the script was read
 pub nothing_done : (h : HierarchyValue) (source : SourceState) (sink : SinkState) → EndsSession h (Some stop.NoMemory) source source sink sink
 nothing_done h source sink =
-    ends h (Some stop.NoMemory) source source sink sink [] [] (takes_nothing source.left) (appends_nothing sink.written) refl
+    ends h (Some stop.NoMemory) source source sink sink [] [] (takes_nothing source.left) (appends_nothing sink.written) (refl, refl)
     (leaves_all true 9 source sink (λ e. cc e) (λ e. cc e) (λ e. cc e))
 
 -- nothing was read yet
@@ -95,16 +109,21 @@ session_begins h reader source sink is = rw is (record {
   whole = λ shown. absurd (cc shown);
   takes = takes_nothing source.left;
   count = refl;
+  parted = omega arith;
   within = omega arith;
   line_limit = refl;
   take_limit = refl;
   replies = (refl, refl);
   appends = appends_nothing sink.written;
   flushed = inl refl;
-  source_later = omega arith;
-  sink_later = omega arith;
+  source_quiet = refl;
+  sink_quiet = refl;
   rises = omega arith;
 })
+
+-- a text, and some first bytes of another behind it
+appends_more_some : (a b c : Option (List ℕ)) (xs ys : List ℕ) → Appends a b xs → AppendsSome b c ys → (n : ℕ) × (n ≤ length ys) × Appends a c (xs ++ take n ys)
+appends_more_some a b c xs ys h (n, within, some) = (n, within, appends_more a b c xs (take n ys) h some)
 
 module _ (first held : HierarchyValue) (source_before : SourceState) (sink_before : SinkState) (r after : ReaderState) (s t : SourceState) (k : SinkState)
     (h : Session first held source_before sink_before r s k) (chunk : List ℕ)
@@ -133,10 +152,15 @@ module _ (first held : HierarchyValue) (source_before : SourceState) (sink_befor
     | inr before ↦ took.ends before shown
   ]
 
+  parted_now : (line : List ℕ) → IsFirstLine (r.held ++ chunk) after.shown line after.held
+      → length (h.taken ++ chunk) ≤ line_bytes (h.lines ++ line ∷ []) + length after.held
+  parted_now line cut_off =
+      omega (arith, h.parted, length-append h.taken chunk, parts_of line took cut_off, sum_by_push (λ (l : List ℕ). length l + 1) h.lines line)
+
   -- a line was answered
-  pub answered : {T E : Type 0} {x : T} {now : SinkState} (next : HierarchyValue) (line reply : List ℕ) → IsFirstLine (r.held ++ chunk) after.shown line after.held → IsHeldReply held line reply next
-      → WroteLine {T = T} {E = E} k now (Ok x) reply → Session first next source_before sink_before after t now
-  answered {now = now} next line reply cut_off is wrote = record {
+  pub answered : {T E : Type 0} {x : T} {now : SinkState} (next : HierarchyValue) (line reply : List ℕ) → IsFirstLine (r.held ++ chunk) after.shown line after.held → t.faults ≡ s.faults
+      → IsHeldReply held line reply next → WroteLine {T = T} {E = E} k now (Ok x) reply → Session first next source_before sink_before after t now
+  answered {now = now} next line reply cut_off quiet is wrote = record {
     taken = h.taken ++ chunk;
     lines = h.lines ++ line ∷ [];
     output = h.output ++ (reply ++ 10 ∷ []);
@@ -145,52 +169,76 @@ module _ (first held : HierarchyValue) (source_before : SourceState) (sink_befor
     whole = whole_now;
     takes = takes_now;
     count = count_now;
+    parted = parted_now line cut_off;
     within = within_now;
     line_limit = took.line_limit ∙ h.line_limit;
     take_limit = took.take_limit ∙ h.take_limit;
-    replies = replied_more first held next h.lines line h.output reply h.replies is;
+    replies = replied_more IsHeldReply first held next h.lines line h.output reply h.replies is;
     appends = appends_more sink_before.written k.written now.written h.output (reply ++ 10 ∷ []) h.appends wrote.wrote.ok;
     flushed = inr wrote.flushed;
-    source_later = omega (arith, h.source_later, took.later);
-    sink_later = omega (arith, h.sink_later, wrote.wrote.later);
+    source_quiet = quiet ∙ h.source_quiet;
+    sink_quiet = wrote.wrote.quiet ∙ h.sink_quiet;
     rises = omega (arith, h.rises, wrote.wrote.flushed);
   }
 
   -- a reply broke off
-  pub broke : {T E : Type 0} {e : E} {now : SinkState} (next : HierarchyValue) (line reply : List ℕ) → IsFirstLine (r.held ++ chunk) after.shown line after.held → IsHeldReply held line reply next
-      → WroteLine {T = T} {E = E} k now (Err e) reply → EndsSession first (Some stop.Sink) source_before t sink_before now
-  broke {now = now} next line reply cut_off is wrote =
-      let text = h.output ++ (reply ++ 10 ∷ []) in
-      let (count, within, app) = appends_then sink_before.written k.written now.written h.output (reply ++ 10 ∷ []) h.appends wrote.wrote.err in
-      let cut = cut_line h.taken h.lines line h.cut took cut_off in
-      let all = cut.cut [] (λ shown. refl) in
-      let lines : lines_of (h.taken ++ chunk) ≡ (h.lines ++ line ∷ []) ++ lines_of after.held =
-      ap (λ (t : List ℕ). lines_of t) (sym (append-nil (h.taken ++ chunk))) ∙ all ∙ ap (λ (t : List ℕ). (h.lines ++ line ∷ []) ++ lines_of t) (append-nil after.held) in
-      let front = ap (λ (t : List (List ℕ)). take (length (h.lines ++ line ∷ [])) t) lines ∙ front_lines (h.lines ++ line ∷ []) (lines_of after.held) in
-      let output : IsHeldOutput first (h.lines ++ line ∷ []) text = (next, replied_more first held next h.lines line h.output reply h.replies is) in
-      ends first (Some stop.Sink) source_before t sink_before now (h.taken ++ chunk) (take count text) takes_now app
-      (length (h.lines ++ line ∷ []), text, subst (λ (t : List (List ℕ)). IsHeldOutput first t text) (sym front) output, (count, refl))
+  pub broke : {T E : Type 0} {e : E} {now : SinkState} (next : HierarchyValue) (line reply : List ℕ) → IsFirstLine (r.held ++ chunk) after.shown line after.held → t.faults ≡ s.faults
+      → length after.held ≤ after.line_limit + 1 → IsHeldReply held line reply next → WroteLine {T = T} {E = E} k now (Err e) reply → EndsSession first (Some stop.Sink) source_before t sink_before now
+  broke {now = now} next line reply cut_off quiet room is wrote =
+      let (count, within, app) = appends_more_some sink_before.written k.written now.written h.output (reply ++ 10 ∷ []) h.appends wrote.wrote.err in
+      ends first (Some stop.Sink) source_before t sink_before now (h.taken ++ chunk) (h.output ++ take count (reply ++ 10 ∷ [])) takes_now app
+      (record {
+        count = length h.lines;
+        replies = h.output;
+        answered = subst (λ (t : List (List ℕ)). IsHeldOutput first t h.output) (sym before) (held, h.replies);
+        reply = reply ++ 10 ∷ [];
+        broken = subst (λ (t : List (List ℕ)). IsHeldOutput first t (h.output ++ (reply ++ 10 ∷ []))) (sym through)
+            (next, replied_more IsHeldReply first held next h.lines line h.output reply h.replies is);
+        written = (count, refl);
+        within = omega (arith, within_now, count_now);
+        ahead = omega (arith, parted_now line cut_off, room, took.line_limit, h.line_limit, ap (λ (t : List (List ℕ)). line_bytes t) through);
+      })
       (record {
         whole = λ _ zero. absurd (cc zero);
         flushed = λ broken. absurd (broken refl);
         source_fault = λ source. absurd (cc source);
-        sink_fault = λ sink. omega (arith, h.sink_later, wrote.wrote.cause);
-        later = omega (arith, h.sink_later, wrote.wrote.later);
+        source_quiet = λ other. quiet ∙ h.source_quiet;
+        sink_fault = λ sink. omega (arith, h.sink_quiet, wrote.wrote.cause);
+        sink_quiet = λ broken. absurd (broken refl);
+        later = omega (arith, h.sink_quiet, wrote.wrote.later);
         rises = omega (arith, h.rises, wrote.wrote.flushed);
       })
+    where
+      cut : lines_of (h.taken ++ chunk) ≡ (h.lines ++ line ∷ []) ++ lines_of after.held
+      cut =
+          let all = (cut_line h.taken h.lines line h.cut took cut_off).cut [] (λ shown. refl) in
+          ap (λ (t : List ℕ). lines_of t) (sym (append-nil (h.taken ++ chunk))) ∙ all
+          ∙ ap (λ (t : List ℕ). (h.lines ++ line ∷ []) ++ lines_of t) (append-nil after.held)
+
+      before : take (length h.lines) (lines_of (h.taken ++ chunk)) ≡ h.lines
+      before =
+          ap (λ (t : List (List ℕ)). take (length h.lines) t) (cut ∙ append_assoc h.lines (line ∷ []) (lines_of after.held))
+          ∙ front_lines h.lines (line ∷ lines_of after.held)
+
+      through : take (length h.lines + 1) (lines_of (h.taken ++ chunk)) ≡ h.lines ++ line ∷ []
+      through =
+          ap (λ (n : ℕ). take n (lines_of (h.taken ++ chunk))) (sym (length-append h.lines (line ∷ [])))
+          ∙ ap (λ (t : List (List ℕ)). take (length (h.lines ++ line ∷ [])) t) cut ∙ front_lines (h.lines ++ line ∷ []) (lines_of after.held)
 
   -- the end of input was shown
   pub finished : Finds r after s t chunk found.End → EndsSession first None source_before t sink_before k
-  finished (none, nil, shown) =
-      let lines = cut_end {a = r} {b = after} {s = s} {t = t} h.taken h.lines h.cut took (none, nil, shown) in
+  finished (none, nil, shown, quiet) =
+      let lines = cut_end {a = r} {b = after} {s = s} {t = t} h.taken h.lines h.cut took (none, nil, shown, quiet) in
       ends first None source_before t sink_before k (h.taken ++ chunk) h.output takes_now h.appends
       (omega (arith, unspent_now shown, count_now), subst (λ (t : List (List ℕ)). IsHeldOutput first t h.output) (sym lines) (held, h.replies))
       (record {
         whole = λ _ zero. whole_left source_before.left t.left (h.taken ++ chunk) takes_now (whole_now shown);
         flushed = λ other. h.flushed;
         source_fault = λ source. absurd (cc source);
+        source_quiet = λ _. quiet ∙ h.source_quiet;
         sink_fault = λ sink. absurd (cc sink);
-        later = h.sink_later;
+        sink_quiet = λ _. h.sink_quiet;
+        later = omega (arith, h.sink_quiet);
         rises = h.rises;
       })
     where
@@ -208,15 +256,17 @@ module _ (first held : HierarchyValue) (source_before : SourceState) (sink_befor
       (record {
         whole = λ _ zero. absurd (cc zero);
         flushed = λ other. h.flushed;
-        source_fault = λ source. omega (arith, h.source_later, rose);
+        source_fault = λ source. omega (arith, h.source_quiet, rose);
+        source_quiet = λ other. absurd (other refl);
         sink_fault = λ sink. absurd (cc sink);
-        later = h.sink_later;
+        sink_quiet = λ _. h.sink_quiet;
+        later = omega (arith, h.sink_quiet);
         rises = h.rises;
       })
 
   -- as many bytes were taken as may be
   pub spent : Finds r after s t chunk found.Spent → EndsSession first (Some stop.TakeLimit) source_before t sink_before k
-  spent (none, hidden, all) =
+  spent (none, hidden, all, quiet) =
       let lines = cut_open {a = r} {b = after} {s = s} {t = t} h.taken h.lines h.cut took none hidden in
       ends first (Some stop.TakeLimit) source_before t sink_before k (h.taken ++ chunk) h.output takes_now h.appends
       (omega (arith, all, count_now, h.take_limit), subst (λ (t : List (List ℕ)). IsHeldOutput first t h.output) (sym lines) (held, h.replies))
@@ -224,7 +274,9 @@ module _ (first held : HierarchyValue) (source_before : SourceState) (sink_befor
         whole = λ _ zero. absurd (cc zero);
         flushed = λ other. h.flushed;
         source_fault = λ source. absurd (cc source);
+        source_quiet = λ _. quiet ∙ h.source_quiet;
         sink_fault = λ sink. absurd (cc sink);
-        later = h.sink_later;
+        sink_quiet = λ _. h.sink_quiet;
+        later = omega (arith, h.sink_quiet);
         rises = h.rises;
       })

@@ -1,33 +1,16 @@
 -- What is answered by a hierarchy that is held, built or not, and what an edit makes of it.
-use Rattle.std.specs.Prelude.{ℕ, List, [], ◌∷◌, ◌++◌, ◌≡◌, ◌⊎◌, codes, decimal, length, nat_lt}
-use Rattle.std.specs.Bool.{MatchBool}
-use Rattle.cu_model.specs.declared.queries.Query.{Query}
+use Rattle.std.specs.Prelude.{ℕ, List, ◌++◌, ◌≡◌, ◌⊎◌, codes, decimal, length}
 use Rattle.cu_model.specs.declared.roads.Edit.{Edit}
-use Rattle.cu_model.specs.Answers.{IsAnswer, arrive_text}
-use Rattle.cu_model.specs.Networks.{NetworkValue}
-use Rattle.cu_model.specs.Roads.{IsWalk, drive}
-use Rattle.cu_io.specs.Lines.{without_return}
-use Rattle.cu_interval.specs.declared.ways.Dir.{Dir}
 use Rattle.cu_interval.specs.Hierarchies.{HierarchyValue, IsBuilt, IsHierarchy}
 use Rattle.cu_interval.specs.Resettling.{IsResettled}
-use Rattle.cu_edits.specs.EditLines.{edit_of}
-use Rattle.cu_session.specs.Replies.{Asked, AsksQuery, AsksEdit, Fails, Touches, asked_by_edit, asked_of, line_limit}
-use Rattle.cu_session.specs.Swept.{damaged_text, swept_reply}
+use Rattle.cu_script.specs.EditLines.{edit_of}
+use Rattle.cu_session.specs.Questions.{Asked, Asks, AsksEdit, Fails, MayLack, Question, asked_by_edit, asked_of}
+use Rattle.cu_session.specs.Replies.{Touches}
+use Rattle.cu_session.specs.Scripts.{AreReplied, IsLineReply}
 
--- The reply tells a walk that is driven from the query's second and arrives when it says; or that the sweeps found no walk; or of a
--- relaxation whose walk is too long.
-abbrev pub IsRealReply : NetworkValue → Query → List ℕ → Type 0
-IsRealReply g query reply =
-    ((arrival : ℕ) × (walk : List ℕ) × (reply ≡ arrive_text arrival walk) × IsWalk g query.from walk query.to
-    × (drive g walk query.second ≡ arrival))
-    ⊎ (reply ≡ codes "unreachable")
-    ⊎ ((edge : ℕ) × (dir : Dir) × (second : ℕ) × (reply ≡ damaged_text edge dir second))
-
--- a query is answered by the two sweeps over the hierarchy; and where that is built, by the least arrival
-pub record IsHeldAnswer (h : HierarchyValue) (query : Query) (reply : List ℕ) : Type 0 where
-  pub swept : reply ≡ swept_reply h query
-  pub real : IsRealReply h.network query reply
-  pub least : IsBuilt h → IsAnswer h.network query reply
+-- a question is answered by the hierarchy, and where that is built, rightly over its network
+abbrev pub IsHeldAnswerTo : HierarchyValue → Question → List ℕ → Type 0
+IsHeldAnswerTo h question reply = question.held h reply × (IsBuilt h → question.right h.network h.order reply)
 
 -- an edit is made: the reply counts the touched edges, and the hierarchy is resettled
 pub record IsHeldDone (h : HierarchyValue) (edit : Edit) (reply : List ℕ) (after : HierarchyValue) : Type 0 where
@@ -44,43 +27,37 @@ IsHeldEditReply h edit reply after = IsHeldDone h edit reply after ⊎ ((reply �
 
 -- the reply to what a line asks for, and the hierarchy after it
 abbrev pub IsHeldReplyTo : HierarchyValue → Asked → List ℕ → HierarchyValue → Type 0
-IsHeldReplyTo h (AsksQuery query) reply after = IsHeldAnswer h query reply × (after ≡ h)
+IsHeldReplyTo h (Asks question) reply after = MayLack question.may_lack reply (IsHeldAnswerTo h question reply) × (after ≡ h)
 IsHeldReplyTo h (AsksEdit edit) reply after = IsHeldEditReply h edit reply after
 IsHeldReplyTo h (Fails words) reply after = (reply ≡ codes "refused: " ++ words) × (after ≡ h)
 
 -- the reply to a line of the script, without the line feed that ends it, and the hierarchy after it
 abbrev pub IsHeldReply : HierarchyValue → List ℕ → List ℕ → HierarchyValue → Type 0
-IsHeldReply h line reply after =
-    MatchBool (nat_lt line_limit (length line)) ((reply ≡ codes "refused: long") × (after ≡ h))
-    (IsHeldReplyTo h (asked_of h.network (without_return line)) reply after)
+IsHeldReply h line reply after = IsLineReply (λ held text. IsHeldReplyTo held (asked_of held.network text)) h line reply after
 
 -- one reply to each line, in order, each ended by a line feed, by the hierarchy as it is at that line; and the one after them all
 abbrev pub AreHeldReplies : HierarchyValue → List (List ℕ) → List ℕ → HierarchyValue → Type 0
-AreHeldReplies h [] output now = (output ≡ []) × (now ≡ h)
-AreHeldReplies h (line ∷ lines) output now =
-    (reply : List ℕ) × (after : HierarchyValue) × (rest : List ℕ) × IsHeldReply h line reply after × AreHeldReplies after lines rest now
-    × (output ≡ (reply ++ 10 ∷ []) ++ rest)
+AreHeldReplies h lines output now = AreReplied IsHeldReply h lines output now
 
 -- the replies to these lines
 abbrev pub IsHeldOutput : HierarchyValue → List (List ℕ) → List ℕ → Type 0
 IsHeldOutput h lines output = (now : HierarchyValue) × AreHeldReplies h lines output now
 
--- The reply to what a line of edits asks for, and the hierarchy after it. No line of edits is a query, and none is left undone for want
--- of memory.
+-- The reply to what a line of edits asks for, and the hierarchy after it. No line of edits is a question, and none is left undone for
+-- want of memory.
 abbrev pub IsDoneReplyTo : HierarchyValue → Asked → List ℕ → HierarchyValue → Type 0
-IsDoneReplyTo h (AsksQuery query) reply after = ⊥
+IsDoneReplyTo h (Asks question) reply after = ⊥
 IsDoneReplyTo h (AsksEdit edit) reply after = IsHeldDone h edit reply after
 IsDoneReplyTo h (Fails words) reply after = (reply ≡ codes "refused: " ++ words) × (after ≡ h)
 
--- the reply to a line of edits; a query line is no edit line, and so is refused
+-- what the text of a line of edits asks for; a question is no edit, and so is refused
+abbrev pub edit_asked_of : HierarchyValue → List ℕ → Asked
+edit_asked_of h text = asked_by_edit (edit_of (length h.network.arcs) (length h.network.profiles) text)
+
+-- the reply to a line of edits
 abbrev pub IsDoneReply : HierarchyValue → List ℕ → List ℕ → HierarchyValue → Type 0
-IsDoneReply h line reply after =
-    MatchBool (nat_lt line_limit (length line)) ((reply ≡ codes "refused: long") × (after ≡ h))
-    (IsDoneReplyTo h (asked_by_edit (edit_of (length h.network.arcs) (length h.network.profiles) (without_return line))) reply after)
+IsDoneReply h line reply after = IsLineReply (λ held text. IsDoneReplyTo held (edit_asked_of held text)) h line reply after
 
 -- one reply to each line of edits, in order, each ended by a line feed; and the hierarchy after them all
 abbrev pub AreDone : HierarchyValue → List (List ℕ) → List ℕ → HierarchyValue → Type 0
-AreDone h [] output now = (output ≡ []) × (now ≡ h)
-AreDone h (line ∷ lines) output now =
-    (reply : List ℕ) × (after : HierarchyValue) × (rest : List ℕ) × IsDoneReply h line reply after × AreDone after lines rest now
-    × (output ≡ (reply ++ 10 ∷ []) ++ rest)
+AreDone h lines output now = AreReplied IsDoneReply h lines output now

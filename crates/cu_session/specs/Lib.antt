@@ -1,6 +1,7 @@
 pub mod Refusals
+pub mod Scripts
+pub mod Questions
 pub mod Replies
-pub mod Swept
 pub mod Held
 pub mod Sessions
 pub mod Steps

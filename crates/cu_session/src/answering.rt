@@ -1,18 +1,21 @@
 //! The lines of a source, each answered before the next is read.
 
-ghost use Rattle.std.specs.Prelude.{◌≡◌, ◌<◌, Ok, Option, true, false};
+ghost use Rattle.std.specs.Prelude.{◌≡◌, ◌<◌, ◌≤◌, ℕ, List, Ok, Option, true, false, length};
+ghost use Rattle.cu_io.specs.Sinks.{WroteLine};
 ghost use Rattle.cu_interval.specs.Hierarchies.{HierarchyValue, IsBuilt};
 ghost use Rattle.cu_pack.specs.Checks.{Spells};
-ghost use Rattle.cu_session.specs.Replies.{line_limit};
+ghost use Rattle.cu_session.specs.Held.{IsHeldReplyTo};
+ghost use Rattle.cu_session.specs.Questions.{asked_of};
+ghost use Rattle.cu_session.specs.Scripts.{line_limit};
 ghost use Rattle.cu_session.specs.declared.stops.SessionStop.{SessionStop};
-ghost use Rattle.cu_session.specs.Sessions.{EndsSession, session_status};
-ghost use Rattle.cu_session.specs.Steps.Turns.{TakesTurn, left_to_read, stop_of};
+ghost use Rattle.cu_session.specs.Sessions.{EndsSession, session_status, stop_of};
+ghost use Rattle.cu_session.specs.Steps.Turns.{TakesTurn, left_to_read};
 
-use crate::replies::answer_line;
-use crate::router::Router;
+use crate::questions::put_reply;
 use crate::stops::SessionStop;
-use cu_edits::MAX_EDIT_LINE;
-use cu_io::{Line, LineReader, Sink, Source, put_line};
+use cu_io::{Line, LineReader, Sink, SinkFailed, Source, end_line, put_line};
+use cu_router::Router;
+use cu_script::MAX_EDIT_LINE;
 use std::alloc::Global;
 
 /// The most bytes of a line before its end.
@@ -30,13 +33,9 @@ pub fn answer_script<S: Source, K: Sink>(
     sink: &mut K,
 ) -> Result<(), SessionStop>
     requires spelled { (h : HierarchyValue) × Spells bytes.items h }
-    ensures ended { (h : HierarchyValue) → Spells bytes.items h → EndsSession
-        h
-        (stop_of result)
-        (S.state source.old)
-        (S.state source.new)
-        (K.state sink.old)
-        (K.state sink.new) }
+    ensures ended { (h : HierarchyValue) → Spells bytes.items h
+        → EndsSession h (stop_of result) (S.state source.old) (S.state source.new)
+        (K.state sink.old) (K.state sink.new) }
 {
     let router = Router::new(alloc, bytes)?;
     answer_by(alloc, router, source, sink)
@@ -51,13 +50,9 @@ pub fn answer_built<S: Source, K: Sink>(
 ) -> Result<(), SessionStop>
     requires spelled { (h : HierarchyValue) × Spells bytes.items h }
     requires built { (h : HierarchyValue) → Spells bytes.items h → IsBuilt h }
-    ensures ended { (h : HierarchyValue) → Spells bytes.items h → EndsSession
-        h
-        (stop_of result)
-        (S.state source.old)
-        (S.state source.new)
-        (K.state sink.old)
-        (K.state sink.new) }
+    ensures ended { (h : HierarchyValue) → Spells bytes.items h
+        → EndsSession h (stop_of result) (S.state source.old) (S.state source.new)
+        (K.state sink.old) (K.state sink.new) }
 {
     let router = Router::built(alloc, bytes)?;
     answer_by(alloc, router, source, sink)
@@ -70,13 +65,8 @@ fn answer_by<S: Source, K: Sink>(
     source: &mut S,
     sink: &mut K,
 ) -> Result<(), SessionStop>
-    ensures ended { EndsSession
-        router
-        (stop_of result)
-        (S.state source.old)
-        (S.state source.new)
-        (K.state sink.old)
-        (K.state sink.new) }
+    ensures ended { EndsSession router (stop_of result) (S.state source.old)
+        (S.state source.new) (K.state sink.old) (K.state sink.new) }
 {
     let mut router = router;
     let mut reader = LineReader::open(alloc, LINE_LIMIT, TAKE_LIMIT)?;
@@ -115,16 +105,8 @@ fn answer_next<S: Source, K: Sink>(
 ) -> Result<bool, SessionStop>
     requires more { reader.old.over ≡ false }
     requires limit { reader.old.line_limit ≡ line_limit }
-    ensures turn { TakesTurn
-        router.old
-        router.new
-        result
-        reader.old
-        reader.new
-        (S.state source.old)
-        (S.state source.new)
-        (K.state sink.old)
-        (K.state sink.new) }
+    ensures turn { TakesTurn router.old router.new result reader.old reader.new
+        (S.state source.old) (S.state source.new) (K.state sink.old) (K.state sink.new) }
     ensures limit { reader.new.line_limit ≡ line_limit }
     ensures falls { result ≡ Ok true → left_to_read reader.new < left_to_read reader.old }
 {
@@ -136,4 +118,21 @@ fn answer_next<S: Source, K: Sink>(
         Line::Spent => return Err(SessionStop::TakeLimit),
     }
     Ok(true)
+}
+
+// Writes the reply to the text of a line, ends it by a line feed and flushes the sink; an edit is made before. The line
+// has at most 4,194,304 bytes. An edit alone takes memory, and where there is none it is answered so and not made.
+fn answer_line<K: Sink>(
+    alloc: Global,
+    router: &mut Router,
+    line: &[u8],
+    sink: &mut K,
+) -> Result<(), SinkFailed>
+    requires few { length line.now ≤ line_limit }
+    ensures reply { (reply : List ℕ) × IsHeldReplyTo router.old
+        (asked_of router.old.network line.now) reply router.new
+        × WroteLine (K.state sink.old) (K.state sink.new) result reply }
+{
+    put_reply(alloc, router, line, sink)?;
+    end_line(sink)
 }

@@ -3,18 +3,19 @@
 ghost use Rattle.std.specs.Prelude.{◌≡◌, ◌∷◌, ◌<◌, ◌==◌, position, length};
 ghost use Rattle.cu_io.specs.Lines.{lines_of, without_return};
 ghost use Rattle.cu_session.specs.Held.{IsDoneReply};
-ghost use Rattle.cu_session.specs.Sessions.{EndsEdits};
-ghost use Rattle.cu_session.specs.Steps.Turns.{AnswersEdit, stop_of};
+ghost use Rattle.cu_session.specs.Sessions.{EndsEdits, stop_of};
+ghost use Rattle.cu_session.specs.Steps.Turns.{AnswersEdit};
 
 use crate::answering::LINE_LIMIT;
-use crate::replies::answer_edit;
-use crate::router::Router;
+use crate::edit_lines::answer_edit;
 use crate::stops::SessionStop;
 use cu_io::{Sink, put_line};
+use cu_router::Router;
 use std::alloc::Global;
 
 /// Makes the edits of a text in a hierarchy, and writes the reply to each line before the next is made. A query line is refused,
-/// as it is no edit line. Where memory runs out at a line, the lines before it were answered and made, and it is not.
+/// as it is no edit line. Where memory runs out at a line, the lines before it were answered and made, and it is not; where the
+/// sink fails in the reply to one, those up to it were made.
 pub fn answer_edits<K: Sink>(
     alloc: Global,
     router: &mut Router,

@@ -12,22 +12,20 @@
 //! edge that it touches only where something that its lists may be made of has changed. A router keeps which edges are known
 //! to be customized; an edit adds those that it settles.
 //!
-//! It stands on `cu_model` and `cu_io` for lines, queries and sinks, on `cu_pack` for the bytes, on `cu_sweep`, `cu_recall`,
-//! `cu_unpack`, `cu_elimtree` and `cu_links` for queries, on `cu_edits` for edits, and on `cu_customize` for its tests alone.
-//! Private are the turn over one line, and the room that a router keeps. `specs/Steps` is cited by private functions alone.
+//! It stands on `cu_model` and `cu_io` for lines, queries and sinks, on `cu_script` for lines of edits, on `cu_chordal`,
+//! `cu_interval` and `cu_pack` for the hierarchies that bytes spell, and on `cu_router` for what answers them.
+//! Private is the turn over one line. `specs/Steps` is cited by private functions alone.
 #![tactic(auto)]
 
 mod answering;
+mod edit_lines;
 mod editing;
-mod replies;
-mod router;
+mod questions;
+mod refusals;
 mod stops;
-#[cfg(test)]
-mod tests;
-mod writing;
 
 pub use answering::{answer_built, answer_script, session};
+pub use cu_router::{Router, put_dir, put_word_and_long, put_word_and_number};
 pub use editing::answer_edits;
-pub use router::Router;
+pub use refusals::put_piece_refusal;
 pub use stops::SessionStop;
-pub use writing::{put_dir, put_piece_refusal, put_word_and_long, put_word_and_number};

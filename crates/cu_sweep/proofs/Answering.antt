@@ -18,7 +18,7 @@ use Rattle.cu_sweep.specs.Labels.{Label, down_label, start_label, up_label}
 use Rattle.cu_sweep.specs.Sweeps.{answered, first_long, found, found_by, long_or, second_of, sweep_calls}
 use Rattle.cu_sweep.specs.Desks.{roads_of}
 use Rattle.cu_sweep.specs.Answers.{IsAnswer, IsLeastWhereBuilt, IsReal}
-use Rattle.cu_sweep.specs.Steps.Sweeping.{Question}
+use Rattle.cu_sweep.specs.Swept.{Sweep}
 use Rattle.cu_sweep.proofs.Ancestry.{own_ancestor}
 use Rattle.cu_sweep.proofs.RankWalks.{ranks_of_walk, walk_of_ranks}
 use Rattle.cu_sweep.proofs.Reaching.{IsReachedBy, sweeps_reach}
@@ -63,47 +63,51 @@ start_reached h from second =
     let start : start_label from second from ≡ Some (record { second = second; calls = [] }) = rw here refl in
     earlier_first (start_label from second from) _ second (second, ap second_of start, omega arith)
 
--- a query by ranks is one from node u to node v
-record IsBetween (h : HierarchyValue) (q : Question) (u v : ℕ) : Type 0 where
-  from : q.from < h.network.nodes
-  to : q.to < h.network.nodes
-  start : slice_get h.order.node_at q.from ≡ Some u
-  stop : slice_get h.order.node_at q.to ≡ Some v
+-- two ranks are those of the nodes u and v
+record IsBetween (h : HierarchyValue) (from to u v : ℕ) : Type 0 where
+  begins : from < h.network.nodes
+  ends : to < h.network.nodes
+  start : slice_get h.order.node_at from ≡ Some u
+  stop : slice_get h.order.node_at to ≡ Some v
 
--- in a built hierarchy the end's label is no later than any walk
-label_least : (h : HierarchyValue) → IsBuilt h → (q : Question) (u v : ℕ) → IsBetween h q u v
-    → (walk : List ℕ) → IsWalk h.network u walk v
-    → IsReachedBy (second_of (down_label h q.from q.second q.to)) (drive h.network walk q.second)
-label_least h f q u v b walk w =
-    let n = f.sound.network in
-    let within = b.from in
-    let own = own_ancestor (graph_of h) in
-    let between = ranks_of_walk h.network h.order n f.sound.order f.sound.same q.from q.to u walk v b.start b.stop w in
-    sweeps_reach h.network h.order n _ _ _ _ (swept h f q (omega (arith, within))) q.from q.to q.second walk
-    (own q.from b.from) (own q.to b.to) (start_reached h q.from q.second) between
+module _ (h : HierarchyValue) (f : IsBuilt h) (from to second u v : ℕ) (b : IsBetween h from to u v) where
+  -- in a built hierarchy the end's label is no later than any walk
+  label_least : (walk : List ℕ) → IsWalk h.network u walk v → IsReachedBy (second_of (down_label h from second to)) (drive h.network walk second)
+  label_least walk w =
+      let q : Sweep = record { from = from; second = second; path = [] } in
+      let n = f.sound.network in
+      let within = b.begins in
+      let own = own_ancestor (graph_of h) in
+      let between = ranks_of_walk h.network h.order n f.sound.order f.sound.same from to u walk v b.start b.stop w in
+      sweeps_reach h.network h.order n _ _ _ _ (swept h f q to (omega (arith, within))) from to second walk
+      (own from b.begins) (own to b.ends) (start_reached h from second) between
 
-answer_by_label : (h : HierarchyValue) → IsBuilt h → (q : Question) (u v : ℕ) → IsBetween h q u v → q.second < day
-    → (o : Option Label) → down_label h q.from q.second q.to ≡ o → IsAnswer h.network u v q.second (found_by None o)
-answer_by_label h f q u v b in_day None e = λ walk w.
-    let (s, is, le) = label_least h f q u v b walk w in
-    none-some s (sym (ap second_of e) ∙ is)
-answer_by_label h f q u v b in_day (Some label) e =
-    let real = label_real h f.sound q.from q.to q.second b.from b.to in_day label e u v b.start b.stop in
-    record {
-      reached = (roads_of h label.calls, real.0, real.1);
-      least = λ walk w.
-          let (s, is, le) = label_least h f q u v b walk w in
-          let same : label.second ≡ s = same_Some label.second s (sym (ap second_of e) ∙ is) in
-          omega (arith, same, le);
-    }
+  answer_by_label : second < day → (o : Option Label) → down_label h from second to ≡ o → IsAnswer h.network u v second (found_by None o)
+  answer_by_label in_day None e = λ walk w.
+      let (s, is, le) = label_least walk w in
+      none-some s (sym (ap second_of e) ∙ is)
+  answer_by_label in_day (Some label) e =
+      let real = label_real h f.sound from to second b.begins b.ends in_day label e u v b.start b.stop in
+      record {
+        reached = (roads_of h label.calls, real.0, real.1);
+        least = λ walk w.
+            let (s, is, le) = label_least walk w in
+            let same : label.second ≡ s = same_Some label.second s (sym (ap second_of e) ∙ is) in
+            omega (arith, same, le);
+      }
 
--- over a built hierarchy a query finds the least arrival, or that there is no walk
+-- over a built hierarchy the downward label of a rank says the least arrival at its node, and there is none only where there is no walk
+pub label_is_least : (h : HierarchyValue) → IsBuilt h → (from to second : ℕ) → from < h.network.nodes → to < h.network.nodes → second < day
+    → (u v : ℕ) → slice_get h.order.node_at from ≡ Some u → slice_get h.order.node_at to ≡ Some v
+    → IsAnswer h.network u v second (found_by None (down_label h from second to))
+label_is_least h built from to second a b c u v start stop =
+    answer_by_label h built from to second u v (record { begins = a; ends = b; start = start; stop = stop }) c (down_label h from second to) refl
+
+-- so a query finds the least arrival, or that there is no walk
 pub found_least : (h : HierarchyValue) → IsHierarchy h → (from to second : ℕ)
     → from < h.network.nodes → to < h.network.nodes → second < day
     → IsLeastWhereBuilt h from to second (found h from to second)
 found_least h f from to second a b c built u v start stop =
-    let q : Question = record { from = from; to = to; second = second } in
-    let between : IsBetween h q u v = record { from = a; to = b; start = start; stop = stop } in
     let label = down_label h from second to in
     subst (λ (o : Option Call). IsAnswer h.network u v second (found_by o label)) (sym (none_long h built (sweep_calls h from to second)))
-    (answer_by_label h built q u v between c label refl)
+    (label_is_least h built from to second a b c u v start stop)

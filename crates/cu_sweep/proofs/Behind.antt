@@ -3,10 +3,11 @@ use Rattle.std.proofs.Common.{◌≡◌, ◌<◌, ◌∙◌, ℕ, zero, suc, Lis
 use Rattle.std.specs.List.{AllPairs, Contains, cons_option, filter_map}
 use Rattle.cu_interval.specs.declared.relaxing.Call.{Call}
 use Rattle.std.proofs.lemmas.List.{reverse-append}
+use Rattle.std.proofs.lemmas.List.Elements.{Contains-append_cases}
 use Rattle.cu_chordal.proofs.Members.{here, there, member_cases, none_in_nil, pairs_head, pairs_tail}
 use Rattle.cu_sweep.proofs.UpRows.{member_before, member_last}
 
-reverse_first : (x : ℕ) (xs : List ℕ) → reverse (x ∷ xs) ≡ reverse xs ++ (x ∷ [])
+pub reverse_first : (x : ℕ) (xs : List ℕ) → reverse (x ∷ xs) ≡ reverse xs ++ (x ∷ [])
 reverse_first x xs = reverse-append (x ∷ []) xs
 
 drop_at : (xs : List ℕ) (k : ℕ) → k < length xs → drop k xs ≡ get_or xs k 0 ∷ drop (suc k) xs
@@ -28,6 +29,17 @@ turned_member (x ∷ xs) y c =
       | inl same ↦ subst (λ (w : ℕ). Contains (reverse xs ++ (x ∷ [])) w) same (member_last (reverse xs) x)
       | inr rest ↦ member_before (reverse xs) x y (turned_member xs y rest)
     ])
+
+pub turned_back : (xs : List ℕ) (y : ℕ) → Contains (reverse xs) y → Contains xs y
+turned_back [] y c = c
+turned_back (x ∷ xs) y c =
+    elim (Contains-append_cases (reverse xs) (x ∷ []) y (subst (λ (ys : List ℕ). Contains ys y) (reverse_first x xs) c)) [
+      | inl before ↦ there x xs y (turned_back xs y before)
+      | inr last ↦ elim (member_cases x [] y last) [
+        | inl same ↦ subst (Contains (x ∷ xs)) same (here x xs)
+        | inr none ↦ absurd (none_in_nil y none)
+      ]
+    ]
 
 pub member_behind : (xs : List ℕ) (k y : ℕ) → AllPairs (λ a b. a < b) xs → k < length xs → Contains xs y → get_or xs k 0 < y → Contains (drop (suc k) xs) y
 member_behind [] k y f lt c less = absurd (omega (arith, lt))

@@ -17,16 +17,16 @@ use Rattle.cu_interval.proofs.Lookups.{number_found}
 use Rattle.cu_sweep.specs.Labels.{Label, earlier_of, label_over, down_label, up_label}
 use Rattle.cu_sweep.specs.Sweeps.{call_at, second_of}
 use Rattle.cu_sweep.specs.Desks.{AreArriving}
-use Rattle.cu_sweep.specs.Steps.Places.{calls_between, dir_between, second_at}
-use Rattle.cu_sweep.specs.Steps.Sweeping.{Holds, IfSecond, IsDownSwept, IsLinkedLabel, IsPassed, Question, answer_at, begun_links, down_after, down_into, final_label, links_after, long_by}
-use Rattle.cu_sweep.specs.Steps.Sweeping.{seconds_after}
+use Rattle.cu_sweep.specs.Places.{calls_between, dir_between, second_at}
+use Rattle.cu_sweep.specs.Swept.{Holds, IsLinkedLabel, IsPassed, Sweep, final_label}
+use Rattle.cu_sweep.specs.Steps.Sweeping.{IfSecond, IsDownSwept, answer_at, begun_links, down_after, down_into, links_after, long_by, seconds_after}
 use Rattle.cu_sweep.proofs.Choosing.{after_more, earlier_none}
 use Rattle.cu_sweep.proofs.Holding.{holds_after, holds_other, holds_same}
 use Rattle.cu_sweep.proofs.LabelLaws.{down_label-whole}
 use Rattle.cu_sweep.proofs.UpRows.{final_up, member_other}
 
 -- after the calls from these of a rank's higher neighbours
-pub record IsDownPart (h : HierarchyValue) (q : Question) (done : List ℕ) (x : ℕ) (part : List ℕ) (labels : List (Option ℕ)) (links : List (Option (ℕ × ℕ))) : Type 0 where
+pub record IsDownPart (h : HierarchyValue) (q : Sweep) (done : List ℕ) (x : ℕ) (part : List ℕ) (labels : List (Option ℕ)) (links : List (Option (ℕ × ℕ))) : Type 0 where
   pub up : (y : ℕ) → IsPassed h q y → Holds h q labels links y (up_label h q.from q.second y)
   pub down : (y : ℕ) → Contains done y → y ≢ x → Holds h q labels links (h.network.nodes + y) (down_label h q.from q.second y)
   pub here : Holds h q labels links (h.network.nodes + x) (down_after h q part x)
@@ -37,7 +37,7 @@ no_dir n x lt =
     let second : ltb x n ≡ true = grind (arith, lt) in
     rw (first, second) refl
 
-begun_linked : (h : HierarchyValue) (q : Question) (links : List (Option (ℕ × ℕ))) (x : ℕ) (label : Option Label) (o : Option ℕ) → x < h.network.nodes → h.network.nodes + x < length links
+begun_linked : (h : HierarchyValue) (q : Sweep) (links : List (Option (ℕ × ℕ))) (x : ℕ) (label : Option Label) (o : Option ℕ) → x < h.network.nodes → h.network.nodes + x < length links
     → final_label h q x ≡ label → o ≡ second_of label → IsPassed h q x
     → IsLinkedLabel h q (begun_links links x (h.network.nodes + x) o) (h.network.nodes + x) label
 begun_linked h q links x None o lt li final e p = tt
@@ -60,7 +60,7 @@ begun_other links from into place None ne = refl
 begun_other links from into place (Some second) ne = link_other links into place (Some (from, 0)) (λ same. ne (sym same))
 
 -- a downward label begins
-pub down_begun : (h : HierarchyValue) (q : Question) (done : List ℕ) (x : ℕ) (labels : List (Option ℕ)) (links : List (Option (ℕ × ℕ))) → IsDownSwept h q done labels links → IsPassed h q x
+pub down_begun : (h : HierarchyValue) (q : Sweep) (done : List ℕ) (x : ℕ) (labels : List (Option ℕ)) (links : List (Option (ℕ × ℕ))) → IsDownSwept h q done labels links → IsPassed h q x
     → h.network.nodes + x < length labels → h.network.nodes + x < length links
     → IsDownPart h q done x [] (slice_set labels (h.network.nodes + x) (second_at labels x)) (begun_links links x (h.network.nodes + x) (second_at labels x))
 down_begun h q done x labels links f p la li =
@@ -86,7 +86,7 @@ down_begun h q done x labels links f p la li =
       here = subst (Holds h q labels2 links2 (n + x)) (sym (earlier_none label)) here;
     }
 
-pub final_down : (h : HierarchyValue) (q : Question) (y : ℕ) → final_label h q (h.network.nodes + y) ≡ down_label h q.from q.second y
+pub final_down : (h : HierarchyValue) (q : Sweep) (y : ℕ) → final_label h q (h.network.nodes + y) ≡ down_label h q.from q.second y
 final_down h q y =
     let first : ltb (h.network.nodes + y) h.network.nodes ≡ false = grind arith in
     let less : h.network.nodes + y - h.network.nodes ≡ y = omega arith in
@@ -103,7 +103,7 @@ edge_of_number : (h : HierarchyValue) (x y edge : ℕ) → number_from 0 h.edges
 edge_of_number h x y edge e = let (j, is, at) = number_found 0 h.edges x y edge e in member_at h.edges (record { low = x; high = y }) j at
 
 -- one call more
-pub down_more : (h : HierarchyValue) (q : Question) (done : List ℕ) (x y edge : ℕ) (part : List ℕ) (labels : List (Option ℕ)) (links : List (Option (ℕ × ℕ))) → IsDownPart h q done x part labels links
+pub down_more : (h : HierarchyValue) (q : Sweep) (done : List ℕ) (x y edge : ℕ) (part : List ℕ) (labels : List (Option ℕ)) (links : List (Option (ℕ × ℕ))) → IsDownPart h q done x part labels links
     → h.network.nodes + x < length labels → h.network.nodes + x < length links → number_from 0 h.edges x y ≡ Some edge → edge < length h.edges
     → second_at labels (h.network.nodes + y) ≡ second_of (down_label h q.from q.second y) → IfSecond (second_at labels (h.network.nodes + y)) (λ at. at < 2 ^ 61)
     → long_by (answer_at h edge Down (second_at labels (h.network.nodes + y))) (call_at (Some edge) Down (second_at labels (h.network.nodes + y))) ≡ None
@@ -130,7 +130,7 @@ down_more h q done x y edge part labels links f la li number there_ source time 
     }
 
 -- after all calls to a rank
-pub down_done : (h : HierarchyValue) → IsHierarchy h → (q : Question) (done : List ℕ) (x : ℕ) (labels : List (Option ℕ)) (links : List (Option (ℕ × ℕ))) → IsPassed h q x
+pub down_done : (h : HierarchyValue) → IsHierarchy h → (q : Sweep) (done : List ℕ) (x : ℕ) (labels : List (Option ℕ)) (links : List (Option (ℕ × ℕ))) → IsPassed h q x
     → IsDownPart h q done x (up_of h.edges x) labels links → IsDownSwept h q (done ++ (x ∷ [])) labels links
 down_done h sound q done x labels links p f = record {
   up = f.up;

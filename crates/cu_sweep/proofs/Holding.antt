@@ -14,12 +14,13 @@ use Rattle.cu_interval.specs.Unpacking.{relaxed}
 use Rattle.cu_sweep.specs.Labels.{Label, call_from, earlier_of, label_by, label_over}
 use Rattle.cu_sweep.specs.Sweeps.{second_of}
 use Rattle.cu_sweep.specs.Desks.{AreArriving, IsArrivingCall}
-use Rattle.cu_sweep.specs.Steps.Places.{calls_between, dir_between, second_at}
-use Rattle.cu_sweep.specs.Steps.Sweeping.{Holds, IfSecond, IsLinkedLabel, IsSource, Question, answer_at, final_label, is_earlier, links_after, long_by, seconds_after}
+use Rattle.cu_sweep.specs.Places.{calls_between, dir_between, second_at}
+use Rattle.cu_sweep.specs.Swept.{Holds, IsLinkedLabel, IsSource, Sweep, final_label}
+use Rattle.cu_sweep.specs.Steps.Sweeping.{IfSecond, answer_at, is_earlier, links_after, long_by, seconds_after}
 use Rattle.cu_sweep.proofs.Choosing.{earlier_none}
 
 -- other places keep theirs
-linked_other : (h : HierarchyValue) (q : Question) (links more : List (Option (ℕ × ℕ))) (place : ℕ) (label : Option Label) → link_at more place ≡ link_at links place
+linked_other : (h : HierarchyValue) (q : Sweep) (links more : List (Option (ℕ × ℕ))) (place : ℕ) (label : Option Label) → link_at more place ≡ link_at links place
     → IsLinkedLabel h q links place label → IsLinkedLabel h q more place label
 linked_other h q links more place None e k = tt
 linked_other h q links more place (Some label) e (inl k) = inl (e ∙ k.0, k.1)
@@ -34,7 +35,7 @@ linked_other h q links more place (Some label) e (inr k) = inr record {
   arriving = k.arriving;
 }
 
-pub holds_same : (h : HierarchyValue) (q : Question) (labels labels2 : List (Option ℕ)) (links links2 : List (Option (ℕ × ℕ))) (place : ℕ) (label : Option Label)
+pub holds_same : (h : HierarchyValue) (q : Sweep) (labels labels2 : List (Option ℕ)) (links links2 : List (Option (ℕ × ℕ))) (place : ℕ) (label : Option Label)
     → second_at labels2 place ≡ second_at labels place → link_at links2 place ≡ link_at links place
     → Holds h q labels links place label → Holds h q labels2 links2 place label
 holds_same h q labels labels2 links links2 place label a b k = record { second = a ∙ k.second; linked = linked_other h q links links2 place label b k.linked }
@@ -50,7 +51,7 @@ one_call : (h : HierarchyValue) (edge : ℕ) (dir : Dir) (second arrival : ℕ) 
 one_call h edge dir second arrival lt time e =
     All-cons (IsArrivingCall h) (call_from edge dir second) [] (record { edge = lt; time = time; answers = (arrival, e) }) (λ k d none. absurd (omega (arith, none)))
 
-module _ (h : HierarchyValue) (q : Question) (labels : List (Option ℕ)) (links : List (Option (ℕ × ℕ))) (from edge into : ℕ) where
+module _ (h : HierarchyValue) (q : Sweep) (labels : List (Option ℕ)) (links : List (Option (ℕ × ℕ))) (from edge into : ℕ) where
   -- a place has a label after the answer of a call
   abbrev pub HoldsAfter : Relaxed → ℕ → Option Label → Type 0
   HoldsAfter r place label = Holds h q (seconds_after labels into r) (links_after labels links from edge into r) place label

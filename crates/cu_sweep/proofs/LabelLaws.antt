@@ -11,7 +11,8 @@ use Rattle.cu_interval.specs.Hierarchies.{HierarchyValue, IsHierarchy, graph_of,
 use Rattle.cu_interval.proofs.Lookups.{number_found}
 use Rattle.cu_unpack.proofs.Edges.{edge_range}
 use Rattle.cu_sweep.specs.Labels.{Label, down_label, down_label_by, earliest, label_over, start_label, up_label, up_label_by}
-use Rattle.cu_sweep.specs.Steps.Sweeping.{Question, down_after, up_after, up_into}
+use Rattle.cu_sweep.specs.Swept.{Sweep}
+use Rattle.cu_sweep.specs.Steps.Sweeping.{down_after, up_after, up_into}
 
 map_same : (f g : ℕ → Option Label) (xs : List ℕ) → ((x : ℕ) → Contains xs x → f x ≡ g x) → map f xs ≡ map g xs
 map_same f g [] e = refl
@@ -40,7 +41,7 @@ module _ (h : HierarchyValue) (f : IsHierarchy h) where
       ap (λ (labels : List (Option Label)). earliest (start_label from second y ∷ labels)) same
 
   -- the upward label is the label after the calls from all ancestors of the start
-  pub up_label-whole : (q : Question) (y : ℕ) → up_label h q.from q.second y ≡ up_after h q (ancestors_in (graph_of h) q.from) y
+  pub up_label-whole : (q : Sweep) (y : ℕ) → up_label h q.from q.second y ≡ up_after h q (ancestors_in (graph_of h) q.from) y
   up_label-whole q y =
       let same = map_same (λ x. label_over h (number_from 0 h.edges x y) Up (up_label_by h q.from q.second y x)) (up_into h q y) (ancestors_in (graph_of h) q.from)
       (λ x c. over_same h (number_from 0 h.edges x y) Up (up_label_by h q.from q.second y x) (up_label h q.from q.second x)
@@ -62,7 +63,7 @@ module _ (h : HierarchyValue) (f : IsHierarchy h) where
       ap (λ (labels : List (Option Label)). earliest (up_label h from second x ∷ labels)) same
 
   -- the downward label is the label after the calls from all higher neighbours
-  pub down_label-whole : (q : Question) (x : ℕ) → x < h.network.nodes → down_label h q.from q.second x ≡ down_after h q (up_of h.edges x) x
+  pub down_label-whole : (q : Sweep) (x : ℕ) → x < h.network.nodes → down_label h q.from q.second x ≡ down_after h q (up_of h.edges x) x
   down_label-whole q x lt =
       let n = h.network.nodes in
       down_label-fuel q.from q.second n (suc n) x lt (omega arith) (omega arith)

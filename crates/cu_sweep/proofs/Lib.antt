@@ -19,3 +19,4 @@ pub mod RankWalks
 pub mod Ancestry
 pub mod RealLabels
 pub mod SweptLabels
+pub mod ArcsOnce

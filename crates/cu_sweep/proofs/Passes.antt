@@ -11,7 +11,8 @@ use Rattle.cu_interval.specs.declared.relaxing.Call.{Call}
 use Rattle.cu_interval.specs.Hierarchies.{HierarchyValue, IsHierarchy, graph_of, number_from}
 use Rattle.cu_sweep.specs.Labels.{up_label}
 use Rattle.cu_sweep.specs.Sweeps.{AddsAll, first_long, until_long}
-use Rattle.cu_sweep.specs.Steps.Sweeping.{Question, up_after}
+use Rattle.cu_sweep.specs.Swept.{Sweep}
+use Rattle.cu_sweep.specs.Steps.Sweeping.{up_after}
 use Rattle.cu_sweep.proofs.LabelLaws.{number_below, up_label-whole}
 use Rattle.cu_sweep.proofs.Telling.{adds_then, first_before, long_ends, until_before, until_none}
 use Rattle.cu_sweep.proofs.UpRows.{up_after_none}
@@ -33,7 +34,7 @@ rising_behind [] x rest f z c =
 rising_behind (y ∷ before) x rest f z c = rising_behind before x rest (pairs_tail (λ a b. a < b) y (before ++ (x ∷ rest)) f) z c
 
 -- the calls from ranks that aren't below change nothing
-up_after_rest : (h : HierarchyValue) → IsHierarchy h → (q : Question) (before : List ℕ) (x : ℕ) (rest : List ℕ) → ((z : ℕ) → Contains rest z → x ≤ z)
+up_after_rest : (h : HierarchyValue) → IsHierarchy h → (q : Sweep) (before : List ℕ) (x : ℕ) (rest : List ℕ) → ((z : ℕ) → Contains rest z → x ≤ z)
     → up_after h q (before ++ rest) x ≡ up_after h q before x
 up_after_rest h f q before x [] late = ap (λ (xs : List ℕ). up_after h q xs x) (append-nil before)
 up_after_rest h f q before x (z ∷ rest) late =
@@ -46,7 +47,7 @@ up_after_rest h f q before x (z ∷ rest) late =
     ∙ up_after_rest h f q (before ++ (z ∷ [])) x rest (λ w c. late w (there z rest w c)) ∙ up_after_none h q before z x none
 
 -- a label is final after the calls from the ancestors before it
-pub up_final : (h : HierarchyValue) → IsHierarchy h → (q : Question) (before : List ℕ) (x : ℕ) (rest : List ℕ) → ancestors_in (graph_of h) q.from ≡ before ++ (x ∷ rest)
+pub up_final : (h : HierarchyValue) → IsHierarchy h → (q : Sweep) (before : List ℕ) (x : ℕ) (rest : List ℕ) → ancestors_in (graph_of h) q.from ≡ before ++ (x ∷ rest)
     → AllPairs (λ a b. a < b) (before ++ (x ∷ rest))
     → up_after h q before x ≡ up_label h q.from q.second x
 up_final h f q before x rest e rising =

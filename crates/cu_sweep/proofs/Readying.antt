@@ -16,7 +16,8 @@ use Rattle.cu_interval.specs.declared.relaxing.Relaxed.TheVariants.{At, NoWay, L
 use Rattle.cu_interval.specs.Calls.{IfAt}
 use Rattle.cu_interval.specs.Hierarchies.{HierarchyValue}
 use Rattle.cu_interval.specs.Unpacking.{relaxed}
-use Rattle.cu_sweep.specs.Steps.Places.{AreNear, IsReady, Rises, second_at, turn_of}
+use Rattle.cu_sweep.specs.Places.{second_at}
+use Rattle.cu_sweep.specs.Steps.Ready.{AreNear, IsReady, Rises, turn_of}
 use Rattle.cu_sweep.specs.Steps.Sweeping.{IfSecond, answer_at, begun_links, is_earlier, links_after, seconds_after}
 
 -- a chain has no more steps than turns lie between its ends

@@ -15,7 +15,7 @@ use Rattle.cu_interval.proofs.Lookups.{number_finds}
 use Rattle.cu_interval.proofs.EndsLaws.{ends_range}
 use Rattle.cu_sweep.specs.Labels.{call_from}
 use Rattle.cu_sweep.specs.Sweeps.{AddsAll, answered, call_at, ended_by, first_long, long_or, until_long}
-use Rattle.cu_sweep.specs.Steps.Places.{calls_of_some}
+use Rattle.cu_sweep.specs.Places.{calls_of_some}
 use Rattle.cu_sweep.specs.Steps.Sweeping.{answer_at, long_by}
 use Rattle.cu_sweep.proofs.Telling.{adds_none, adds_then, first_before, long_ends, until_before, until_none}
 

@@ -30,7 +30,8 @@ use Rattle.cu_unpack.proofs.Edges.{edge_range}
 use Rattle.cu_sweep.specs.Labels.{Label, down_label, down_label_by, earlier_of, earliest, label_by}
 use Rattle.cu_sweep.specs.Labels.{label_over, start_label, up_label}
 use Rattle.cu_sweep.specs.Sweeps.{second_of}
-use Rattle.cu_sweep.specs.Steps.Sweeping.{Question, down_into, up_into}
+use Rattle.cu_sweep.specs.Swept.{Sweep}
+use Rattle.cu_sweep.specs.Steps.Sweeping.{down_into, up_into}
 use Rattle.cu_sweep.proofs.Ancestry.{ancestors_upwards}
 use Rattle.cu_sweep.proofs.LabelLaws.{down_label-whole, up_label-whole}
 use Rattle.cu_sweep.proofs.Reaching.{AreSwept, IsReachedBy}
@@ -141,7 +142,7 @@ edge_at h f x y has =
     (edge, at, number_at 0 h.edges edge x y f.graph.rising at ∙ ap Some sum)
 
 -- an upward label is no later than a low walk on from an ancestor's
-up_reaches : (h : HierarchyValue) → IsBuilt h → (q : Question) (x y s : ℕ) (walk : List ℕ)
+up_reaches : (h : HierarchyValue) → IsBuilt h → (q : Sweep) (x y s : ℕ) (walk : List ℕ)
     → Contains (ancestors_in (graph_of h) q.from) x → IsUnder h x y x walk y → second_of (up_label h q.from q.second x) ≡ Some s
     → IsReachedBy (second_of (up_label h q.from q.second y)) (drive h.network walk s)
 up_reaches h f q x y s walk c under e =
@@ -154,7 +155,7 @@ up_reaches h f q x y s walk c under e =
     (after_member (start_label q.from q.second y) (up_into h q y) (ancestors_in (graph_of h) q.from) x t c into)
 
 -- a downward label is no later than a low walk on from a higher rank's
-down_reaches : (h : HierarchyValue) → IsBuilt h → (q : Question) (x y s : ℕ) (walk : List ℕ)
+down_reaches : (h : HierarchyValue) → IsBuilt h → (q : Sweep) (x y s : ℕ) (walk : List ℕ)
     → IsUnder h x y y walk x → second_of (down_label h q.from q.second y) ≡ Some s
     → IsReachedBy (second_of (down_label h q.from q.second x)) (drive h.network walk s)
 down_reaches h f q x y s walk under e =
@@ -175,15 +176,15 @@ turn_by h from second zero x s lt e = absurd (omega (arith, lt))
 turn_by h from second (suc fuel) x s lt e = earlier_first (up_label h from second x) _ s (s, e, omega arith)
 
 -- what the sweeps of a query leave in a built hierarchy
-pub swept : (h : HierarchyValue) → IsBuilt h → (q : Question) → 0 < h.network.nodes
+pub swept : (h : HierarchyValue) → IsBuilt h → (q : Sweep) (to : ℕ) → 0 < h.network.nodes
     → AreSwept h.network h.order
-    (Contains (ancestors_in (graph_of h) q.from)) (Contains (ancestors_in (graph_of h) q.to))
+    (Contains (ancestors_in (graph_of h) q.from)) (Contains (ancestors_in (graph_of h) to))
     (λ x. second_of (up_label h q.from q.second x)) (λ x. second_of (down_label h q.from q.second x))
-swept h f q some = record {
+swept h f q to some = record {
   climb = λ x y s walk c lt w e.
       let under = up_under h f.sound x y walk lt w in
       (ancestors_upwards (graph_of h) f.sound.graph q.from x y c under.has, up_reaches h f q x y s walk c under e);
   fall = λ y z s walk c lt w e. down_reaches h f q y z s walk (down_under h f.sound y z walk lt w) e;
-  goes_up = λ y z walk c lt w. ancestors_upwards (graph_of h) f.sound.graph q.to y z c (down_under h f.sound y z walk lt w).has;
+  goes_up = λ y z walk c lt w. ancestors_upwards (graph_of h) f.sound.graph to y z c (down_under h f.sound y z walk lt w).has;
   turn = λ x s e. turn_by h q.from q.second h.network.nodes x s some e;
 }

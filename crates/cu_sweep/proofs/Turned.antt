@@ -24,7 +24,8 @@ use Rattle.cu_unpack.specs.Answers.{walk_between, walk_over}
 use Rattle.cu_unpack.specs.Texts.{road_text, walk_text}
 use Rattle.cu_unpack.proofs.Texts.{first_after}
 use Rattle.cu_sweep.specs.Desks.{AreArriving, IsArrivingCall, roads_of}
-use Rattle.cu_sweep.specs.Steps.Places.{Rises, calls_after, calls_along, calls_found, calls_of_some, calls_over, calls_to, turn_of}
+use Rattle.cu_sweep.specs.Places.{calls_after, calls_found, calls_of_some, calls_over, calls_to}
+use Rattle.cu_sweep.specs.Steps.Ready.{Rises, calls_along, turn_of}
 use Rattle.cu_sweep.proofs.Held.{no_calls}
 use Rattle.cu_sweep.proofs.Readying.{chain_steps}
 
@@ -250,7 +251,7 @@ road_there h u [] v low none = low.1
 road_there h u (road ∷ walk) v low none = absurd (cc none)
 
 -- the walk of a call that arrives has a road
-pub arriving_road : (h : HierarchyValue) → IsHierarchy h → (call : Call) → IsArrivingCall h call → walk_over h call.edge call.dir call.second ≢ []
+arriving_road : (h : HierarchyValue) → IsHierarchy h → (call : Call) → IsArrivingCall h call → walk_over h call.edge call.dir call.second ≢ []
 arriving_road h f call c none =
     let (ends, at) = item_there h.edges call.edge c.edge in
     let u = start_of ends call.dir in
@@ -268,3 +269,12 @@ first_some first (road ∷ roads) some = refl
 pub first_false : (roads : List ℕ) → first_after false roads ≡ false
 first_false [] = refl
 first_false (road ∷ roads) = refl
+
+after_road : (first : Bool) (walk : List ℕ) → walk ≢ [] → first_after first walk ≡ false
+after_road first [] some = absurd (some refl)
+after_road first (road ∷ walk) some = refl
+
+-- so the road behind it isn't the first of all
+pub arriving_after : (h : HierarchyValue) → IsHierarchy h → (call : Call) (first : Bool) → IsArrivingCall h call
+    → first_after first (walk_over h call.edge call.dir call.second) ≡ false
+arriving_after h f call first c = after_road first (walk_over h call.edge call.dir call.second) (arriving_road h f call c)

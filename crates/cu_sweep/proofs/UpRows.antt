@@ -11,17 +11,18 @@ use Rattle.cu_interval.specs.Hierarchies.{HierarchyValue, IsHierarchy, number_fr
 use Rattle.cu_interval.proofs.Lookups.{number_at, number_found}
 use Rattle.cu_sweep.specs.Labels.{earlier_of, label_over, start_label, up_label}
 use Rattle.cu_sweep.specs.Sweeps.{call_at, second_of}
-use Rattle.cu_sweep.specs.Steps.Places.{dir_between, second_at}
-use Rattle.cu_sweep.specs.Steps.Sweeping.{Holds, IfSecond, IsPassed, IsUpSwept, Question, answer_at, final_label, links_after, long_by, seconds_after, up_after, up_into}
+use Rattle.cu_sweep.specs.Places.{dir_between, second_at}
+use Rattle.cu_sweep.specs.Swept.{Holds, IsPassed, Sweep, final_label}
+use Rattle.cu_sweep.specs.Steps.Sweeping.{IfSecond, IsUpSwept, answer_at, links_after, long_by, seconds_after, up_after, up_into}
 use Rattle.cu_sweep.proofs.Choosing.{after_more, earlier_none}
 use Rattle.cu_sweep.proofs.Holding.{holds_after, holds_other}
 
 -- after the calls from a rank to these of its higher neighbours
-abbrev pub IsUpPart : HierarchyValue → Question → List ℕ → ℕ → List ℕ → List (Option ℕ) → List (Option (ℕ × ℕ)) → Type 0
+abbrev pub IsUpPart : HierarchyValue → Sweep → List ℕ → ℕ → List ℕ → List (Option ℕ) → List (Option (ℕ × ℕ)) → Type 0
 IsUpPart h q done x part labels links = (y : ℕ) → IsPassed h q y
     → (Contains part y → Holds h q labels links y (up_after h q (done ++ (x ∷ [])) y)) × ((Contains part y → ⊥) → Holds h q labels links y (up_after h q done y))
 
-module _ (h : HierarchyValue) (q : Question) where
+module _ (h : HierarchyValue) (q : Sweep) where
   pub up_begun : (done : List ℕ) (x : ℕ) (labels : List (Option ℕ)) (links : List (Option (ℕ × ℕ))) → IsUpSwept h q done labels links
       → IsUpPart h q done x [] labels links
   up_begun done x labels links f y p = (λ c. absurd (none_in_nil y c), λ c. f y p)
@@ -69,7 +70,7 @@ member_other (x ∷ part) y z ne c =
     ]
 
 -- one call more
-pub up_more : (h : HierarchyValue) (q : Question) (done : List ℕ) (x y edge : ℕ) (part : List ℕ) (labels : List (Option ℕ)) (links : List (Option (ℕ × ℕ))) → IsUpPart h q done x part labels links
+pub up_more : (h : HierarchyValue) (q : Sweep) (done : List ℕ) (x y edge : ℕ) (part : List ℕ) (labels : List (Option ℕ)) (links : List (Option (ℕ × ℕ))) → IsUpPart h q done x part labels links
     → (Contains part y → ⊥) → x < y → y < h.network.nodes → y < length labels → y < length links → number_from 0 h.edges x y ≡ Some edge → edge < length h.edges
     → second_at labels x ≡ second_of (up_label h q.from q.second x) → IfSecond (second_at labels x) (λ at. at < 2 ^ 61)
     → long_by (answer_at h edge Up (second_at labels x)) (call_at (Some edge) Up (second_at labels x)) ≡ None → IsPassed h q x
@@ -98,7 +99,7 @@ up_more h q done x y edge part labels links f new lt within la li number there_ 
     ]
 
 -- after all calls from a rank
-pub up_done : (h : HierarchyValue) → IsHierarchy h → (q : Question) (done : List ℕ) (x : ℕ) (labels : List (Option ℕ)) (links : List (Option (ℕ × ℕ)))
+pub up_done : (h : HierarchyValue) → IsHierarchy h → (q : Sweep) (done : List ℕ) (x : ℕ) (labels : List (Option ℕ)) (links : List (Option (ℕ × ℕ)))
     → IsUpPart h q done x (up_of h.edges x) labels links → IsUpSwept h q (done ++ (x ∷ [])) labels links
 up_done h sound q done x labels links f y p =
     elim (some_cases (number_from 0 h.edges x y)) [

@@ -1,3 +1,3 @@
 -- What private functions mean to each other; no public contract speaks of it.
-pub mod Places
+pub mod Ready
 pub mod Sweeping

@@ -3,7 +3,7 @@
 ghost use Rattle.std.specs.Prelude.{◌≡◌, ◌≤◌, false, IfOk};
 ghost use Rattle.cu_model.specs.declared.limits.TheConstants.{MAX_NODES};
 
-use cu_links::Chain;
+use crate::labels::Labels;
 use cu_model::NoMemory;
 use std::alloc::Global;
 use std::marker::Model;
@@ -12,10 +12,7 @@ use std::marker::Model;
 /// calls of the walk that was found, and whether it was turned since.
 #[derive(Drop)]
 pub struct SweepDesk {
-    pub(crate) nodes: u32,
-    // When each place is reached: place x is rank x in the upward sweep, place nodes + x is rank x in the downward one.
-    pub(crate) labels: Vec<Option<u64>>,
-    pub(crate) chain: Chain,
+    pub(crate) labels: Labels,
     // The ancestors of a query's end.
     pub(crate) path: Vec<u32>,
     // The place of the last query's end, and one behind them all before there was one.
@@ -25,18 +22,14 @@ pub struct SweepDesk {
 impl Model for SweepDesk {
     ghost use Rattle.std.specs.Prelude.{◌≡◌, ◌≤◌, ◌*◌, length};
     ghost use Rattle.cu_sweep.specs.Desks.{DeskValue};
-    ghost use Rattle.cu_sweep.specs.Steps.Places.{IsReady, calls_found};
+    ghost use Rattle.cu_sweep.specs.Swept.{desk_of};
 
     ghost Value = { DeskValue };
 
-    ghost view = { λ desk. record {
-      nodes = desk.nodes;
-      calls = calls_found desk.nodes desk.labels.items desk.chain.links desk.end;
-      turned = desk.chain.turned;
-    } };
+    ghost view = { λ desk. desk_of desk.labels desk.end };
 
-    ghost invariant = { λ desk. IsReady desk.nodes desk.labels.items desk.chain
-        × (length desk.path.items ≡ desk.nodes) × (desk.end ≤ 2 * desk.nodes) };
+    ghost invariant = { λ desk. (length desk.path.items ≡ desk.labels.nodes)
+        × (desk.end ≤ 2 * desk.labels.nodes) };
 }
 
 impl SweepDesk {
@@ -47,9 +40,7 @@ impl SweepDesk {
         ensures unturned { IfOk result (λ desk. desk.turned ≡ false) }
     {
         Ok(SweepDesk {
-            nodes,
-            labels: vec![in alloc; None; 2 * nodes as usize + 1]?,
-            chain: Chain::new(alloc, 2 * nodes + 1)?,
+            labels: Labels::new(alloc, nodes)?,
             path: vec![in alloc; 0u32; nodes as usize]?,
             end: 2 * nodes,
         })

@@ -4,20 +4,27 @@
 //! hierarchy the least arrival over all walks, or that there is none, and in any hierarchy that of a real walk
 //! (`specs/Answers.antt`). [`SweepDesk`] holds that walk's calls (`specs/Desks.antt`), whose roads [`route`] writes.
 //!
-//! It stands on `cu_model`, `cu_io`, `cu_links`, `cu_chordal`, `cu_elimtree`, `cu_interval` and `cu_unpack`; tests alone use
-//! `cu_customize`. Private are the steps of both sweeps, and where a desk keeps its labels and links. `specs/Steps` is cited by
-//! private functions alone.
+//! [`Labels`] makes both sweeps step by step, the downward one over any path of ranks that has all higher neighbours of its
+//! ranks (`specs/Swept.antt`): each is then reached as its downward label says. A query goes down over the ancestors of its
+//! end. A law speaks of the definitions alone, [`sweeps_take_arcs_once`]: a sweep takes sweep arcs, each at most once
+//! (`specs/ArcsOnce.antt`).
+//!
+//! It stands on `cu_model`, `cu_io`, `cu_links`, `cu_chordal`, `cu_elimtree`, `cu_interval` and `cu_unpack`. Private are the steps
+//! of both sweeps, and where a desk keeps its labels and links. `specs/Steps` is cited by private functions alone.
 #![tactic(auto)]
 
 mod desk;
 mod finding;
+mod labels;
+mod laws;
+mod over_ranks;
 mod querying;
 mod routing;
 mod sweeping;
-#[cfg(test)]
-mod tests;
 
 pub use desk::SweepDesk;
 pub use finding::Found;
+pub use labels::Labels;
+pub use laws::sweeps_take_arcs_once;
 pub use querying::query;
 pub use routing::route;

@@ -1,16 +1,18 @@
 //! Routes: the roads of the walk that a query found.
 
-ghost use Rattle.std.specs.Prelude.{◌≡◌, ◌≢◌, ◌≤◌, ◌<◌, ◌*◌, [], true, false, IfOk, length};
+ghost use Rattle.std.specs.Prelude.{◌≡◌, ◌≤◌, ◌<◌, ◌*◌, true, false, IfOk, length};
 ghost use Rattle.cu_io.specs.Sinks.{Wrote};
 ghost use Rattle.cu_chordal.specs.declared.graph.TheConstants.{MAX_EDGES};
 ghost use Rattle.cu_unpack.specs.Answers.{walk_over};
 ghost use Rattle.cu_unpack.specs.Texts.{walk_text};
 ghost use Rattle.cu_unpack.proofs.Texts.{first_after};
 ghost use Rattle.cu_sweep.specs.Desks.{AreArriving, IsArrivingCall, roads_of};
-ghost use Rattle.cu_sweep.specs.Steps.Places.{IsReady, calls_found, calls_of_some, calls_over, dir_between};
+ghost use Rattle.cu_sweep.specs.Places.{calls_found, calls_of_some, calls_over, dir_between};
+ghost use Rattle.cu_sweep.specs.Steps.Ready.{IsReady};
 
 use crate::desk::SweepDesk;
-use cu_interval::{Call, Dir, Relaxer, Ways};
+use crate::labels::Labels;
+use cu_interval::{Call, Dir, Ways};
 use cu_io::{Sink, SinkFailed};
 use cu_links::Chain;
 use cu_unpack::Unpacker;
@@ -32,17 +34,35 @@ pub fn route<W: Ways, K: Sink>(
     ensures turned { desk.new.turned ≡ true }
     ensures stays { unpacker.new ≡ unpacker.old }
 {
-    write_chain(
-        desk.nodes,
-        &desk.labels,
-        &mut desk.chain,
-        desk.end,
-        unpacker,
-        sink,
-    )
+    let end = desk.end;
+    desk.labels.write_to(end, unpacker, sink)
 }
 
-// Turns the chain that leads to a place, and writes the roads of its calls from its first place on.
+impl Labels {
+    // Turns the chain that leads to a place, and writes the roads of its calls from its first place on.
+    fn write_to<W: Ways, K: Sink>(
+        &mut self,
+        end: u32,
+        unpacker: &mut Unpacker<'_, W>,
+        sink: &mut K,
+    ) -> Result<(), SinkFailed>
+        requires end { end ≤ 2 * self.old.nodes }
+        requires unturned { self.old.turned ≡ false }
+        requires arriving { AreArriving unpacker.old
+            (calls_found self.old.nodes self.old.seconds self.old.links end) }
+        ensures wrote { Wrote (K.state sink.old) (K.state sink.new) result
+            (walk_text true (roads_of unpacker.old
+            (calls_found self.old.nodes self.old.seconds self.old.links end))) }
+        ensures nodes { self.new.nodes ≡ self.old.nodes }
+        ensures turned { self.new.turned ≡ true }
+        ensures stays { unpacker.new ≡ unpacker.old }
+    {
+        let nodes = self.nodes();
+        write_chain(nodes, &self.seconds, &mut self.chain, end, unpacker, sink)
+    }
+}
+
+// The same, in places for labels and links.
 fn write_chain<W: Ways, K: Sink>(
     nodes: u32,
     labels: &[Option<u64>],
@@ -136,27 +156,6 @@ fn write_call<W: Ways, K: Sink>(
         ≡ false }
     ensures stays { unpacker.new ≡ unpacker.old }
 {
-    if first {
-        return write_first(call, unpacker, sink);
-    }
-    unpacker.walk(call.edge, call.dir, call.second, false, sink)?;
-    Ok(())
-}
-
-// Writes the first roads of all. The call is asked once more, which shows that the unpacker's ways are those of a hierarchy,
-// so that a walk that arrives has a road.
-fn write_first<W: Ways, K: Sink>(
-    call: Call,
-    unpacker: &mut Unpacker<'_, W>,
-    sink: &mut K,
-) -> Result<(), SinkFailed>
-    requires arriving { IsArrivingCall unpacker.old call }
-    ensures wrote { Wrote (K.state sink.old) (K.state sink.new) result
-        (walk_text true (walk_over unpacker.old call.edge call.dir call.second)) }
-    ensures roads { walk_over unpacker.old call.edge call.dir call.second ≢ [] }
-    ensures stays { unpacker.new ≡ unpacker.old }
-{
-    unpacker.relax(call.edge, call.dir, call.second);
-    unpacker.walk(call.edge, call.dir, call.second, true, sink)?;
+    unpacker.walk(call.edge, call.dir, call.second, first, sink)?;
     Ok(())
 }

@@ -8,8 +8,10 @@ ghost use Rattle.cu_interval.specs.Calls.{IfAt};
 ghost use Rattle.cu_interval.specs.Hierarchies.{IsHierarchyOf};
 ghost use Rattle.cu_sweep.specs.Labels.{up_label};
 ghost use Rattle.cu_sweep.specs.Sweeps.{AddsAll, call_at, calls_down, calls_up, first_long, until_long};
-ghost use Rattle.cu_sweep.specs.Steps.Places.{IsReady, calls_of_some, second_at};
-ghost use Rattle.cu_sweep.specs.Steps.Sweeping.{Question, IfSecond, IsDownSwept, IsPassed, IsUpSwept, answer_at, begun_links, is_earlier, links_after, long_by, seconds_after, up_after};
+ghost use Rattle.cu_sweep.specs.Places.{calls_of_some, second_at};
+ghost use Rattle.cu_sweep.specs.Swept.{IsPassed, Sweep};
+ghost use Rattle.cu_sweep.specs.Steps.Ready.{IsReady};
+ghost use Rattle.cu_sweep.specs.Steps.Sweeping.{IfSecond, IsDownSwept, IsUpSwept, answer_at, begun_links, is_earlier, links_after, long_by, seconds_after, up_after};
 
 use cu_chordal::Chordal;
 use cu_interval::{Call, Dir, Relaxed, Relaxer};
@@ -36,7 +38,7 @@ pub(crate) fn relax_up<R: Relaxer>(
     ensures told { AddsAll (R.calls relaxer.old) (R.calls relaxer.new)
         (until_long (R.hierarchy relaxer.old)
         (calls_up (R.hierarchy relaxer.old) rank (second_at labels.old rank))) }
-    ensures swept { (q : Question) (done : List ℕ)
+    ensures swept { (q : Sweep) (done : List ℕ)
         → IsUpSwept (R.hierarchy relaxer.old) q done labels.old chain.old.links
         → IsPassed (R.hierarchy relaxer.old) q rank
         → up_after (R.hierarchy relaxer.old) q done rank
@@ -79,7 +81,7 @@ pub(crate) fn relax_down<R: Relaxer>(
         (until_long (R.hierarchy relaxer.old)
         (calls_down (R.hierarchy relaxer.old) rank
         (λ y. second_at labels.old (graph.now.ranks + y)))) }
-    ensures swept { (q : Question) (done : List ℕ)
+    ensures swept { (q : Sweep) (done : List ℕ)
         → IsDownSwept (R.hierarchy relaxer.old) q done labels.old chain.old.links
         → IsPassed (R.hierarchy relaxer.old) q rank
         → ((y : ℕ) → HasEdge graph.now.edges rank y → Contains done y)

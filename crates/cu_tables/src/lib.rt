@@ -16,6 +16,3 @@ pub use fields::{field, number_at};
 pub use laws::reads_back;
 pub use rows::{TakesRows, each_row, each_row_below};
 pub use writing::RowWriter;
-
-#[cfg(test)]
-mod tests;

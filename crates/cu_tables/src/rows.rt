@@ -17,8 +17,8 @@ pub trait TakesRows {
     /// What it is before and after a row that it takes.
     ghost takes: { Self → List (List ℕ) → Self → Type 0 };
 
-    /// What it is at a row that it refuses, and why it does.
-    ghost refuses: { Self → List (List ℕ) → Self.Refusal → Type 0 };
+    /// What it is before and after a row that it refuses, and why it does.
+    ghost refuses: { Self → List (List ℕ) → Self.Refusal → Self → Type 0 };
 
     /// Takes a row, or answers why it is refused.
     fn take_row(
@@ -29,7 +29,7 @@ pub trait TakesRows {
         ensures taken { IfOk result (λ answer. OnOk answer
             (takes self.old (fields_of row.now) self.new)) }
         ensures refused { IfOk result (λ answer. IfErr answer
-            (refuses self.old (fields_of row.now))) };
+            (λ why. refuses self.old (fields_of row.now) why self.new)) };
 }
 
 // A reader of the rows of a table text, none of them read yet.
@@ -78,8 +78,8 @@ fn take_rows<T: TakesRows>(
     Err(NoMemory)
 }
 
-/// Hands each row of a table text to the taker in turn, until it refuses one, and answers that refusal. An error of csv is
-/// answered as want of memory.
+/// Hands each row of a table text to the taker in turn, until it refuses one, and answers that refusal. The taker is handed
+/// no row after it, and stays as it was left then. An error of csv is answered as want of memory.
 pub fn each_row<T: TakesRows>(
     alloc: Global,
     text: &[u8],
@@ -109,9 +109,9 @@ fn take_header(
     }
 }
 
-/// Hands each row below the header to the taker in turn, until it refuses one, and answers that refusal. Where the first row
-/// isn't the header, or there is none, the answer is `no_header`, and nothing was taken. An error of csv is answered as want
-/// of memory.
+/// Hands each row below the header to the taker in turn, until it refuses one, and answers that refusal. The taker is handed
+/// no row after it, and stays as it was left then. Where the first row isn't the header, or there is none, the answer is
+/// `no_header`, and nothing was taken. An error of csv is answered as want of memory.
 pub fn each_row_below<T: TakesRows>(
     alloc: Global,
     header: &[&[u8]],

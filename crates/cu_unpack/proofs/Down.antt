@@ -19,8 +19,10 @@ use Rattle.cu_interval.specs.Unpacking.{followed, unpacked_walk}
 use Rattle.cu_interval.proofs.Fuel.{unpacked-via}
 use Rattle.cu_interval.proofs.Lookups.{middles_fall, well_formed}
 use Rattle.cu_interval.proofs.EndsLaws.{below_low, ends_range}
+use Rattle.cu_interval.specs.declared.shortcuts.Leg.{Leg}
+use Rattle.cu_interval.specs.Shortcuts.{IsMiddle}
 use Rattle.cu_unpack.specs.declared.unpacking.Spot.{Spot}
-use Rattle.cu_unpack.specs.Steps.Legs.{Leg, AreWaiting, FindsRoad, HasWay, IsAt, IsLegOf, IsMiddle, IsSomewhere, Parts, low_of, walk_on}
+use Rattle.cu_unpack.specs.Steps.Legs.{AreWaiting, FindsRoad, HasWay, IsAt, IsLegOf, IsSomewhere, Parts, low_of, walk_on}
 use Rattle.cu_unpack.proofs.Edges.{leg_way, no_way}
 use Rattle.cu_unpack.proofs.Waiting.{waiting_kept}
 

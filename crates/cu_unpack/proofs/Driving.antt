@@ -9,8 +9,9 @@ use Rattle.cu_interval.specs.declared.ways.Way.TheVariants.{Road}
 use Rattle.cu_interval.specs.Hierarchies.{HierarchyValue, IsHierarchy, way_from}
 use Rattle.cu_interval.specs.Unpacking.{followed, unpacked, unpacked_walk, unpacked_way}
 use Rattle.cu_interval.proofs.Lookups.{well_formed}
+use Rattle.cu_interval.specs.declared.shortcuts.Leg.{Leg}
 use Rattle.cu_unpack.specs.declared.unpacking.Spot.{Spot}
-use Rattle.cu_unpack.specs.Steps.Legs.{Leg, AreWaiting, DrivesOn, FindsRoad, HasWay, IsAt, IsLeft, IsLegOf, Resumes, walk_on}
+use Rattle.cu_unpack.specs.Steps.Legs.{AreWaiting, DrivesOn, FindsRoad, HasWay, IsAt, IsLeft, IsLegOf, Resumes, walk_on}
 
 -- a road that is found may be driven
 pub found_open : (h : HierarchyValue) → IsHierarchy h → (leg : Leg) (legs : List Leg) (t : ℕ) (pending : List ℕ) (before now : ℕ) (spot : Spot) (road : ℕ)

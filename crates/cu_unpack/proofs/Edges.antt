@@ -8,7 +8,8 @@ use Rattle.cu_interval.specs.WayLists.{IsWayList, way_at, way_in}
 use Rattle.cu_interval.specs.Hierarchies.{HierarchyValue, IsHierarchy, start_of, list_from, list_of, way_from, graph_of}
 use Rattle.cu_interval.proofs.Lookups.{list_from-edge}
 use Rattle.cu_interval.proofs.Unpacked.{list_from_spelled, way_there}
-use Rattle.cu_unpack.specs.Steps.Legs.{Leg, IsLegOf}
+use Rattle.cu_interval.specs.declared.shortcuts.Leg.{Leg}
+use Rattle.cu_unpack.specs.Steps.Legs.{IsLegOf}
 
 module _ (h : HierarchyValue) (f : IsHierarchy h) where
   pub edge_range : (x y : ℕ) → HasEdge h.edges x y → (x < y) × (y < h.network.nodes)

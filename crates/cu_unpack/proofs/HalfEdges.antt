@@ -14,11 +14,12 @@ use Rattle.cu_interval.specs.declared.ways.Way.TheVariants.{Via}
 use Rattle.cu_interval.specs.declared.ways.Entry.{Entry}
 use Rattle.cu_interval.specs.Hierarchies.{HierarchyValue, IsHierarchy, IsWellFormed, list_from, list_of, start_of, end_of}
 use Rattle.cu_interval.proofs.Lookups.{list_from-edge, one_number}
-use Rattle.cu_interval.proofs.EndsLaws.{below_low}
-use Rattle.cu_unpack.specs.declared.shortcuts.Shortcut.{Shortcut}
-use Rattle.cu_unpack.specs.RebuiltWords.{IsSide}
-use Rattle.cu_unpack.specs.Steps.Rebuilding.{AreHalves, FindsHalf, FindsMissing, HasHalves, HasWays, IsKept, IsLeastOf, IsMissingHalf, IsWayOf, KeepsOne, number_of, ways_of}
-use Rattle.cu_customize.proofs.Keeping.{number_below}
+use Rattle.cu_interval.proofs.EndsLaws.{below_low, number_below}
+use Rattle.cu_interval.specs.declared.shortcuts.Shortcut.{Shortcut}
+use Rattle.cu_interval.specs.Shortcuts.{AreHalves, number_of, ways_of}
+use Rattle.cu_unpack.specs.RebuiltRuns.{IsSide}
+use Rattle.cu_unpack.specs.Rebuilds.{IsKept}
+use Rattle.cu_unpack.specs.Steps.Rebuilding.{FindsHalf, FindsMissing, HasHalves, HasWays, IsLeastOf, IsMissingHalf, IsWayOf, KeepsOne}
 use Rattle.cu_unpack.proofs.WayFunctions.{least_rebuilt}
 
 module _ (h : HierarchyValue) (f : IsHierarchy h) where

@@ -7,7 +7,7 @@ use Rattle.std.proofs.Math.Nat.{suc-mul}
 use Rattle.std.proofs.Math.Seq.{get_or-append_seam}
 use Rattle.std.proofs.lemmas.List.Elements.{All-pop, All-push}
 use Rattle.std.proofs.lemmas.List.Quantifiers.{all_pairs_push}
-use Rattle.cu_unpack.specs.declared.shortcuts.Shortcut.{Shortcut}
+use Rattle.cu_interval.specs.declared.shortcuts.Shortcut.{Shortcut}
 use Rattle.cu_unpack.specs.Steps.Rebuilding.{Takes}
 
 -- what waits: shortcuts that are still open, of falling edges

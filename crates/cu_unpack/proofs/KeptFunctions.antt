@@ -10,9 +10,10 @@ use Rattle.cu_arrival.specs.declared.runs.Run.{Run}
 use Rattle.cu_interval.specs.declared.ways.Dir.{Dir}
 use Rattle.cu_interval.specs.Hierarchies.{HierarchyValue, list_number}
 use Rattle.cu_interval.proofs.EndsLaws.{number_parts, number_within}
-use Rattle.cu_unpack.specs.declared.shortcuts.Shortcut.{Shortcut}
-use Rattle.cu_unpack.specs.Rebuilds.{IsRebuiltFunction}
-use Rattle.cu_unpack.specs.Steps.Rebuilding.{AreKept, IsKept, IsMissing, KeepsOne, number_of}
+use Rattle.cu_interval.specs.declared.shortcuts.Shortcut.{Shortcut}
+use Rattle.cu_interval.specs.Shortcuts.{number_of}
+use Rattle.cu_unpack.specs.Rebuilds.{IsKept, IsRebuiltFunction}
+use Rattle.cu_unpack.specs.Steps.Rebuilding.{AreKept, IsMissing, KeepsOne}
 
 -- a shortcut's list has a place among those of all edges
 number_there : (h : HierarchyValue) (kept : List (Option (List Run))) (shortcut : Shortcut) → AreKept h kept → shortcut.edge < length h.edges → number_of shortcut < length kept

@@ -10,35 +10,36 @@ use Rattle.cu_arrival.specs.declared.runs.Run.{Run}
 use Rattle.cu_interval.specs.declared.ways.Dir.{Dir}
 use Rattle.cu_interval.specs.Hierarchies.{HierarchyValue, list_number}
 use Rattle.cu_interval.proofs.EndsLaws.{number_parts, number_within}
-use Rattle.cu_unpack.specs.declared.shortcuts.Shortcut.{Shortcut}
-use Rattle.cu_unpack.specs.RebuiltWords.{IsLearned, IsNeeded, IsSameList, IsSized, KeepsWords, Learns, WordsValue}
-use Rattle.cu_unpack.specs.Steps.Rebuilding.{HasWays, number_of}
-use Rattle.cu_unpack.specs.Steps.WordRebuilding.{HasWords, IsKnown, IsUnknown, LearnsOne}
+use Rattle.cu_interval.specs.declared.shortcuts.Shortcut.{Shortcut}
+use Rattle.cu_interval.specs.Shortcuts.{number_of}
+use Rattle.cu_unpack.specs.RebuiltRuns.{IsLearned, IsNeeded, IsSameList, IsSized, KeepsPacked, Learns, PackedValue}
+use Rattle.cu_unpack.specs.Steps.Rebuilding.{HasWays}
+use Rattle.cu_unpack.specs.Steps.PackedRebuilding.{HasPacked, IsKnown, IsUnknown, LearnsOne}
 
 -- a shortcut's list has a place
-known_within : (edges : ℕ) (value : WordsValue) (shortcut : Shortcut) → IsSized edges value → shortcut.edge < edges → number_of shortcut < length value.known
+known_within : (edges : ℕ) (value : PackedValue) (shortcut : Shortcut) → IsSized edges value → shortcut.edge < edges → number_of shortcut < length value.known
 known_within edges value shortcut size lt = let within = number_within shortcut.edge edges shortcut.dir lt in omega (arith, within, size.known)
 
-pub function_within : (edges : ℕ) (value : WordsValue) (shortcut : Shortcut) → IsSized edges value → shortcut.edge < edges → number_of shortcut < length value.functions
+pub function_within : (edges : ℕ) (value : PackedValue) (shortcut : Shortcut) → IsSized edges value → shortcut.edge < edges → number_of shortcut < length value.functions
 function_within edges value shortcut size lt = let within = number_within shortcut.edge edges shortcut.dir lt in omega (arith, within, size.functions)
 
 -- a shortcut with a way that is known has a function
-pub known_words : (h : HierarchyValue) (asked : ℕ) (value : WordsValue) → IsSized (length h.edges) value → KeepsWords h (IsNeeded h.edges asked) value → (shortcut : Shortcut) → HasWays h shortcut
-    → IsNeeded h.edges asked shortcut.edge → IsKnown value shortcut → HasWords value shortcut
-known_words h asked value size keeps shortcut ways needed known =
-    some_words (get_or value.functions (number_of shortcut) None) (slice_get-get_or value.functions (number_of shortcut) None (function_within (length h.edges) value shortcut size ways.0))
+pub known_packed : (h : HierarchyValue) (asked : ℕ) (value : PackedValue) → IsSized (length h.edges) value → KeepsPacked h (IsNeeded h.edges asked) value → (shortcut : Shortcut) → HasWays h shortcut
+    → IsNeeded h.edges asked shortcut.edge → IsKnown value shortcut → HasPacked value shortcut
+known_packed h asked value size keeps shortcut ways needed known =
+    some_packed (get_or value.functions (number_of shortcut) None) (slice_get-get_or value.functions (number_of shortcut) None (function_within (length h.edges) value shortcut size ways.0))
   where
-    some_words : (function : Option (List Run)) → slice_get value.functions (number_of shortcut) ≡ Some function → HasWords value shortcut
-    some_words None at = absurd (ways.1 (keeps shortcut.edge shortcut.dir needed known None at))
-    some_words (Some words) at = (words, at)
+    some_packed : (function : Option (List Run)) → slice_get value.functions (number_of shortcut) ≡ Some function → HasPacked value shortcut
+    some_packed None at = absurd (ways.1 (keeps shortcut.edge shortcut.dir needed known None at))
+    some_packed (Some packed) at = (packed, at)
 
-module _ (h : HierarchyValue) (shortcut : Shortcut) (before now : WordsValue) (size : IsSized (length h.edges) before) (lt : shortcut.edge < length h.edges)
+module _ (h : HierarchyValue) (shortcut : Shortcut) (before now : PackedValue) (size : IsSized (length h.edges) before) (lt : shortcut.edge < length h.edges)
     (one : LearnsOne h shortcut before now) where
   now_known : now.known ≡ slice_set before.known (number_of shortcut) true
-  now_known = ap (λ (v : WordsValue). v.known) one.1
+  now_known = ap (λ (v : PackedValue). v.known) one.1
 
   now_functions : now.functions ≡ slice_set before.functions (number_of shortcut) one.0
-  now_functions = ap (λ (v : WordsValue). v.functions) one.1
+  now_functions = ap (λ (v : PackedValue). v.functions) one.1
 
   pub one_sized : IsSized (length h.edges) now
   one_sized = record {
@@ -87,7 +88,7 @@ abbrev pub unknown_one : Bool → ℕ
 unknown_one true = 0
 unknown_one false = 1
 
-abbrev pub count_unknown : WordsValue → ℕ
+abbrev pub count_unknown : PackedValue → ℕ
 count_unknown value = sum_by unknown_one value.known
 
 unknown_there : (known : Bool) → (known ≡ true → ⊥) → unknown_one known ≡ 1
@@ -95,7 +96,7 @@ unknown_there true unknown = absurd (unknown refl)
 unknown_there false unknown = refl
 
 -- one less is unknown
-pub fewer_unknown : (h : HierarchyValue) (shortcut : Shortcut) (before now : WordsValue) → IsSized (length h.edges) before → shortcut.edge < length h.edges → LearnsOne h shortcut before now
+pub fewer_unknown : (h : HierarchyValue) (shortcut : Shortcut) (before now : PackedValue) → IsSized (length h.edges) before → shortcut.edge < length h.edges → LearnsOne h shortcut before now
     → (IsKnown before shortcut → ⊥) → count_unknown before ≡ count_unknown now + 1
 fewer_unknown h shortcut before now size lt one unknown =
     let number = number_of shortcut in
@@ -103,11 +104,11 @@ fewer_unknown h shortcut before now size lt one unknown =
     let is_one : unknown_one (get_or before.known number true) ≡ 1 =
     unknown_there (get_or before.known number true) (λ e. unknown (slice_get-get_or before.known number true inside ∙ ap Some e)) in
     let sums = sum_by-set unknown_one before.known number true true inside in
-    let same : count_unknown now ≡ sum_by unknown_one (slice_set before.known number true) = ap (λ (v : WordsValue). sum_by unknown_one v.known) one.1 in
+    let same : count_unknown now ≡ sum_by unknown_one (slice_set before.known number true) = ap (λ (v : PackedValue). sum_by unknown_one v.known) one.1 in
     omega (arith, is_one, sums, same)
 
 -- what is learned first and then is learned
-pub learns_both : (h : HierarchyValue) (asked : ℕ) (start before now : WordsValue) → Learns h asked start before → Learns h asked before now → Learns h asked start now
+pub learns_both : (h : HierarchyValue) (asked : ℕ) (start before now : PackedValue) → Learns h asked start before → Learns h asked before now → Learns h asked start now
 learns_both h asked start before now first then edge dir =
     elim (first edge dir) [
       | inl same ↦ elim (then edge dir) [

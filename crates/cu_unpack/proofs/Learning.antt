@@ -6,7 +6,7 @@ use Rattle.cu_arrival.specs.declared.runs.Run.{Run}
 use Rattle.cu_chordal.specs.declared.graph.Ends.{Ends}
 use Rattle.cu_interval.specs.declared.ways.Dir.{Dir}
 use Rattle.cu_interval.specs.Hierarchies.{HierarchyValue, list_number}
-use Rattle.cu_unpack.specs.RebuiltWords.{IsChain, IsClosedUnder, IsKnownList, IsNeeded, IsRebuiltWords, IsSameList, IsSide, KeepsWords, Learns, WordsValue}
+use Rattle.cu_unpack.specs.RebuiltRuns.{IsChain, IsClosedUnder, IsKnownList, IsNeeded, IsRebuiltRuns, IsSameList, IsSide, KeepsPacked, Learns, PackedValue}
 
 -- an edge needs itself
 pub needs_itself : (edges : List Ends) (edge : ℕ) → IsNeeded edges edge edge
@@ -37,18 +37,18 @@ needed_own edges IsOwn closed asked other own (chain, is) = along asked chain ow
     along from (next ∷ chain) own (first, rest) = along next chain (closed from next own first) rest
 
 -- so it may be asked for
-pub keeps_needed : (h : HierarchyValue) (IsOwn : ℕ → Type 0) (value : WordsValue) → IsClosedUnder h.edges IsOwn → (asked : ℕ) → IsOwn asked → KeepsWords h IsOwn value
-    → KeepsWords h (IsNeeded h.edges asked) value
+pub keeps_needed : (h : HierarchyValue) (IsOwn : ℕ → Type 0) (value : PackedValue) → IsClosedUnder h.edges IsOwn → (asked : ℕ) → IsOwn asked → KeepsPacked h IsOwn value
+    → KeepsPacked h (IsNeeded h.edges asked) value
 keeps_needed h IsOwn value closed asked own keeps edge dir needed = keeps edge dir (needed_own h.edges IsOwn closed asked edge own needed)
 
 -- where nothing is known nothing is wrong
-pub none_known : (h : HierarchyValue) (IsOwn : ℕ → Type 0) (value : WordsValue) → All (λ known. known ≡ false) value.known → KeepsWords h IsOwn value
+pub none_known : (h : HierarchyValue) (IsOwn : ℕ → Type 0) (value : PackedValue) → All (λ known. known ≡ false) value.known → KeepsPacked h IsOwn value
 none_known h IsOwn value unknown edge dir own known =
     let no : true ≡ false = all_at (λ (k : Bool). k ≡ false) value.known (list_number edge dir) true unknown known in
     absurd (cc no)
 
 -- what was known still is, with the same function
-pub learned_still : (h : HierarchyValue) (asked : ℕ) (before now : WordsValue) → Learns h asked before now → (edge : ℕ) (dir : Dir) → IsKnownList before (list_number edge dir)
+pub learned_still : (h : HierarchyValue) (asked : ℕ) (before now : PackedValue) → Learns h asked before now → (edge : ℕ) (dir : Dir) → IsKnownList before (list_number edge dir)
     → IsKnownList now (list_number edge dir) × (slice_get now.functions (list_number edge dir) ≡ slice_get before.functions (list_number edge dir))
 learned_still h asked before now learns edge dir known =
     elim (learns edge dir) [
@@ -57,17 +57,17 @@ learned_still h asked before now learns edge dir known =
     ]
 
 -- what is known of these is right as it was before
-pub learned_keeps : (h : HierarchyValue) (IsOwn : ℕ → Type 0) (asked : ℕ) (before now : WordsValue) → Learns h asked before now → KeepsWords h IsOwn before → KeepsWords h IsOwn now
+pub learned_keeps : (h : HierarchyValue) (IsOwn : ℕ → Type 0) (asked : ℕ) (before now : PackedValue) → Learns h asked before now → KeepsPacked h IsOwn before → KeepsPacked h IsOwn now
 learned_keeps h IsOwn asked before now learns keeps edge dir own known function at =
     elim (learns edge dir) [
       | inl same ↦ keeps edge dir own (sym same.0 ∙ known) function (sym same.1 ∙ at)
       | inr learned ↦
           let both : learned.function ≡ function = cc (learned.at, at) in
-          subst (λ (f : Option (List Run)). IsRebuiltWords h edge dir f) both learned.rebuilt
+          subst (λ (f : Option (List Run)). IsRebuiltRuns h edge dir f) both learned.rebuilt
     ]
 
 -- the lists of edges that aren't among these are as they were
-pub learned_others : (h : HierarchyValue) (IsOwn : ℕ → Type 0) → IsClosedUnder h.edges IsOwn → (asked : ℕ) → IsOwn asked → (before now : WordsValue) → Learns h asked before now
+pub learned_others : (h : HierarchyValue) (IsOwn : ℕ → Type 0) → IsClosedUnder h.edges IsOwn → (asked : ℕ) → IsOwn asked → (before now : PackedValue) → Learns h asked before now
     → (edge : ℕ) (dir : Dir) → (IsOwn edge → ⊥) → IsSameList before now (list_number edge dir)
 learned_others h IsOwn closed asked own before now learns edge dir other =
     elim (learns edge dir) [
@@ -76,5 +76,5 @@ learned_others h IsOwn closed asked own before now learns edge dir other =
     ]
 
 -- nothing is learned where all is as it was
-pub learns_nothing : (h : HierarchyValue) (asked : ℕ) (value : WordsValue) → Learns h asked value value
+pub learns_nothing : (h : HierarchyValue) (asked : ℕ) (value : PackedValue) → Learns h asked value value
 learns_nothing h asked value edge dir = inl (refl, refl)

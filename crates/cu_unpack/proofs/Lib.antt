@@ -11,4 +11,6 @@ pub mod HalvesFirst
 pub mod HalfEdges
 pub mod Learning
 pub mod KnownLists
-pub mod WordWays
+pub mod PackedWays
+pub mod VisitedOnce
+pub mod LeastValues

@@ -17,10 +17,11 @@ use Rattle.cu_interval.specs.Unpacking.{answer_by, relaxed, relaxed_ends, relaxe
 use Rattle.cu_interval.proofs.Unpacked.{unpacked-low}
 use Rattle.cu_interval.proofs.EndsLaws.{ends_apart, ends_range, min_ends}
 use Rattle.cu_interval.proofs.Walks.{low_some}
+use Rattle.cu_interval.specs.declared.shortcuts.Leg.{Leg}
 use Rattle.cu_unpack.specs.declared.unpacking.Driven.{Driven}
 use Rattle.cu_unpack.specs.declared.unpacking.Spot.{Spot}
 use Rattle.cu_unpack.specs.Answers.{IsArriving, walk_between, walk_over}
-use Rattle.cu_unpack.specs.Steps.Legs.{Leg, DrivesOn, HasWay, IsAt, IsLeft, IsLegOf, IsSomewhere, IsUnderWay, walk_on}
+use Rattle.cu_unpack.specs.Steps.Legs.{DrivesOn, HasWay, IsAt, IsLeft, IsLegOf, IsSomewhere, IsUnderWay, walk_on}
 use Rattle.cu_unpack.proofs.Waiting.{waiting_count}
 
 -- so many roads less one of the walk of an edge were driven, and so many look-ups counted

@@ -3,7 +3,8 @@ use Rattle.std.proofs.Common.{◌≡◌, ◌≤◌, ◌∙◌, ℕ, List, [], �
 use Rattle.std.specs.Prelude.{slice_set}
 use Rattle.cu_model.proofs.ListLaws.{get_other}
 use Rattle.cu_interval.specs.Hierarchies.{HierarchyValue}
-use Rattle.cu_unpack.specs.Steps.Legs.{Leg, AreWaiting}
+use Rattle.cu_interval.specs.declared.shortcuts.Leg.{Leg}
+use Rattle.cu_unpack.specs.Steps.Legs.{AreWaiting}
 
 -- what waits is the same where more is written above it
 pub waiting_kept : (h : HierarchyValue) (pending : List ℕ) (i x count : ℕ) (legs : List Leg) → count ≤ i → AreWaiting h pending count legs → AreWaiting h (slice_set pending i x) count legs

@@ -19,9 +19,10 @@ use Rattle.cu_interval.specs.Hierarchies.{HierarchyValue, IsHierarchy, start_of,
 use Rattle.cu_interval.specs.Resettling.{least_in, lesser_of, rebuilt, rebuilt_by, then_at}
 use Rattle.cu_interval.proofs.Lookups.{list_from-edge}
 use Rattle.cu_interval.proofs.Rebuilding.{rebuilt-fuel}
-use Rattle.cu_unpack.specs.declared.shortcuts.Shortcut.{Shortcut}
+use Rattle.cu_interval.specs.declared.shortcuts.Shortcut.{Shortcut}
+use Rattle.cu_interval.specs.Shortcuts.{AreHalves, number_of, ways_of}
 use Rattle.cu_unpack.specs.Rebuilds.{IsRebuiltFunction, Keeps}
-use Rattle.cu_unpack.specs.Steps.Rebuilding.{AreHalves, AreKept, HasValues, IsAmong, IsEarlier, IsLeastOf, IsWayFunction, IsWayOf, number_of, value_in, way_value, ways_of}
+use Rattle.cu_unpack.specs.Steps.Rebuilding.{AreKept, HasValues, IsAmong, IsEarlier, IsLeastOf, IsWayFunction, IsWayOf, value_in, way_value}
 
 pub road_function : (h : HierarchyValue) (shortcut : Shortcut) (road : ℕ) (runs : List Run) → ((t : ℕ) → arrival_value runs t ≡ arc_value h.network road t)
     → IsWayFunction h shortcut (Road road) runs

@@ -1,7 +1,9 @@
 pub mod Answers
 pub mod Counts
+pub mod LeastFunctions
 pub mod Rebuilds
-pub mod RebuiltWords
+pub mod RebuiltRuns
 pub mod Texts
 pub mod Told
+pub mod Visits
 pub mod Steps

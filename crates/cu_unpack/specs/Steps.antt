@@ -1,4 +1,4 @@
 -- What private functions mean to each other; no public contract speaks of it.
 pub mod Legs
 pub mod Rebuilding
-pub mod WordRebuilding
+pub mod PackedRebuilding

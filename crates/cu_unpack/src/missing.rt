@@ -2,11 +2,11 @@
 
 ghost use Rattle.std.specs.Prelude.{◌≡◌, ◌<◌, ◌*◌, ◌↔◌, ℕ, IsTrue, length};
 ghost use Rattle.cu_interval.specs.Hierarchies.{IsHierarchy};
-ghost use Rattle.cu_unpack.specs.declared.shortcuts.Shortcut.{Shortcut};
-ghost use Rattle.cu_unpack.specs.Steps.Rebuilding.{FindsHalf, FindsMissing, IsWayOf, number_of, ways_of};
+ghost use Rattle.cu_interval.specs.declared.shortcuts.Shortcut.{Shortcut};
+ghost use Rattle.cu_interval.specs.Shortcuts.{number_of, ways_of};
+ghost use Rattle.cu_unpack.specs.Steps.Rebuilding.{FindsHalf, FindsMissing, IsWayOf};
 
-use crate::shortcuts::{Shortcut, halves};
-use cu_interval::{Way, Ways};
+use cu_interval::{Shortcut, Way, Ways, halves};
 
 /// Whatever knows some of so many lists, by number. No call takes memory.
 pub trait Known {

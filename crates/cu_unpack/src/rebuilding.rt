@@ -5,14 +5,15 @@ ghost use Rattle.cu_arrival.specs.Runs.{IsArrivalFunction};
 ghost use Rattle.cu_chordal.specs.declared.graph.TheConstants.{MAX_EDGES};
 ghost use Rattle.cu_interval.specs.declared.ways.Entry.{Entry};
 ghost use Rattle.cu_interval.specs.Hierarchies.{HierarchyValue, IsHierarchy};
-ghost use Rattle.cu_unpack.specs.Rebuilds.{IsRebuiltFunction, Keeps};
-ghost use Rattle.cu_unpack.specs.Steps.Rebuilding.{AreKept, FindsMissing, HasHalves, HasWays, IsEarlier, IsKept, IsLeastOf, IsWayFunction, IsWayOf, KeepsOne, number_of, ways_of};
+ghost use Rattle.cu_interval.specs.Shortcuts.{number_of, ways_of};
+ghost use Rattle.cu_unpack.specs.Rebuilds.{IsKept, IsRebuiltFunction, Keeps};
+ghost use Rattle.cu_unpack.specs.Steps.Rebuilding.{AreKept, FindsMissing, HasHalves, HasWays, IsEarlier, IsLeastOf, IsWayFunction, IsWayOf, KeepsOne};
 
 use crate::missing::{Known, missing_half};
-use crate::shortcuts::{Shortcut, halves, is_among, list_number, take_next};
+use crate::shortcuts::{is_among, take_next};
 use cu_arrival::{Arrival, compose, lesser};
 use cu_chordal::MAX_EDGES;
-use cu_interval::{Dir, Way, Ways};
+use cu_interval::{Dir, Shortcut, Way, Ways, halves};
 use cu_model::NoMemory;
 use std::alloc::Global;
 use std::marker::Model;
@@ -50,7 +51,7 @@ impl Rebuilt {
     /// The function of an edge in a direction over these ways: the least of its list's ways at each second of the day, where
     /// a way by a middle goes on along the second half from where the first one arrives. None exactly where the list is
     /// empty. The edge's number is below the number of edges, and what is kept is of this hierarchy, and so it stays, after a
-    /// refusal too. Refused only for want of memory. Each shortcut that it needs is rebuilt once, however often it is asked.
+    /// refusal too. Refused only for want of memory.
     pub fn function<W: Ways>(
         &mut self,
         alloc: Global,
@@ -79,7 +80,7 @@ impl Rebuilt {
         requires { IsKept self.now.kept shortcut }
         ensures { slice_get self.now.kept (number_of shortcut) ≡ Some (Some result.now) }
     {
-        let Some(function) = &self.kept[list_number(shortcut)] else {
+        let Some(function) = &self.kept[shortcut.list()] else {
             unreachable!()
         };
         function
@@ -92,7 +93,7 @@ impl Known for Rebuilt {
     ghost knows = { λ rebuilt. IsKept rebuilt.kept };
 
     fn is_known(&self, shortcut: Shortcut) -> bool {
-        self.kept[list_number(shortcut)].is_some()
+        self.kept[shortcut.list()].is_some()
     }
 }
 
@@ -139,7 +140,7 @@ fn keep_function<W: Ways>(
     ensures same { OnErr result (rebuilt.new ≡ rebuilt.old) }
 {
     let function = least_function(alloc, ways, rebuilt, shortcut)?;
-    rebuilt.kept[list_number(shortcut)] = function;
+    rebuilt.kept[shortcut.list()] = function;
     Ok(())
 }
 

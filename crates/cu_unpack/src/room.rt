@@ -1,20 +1,20 @@
-//! Merging the ways of one list after the other as words, in room that is used again.
+//! Merging the ways of one list after the other as packed runs, in room that is used again.
 
 ghost use Rattle.std.specs.Prelude.{◌≡◌, ◌<◌, ◌-◌, ℕ, IfOk, IsTrue, Some, false, length, true};
 ghost use Rattle.cu_model.specs.Days.{day};
 ghost use Rattle.cu_model.specs.Roads.{arc_value, is_closed_arc};
 ghost use Rattle.cu_arrival.specs.Runs.{arrival_value};
-ghost use Rattle.cu_customize.specs.declared.merging.TheConstants.{MOST};
-ghost use Rattle.cu_customize.specs.declared.words.TheConstants.{MAX_NUMBER};
-ghost use Rattle.cu_customize.specs.Least.{least_arrival};
-ghost use Rattle.cu_customize.specs.Settling.{TakeLonger};
-ghost use Rattle.cu_customize.specs.Words.{composed};
+ghost use Rattle.cu_runs.specs.declared.merging.TheConstants.{MOST};
+ghost use Rattle.cu_runs.specs.declared.packed_runs.TheConstants.{MAX_NUMBER};
+ghost use Rattle.cu_runs.specs.Least.{least_arrival};
+ghost use Rattle.cu_runs.specs.Travels.{TakeLonger};
+ghost use Rattle.cu_runs.specs.PackedRuns.{composed};
 ghost use Rattle.cu_interval.specs.Hierarchies.{IsHierarchy};
-ghost use Rattle.cu_unpack.specs.Steps.WordRebuilding.{Adds, IsInTime, IsLeastWords};
+ghost use Rattle.cu_unpack.specs.Steps.PackedRebuilding.{Adds, IsInTime, IsLeastRuns};
 
-use cu_customize::{DayFunction, MAX_NUMBER, Merger, Word, function_of_run, put_road};
 use cu_interval::Ways;
 use cu_model::{DAY, NoMemory};
+use cu_runs::{DayFunction, MAX_NUMBER, Merger, PackedRun, function_of_run, put_road};
 use std::alloc::Global;
 use std::marker::Model;
 
@@ -25,15 +25,15 @@ const MOST_TOGETHER: u64 = MAX_NUMBER - DAY as u64;
 #[derive(Debug, Drop)]
 pub struct Room {
     merger: Merger,
-    road: Vec<Word>,
-    stay: Vec<Word>,
+    road: Vec<PackedRun>,
+    stay: Vec<PackedRun>,
 }
 
 impl Model for Room {
     ghost use Rattle.std.specs.Prelude.{List};
-    ghost use Rattle.cu_customize.specs.Least.{Held};
+    ghost use Rattle.cu_runs.specs.Least.{Held};
     ghost use Rattle.cu_interval.specs.Hierarchies.{IsHierarchy};
-    ghost use Rattle.cu_unpack.specs.Steps.WordRebuilding.{IsStay};
+    ghost use Rattle.cu_unpack.specs.Steps.PackedRebuilding.{IsStay};
 
     ghost Value = { List Held };
 
@@ -47,7 +47,7 @@ impl Room {
         Ok(Room {
             merger: Merger::new(alloc)?,
             road: Vec::new(alloc),
-            stay: function_of_run(alloc, Word::of(0, false, 0))?,
+            stay: function_of_run(alloc, PackedRun::of(0, false, 0))?,
         })
     }
 
@@ -71,8 +71,8 @@ impl Room {
         Ok(())
     }
 
-    /// Adds a way by a middle: along a first function and, from where it arrives, along a second. False where they take so
-    /// long that, with a day more, words can't say it.
+    /// Adds a way by a middle: along a first function and, from where it arrives, along a second. False where they take
+    /// so long that, with a day more, packed runs can't say it.
     pub fn add_both(&mut self, first: &DayFunction, second: &DayFunction) -> Result<bool, NoMemory>
         ensures adds { IfOk result (λ is_near. is_near ≡ true →
             Adds (composed first.now second.now) self.old self.new) }
@@ -82,21 +82,21 @@ impl Room {
         if !is_near(first, second) {
             return Ok(false);
         }
-        self.merger.add(first.words(), second.words(), 0)?;
+        self.merger.add(first.packed(), second.packed(), 0)?;
         Ok(true)
     }
 
     /// The least of the ways at each second of the day.
     pub fn least(&self, alloc: Global) -> Result<DayFunction, NoMemory>
         requires { (t : ℕ) → t < day → IsInTime t (least_arrival self.now t) }
-        ensures { IfOk result (IsLeastWords self.now) }
+        ensures { IfOk result (IsLeastRuns self.now) }
     {
-        let words = self.merger.least_words(alloc)?;
-        Ok(DayFunction::of(words))
+        let packed = self.merger.least_runs(alloc)?;
+        Ok(DayFunction::of(packed))
     }
 }
 
-// Whether words can say how long both functions take, one after the other.
+// Whether packed runs can say how long both functions take, one after the other.
 fn is_near(first: &DayFunction, second: &DayFunction) -> bool
     ensures near { IsTrue result →
         (t : ℕ) → t < day → IsInTime t (composed first.now second.now t) }

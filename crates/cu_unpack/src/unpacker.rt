@@ -70,6 +70,7 @@ impl<'a, W: Ways> Unpacker<'a, W> {
         ensures wrote { Wrote (K.state sink.old) (K.state sink.new) result
             (walk_text first (walk_over self.old edge dir at)) }
         ensures arrival { IfOk result (λ arrival. relaxed self.old edge dir at ≡ At arrival) }
+        ensures sound { IsHierarchy self.old }
         ensures stays { self.new ≡ self.old }
     {
         let ways = self.ways;
@@ -130,6 +131,7 @@ fn walk_over_ways<W: Ways, K: Sink>(
         (walk_text first (walk_over (W.hierarchy ways.now) edge dir at)) }
     ensures arrival { IfOk result
         (λ arrival. relaxed (W.hierarchy ways.now) edge dir at ≡ At arrival) }
+    ensures sound { IsHierarchy (W.hierarchy ways.now) }
     ensures work { work.new ≡ work.old }
 {
     write_walk(&mut Counted::of(ways), work, edge, dir, at, first, sink)

@@ -1,20 +1,21 @@
 //! The unpacking itself: a shortcut is parted at its middles until its next road is found, and driven road by road.
 
-ghost use Rattle.std.specs.Prelude.{◌≡◌, ◌≤◌, ◌<◌, ◌+◌, ◌^◌, ℕ, List, Some, IfOk, length, slice_get};
+ghost use Rattle.std.specs.Prelude.{◌≡◌, ◌≤◌, ◌<◌, ◌+◌, ◌^◌, ℕ, List, IfOk, length};
 ghost use Rattle.cu_io.specs.Sinks.{Wrote};
-ghost use Rattle.cu_chordal.specs.Graphs.{HasEdge};
 ghost use Rattle.cu_interval.specs.declared.relaxing.Relaxed.TheVariants.{At};
+ghost use Rattle.cu_interval.specs.declared.shortcuts.Leg.{Leg};
 ghost use Rattle.cu_interval.specs.Calls.{IfAt};
 ghost use Rattle.cu_interval.specs.Hierarchies.{IsHierarchy};
+ghost use Rattle.cu_interval.specs.Shortcuts.{IsMiddle};
 ghost use Rattle.cu_interval.specs.Unpacking.{relaxed};
 ghost use Rattle.cu_unpack.specs.Answers.{IsArriving, walk_over};
 ghost use Rattle.cu_unpack.specs.Counts.{Takes};
 ghost use Rattle.cu_unpack.specs.Texts.{road_text, walk_text};
-ghost use Rattle.cu_unpack.specs.Steps.Legs.{Leg, DrivesOn, FindsRoad, IsAt, IsMiddle, IsSomewhere, Parts, Resumes};
+ghost use Rattle.cu_unpack.specs.Steps.Legs.{DrivesOn, FindsRoad, IsAt, IsSomewhere, Parts, Resumes};
 
 use crate::counted::CountedWays;
 use crate::work::Work;
-use cu_interval::{Dir, Relaxed, Way};
+use cu_interval::{Dir, Relaxed, Way, leg_of};
 use cu_io::{Sink, SinkFailed, put_all, put_number};
 
 // Where an unpacking stands: the shortcut that is next, the second at which it is asked, and how many wait behind it, all of
@@ -117,6 +118,7 @@ pub(crate) fn write_walk<C: CountedWays, K: Sink>(
         (walk_text first (walk_over (C.hierarchy ways.old) edge dir at)) }
     ensures arrival { IfOk result
         (λ arrival. relaxed (C.hierarchy ways.old) edge dir at ≡ At arrival) }
+    ensures sound { IsHierarchy (C.hierarchy ways.old) }
     ensures work { work.new ≡ work.old }
 {
     write_in(ways, &mut work.pending, edge, dir, at, first, sink)
@@ -141,6 +143,7 @@ fn write_in<C: CountedWays, K: Sink>(
         (walk_text first (walk_over (C.hierarchy ways.old) edge dir at)) }
     ensures arrival { IfOk result
         (λ arrival. relaxed (C.hierarchy ways.old) edge dir at ≡ At arrival) }
+    ensures sound { IsHierarchy (C.hierarchy ways.old) }
 {
     let mut spot = start(edge, dir, at);
     let mut first = first;
@@ -248,29 +251,18 @@ fn part<C: CountedWays>(ways: &C, pending: &mut [u32], spot: Spot, middle: u32) 
     requires room { spot.waiting < length pending.old }
     ensures parts { Parts (C.hierarchy ways.now) spot middle pending.old pending.new result }
 {
-    let ends = ways.ends(spot.edge);
-    let (from, to) = match spot.dir {
-        Dir::Up => (ends.low, ends.high),
-        Dir::Down => (ends.high, ends.low),
+    let leg = leg_of(ways.ends(spot.edge), spot.dir);
+    let Some(first) = ways.edge(middle, leg.from) else {
+        unreachable!()
     };
-    pending[spot.waiting] = edge_to(ways, middle, to);
+    let Some(second) = ways.edge(middle, leg.to) else {
+        unreachable!()
+    };
+    pending[spot.waiting] = second;
     Spot {
-        edge: edge_to(ways, middle, from),
+        edge: first,
         dir: Dir::Down,
         second: spot.second,
         waiting: spot.waiting + 1,
     }
-}
-
-// The edge between two ranks, which there is.
-fn edge_to<C: CountedWays>(ways: &C, low: u32, high: u32) -> u32
-    requires sound { IsHierarchy (C.hierarchy ways.now) }
-    requires there { HasEdge (C.hierarchy ways.now).edges low high }
-    ensures { slice_get (C.hierarchy ways.now).edges result
-        ≡ Some (record { low = low; high = high }) }
-{
-    let Some(edge) = ways.edge(low, high) else {
-        unreachable!()
-    };
-    edge
 }

@@ -6,8 +6,8 @@ use Rattle.cu_interval.specs.declared.ways.Entry.{Entry}
 use Rattle.cu_interval.specs.FirstWays.{IsCandidate, Arrives}
 use Rattle.cu_interval.specs.Hierarchies.{HierarchyValue, IsBuilt, end_of, entries_or_none, list_of, start_of}
 use Rattle.cu_interval.proofs.Unique.{runs_unique}
-use Rattle.cu_customize.proofs.Keeping.{number_edge}
-use Rattle.cu_edits.proofs.ResettledOnce.{list_at}
+use Rattle.cu_interval.proofs.EndsLaws.{number_edge}
+use Rattle.cu_resettled.proofs.ResettledOnce.{list_at}
 use Rattle.cu_verify.specs.Verdicts.{with_lists}
 
 module _ (h : HierarchyValue) (lists : List (List Entry)) (first : IsBuilt h) (second : IsBuilt (with_lists h lists)) where

@@ -7,7 +7,7 @@ ghost use Rattle.cu_verify.specs.Verdicts.{IsVerdict, with_lists};
 ghost use Rattle.cu_verify.specs.Steps.Comparing.{FindsParting, IsVerdictTo, PartBy, begin_or_day};
 
 use crate::verdicts::Verdict;
-use cu_interval::{Dir, Entry, WayList, Ways};
+use cu_interval::{Dir, Entry, Shortcut, WayList, Ways};
 use cu_model::DAY;
 use cu_pack::{PackedView, WaySlice};
 
@@ -65,10 +65,7 @@ fn list_at(lists: &[WayList], edge: u32, dir: Dir) -> &WayList
     requires { list_number edge dir < length lists.now }
     ensures { slice_get lists.now (list_number edge dir) ≡ Some result.now }
 {
-    match dir {
-        Dir::Up => &lists[2 * edge as usize],
-        Dir::Down => &lists[2 * edge as usize + 1],
-    }
+    &lists[Shortcut { edge, dir }.list()]
 }
 
 // The first second of the day at which two lists take other ways. None exactly where they are equal.

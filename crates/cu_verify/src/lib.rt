@@ -4,14 +4,11 @@
 //! exactly where the hierarchy is the built one, else where it first differs (`specs/Verdicts.antt`). A file's own checks find
 //! bytes that changed and ways that lead nowhere; that the ways are the best ones, this tells.
 //!
-//! It stands on `cu_model`, `cu_chordal`, `cu_interval`, `cu_customize`, `cu_edits` (for the copy of a profile) and `cu_pack`; its
-//! tests alone use the crate `sha2`. `specs/Steps` is cited by private functions alone.
+//! It stands on `cu_model`, `cu_interval`, `cu_customize`, `cu_pack`, and on `cu_resettled` for a law. `specs/Steps` is cited by
+//! private functions alone.
 #![tactic(auto)]
 
 mod comparing;
-mod copying;
-#[cfg(test)]
-mod tests;
 mod verdicts;
 
 pub use verdicts::{Verdict, verify};

@@ -4,10 +4,9 @@ ghost use Rattle.std.specs.Prelude.{IfOk};
 ghost use Rattle.cu_verify.specs.Verdicts.{IsVerdict};
 
 use crate::comparing::compare;
-use crate::copying::copy_network;
 use cu_customize::built_lists;
 use cu_interval::{Dir, Way, Ways};
-use cu_model::NoMemory;
+use cu_model::{NoMemory, copy_network};
 use cu_pack::{PackedView, chordal_of, order_of};
 use std::alloc::Global;
 

@@ -3,11 +3,11 @@ use Rattle.std.specs.Prelude.{ℕ, ◌/◌, ◌%◌, ◌==◌, if◌then◌else�
 use Rattle.cu_arrival.specs.declared.runs.Run.{Run}
 use Rattle.cu_arrival.specs.declared.runs.RunRule.{RunRule}
 use Rattle.cu_arrival.specs.declared.runs.RunRule.TheVariants.{Shift, Fixed}
-use Rattle.cu_arrival.specs.declared.packing.PackedRun.{PackedRun}
+use Rattle.cu_arrival.specs.declared.packing.KeptRun.{KeptRun}
 
 abbrev pub unpacked_rule : ℕ → RunRule
-unpacked_rule word = if word % 2 == 0 then Shift (word / 2) else Fixed (word / 2)
+unpacked_rule bits = if bits % 2 == 0 then Shift (bits / 2) else Fixed (bits / 2)
 
 -- the run that is kept
-abbrev pub unpacked : PackedRun → Run
-unpacked kept = record { from = kept.from; rule = unpacked_rule kept.word }
+abbrev pub unpacked : KeptRun → Run
+unpacked kept = record { from = kept.from; rule = unpacked_rule kept.bits }

@@ -6,11 +6,6 @@ use Rattle.cu_arrival.specs.declared.runs.RunRule.{RunRule}
 use Rattle.cu_arrival.specs.declared.runs.RunRule.TheVariants.{Shift, Fixed}
 use Rattle.cu_arrival.specs.declared.stretches.Stretch.{Stretch}
 
--- when a rule arrives whose second is an absolute one, leaving at an absolute second
-abbrev pub arrives : RunRule → ℕ → ℕ
-arrives (Shift seconds) t = t + seconds
-arrives (Fixed arrival) t = arrival
-
 -- the rule in absolute seconds, on the day that begins at this second
 abbrev pub on_day : RunRule → ℕ → RunRule
 on_day (Shift seconds) midnight = Shift seconds

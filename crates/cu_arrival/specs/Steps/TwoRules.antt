@@ -3,8 +3,7 @@ use Rattle.std.specs.Prelude.{ℕ, ◌≡◌, ◌≤◌, ◌<◌, ◌^◌, min, 
 use Rattle.cu_arrival.specs.declared.runs.RunRule.{RunRule}
 use Rattle.cu_arrival.specs.declared.composition.Linked.{Linked}
 use Rattle.cu_arrival.specs.declared.minimum.Earlier.{Earlier}
-use Rattle.cu_arrival.specs.Runs.{rule_number}
-use Rattle.cu_arrival.specs.Steps.Stretches.{arrives}
+use Rattle.cu_arrival.specs.Runs.{rule_number, arrives}
 
 -- the first rule and then the second, by 2 ^ 62
 pub record IsLinked (first second : RunRule) (at end : ℕ) (step : Linked) : Type 0 where

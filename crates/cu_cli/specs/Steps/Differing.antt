@@ -2,7 +2,7 @@
 use Rattle.std.specs.Prelude.{Option, Some, None}
 use Rattle.cu_interval.specs.Hierarchies.{HierarchyValue, IsBuilt}
 use Rattle.cu_cli.specs.declared.stops.Difference.{Difference}
-use Rattle.cu_cli.specs.Runs.{IsDifference}
+use Rattle.cu_cli.specs.Commands.Verify.{IsDifference}
 
 -- the hierarchy is the built one, or this is where it first differs
 abbrev pub FindsDifference : HierarchyValue → Option Difference → Type 0

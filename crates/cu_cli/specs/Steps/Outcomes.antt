@@ -16,7 +16,9 @@ use Rattle.cu_roads.specs.declared.refusals.RoadRefusal.TheVariants as road
 use Rattle.cu_cli.specs.declared.stops.Stop.{Stop}
 use Rattle.cu_cli.specs.declared.stops.Stop.TheVariants as stop
 use Rattle.cu_session.specs.Sessions.{IsFlushed, Leaves}
-use Rattle.cu_cli.specs.Runs.{Ending, Moves}
+use Rattle.cu_cli.specs.Endings.{Ending}
+use Rattle.cu_cli.specs.Meanings.{Meaning}
+use Rattle.cu_cli.specs.Runs.{CountsFaults, IsShort, MeetsNoFault, Moves}
 use Rattle.cu_cli.specs.Storing.{Stores}
 use Rattle.cu_cli.specs.Stops.{said_of, status_at, status_of}
 
@@ -47,6 +49,11 @@ IsBeforeScript stop.Sink = ⊥
 IsBeforeScript stop.TakeLimit = ⊥
 IsBeforeScript _ = Unit {0}
 
+-- a stop that no fault is behind
+abbrev pub IsRefusal : Stop → Type 0
+IsRefusal (stop.Fault whose) = ⊥
+IsRefusal why = IsBeforeScript why
+
 -- why the work stopped, if it did
 abbrev pub stop_of : {T : Type 0} → Result T Stop → Option Stop
 stop_of (Ok value) = None
@@ -67,15 +74,37 @@ SaysStop why before now status =
 
 pub record Refuses (why : Stop) (before now : SinkState) (status : ℕ) : Type 0 where
   pub said : SaysStop why before now status
+  pub quiet : status ≢ 8 → now.faults ≡ before.faults
   pub later : before.faults ≤ now.faults
   pub rises : before.flushed ≤ now.flushed
 
--- The work of a command, which may answer a script, ended as `Ends` says, and moved, stored and left so much.
-pub record Works (script : Bool) (why : Option Stop) (Ends : Ending → Type 0) (shelf_before shelf_now : ShelfState) (source_before source_now : SourceState)
-    (sink_before sink_now : SinkState) : Type 0 where
+-- what the shelf, the source and the sink of a run tell
+pub record World : Type 0 where
+  pub shelf : ShelfState
+  pub source : SourceState
+  pub sink : SinkState
+
+abbrev pub world_of : ShelfState → SourceState → SinkState → World
+world_of shelf source sink = record { shelf = shelf; source = source; sink = sink }
+
+-- where nothing fails, and the source is short, nothing stops a command that can be done but want of memory and what its meaning says
+abbrev pub Completes : Meaning → Option Stop → World → World → Type 0
+Completes meaning None before now = Unit {0}
+Completes meaning (Some why) before now =
+    meaning.can before.shelf → IsShort before.source
+    → MeetsNoFault before.shelf now.shelf before.source now.source before.sink now.sink → (why ≡ stop.NoMemory) ⊎ meaning.stops why
+
+-- the work, which may answer a script, ended as `Ends` says, and moved, stored and left so much
+pub record Did (script : Bool) (why : Option Stop) (Ends : ShelfState → ShelfState → Ending → Type 0) (before now : World) : Type 0 where
   pub work : Ending
   pub stop : work.stop ≡ why
-  pub ended : Ends work
-  pub moves : Moves source_before source_now sink_before sink_now work
-  pub stores : Stores shelf_before.held work.stored shelf_now.held
-  pub leaves : Leaves script (status_at why) source_before source_now sink_before sink_now
+  pub ended : Ends before.shelf now.shelf work
+  pub moves : Moves before.source now.source before.sink now.sink work
+  pub stores : Stores before.shelf.held work.stored now.shelf.held
+  pub leaves : Leaves script (status_at why) before.source now.source before.sink now.sink
+  pub faults : CountsFaults why before.shelf now.shelf
+
+-- the work of a command of this meaning
+pub record Works (meaning : Meaning) (why : Option Stop) (before now : World) : Type 0 where
+  pub did : Did meaning.script why meaning.ends before now
+  pub complete : Completes meaning why before now

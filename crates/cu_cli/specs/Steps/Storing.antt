@@ -1,15 +1,17 @@
 -- What stores leave of a shelf.
-use Rattle.std.specs.Prelude.{◌≡◌, ◌≤◌, ℕ, List, Result, OnOk, IfErr}
+use Rattle.std.specs.Prelude.{◌≡◌, List, Result, OnOk, IfErr}
 use Rattle.cu_io.specs.Shelves.{ShelfState}
 use Rattle.cu_cli.specs.declared.stops.Stop.{Stop}
+use Rattle.cu_cli.specs.Runs.{CountsFaults}
 use Rattle.cu_cli.specs.Storing.{FileMade, FileStored, StopsStoring, Stores, all_stored}
-use Rattle.cu_cli.specs.Steps.Outcomes.{IsBeforeScript}
+use Rattle.cu_cli.specs.Steps.Outcomes.{IsBeforeScript, stop_of}
 
--- the files were stored in turn, all of them or as far as the first that was refused; no count of faults fell
+-- the files were stored in turn, all of them or as far as the first that was refused
 pub record StoresInTurn {T : Type 0} (before now : ShelfState) (files : List FileMade) (result : Result T Stop) : Type 0 where
   pub stored : List FileStored
   pub stores : Stores before.held stored now.held
   pub whole : OnOk result (stored ≡ all_stored files)
   pub stopped : IfErr result (λ why. StopsStoring before now files why stored)
   pub early : IfErr result IsBeforeScript
-  pub later : (name : List ℕ) → before.store_faults name ≤ now.store_faults name
+  pub loads : now.load_faults ≡ before.load_faults
+  pub faults : CountsFaults (stop_of result) before now

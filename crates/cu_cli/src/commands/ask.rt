@@ -1,8 +1,9 @@
 //! `ask`: the queries and edits of the source answered over a packed file.
 
-ghost use Rattle.std.specs.Prelude.{true};
-ghost use Rattle.cu_cli.specs.Runs.{EndsAsk};
-ghost use Rattle.cu_cli.specs.Steps.Outcomes.{Works, stop_of};
+ghost use Rattle.std.specs.Prelude.{map, string_bytes};
+ghost use Rattle.cu_cli.specs.Commands.Ask.{ask_of};
+ghost use Rattle.cu_cli.specs.Steps.Asks.{Parses, ask_asked};
+ghost use Rattle.cu_cli.specs.Steps.Outcomes.{Works, stop_of, world_of};
 
 use crate::opening::open_file;
 use crate::stops::Stop;
@@ -10,27 +11,38 @@ use cu_io::{Shelf, Sink, Source};
 use cu_session::answer_script;
 use std::alloc::Global;
 
+/// The file of a packed hierarchy.
+#[derive(Clone, Copy)]
+pub struct AskWords<'a> {
+    pub hierarchy: &'a str,
+}
+
+/// What the words behind `ask` name; none where they are not one.
+pub fn parse(words: &[String]) -> Option<AskWords<'_>>
+    ensures { Parses ask_asked (ask_of (map string_bytes words.now)) result }
+{
+    let [hierarchy] = words else {
+        return None;
+    };
+    Some(AskWords {
+        hierarchy: hierarchy.as_str(),
+    })
+}
+
 /// Opens a packed file, whose hierarchy may be built or not, and answers the script of the source over its bytes. All
 /// that a query needs is made before the first reply; an edit takes memory of its own. Nothing is stored.
 pub fn ask<H: Shelf, S: Source, K: Sink>(
     alloc: Global,
-    name: &str,
+    asked: AskWords<'_>,
     shelf: &mut H,
     source: &mut S,
     sink: &mut K,
 ) -> Result<(), Stop>
-    ensures works { Works
-        true
-        (stop_of result)
-        (EndsAsk (H.state shelf.old) (H.state shelf.new) name.now)
-        (H.state shelf.old)
-        (H.state shelf.new)
-        (S.state source.old)
-        (S.state source.new)
-        (K.state sink.old)
-        (K.state sink.new) }
+    ensures works { Works (ask_asked asked.entry) (stop_of result)
+        (world_of (H.state shelf.old) (S.state source.old) (K.state sink.old))
+        (world_of (H.state shelf.new) (S.state source.new) (K.state sink.new)) }
 {
-    let bytes = open_file(alloc, name, shelf)?;
+    let bytes = open_file(alloc, asked.hierarchy, shelf)?;
     answer_script(alloc, bytes, source, sink)?;
     Ok(())
 }

@@ -1,44 +1,63 @@
 //! `build`: the packed file of a network's built hierarchy, stored.
 
-ghost use Rattle.std.specs.Prelude.{false};
+ghost use Rattle.std.specs.Prelude.{map, string_bytes};
 ghost use Rattle.cu_io.specs.Sources.{SourceState};
 ghost use Rattle.cu_io.specs.Sinks.{WroteLine};
-ghost use Rattle.cu_cli.specs.Runs.{EndsBuild, built_text};
-ghost use Rattle.cu_cli.specs.Steps.Asks.{building_asked};
-ghost use Rattle.cu_cli.specs.Steps.Outcomes.{Works, stop_of};
+ghost use Rattle.cu_cli.specs.Commands.Build.{build_of, built_text};
+ghost use Rattle.cu_cli.specs.Steps.Asks.{Parses, build_asked};
+ghost use Rattle.cu_cli.specs.Steps.Outcomes.{Works, stop_of, world_of};
 
 use crate::preparing::prepare;
+use crate::saying::put_numbers_line;
 use crate::stops::{Role, Stop};
 use crate::storing::store_file;
-use crate::words::BuildingWords;
+use crate::words::{OrderWord, TableNames, parse_order};
 use cu_customize::customize;
 use cu_interval::{Hierarchy, Ways};
-use cu_io::{Shelf, Sink, SinkFailed, end_line};
+use cu_io::{Shelf, Sink, SinkFailed};
 use cu_model::Roads;
 use cu_pack::pack;
-use cu_session::{put_word_and_long, put_word_and_number};
 use std::alloc::Global;
+
+/// The tables of a network with its order, and the file that gets its packed hierarchy.
+#[derive(Clone, Copy)]
+pub struct BuildWords<'a> {
+    pub tables: TableNames<'a>,
+    pub order: OrderWord<'a>,
+    pub out: &'a str,
+}
+
+/// What the words behind `build` name; none where they are not five.
+pub fn parse(words: &[String]) -> Option<BuildWords<'_>>
+    ensures { Parses build_asked (build_of (map string_bytes words.now)) result }
+{
+    let [nodes, roads, profiles, order, out] = words else {
+        return None;
+    };
+    Some(BuildWords {
+        tables: TableNames {
+            nodes: nodes.as_str(),
+            roads: roads.as_str(),
+            profiles: profiles.as_str(),
+        },
+        order: parse_order(order.as_str()),
+        out: out.as_str(),
+    })
+}
 
 /// Builds the hierarchy of the tables, stores its packed file and says how many nodes, roads, edges and bytes it has.
 /// Nothing is stored where the file has more bytes than the shelf loads. Nothing is taken from a source.
 pub fn build<H: Shelf, K: Sink>(
     alloc: Global,
-    asked: BuildingWords<'_>,
+    asked: BuildWords<'_>,
     shelf: &mut H,
     sink: &mut K,
 ) -> Result<(), Stop>
-    ensures works { (source : SourceState) → Works
-        false
-        (stop_of result)
-        (EndsBuild (H.state shelf.old) (H.state shelf.new) (building_asked asked.entry))
-        (H.state shelf.old)
-        (H.state shelf.new)
-        source
-        source
-        (K.state sink.old)
-        (K.state sink.new) }
+    ensures works { (source : SourceState) → Works (build_asked asked.entry) (stop_of result)
+        (world_of (H.state shelf.old) source (K.state sink.old))
+        (world_of (H.state shelf.new) source (K.state sink.new)) }
 {
-    let prepared = prepare(alloc, asked.tables, shelf)?;
+    let prepared = prepare(alloc, asked.tables, asked.order, shelf)?;
     let hierarchy = customize(alloc, prepared.network, prepared.order, prepared.graph)?;
     let bytes = pack(alloc, &hierarchy)?;
     let length = bytes.len() as u64;
@@ -55,9 +74,8 @@ fn say_built<K: Sink>(sink: &mut K, hierarchy: &Hierarchy, bytes: u64) -> Result
     ensures wrote { WroteLine (K.state sink.old) (K.state sink.new) result
         (built_text hierarchy.now bytes) }
 {
-    put_word_and_number(sink, b"built ", hierarchy.nodes())?;
-    put_word_and_number(sink, b" ", hierarchy.arcs())?;
-    put_word_and_number(sink, b" ", hierarchy.edges())?;
-    put_word_and_long(sink, b" ", bytes)?;
-    end_line(sink)
+    let nodes = u64::from(hierarchy.nodes());
+    let arcs = u64::from(hierarchy.arcs());
+    let edges = u64::from(hierarchy.edges());
+    put_numbers_line(sink, b"built", &[nodes, arcs, edges, bytes])
 }

@@ -1,19 +1,40 @@
 //! `edit`: a file of edits made in a packed file, and the packed file after them stored.
 
-ghost use Rattle.std.specs.Prelude.{false};
+ghost use Rattle.std.specs.Prelude.{map, string_bytes};
 ghost use Rattle.cu_io.specs.Sources.{SourceState};
-ghost use Rattle.cu_io.specs.Sinks.{WroteLine};
-ghost use Rattle.cu_cli.specs.Runs.{EndsEdit, stored_text};
-ghost use Rattle.cu_cli.specs.Steps.Asks.{editing_asked};
-ghost use Rattle.cu_cli.specs.Steps.Outcomes.{Works, stop_of};
+ghost use Rattle.cu_cli.specs.Commands.Edit.{edit_of};
+ghost use Rattle.cu_cli.specs.Steps.Asks.{Parses, edit_asked};
+ghost use Rattle.cu_cli.specs.Steps.Outcomes.{Works, stop_of, world_of};
 
 use crate::opening::open_edited;
+use crate::saying::put_numbers_line;
 use crate::stops::{Role, Stop};
 use crate::storing::store_file;
-use crate::words::EditingWords;
-use cu_io::{Shelf, Sink, SinkFailed, end_line};
-use cu_session::{Router, answer_edits, put_word_and_long};
+use cu_io::{Shelf, Sink};
+use cu_session::{Router, answer_edits};
 use std::alloc::Global;
+
+/// The file of a packed hierarchy, the file of its edits, and the file that gets the packed hierarchy after them.
+#[derive(Clone, Copy)]
+pub struct EditWords<'a> {
+    pub hierarchy: &'a str,
+    pub edits: &'a str,
+    pub out: &'a str,
+}
+
+/// What the words behind `edit` name; none where they are not three.
+pub fn parse(words: &[String]) -> Option<EditWords<'_>>
+    ensures { Parses edit_asked (edit_of (map string_bytes words.now)) result }
+{
+    let [hierarchy, edits, out] = words else {
+        return None;
+    };
+    Some(EditWords {
+        hierarchy: hierarchy.as_str(),
+        edits: edits.as_str(),
+        out: out.as_str(),
+    })
+}
 
 /// Opens a packed file, whose hierarchy may be built or not, makes the lines of a file of edits in it, and says of each
 /// what it did. Behind the last the packed file of the hierarchy after them is stored, and its bytes said. Nothing is
@@ -21,22 +42,15 @@ use std::alloc::Global;
 /// a reply. Nothing is taken from a source.
 pub fn edit<H: Shelf, K: Sink>(
     alloc: Global,
-    asked: EditingWords<'_>,
+    asked: EditWords<'_>,
     shelf: &mut H,
     sink: &mut K,
 ) -> Result<(), Stop>
-    ensures works { (source : SourceState) → Works
-        false
-        (stop_of result)
-        (EndsEdit (H.state shelf.old) (H.state shelf.new) (editing_asked asked.entry))
-        (H.state shelf.old)
-        (H.state shelf.new)
-        source
-        source
-        (K.state sink.old)
-        (K.state sink.new) }
+    ensures works { (source : SourceState) → Works (edit_asked asked.entry) (stop_of result)
+        (world_of (H.state shelf.old) source (K.state sink.old))
+        (world_of (H.state shelf.new) source (K.state sink.new)) }
 {
-    let file = open_edited(alloc, asked, shelf)?;
+    let file = open_edited(alloc, asked.hierarchy, asked.edits, shelf)?;
     let mut router = Router::new(alloc, file.hierarchy)?;
     answer_edits(alloc, &mut router, &file.edits, sink)?;
     let packed = router.into_file();
@@ -46,14 +60,6 @@ pub fn edit<H: Shelf, K: Sink>(
         return Err(Stop::TooLarge(length));
     }
     store_file(alloc, Role::Out, asked.out, bytes, shelf)?;
-    say_stored(sink, length)?;
+    put_numbers_line(sink, b"stored", &[length])?;
     Ok(())
-}
-
-// Says that a packed file of so many bytes is stored.
-fn say_stored<K: Sink>(sink: &mut K, bytes: u64) -> Result<(), SinkFailed>
-    ensures wrote { WroteLine (K.state sink.old) (K.state sink.new) result (stored_text bytes) }
-{
-    put_word_and_long(sink, b"stored ", bytes)?;
-    end_line(sink)
 }

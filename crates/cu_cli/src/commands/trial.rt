@@ -1,6 +1,6 @@
 //! `trial`: queries and edits drawn over a grid, and what they come to.
 
-ghost use Rattle.std.specs.Prelude.{◌≡◌, ◌≤◌, ◌<◌, ◌+◌, ◌++◌, false, IfOk, IfErr, OnOk, decimal, length};
+ghost use Rattle.std.specs.Prelude.{◌≡◌, ◌≤◌, ◌<◌, ◌+◌, ◌++◌, IfOk, IfErr, OnOk, decimal, length, map, string_bytes};
 ghost use Rattle.std.specs.List.{sum_by};
 ghost use Rattle.cu_io.specs.Shelves.{ShelfState};
 ghost use Rattle.cu_io.specs.Sources.{SourceState};
@@ -10,16 +10,16 @@ ghost use Rattle.cu_model.specs.Networks.{NetworkValue};
 ghost use Rattle.cu_model.specs.declared.limits.TheConstants.{DAY};
 ghost use Rattle.cu_roads.specs.Draws.{after};
 ghost use Rattle.cu_roads.specs.Grids.{behind_grid};
-ghost use Rattle.cu_cli.specs.Runs.{EndsTrial};
-ghost use Rattle.cu_cli.specs.Steps.Asks.{grid_asked, trial_asked};
-ghost use Rattle.cu_cli.specs.Steps.Outcomes.{Works, stop_of};
+ghost use Rattle.cu_cli.specs.Commands.Trial.{trial_of};
+ghost use Rattle.cu_cli.specs.Steps.Asks.{Parses, grid_asked, trial_asked};
+ghost use Rattle.cu_cli.specs.Steps.Outcomes.{Works, stop_of, world_of};
 ghost use Rattle.cu_cli.specs.Steps.Trials.{IsDrawable, IsSmall, StopsGrid, standing};
 ghost use Rattle.cu_cli.specs.Trials.{IsEditedBy, IsGridOrder, IsQueried, IsTried, IsTurn, drawn_edit, drawn_query, edits_text, hierarchy_text, queries_text};
 ghost use Rattle.cu_cli.specs.Words.{grid_read};
-ghost use Rattle.cu_cli.specs.declared.words.trial.TheConstants.{MAX_TURNS};
+ghost use Rattle.cu_cli.specs.declared.commands.trial.turns.TheConstants.{MAX_TURNS};
 
 use crate::stops::Stop;
-use crate::words::{GridWords, TrialWords};
+use crate::words::{GridWords, parse_grid, parse_within};
 use cu_chordal::close;
 use cu_customize::customize;
 use cu_dissect::dissect;
@@ -30,6 +30,10 @@ use cu_pack::{PackedView, pack};
 use cu_roads::{Draws, draw_day, grid, read_network};
 use cu_session::Router;
 use std::alloc::Global;
+
+mod turns;
+
+pub use turns::{MAX_TURNS, TrialWords};
 
 // How many profiles a grid has.
 const PROFILES: u32 = 64;
@@ -47,19 +51,25 @@ pub struct Tally {
     touched: u64,
 }
 
+/// The grid and the turns of the words behind `trial`; none where they are not four, or no grid and turns.
+pub fn parse(words: &[String]) -> Option<TrialWords>
+    ensures { Parses trial_asked (trial_of (map string_bytes words.now)) result }
+{
+    let [start, width, height, turns] = words else {
+        return None;
+    };
+    Some(TrialWords {
+        grid: parse_grid(start.as_str(), width.as_str(), height.as_str())?,
+        turns: parse_within(turns.as_str(), 0, u64::from(MAX_TURNS))? as u32,
+    })
+}
+
 /// Draws a grid, builds its hierarchy under the order of its dissection, draws and answers queries, makes an edit in
 /// each tenth turn, and says what they came to. Nothing is loaded, stored or taken from a source.
 pub fn trial<K: Sink>(alloc: Global, asked: TrialWords, sink: &mut K) -> Result<(), Stop>
-    ensures works { (shelf : ShelfState) (source : SourceState) → Works
-        false
-        (stop_of result)
-        (EndsTrial (trial_asked asked))
-        shelf
-        shelf
-        source
-        source
-        (K.state sink.old)
-        (K.state sink.new) }
+    ensures works { (shelf : ShelfState) (source : SourceState) →
+        Works (trial_asked asked) (stop_of result) (world_of shelf source (K.state sink.old))
+        (world_of shelf source (K.state sink.new)) }
 {
     let mut draws = Draws::new(asked.grid.start);
     let mut router = build_grid(alloc, &mut draws, asked.grid)?;

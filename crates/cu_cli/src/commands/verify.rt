@@ -1,10 +1,11 @@
 //! `verify`: a packed file compared with the hierarchy that is built of its network and order.
 
-ghost use Rattle.std.specs.Prelude.{false, IfOk};
+ghost use Rattle.std.specs.Prelude.{IfOk, map, string_bytes};
 ghost use Rattle.cu_io.specs.Sources.{SourceState};
-ghost use Rattle.cu_cli.specs.Runs.{EndsVerify};
+ghost use Rattle.cu_cli.specs.Commands.Verify.{verify_of};
+ghost use Rattle.cu_cli.specs.Steps.Asks.{Parses, verify_asked};
 ghost use Rattle.cu_cli.specs.Steps.Differing.{FindsDifference};
-ghost use Rattle.cu_cli.specs.Steps.Outcomes.{Works, stop_of};
+ghost use Rattle.cu_cli.specs.Steps.Outcomes.{Works, stop_of, world_of};
 
 use crate::opening::open_file;
 use crate::stops::{Difference, Stop};
@@ -14,26 +15,37 @@ use cu_pack::PackedView;
 use cu_verify::Verdict;
 use std::alloc::Global;
 
+/// The file of a packed hierarchy.
+#[derive(Clone, Copy)]
+pub struct VerifyWords<'a> {
+    pub hierarchy: &'a str,
+}
+
+/// What the words behind `verify` name; none where they are not one.
+pub fn parse(words: &[String]) -> Option<VerifyWords<'_>>
+    ensures { Parses verify_asked (verify_of (map string_bytes words.now)) result }
+{
+    let [hierarchy] = words else {
+        return None;
+    };
+    Some(VerifyWords {
+        hierarchy: hierarchy.as_str(),
+    })
+}
+
 /// Opens a packed file, builds the hierarchy of its network and order anew, and says that the file has the same, or stops for
 /// where it first differs. Nothing is stored, and nothing taken from a source.
 pub fn verify<H: Shelf, K: Sink>(
     alloc: Global,
-    name: &str,
+    asked: VerifyWords<'_>,
     shelf: &mut H,
     sink: &mut K,
 ) -> Result<(), Stop>
-    ensures works { (source : SourceState) → Works
-        false
-        (stop_of result)
-        (EndsVerify (H.state shelf.old) (H.state shelf.new) name.now)
-        (H.state shelf.old)
-        (H.state shelf.new)
-        source
-        source
-        (K.state sink.old)
-        (K.state sink.new) }
+    ensures works { (source : SourceState) → Works (verify_asked asked.entry) (stop_of result)
+        (world_of (H.state shelf.old) source (K.state sink.old))
+        (world_of (H.state shelf.new) source (K.state sink.new)) }
 {
-    let bytes = open_file(alloc, name, shelf)?;
+    let bytes = open_file(alloc, asked.hierarchy, shelf)?;
     let view = PackedView::adopt(&bytes);
     if let Some(found) = difference(alloc, &view)? {
         return Err(Stop::Differs(found));

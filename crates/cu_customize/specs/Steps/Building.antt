@@ -8,7 +8,7 @@ use Rattle.cu_chordal.specs.Edges.{IsClosureOf}
 use Rattle.cu_chordal.specs.Graphs.{IsChordal}
 use Rattle.cu_interval.specs.EdgeArcs.{AreEdgeArcs}
 use Rattle.cu_customize.specs.declared.customizing.Parts.{Parts}
-use Rattle.cu_customize.specs.Words.{IsFunctionWords}
+use Rattle.cu_runs.specs.PackedRuns.{IsPackedFunction}
 
 -- a network and an order, their chordal graph and the roads of its edges; and staying
 pub record AreParts (parts : Parts) : Type 0 where
@@ -17,5 +17,5 @@ pub record AreParts (parts : Parts) : Type 0 where
   pub chordal : IsChordal parts.graph.now
   pub closed : IsClosureOf parts.network.now parts.order.now parts.graph.now
   pub arcs : AreEdgeArcs parts.network.now parts.order.now parts.graph.now.edges parts.arcs.now
-  pub stays : IsFunctionWords parts.stay.now
+  pub stays : IsPackedFunction parts.stay.now
   pub stay : (t : ℕ) → t < day → arrival_value parts.stay.now t ≡ t

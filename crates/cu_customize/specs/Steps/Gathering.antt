@@ -14,25 +14,25 @@ use Rattle.cu_interval.specs.declared.ways.Entry.{Entry}
 use Rattle.cu_interval.specs.declared.ways.Way.{Way}
 use Rattle.cu_interval.specs.declared.ways.Way.TheVariants.{Road, Via}
 use Rattle.cu_interval.specs.WayLists.{GoesFirst, IsWayList, way_in}
-use Rattle.cu_customize.specs.declared.merging.TheConstants.{MOST, NOBODY}
-use Rattle.cu_customize.specs.declared.merging.WayRun.{WayRun}
+use Rattle.cu_runs.specs.declared.merging.TheConstants.{MOST, NOBODY}
+use Rattle.cu_runs.specs.declared.merging.WayRun.{WayRun}
 use Rattle.cu_customize.specs.declared.gathering.HalfEdges.{HalfEdges}
 use Rattle.cu_customize.specs.declared.gathering.Rank.{Rank}
 use Rattle.cu_customize.specs.declared.gathering.Rivals.{Rivals}
-use Rattle.cu_customize.specs.declared.settling.Leg.{Leg}
+use Rattle.cu_interval.specs.declared.shortcuts.Leg.{Leg}
 use Rattle.cu_customize.specs.declared.task.Halves.{Halves}
 use Rattle.cu_customize.specs.declared.task.Task.{Task}
 use Rattle.cu_customize.specs.declared.triangles.Triangle.{Triangle}
-use Rattle.cu_customize.specs.declared.words.TheConstants.{MAX_NUMBER}
-use Rattle.cu_customize.specs.declared.windows.TheConstants.{NO_LIMIT, WINDOWS}
-use Rattle.cu_customize.specs.declared.windows.Windows.{Windows}
+use Rattle.cu_runs.specs.declared.packed_runs.TheConstants.{MAX_NUMBER}
+use Rattle.cu_runs.specs.declared.windows.TheConstants.{NO_LIMIT, WINDOWS}
+use Rattle.cu_runs.specs.declared.windows.Windows.{Windows}
 use Rattle.cu_customize.specs.Functions.{FunctionsState, kept_state}
-use Rattle.cu_customize.specs.Least.{Held, KeepsDayOrder, least_arrival, least_way}
+use Rattle.cu_runs.specs.Least.{Held, KeepsDayOrder, least_arrival, least_way}
 use Rattle.cu_customize.specs.Settling.{ArrivesBy, HasFarWay, KnowsHalves, function_from}
 use Rattle.cu_customize.specs.Steps.Best.{IsOpenAmong, IsOpenWay}
 use Rattle.cu_customize.specs.Steps.Triangles.{IsTriangle, middles_in}
-use Rattle.cu_customize.specs.Windows.{AreEach, IsIn, window_start}
-use Rattle.cu_customize.specs.Words.{IsFunctionWords}
+use Rattle.cu_runs.specs.Windows.{AreEach, IsIn, window_start}
+use Rattle.cu_runs.specs.PackedRuns.{IsPackedFunction}
 
 abbrev pub state_of : NetworkValue → Task → FunctionsState
 state_of g task = kept_state g task.functions.now
@@ -87,7 +87,7 @@ IsOrdered g task way = (f : ℕ → ℕ) × KeepsDayOrder f × ((t : ℕ) → t 
 pub record IsTask (g : NetworkValue) (task : Task) : Type 0 where
   pub chordal : IsChordal task.graph.now
   pub ranks : (task.leg.from < task.graph.now.ranks) × (task.leg.to < task.graph.now.ranks)
-  pub stays : IsFunctionWords task.stay.now
+  pub stays : IsPackedFunction task.stay.now
   pub stay : (t : ℕ) → t < day → arrival_value task.stay.now t ≡ t
   pub arcs_rise : IsStrictlyIncreasing task.arcs.now
   pub arcs_few : length task.arcs.now ≤ MAX_ARCS
@@ -215,8 +215,8 @@ pub record IsWithin (ways : List Way) (held : List Held) : Type 0 where
 -- the runs of the ways that are the least, and the function of their arrivals; none where the least is nobody's
 abbrev pub IsPulled : List Way → List Held → List Entry → Option (List Run) → Type 0
 IsPulled ways held entries None = (least_way held 0 ≡ NOBODY) × (entries ≡ [])
-IsPulled ways held entries (Some words) = (least_way held 0 ≢ NOBODY) × IsWayList entries × (entries ≢ []) × IsFunctionWords words
-    × ((t : ℕ) → t < day → (way_in entries t ≡ slice_get ways (least_way held t)) × (arrival_value words t ≡ least_arrival held t))
+IsPulled ways held entries (Some packed) = (least_way held 0 ≢ NOBODY) × IsWayList entries × (entries ≢ []) × IsPackedFunction packed
+    × ((t : ℕ) → t < day → (way_in entries t ≡ slice_get ways (least_way held t)) × (arrival_value packed t ≡ least_arrival held t))
 
 -- what a run of numbers says of the ways, and what an entry says
 abbrev pub read_of : List Way → WayRun → ℕ × Option Way

@@ -9,7 +9,8 @@ use Rattle.cu_interval.specs.declared.ways.Dir.{Dir}
 use Rattle.cu_interval.specs.declared.ways.Entry.{Entry}
 use Rattle.cu_interval.specs.FirstWays.{IsBuiltList}
 use Rattle.cu_interval.specs.Hierarchies.{end_of, list_number, start_of}
-use Rattle.cu_customize.specs.Functions.{IsLowFunction, value_kept}
+use Rattle.cu_customize.specs.Functions.{IsLowFunction}
+use Rattle.cu_runs.specs.Layers.{value_kept}
 
 -- the lists with the first numbers are the built ones, and the functions with these numbers those of the low walks
 pub record IsBuiltTo (g : NetworkValue) (o : OrderValue) (edges : List Ends) (count : ℕ) (functions : List (Option (List Run))) (lists : List (List Entry)) : Type 0 where

@@ -12,7 +12,7 @@ use Rattle.cu_interval.specs.Touching.{IsTouchedEdge}
 use Rattle.cu_customize.specs.Functions.{FunctionsState}
 use Rattle.cu_customize.specs.Settling.{IsSettledList, IsValueOf}
 use Rattle.cu_unpack.specs.Rebuilds.{Keeps, RebuiltValue}
-use Rattle.cu_edits.specs.declared.known.EdgeFunctions.{EdgeFunctions}
+use Rattle.cu_edits.specs.declared.edge_functions.EdgeFunctions.{EdgeFunctions}
 use Rattle.cu_edits.specs.Settling.{HasFinalSides, IsFinal, IsSettled, SettlingValue, list_in, settled_so_far}
 use Rattle.cu_edits.specs.Steps.Known.{AreRebuilt, IsEditSound, function_in}
 use Rattle.cu_edits.specs.Steps.Settled.{AreSettled}

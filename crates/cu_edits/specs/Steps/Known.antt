@@ -1,11 +1,9 @@
 -- The functions that settling an edge asks for: roads of the edited network, and shortcuts whose lists won't change any more.
-use Rattle.std.specs.List.{Contains}
 use Rattle.std.specs.Prelude.{ℕ, List, Bool, true, false, Option, Some, None, ◌≡◌, ◌⊎◌, if◌then◌else◌, length, slice_get}
-use Rattle.cu_model.specs.declared.profiles.Piece.{Piece}
 use Rattle.cu_model.specs.declared.roads.Edit.{Edit}
 use Rattle.cu_model.specs.declared.roads.Edit.TheVariants.{Set, Assign}
 use Rattle.cu_model.specs.Networks.{NetworkValue}
-use Rattle.cu_model.specs.Profiles.{IsProfile, is_closed, profile_value}
+use Rattle.cu_model.specs.Profiles.{IsProfile}
 use Rattle.cu_model.specs.Roads.{arc_value, is_closed_arc}
 use Rattle.cu_arrival.specs.declared.runs.Run.{Run}
 use Rattle.cu_arrival.specs.Runs.{arrival_value}
@@ -16,7 +14,7 @@ use Rattle.cu_interval.specs.declared.ways.Dir.TheVariants.{Up, Down}
 use Rattle.cu_interval.specs.Hierarchies.{HierarchyValue}
 use Rattle.cu_customize.specs.Functions.{FunctionsState}
 use Rattle.cu_unpack.specs.Rebuilds.{IsRebuiltFunction}
-use Rattle.cu_edits.specs.declared.known.EdgeFunctions.{EdgeFunctions}
+use Rattle.cu_edits.specs.declared.edge_functions.EdgeFunctions.{EdgeFunctions}
 
 -- the pieces that an edit sets are a profile
 abbrev pub IsEditSound : Edit → Type 0
@@ -50,15 +48,6 @@ values_of (Some runs) = Some (arrival_value runs)
 -- when a road arrives at every second; none where it is closed
 abbrev pub road_in : NetworkValue → ℕ → Option (ℕ → ℕ)
 road_in g a = if is_closed_arc g a then None else Some (arc_value g a)
-
--- when a profile arrives at every second; none where it is closed
-abbrev pub profile_function : List Piece → Option (ℕ → ℕ)
-profile_function pieces = if is_closed pieces then None else Some (profile_value pieces)
-
--- the profile that an edit gives the roads that it changes
-abbrev pub IsNewProfile : NetworkValue → Edit → List Piece → Type 0
-IsNewProfile g (Set profile pieces) given = given ≡ pieces
-IsNewProfile g (Assign a profile) given = slice_get g.profiles profile ≡ Some given
 
 -- what settling may ask
 abbrev pub functions_of : KnownValue → FunctionsState
@@ -97,7 +86,3 @@ IsSideOver edges ends rank side = HasEdge edges rank ends.low × HasEdge edges r
 
 abbrev pub IsSide : List Ends → Ends → ℕ → Type 0
 IsSide edges ends side = (rank : ℕ) × IsSideOver edges ends rank side
-
--- an edge over one of these ranks
-abbrev pub IsSideOverOne : List Ends → Ends → List ℕ → ℕ → Type 0
-IsSideOverOne edges ends ranks side = (rank : ℕ) × Contains ranks rank × IsSideOver edges ends rank side

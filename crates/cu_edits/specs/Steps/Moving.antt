@@ -13,11 +13,12 @@ use Rattle.cu_interval.specs.declared.ways.Way.{Way}
 use Rattle.cu_interval.specs.declared.ways.Way.TheVariants.{Road, Via}
 use Rattle.cu_interval.specs.Hierarchies.{HierarchyValue, end_of, list_number, list_of, start_of}
 use Rattle.cu_interval.specs.Resettling.{IsResettledList, least_in, rebuilt, value_by}
+use Rattle.cu_interval.specs.Shortcuts.{AreHalfEdges}
 use Rattle.cu_interval.specs.Touching.{IsChanged}
-use Rattle.cu_customize.specs.Words.{IsFunctionWords}
-use Rattle.cu_customize.specs.declared.pulling.SettledWords.{SettledWords}
-use Rattle.cu_edits.specs.declared.new_list.Fate.{Fate}
-use Rattle.cu_edits.specs.declared.new_list.Fate.TheVariants.{Stands, Moves}
+use Rattle.cu_runs.specs.PackedRuns.{IsPackedFunction}
+use Rattle.cu_customize.specs.declared.pulling.SettledRuns.{SettledRuns}
+use Rattle.cu_edits.specs.declared.new_list.Outcome.{Outcome}
+use Rattle.cu_edits.specs.declared.new_list.Outcome.TheVariants.{Stands, Moves}
 use Rattle.cu_edits.specs.declared.new_list.NewList.{NewList}
 use Rattle.cu_edits.specs.Settling.{IsFinal, SettlingValue, settled_so_far}
 use Rattle.cu_edits.specs.Steps.Frames.{IsFramed, LeadsOver}
@@ -36,20 +37,9 @@ abbrev pub IsMovedTo : MovedValue → ℕ → Dir → Option (List Run) → Type
 IsMovedTo moved edge dir function =
     (place : ℕ) × (slice_get moved.places (list_number edge dir) ≡ Some (suc place)) × (slice_get moved.functions place ≡ Some function)
 
--- the edges that lead from the middle of a way to both ends of an edge: its first half is the one's list downwards, its second half the
--- other's upwards
-pub record AreHalves (edges : List Ends) (ends : Ends) (dir : Dir) (middle first second : ℕ) : Type 0 where
-  pub to : slice_get edges first ≡ Some (record { low = middle; high = start_of ends dir })
-  pub on : slice_get edges second ≡ Some (record { low = middle; high = end_of ends dir })
-
 -- both halves of a way by this middle, if there are such, are like this
 abbrev pub HalvesAre : (ℕ → Dir → Type 0) → List Ends → Ends → Dir → ℕ → Type 0
-HalvesAre Good edges ends dir middle = (first second : ℕ) → AreHalves edges ends dir middle first second → Good first Down × Good second Up
-
--- both edges, or none where one of them isn't there
-abbrev pub FindsHalves : List Ends → Ends → Dir → ℕ → Option (ℕ × ℕ) → Type 0
-FindsHalves edges ends dir middle None = (first second : ℕ) → AreHalves edges ends dir middle first second → ⊥
-FindsHalves edges ends dir middle (Some (first, second)) = AreHalves edges ends dir middle first second
+HalvesAre Good edges ends dir middle = (first second : ℕ) → AreHalfEdges edges ends dir middle first second → Good first Down × Good second Up
 
 -- a way is as it was: its road isn't changed, or both its halves aren't moved
 abbrev pub IsUnmovedWay : NetworkValue → Edit → List Ends → MovedValue → Ends → Dir → Way → Type 0
@@ -60,23 +50,23 @@ IsUnmovedWay g edit edges moved ends dir (Via m) = HalvesAre (IsUnmoved moved) e
 abbrev pub StandingPair : SettlingValue → MovedValue → ℕ → ℕ → Type 0
 StandingPair s moved u v = (edge : ℕ) × (dir : Dir) × LeadsOver s.before.edges edge dir u v × IsFinal s edge × IsUnmoved moved edge dir
 
--- words say when the ways of a list from u to v arrive; none where it is empty
+-- packed runs say when the ways of a list from u to v arrive; none where it is empty
 abbrev pub SayValue : HierarchyValue → ℕ → ℕ → List Entry → Option (List Run) → Type 0
 SayValue h u v entries None = entries ≡ []
-SayValue h u v entries (Some words) = (entries ≢ []) × IsFunctionWords words × IsOnward (arrival_value words)
-    × ((second : ℕ) → second < day → least_in (value_by h.network (rebuilt h) u v second) entries ≡ Some (arrival_value words second))
+SayValue h u v entries (Some packed) = (entries ≢ []) × IsPackedFunction packed × IsOnward (arrival_value packed)
+    × ((second : ℕ) → second < day → least_in (value_by h.network (rebuilt h) u v second) entries ≡ Some (arrival_value packed second))
 
 -- what became of a list whose ways are these now
-abbrev pub IsFate : SettlingValue → MovedValue → ℕ → Dir → Ends → List Entry → Fate → Type 0
-IsFate s moved edge dir ends entries Stands = (entries ≡ list_of s.before edge dir)
+abbrev pub IsOutcome : SettlingValue → MovedValue → ℕ → Dir → Ends → List Entry → Outcome → Type 0
+IsOutcome s moved edge dir ends entries Stands = (entries ≡ list_of s.before edge dir)
     × All (λ (entry : Entry). IsFramed s.before (settled_so_far s) (StandingPair s moved) (start_of ends dir) (end_of ends dir) entry.way) entries
-IsFate s moved edge dir ends entries (Moves function) = SayValue (settled_so_far s) (start_of ends dir) (end_of ends dir) entries function
+IsOutcome s moved edge dir ends entries (Moves function) = SayValue (settled_so_far s) (start_of ends dir) (end_of ends dir) entries function
 
 -- the list of an edge that is settled next
 pub record IsNewList (s : SettlingValue) (moved : MovedValue) (edge : ℕ) (dir : Dir) (list : NewList) : Type 0 where
   pub resettled : (ends : Ends) → slice_get s.before.edges edge ≡ Some ends
       → IsResettledList (settled_so_far s) (start_of ends dir) (end_of ends dir) list.ways
-  pub fate : (ends : Ends) → slice_get s.before.edges edge ≡ Some ends → IsFate s moved edge dir ends list.ways list.fate
+  pub outcome : (ends : Ends) → slice_get s.before.edges edge ≡ Some ends → IsOutcome s moved edge dir ends list.ways list.outcome
 
 -- the list of an edge in a direction may stand: it is marked, no road of it is changed, and no half of a way by a middle was moved
 pub record MayStand (h : HierarchyValue) (edit : Edit) (arcs : List (List ℕ)) (marks : List Bool) (moved : MovedValue) (edge : ℕ) (dir : Dir) : Type 0 where
@@ -96,11 +86,11 @@ pub record KeepsWays (h : HierarchyValue) (edit : Edit) (marks : List Bool) (mov
 
 -- what became of a list that was settled: it stands where its ways are those of before and are as they were, else it has the function that
 -- settling gave
-abbrev pub IsFateOf : HierarchyValue → Edit → MovedValue → ℕ → Dir → SettledWords → Fate → Type 0
-IsFateOf h edit moved edge dir settled Stands = (settled.ways ≡ list_of h edge dir) × AreWaysUnmoved h edit moved edge dir
-IsFateOf h edit moved edge dir settled (Moves function) = function ≡ settled.function
+abbrev pub IsOutcomeOf : HierarchyValue → Edit → MovedValue → ℕ → Dir → SettledRuns → Outcome → Type 0
+IsOutcomeOf h edit moved edge dir settled Stands = (settled.ways ≡ list_of h edge dir) × AreWaysUnmoved h edit moved edge dir
+IsOutcomeOf h edit moved edge dir settled (Moves function) = function ≡ settled.function
 
--- a fate is kept at a place: 0 where the list stands, else one more than where its function stands, behind all others
-abbrev pub KeepsFate : MovedValue → MovedValue → Fate → ℕ → Type 0
-KeepsFate old new Stands place = (place ≡ 0) × (new ≡ old)
-KeepsFate old new (Moves function) place = (place ≡ suc (length old.functions)) × (new ≡ record old { functions = old.functions ++ (function ∷ []) })
+-- a outcome is kept at a place: 0 where the list stands, else one more than where its function stands, behind all others
+abbrev pub KeepsOutcome : MovedValue → MovedValue → Outcome → ℕ → Type 0
+KeepsOutcome old new Stands place = (place ≡ 0) × (new ≡ old)
+KeepsOutcome old new (Moves function) place = (place ≡ suc (length old.functions)) × (new ≡ record old { functions = old.functions ++ (function ∷ []) })

@@ -16,10 +16,10 @@ IsFeed bytes (Some at) = (at < length bytes) × HasNoFeed (take at bytes) × (by
 
 -- what a step that may read gave
 abbrev pub Gives : ReaderState → SourceState → SourceState → List ℕ → More → Type 0
-Gives after source left chunk more.Bytes = (after.shown ≡ false) × (0 < length chunk)
-Gives after source left chunk more.End = (after.shown ≡ true) × (chunk ≡ [])
+Gives after source left chunk more.Bytes = (after.shown ≡ false) × (0 < length chunk) × (left.faults ≡ source.faults)
+Gives after source left chunk more.End = (after.shown ≡ true) × (chunk ≡ []) × (left.faults ≡ source.faults)
 Gives after source left chunk more.Fault = (after.shown ≡ false) × (chunk ≡ []) × (after.taken < after.take_limit) × Rose source.faults left.faults
-Gives after source left chunk more.Spent = (after.shown ≡ false) × (chunk ≡ []) × (after.taken ≡ after.take_limit)
+Gives after source left chunk more.Spent = (after.shown ≡ false) × (chunk ≡ []) × (after.taken ≡ after.take_limit) × (left.faults ≡ source.faults)
 
 -- a reader that took these bytes, and holds them behind those that it held
 abbrev pub Holds : ReaderState → ReaderState → SourceState → SourceState → List ℕ → Type 0

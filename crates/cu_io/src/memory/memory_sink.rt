@@ -1,7 +1,7 @@
 //! A sink in memory.
 ghost use Rattle.std.specs.Prelude.{◌≡◌, ◌<◌, ◌≤◌, [], min, length, take, Some, is_some, is_err, IfOk, OnOk, OnErr, IfSome, if◌then◌else◌};
-ghost use Rattle.cu_io.specs.Counts.{Rose};
-ghost use Rattle.cu_io.specs.Memory.{is_failing, is_refusing, after_call, one_more, space};
+ghost use Rattle.cu_io.specs.Counts.{Rose, one_more};
+ghost use Rattle.cu_io.specs.Memory.{is_failing, is_refusing, after_call, space};
 ghost use Rattle.cu_io.specs.Transfers.{Appends};
 
 use super::calls::Calls;
@@ -86,6 +86,7 @@ impl Sink for MemorySink {
             (λ bytes. self.new.flushed ≤ length bytes) }
         ensures later { self.old.faults ≤ self.new.faults }
         ensures cause { OnErr result (Rose self.old.faults self.new.faults) }
+        ensures quiet { OnOk result (self.new.faults ≡ self.old.faults) }
         ensures fails { is_err result ≡ is_refusing self.old (length piece.now) }
         ensures most { IfOk result (λ n. n ≡ min (length piece.now) (space self.old)) }
         ensures faults { self.new.faults ≡
@@ -115,6 +116,7 @@ impl Sink for MemorySink {
             (λ bytes. self.new.flushed ≤ length bytes) }
         ensures later { self.old.faults ≤ self.new.faults }
         ensures cause { OnErr result (Rose self.old.faults self.new.faults) }
+        ensures quiet { OnOk result (self.new.faults ≡ self.old.faults) }
         ensures failed { OnErr result (self.new.flushed ≡ self.old.flushed) }
         ensures fails { is_err result ≡ is_failing self.old.calls }
         ensures faults { self.new.faults ≡

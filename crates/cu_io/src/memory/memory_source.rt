@@ -1,7 +1,7 @@
 //! A source in memory.
-ghost use Rattle.std.specs.Prelude.{◌≡◌, ◌-◌, ◌^◌, ◌<◌, ◌≤◌, min, length, take, Some, is_some, is_err, IfOk, OnErr, if◌then◌else◌};
-ghost use Rattle.cu_io.specs.Counts.{Rose};
-ghost use Rattle.cu_io.specs.Memory.{is_failing, after_call, one_more};
+ghost use Rattle.std.specs.Prelude.{◌≡◌, ◌-◌, ◌^◌, ◌<◌, ◌≤◌, min, length, take, Some, is_some, is_err, IfOk, OnOk, OnErr, if◌then◌else◌};
+ghost use Rattle.cu_io.specs.Counts.{Rose, one_more};
+ghost use Rattle.cu_io.specs.Memory.{is_failing, after_call};
 ghost use Rattle.cu_io.specs.Transfers.{Moves};
 
 use super::calls::Calls;
@@ -71,6 +71,7 @@ impl Source for MemorySource {
         ensures tells { is_some (Some self.new.left) ≡ is_some (Some self.old.left) }
         ensures later { self.old.faults ≤ self.new.faults }
         ensures cause { OnErr result (Rose self.old.faults self.new.faults) }
+        ensures quiet { OnOk result (self.new.faults ≡ self.old.faults) }
         ensures fails { is_err result ≡ is_failing self.old.calls }
         ensures most { IfOk result (λ n. n
             ≡ min (length self.old.left) (min (length into.new) self.old.most)) }

@@ -2,7 +2,7 @@
 
 ghost use Rattle.std.specs.Prelude.{◌≡◌, ◌≤◌, ◌<◌, ◌*◌, ◌↔◌, IsTrue, min, suc};
 ghost use Rattle.cu_interval.specs.declared.ways.Way.TheVariants.{Via};
-ghost use Rattle.cu_interval.specs.Hierarchies.{IsWellFormed, end_of, start_of};
+ghost use Rattle.cu_interval.specs.Hierarchies.{IsWellFormed};
 ghost use Rattle.cu_interval.specs.Low.{LeadsRanks};
 ghost use Rattle.cu_interval.specs.WayLists.{Turns};
 ghost use Rattle.cu_pack.specs.Checks.{IsGraph};
@@ -39,17 +39,6 @@ pub fn has_wrong_entry(
         }
     }
     false
-}
-
-/// The ranks from and to which the list of an edge leads in a direction.
-pub fn directed(ends: Ends, dir: Dir) -> (u32, u32)
-    ensures from { result.0 ≡ start_of ends dir }
-    ensures to { result.1 ≡ end_of ends dir }
-{
-    match dir {
-        Dir::Up => (ends.low, ends.high),
-        Dir::Down => (ends.high, ends.low),
-    }
 }
 
 // Whether an entry is wrong in a list that starts with the entry `start` and leads from one rank to another.

@@ -7,7 +7,7 @@ ghost use Rattle.cu_pack.specs.Layouts.{AreInLimits};
 ghost use Rattle.cu_pack.specs.Reading.{counts_in};
 
 use crate::body::Body;
-use crate::bytes::{long, word};
+use crate::bytes::{long, short};
 use crate::cutting::Sections;
 use crate::layout::{Counts, Layout};
 use crate::refusals::{Field, PackRefusal};
@@ -51,7 +51,7 @@ fn check_head(bytes: &[u8]) -> Result<(), PackRefusal>
     if !is_ours(bytes) {
         return Err(PackRefusal::Magic);
     }
-    let found = word(bytes, 8);
+    let found = short(bytes, 8);
     if found != 1 {
         return Err(PackRefusal::Version { found });
     }
@@ -86,10 +86,10 @@ pub fn header_counts(bytes: &[u8]) -> Counts
     ensures { result ≡ counts_in bytes.now }
 {
     Counts {
-        nodes: word(bytes, 12),
-        arcs: word(bytes, 16),
-        profiles: word(bytes, 20),
-        edges: word(bytes, 24),
+        nodes: short(bytes, 12),
+        arcs: short(bytes, 16),
+        profiles: short(bytes, 20),
+        edges: short(bytes, 24),
         pieces: long(bytes, 28),
         entries: long(bytes, 36),
     }

@@ -8,11 +8,11 @@ ghost use Rattle.cu_pack.specs.Reading.{counts_in, decoded};
 ghost use Rattle.cu_pack.specs.Steps.Cursors.{AreCursors};
 ghost use Rattle.cu_pack.specs.Steps.Ways.{FindsDir, FindsFirstOf, number_of_list};
 
-use crate::checks::entries::{directed, has_wrong_entry};
+use crate::checks::entries::has_wrong_entry;
 use crate::cutting::Sections;
 use crate::joining::list_number;
 use cu_chordal::Ends;
-use cu_interval::Dir;
+use cu_interval::{Dir, leg_of};
 use cu_model::NoMemory;
 use std::alloc::Global;
 
@@ -109,6 +109,6 @@ fn are_entries_wrong(
     if end < start || end > sections.counts().entries {
         return true;
     }
-    let (from, to) = directed(ends, dir);
-    has_wrong_entry(sections, places, start, end, from, to)
+    let leg = leg_of(ends, dir);
+    has_wrong_entry(sections, places, start, end, leg.from, leg.to)
 }

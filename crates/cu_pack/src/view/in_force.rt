@@ -9,7 +9,8 @@ use cu_model::DAY;
 
 impl<'a> PackedView<'a> {
     /// The rule of a road at a second of the day, 0 to 86,399, and the seconds around it, at most up to 86,400, at each of
-    /// which it is the one. The road's number is below the number of roads. Takes no memory.
+    /// which it is the one; that it isn't the one just before and behind them is not promised. The road's number is below the
+    /// number of roads. Takes no memory.
     pub fn rule_in_force(&self, arc: u32, second: u32) -> RuleInForce
         requires road { arc < length self.now.network.arcs }
         requires day { second < DAY }

@@ -19,7 +19,8 @@ pub struct WayInForce {
 
 impl<'a> WaySlice<'a> {
     /// The way that is taken at a second of the day, 0 to 86,399, and the seconds around it, at most up to 86,400, at each of
-    /// which it is the one. None exactly where the list is empty.
+    /// which it is the one. None exactly where the list is empty. That it isn't the one just before and behind them is not
+    /// promised.
     pub fn in_force(&self, second: u32) -> Option<WayInForce>
         requires day { second < DAY }
         ensures found { FindsWayInForce self.now second result }

@@ -10,7 +10,8 @@ use Rattle.cu_profile.specs.declared.refusals.ProfileRefusal.{ProfileRefusal}
 use Rattle.cu_profile.specs.declared.rows.PieceRow.{PieceRow}
 use Rattle.cu_profile.specs.declared.rows.RowNumbers.{RowNumbers}
 use Rattle.cu_profile.specs.declared.progress.ProfileRows.{ProfileRows}
-use Rattle.cu_profile.specs.ProfileTexts.{begin_with, by_profile, has_numbers, may_follow, missing, onto, piece_of_row, piece_row_fault, profile_checked, profile_number, profiles_of_groups, rows_fault, then_more, wrong_kind}
+use Rattle.cu_profile.specs.ProfileTexts.{begin_with, by_profile, has_numbers, may_follow, missing, onto, piece_of_row, piece_row_fault, profile_checked, profile_number}
+use Rattle.cu_profile.specs.ProfileTexts.{profiles_of_groups, rows_fault, then_more, wrong_kind}
 
 -- the numbers of a row, where its number fields are number words
 abbrev pub numbers_of : List (List ℕ) → Option RowNumbers
@@ -110,6 +111,6 @@ pub record AddsRow (s t : ProfileRows) (line : PieceRow) : Type 0 where
 abbrev pub TakesRow : ProfileRows → List (List ℕ) → ProfileRows → Type 0
 TakesRow s row t = IsBetweenRows s → IsBetweenRows t × ((rest : List (List (List ℕ))) → rows_behind s (row ∷ rest) ≡ rows_behind t rest)
 
--- a row that is refused is the first that fails a check of its own
-abbrev pub RefusesRow : ProfileRows → List (List ℕ) → ProfileRefusal → Type 0
-RefusesRow s row why = IsBetweenRows s → piece_row_fault s.row s.last row ≡ Some why
+-- a row that is refused is the first that fails a check of its own, and changes nothing
+abbrev pub RefusesRow : ProfileRows → List (List ℕ) → ProfileRefusal → ProfileRows → Type 0
+RefusesRow s row why t = (IsBetweenRows s → piece_row_fault s.row s.last row ≡ Some why) × (t ≡ s)

@@ -11,13 +11,8 @@ use Rattle.cu_interval.specs.Hierarchies.{HierarchyValue}
 use Rattle.cu_session.specs.declared.stops.SessionStop.{SessionStop}
 use Rattle.cu_session.specs.declared.stops.SessionStop.TheVariants as stop
 use Rattle.cu_session.specs.Held.{AreDone, AreHeldReplies}
-use Rattle.cu_session.specs.Replies.{line_limit}
-use Rattle.cu_session.specs.Sessions.{EndsSession, IsFlushed, take_limit}
-
--- why the answering stopped, if it did
-abbrev pub stop_of : {T : Type 0} → Result T SessionStop → Option SessionStop
-stop_of (Ok value) = None
-stop_of (Err why) = Some why
+use Rattle.cu_session.specs.Scripts.{line_limit}
+use Rattle.cu_session.specs.Sessions.{EndsSession, IsFlushed, line_bytes, take_limit}
 
 -- The bytes taken so far are the lines that were answered, by which the first hierarchy became the one held now, and what the
 -- reader holds.
@@ -30,14 +25,15 @@ pub record Session (h held : HierarchyValue) (source_before : SourceState) (sink
   pub whole : reader.shown ≡ true → IfSome source.left (λ bytes. bytes ≡ [])
   pub takes : Takes source_before.left source.left taken
   pub count : reader.taken ≡ length taken
+  pub parted : length taken ≤ line_bytes lines + length reader.held
   pub within : reader.taken ≤ take_limit
   pub line_limit : reader.line_limit ≡ line_limit
   pub take_limit : reader.take_limit ≡ take_limit
   pub replies : AreHeldReplies h lines output held
   pub appends : Appends sink_before.written sink.written output
   pub flushed : IsFlushed sink_before sink
-  pub source_later : source_before.faults ≤ source.faults
-  pub sink_later : sink_before.faults ≤ sink.faults
+  pub source_quiet : source.faults ≡ source_before.faults
+  pub sink_quiet : sink.faults ≡ sink_before.faults
   pub rises : sink_before.flushed ≤ sink.flushed
 
 -- what one turn makes of a script: it goes on over this hierarchy, or the answering ended
@@ -72,5 +68,5 @@ pub record Edits (before held : HierarchyValue) (text rest : List ℕ) (sink_bef
   pub done : AreDone before lines output held
   pub appends : Appends sink_before.written sink.written output
   pub flushed : IsFlushed sink_before sink
-  pub later : sink_before.faults ≤ sink.faults
+  pub quiet : sink.faults ≡ sink_before.faults
   pub rises : sink_before.flushed ≤ sink.flushed

@@ -1,32 +1,19 @@
--- What the sweeps leave in the places of the ranks that they pass.
-use Rattle.std.specs.Prelude.{ℕ, Bool, List, [], ◌∷◌, ◌++◌, Option, Some, None, ◌≡◌, ◌<◌, ◌+◌, ◌-◌, ◌⊎◌, ◌==◌, nat_lt, if◌then◌else◌, true, map, flat_map, slice_set}
+-- What the sweeps leave in the places of the ranks that they pass, call by call.
+use Rattle.std.specs.Prelude.{ℕ, Bool, List, [], ◌∷◌, ◌++◌, Option, Some, None, ◌≡◌, ◌+◌, nat_lt, if◌then◌else◌, true, map, flat_map, slice_set}
 use Rattle.std.specs.List.{Contains}
-use Rattle.cu_links.specs.Chains.{link_at}
-use Rattle.cu_chordal.specs.Graphs.{HasEdge}
-use Rattle.cu_elimtree.specs.SweepArcs.{ancestors_in}
 use Rattle.cu_interval.specs.declared.ways.Dir.{Dir}
 use Rattle.cu_interval.specs.declared.ways.Dir.TheVariants.{Up, Down}
 use Rattle.cu_interval.specs.declared.relaxing.Call.{Call}
 use Rattle.cu_interval.specs.declared.relaxing.Relaxed.{Relaxed}
 use Rattle.cu_interval.specs.declared.relaxing.Relaxed.TheVariants.{At, NoWay, Long}
-use Rattle.cu_interval.specs.Hierarchies.{HierarchyValue, graph_of, number_from}
+use Rattle.cu_interval.specs.Hierarchies.{HierarchyValue, number_from}
 use Rattle.cu_interval.specs.Unpacking.{relaxed}
 use Rattle.cu_sweep.specs.declared.finding.Found.{Found}
 use Rattle.cu_sweep.specs.declared.finding.Found.TheVariants.{Arrive, NoWalk}
 use Rattle.cu_sweep.specs.Labels.{Label, down_label, earliest, label_over, start_label, up_label}
 use Rattle.cu_sweep.specs.Sweeps.{AddsAll, calls_down, calls_up, first_long, second_of, until_long}
-use Rattle.cu_sweep.specs.Desks.{AreArriving}
-use Rattle.cu_sweep.specs.Steps.Places.{calls_between, dir_between, second_at}
-
--- a query's ranks and second
-pub record Question : Type 0 where
-  pub from : ℕ
-  pub to : ℕ
-  pub second : ℕ
-
--- the ranks whose places a query uses
-abbrev pub IsPassed : HierarchyValue → Question → ℕ → Type 0
-IsPassed h q rank = (rank < h.network.nodes) × (Contains (ancestors_in (graph_of h) q.from) rank ⊎ Contains (ancestors_in (graph_of h) q.to) rank)
+use Rattle.cu_sweep.specs.Places.{second_at}
+use Rattle.cu_sweep.specs.Swept.{Holds, IsPassed, Sweep}
 
 -- what a call answers at a second, where there is one
 abbrev pub answer_at : HierarchyValue → ℕ → Dir → Option ℕ → Relaxed
@@ -57,58 +44,28 @@ abbrev pub IfSecond : Option ℕ → (ℕ → Type 0) → Type 0
 IfSecond None Fact = Unit {0}
 IfSecond (Some second) Fact = Fact second
 
--- the label that a place has when both sweeps are over
-abbrev pub final_label : HierarchyValue → Question → ℕ → Option Label
-final_label h q place =
-    if nat_lt place h.network.nodes then up_label h q.from q.second place else down_label h q.from q.second (place - h.network.nodes)
-
--- where a link into a place comes from: the upward label of a rank that is passed, or the downward one of a higher neighbour
-abbrev pub IsSource : HierarchyValue → Question → ℕ → ℕ → Type 0
-IsSource h q place from =
-    IsPassed h q from ⊎ ((x y : ℕ) × (from ≡ h.network.nodes + y) × (place ≡ h.network.nodes + x) × HasEdge h.edges x y)
-
--- a label whose last call is that of the link into its place
-pub record IsLinked (h : HierarchyValue) (q : Question) (links : List (Option (ℕ × ℕ))) (place : ℕ) (label : Label) : Type 0 where
-  pub from : ℕ
-  pub edge : ℕ
-  pub link : link_at links place ≡ Some (from, edge)
-  pub source : IsSource h q place from
-  pub before : Label
-  pub final : final_label h q from ≡ Some before
-  pub calls : label.calls ≡ before.calls ++ calls_between (dir_between h.network.nodes from place) edge (Some before.second)
-  pub arriving : AreArriving h (calls_between (dir_between h.network.nodes from place) edge (Some before.second))
-
-abbrev pub IsLinkedLabel : HierarchyValue → Question → List (Option (ℕ × ℕ)) → ℕ → Option Label → Type 0
-IsLinkedLabel h q links place None = Unit {0}
-IsLinkedLabel h q links place (Some label) = ((link_at links place ≡ None) × (label.calls ≡ [])) ⊎ IsLinked h q links place label
-
--- a place has a label: its second, and the link of its last call
-pub record Holds (h : HierarchyValue) (q : Question) (labels : List (Option ℕ)) (links : List (Option (ℕ × ℕ))) (place : ℕ) (label : Option Label) : Type 0 where
-  pub second : second_at labels place ≡ second_of label
-  pub linked : IsLinkedLabel h q links place label
-
 -- the label that a rank gives another upwards
-abbrev pub up_into : HierarchyValue → Question → ℕ → ℕ → Option Label
+abbrev pub up_into : HierarchyValue → Sweep → ℕ → ℕ → Option Label
 up_into h q y x = label_over h (number_from 0 h.edges x y) Up (up_label h q.from q.second x)
 
 -- the upward label of a rank after the calls from these ranks
-abbrev pub up_after : HierarchyValue → Question → List ℕ → ℕ → Option Label
+abbrev pub up_after : HierarchyValue → Sweep → List ℕ → ℕ → Option Label
 up_after h q done y = earliest (start_label q.from q.second y ∷ map (up_into h q y) done)
 
 -- each rank that the query passes has its upward label after the calls from these ranks
-abbrev pub IsUpSwept : HierarchyValue → Question → List ℕ → List (Option ℕ) → List (Option (ℕ × ℕ)) → Type 0
+abbrev pub IsUpSwept : HierarchyValue → Sweep → List ℕ → List (Option ℕ) → List (Option (ℕ × ℕ)) → Type 0
 IsUpSwept h q done labels links = (y : ℕ) → IsPassed h q y → Holds h q labels links y (up_after h q done y)
 
 -- the label that a higher rank gives another downwards
-abbrev pub down_into : HierarchyValue → Question → ℕ → ℕ → Option Label
+abbrev pub down_into : HierarchyValue → Sweep → ℕ → ℕ → Option Label
 down_into h q x y = label_over h (number_from 0 h.edges x y) Down (down_label h q.from q.second y)
 
 -- the downward label of a rank after the calls from these ranks
-abbrev pub down_after : HierarchyValue → Question → List ℕ → ℕ → Option Label
+abbrev pub down_after : HierarchyValue → Sweep → List ℕ → ℕ → Option Label
 down_after h q part x = earliest (up_label h q.from q.second x ∷ map (down_into h q x) part)
 
 -- the upward labels are final, and so are the downward labels of these ranks
-pub record IsDownSwept (h : HierarchyValue) (q : Question) (done : List ℕ) (labels : List (Option ℕ)) (links : List (Option (ℕ × ℕ))) : Type 0 where
+pub record IsDownSwept (h : HierarchyValue) (q : Sweep) (done : List ℕ) (labels : List (Option ℕ)) (links : List (Option (ℕ × ℕ))) : Type 0 where
   pub up : (y : ℕ) → IsPassed h q y → Holds h q labels links y (up_label h q.from q.second y)
   pub down : (x : ℕ) → Contains done x → Holds h q labels links (h.network.nodes + x) (down_label h q.from q.second x)
 
@@ -118,29 +75,25 @@ begun_links links from into None = links
 begun_links links from into (Some second) = slice_set links into (Some (from, 0))
 
 -- the calls upwards from these ranks
-abbrev pub up_calls_of : HierarchyValue → Question → List ℕ → List Call
+abbrev pub up_calls_of : HierarchyValue → Sweep → List ℕ → List Call
 up_calls_of h q ranks = flat_map (λ x. calls_up h x (second_of (up_label h q.from q.second x))) ranks
 
 -- the calls downwards to these ranks
-abbrev pub down_calls_of : HierarchyValue → Question → List ℕ → List Call
+abbrev pub down_calls_of : HierarchyValue → Sweep → List ℕ → List Call
 down_calls_of h q ranks = flat_map (λ x. calls_down h x (λ y. second_of (down_label h q.from q.second y))) ranks
 
 -- the upward sweep over these ranks is done, or ended with a call whose walk is too long
-pub record IsUpOver (h : HierarchyValue) (q : Question) (done : List ℕ) (before now : Option (List Call)) (labels : List (Option ℕ)) (links : List (Option (ℕ × ℕ))) (long : Option Call) : Type 0 where
+pub record IsUpOver (h : HierarchyValue) (q : Sweep) (done : List ℕ) (before now : Option (List Call)) (labels : List (Option ℕ)) (links : List (Option (ℕ × ℕ))) (long : Option Call) : Type 0 where
   pub ended : long ≡ first_long h (up_calls_of h q done)
   pub told : AddsAll before now (until_long h (up_calls_of h q done))
   pub swept : long ≡ None → IsUpSwept h q done labels links
 
 -- the downward sweep over these ranks is done, or ended with a call whose walk is too long
-pub record IsDownOver (h : HierarchyValue) (q : Question) (done : List ℕ) (before now : Option (List Call)) (labels : List (Option ℕ))
+pub record IsDownOver (h : HierarchyValue) (q : Sweep) (done : List ℕ) (before now : Option (List Call)) (labels : List (Option ℕ))
     (links : List (Option (ℕ × ℕ))) (long : Option Call) : Type 0 where
   pub ended : long ≡ first_long h (down_calls_of h q done)
   pub told : AddsAll before now (until_long h (down_calls_of h q done))
   pub swept : long ≡ None → IsDownSwept h q done labels links
-
--- the second of a rank when a query begins
-abbrev pub begun_second : ℕ → ℕ → ℕ → Option ℕ
-begun_second from second rank = if rank == from then Some second else None
 
 -- what is found by the end's second
 abbrev pub answer_by : Option ℕ → Found

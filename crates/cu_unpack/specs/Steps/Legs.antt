@@ -3,7 +3,7 @@ use Rattle.std.specs.Prelude.{ℕ, List, [], ◌∷◌, ◌++◌, Option, Some, 
 use Rattle.cu_model.specs.declared.limits.TheConstants.{MAX_UNTIL}
 use Rattle.cu_model.specs.Roads.{arc_value, drive}
 use Rattle.cu_chordal.specs.declared.graph.Ends.{Ends}
-use Rattle.cu_chordal.specs.Graphs.{HasEdge}
+use Rattle.cu_interval.specs.declared.shortcuts.Leg.{Leg}
 use Rattle.cu_interval.specs.declared.ways.Dir.{Dir}
 use Rattle.cu_interval.specs.declared.ways.Dir.TheVariants.{Up, Down}
 use Rattle.cu_interval.specs.declared.ways.Way.TheVariants.{Road}
@@ -11,11 +11,6 @@ use Rattle.cu_interval.specs.Hierarchies.{HierarchyValue, start_of, end_of, list
 use Rattle.cu_interval.specs.Unpacking.{followed, unpacked_walk}
 use Rattle.cu_unpack.specs.declared.unpacking.Spot.{Spot}
 use Rattle.cu_unpack.specs.declared.unpacking.Driven.{Driven}
-
--- a shortcut by the ranks from and to which it leads
-pub record Leg : Type 0 where
-  pub from : ℕ
-  pub to : ℕ
 
 -- the edge in this direction is that of the leg
 abbrev pub IsLegOf : HierarchyValue → ℕ → Dir → Leg → Type 0
@@ -51,10 +46,6 @@ walk_on h (leg ∷ legs) t = followed (unpacked_walk h leg.from leg.to t) (λ fi
 abbrev pub low_of : Option Ends → ℕ
 low_of None = 0
 low_of (Some ends) = ends.low
-
--- a middle that an edge joins to both ends of this one
-abbrev pub IsMiddle : HierarchyValue → ℕ → Dir → ℕ → Type 0
-IsMiddle h edge dir middle = (ends : Ends) × (slice_get h.edges edge ≡ Some ends) × HasEdge h.edges middle (start_of ends dir) × HasEdge h.edges middle (end_of ends dir)
 
 -- the first half is next, downwards to the middle, and the second waits
 pub record Parts (h : HierarchyValue) (spot : Spot) (middle : ℕ) (before now : List ℕ) (next : Spot) : Type 0 where

@@ -4,30 +4,19 @@ use Rattle.cu_model.specs.Days.{day}
 use Rattle.cu_arrival.specs.declared.runs.Run.{Run}
 use Rattle.cu_arrival.specs.Runs.{IsArrivalFunction, arrival_value}
 use Rattle.cu_chordal.specs.declared.graph.Ends.{Ends}
-use Rattle.cu_interval.specs.declared.ways.Dir.TheVariants.{Up, Down}
+use Rattle.cu_interval.specs.declared.shortcuts.Shortcut.{Shortcut}
 use Rattle.cu_interval.specs.declared.ways.Way.{Way}
 use Rattle.cu_interval.specs.declared.ways.Way.TheVariants.{Road, Via}
 use Rattle.cu_interval.specs.declared.ways.Entry.{Entry}
-use Rattle.cu_interval.specs.Hierarchies.{HierarchyValue, IsWellFormed, list_number, list_of, start_of, end_of}
+use Rattle.cu_interval.specs.Hierarchies.{HierarchyValue, IsWellFormed, start_of, end_of}
 use Rattle.cu_interval.specs.Resettling.{least_in, lesser_of, rebuilt_by, value_by}
-use Rattle.cu_unpack.specs.declared.shortcuts.Shortcut.{Shortcut}
+use Rattle.cu_interval.specs.Shortcuts.{AreHalves, number_of, ways_of}
 use Rattle.cu_unpack.specs.Rebuilds.{IsRebuiltFunction, Keeps}
-use Rattle.cu_unpack.specs.RebuiltWords.{IsSide}
-
--- the number of a shortcut's list, and the list
-abbrev pub number_of : Shortcut → ℕ
-number_of shortcut = list_number shortcut.edge shortcut.dir
-
-abbrev pub ways_of : HierarchyValue → Shortcut → List Entry
-ways_of h shortcut = list_of h shortcut.edge shortcut.dir
+use Rattle.cu_unpack.specs.RebuiltRuns.{IsSide}
 
 -- functions by the number of their list, for all lists of the hierarchy, each that of its list
 abbrev pub AreKept : HierarchyValue → List (Option (List Run)) → Type 0
 AreKept h kept = (length kept ≡ 2 * length h.edges) × Keeps h (record { kept = kept })
-
--- the function of a shortcut is kept
-abbrev pub IsKept : List (Option (List Run)) → Shortcut → Type 0
-IsKept kept shortcut = (runs : List Run) × (slice_get kept (number_of shortcut) ≡ Some (Some runs))
 
 -- one more function is kept, that of the shortcut
 abbrev pub KeepsOne : HierarchyValue → Shortcut → List (Option (List Run)) → List (Option (List Run)) → Type 0
@@ -46,15 +35,6 @@ IsMissing h IsThere shortcut = HasWays h shortcut × (IsThere shortcut → ⊥)
 abbrev pub IsWayOf : HierarchyValue → Shortcut → Way → Type 0
 IsWayOf h shortcut way = (ends : Ends) × (slice_get h.edges shortcut.edge ≡ Some ends)
     × IsWellFormed h (start_of ends shortcut.dir) (end_of ends shortcut.dir) way
-
--- the halves of a shortcut at a middle: downwards to it, and upwards from it
-pub record AreHalves (h : HierarchyValue) (whole : Shortcut) (middle : ℕ) (first second : Shortcut) : Type 0 where
-  pub ends : Ends
-  pub at : slice_get h.edges whole.edge ≡ Some ends
-  pub down : first.dir ≡ Down
-  pub to : slice_get h.edges first.edge ≡ Some (record { low = middle; high = start_of ends whole.dir })
-  pub up : second.dir ≡ Up
-  pub onward : slice_get h.edges second.edge ≡ Some (record { low = middle; high = end_of ends whole.dir })
 
 -- both halves of a way are there, if it has a middle
 abbrev pub HasHalves : HierarchyValue → (Shortcut → Type 0) → Shortcut → Way → Type 0

@@ -1,7 +1,7 @@
 use Rattle.std.proofs.Common.{◌++◌, append_assoc}
 use Rattle.std.specs.Prelude.{codes}
 use Rattle.cu_io.proofs.Appending.{wrote_same, wrote_stops, wrote_then}
-use Rattle.cu_session.specs.Swept.{dir_word}
+use Rattle.cu_router.specs.Swept.{dir_word}
 use Rattle.cu_cli.specs.Stops.{field_word}
 use Rattle.cu_cli.proofs.faults.put_file_fault.Goals as goal
 

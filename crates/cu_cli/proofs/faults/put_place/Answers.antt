@@ -1,7 +1,7 @@
 use Rattle.std.proofs.Common.{◌++◌, append_assoc, decimal}
 use Rattle.std.specs.Prelude.{codes}
 use Rattle.cu_io.proofs.Appending.{wrote_same, wrote_stops, wrote_then}
-use Rattle.cu_session.specs.Swept.{dir_word}
+use Rattle.cu_router.specs.Swept.{dir_word}
 use Rattle.cu_cli.proofs.faults.put_place.Goals as goal
 
 pub returns-in_err-put_word_and_number : goal.returns-in_err-put_word_and_number

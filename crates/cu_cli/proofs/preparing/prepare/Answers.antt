@@ -1,70 +1,70 @@
 use Rattle.std.proofs.Common.{◌++◌, inl, inr}
-use Rattle.cu_cli.specs.Steps.Asks.{order_asked}
+use Rattle.std.specs.Prelude.{Some, None}
+use Rattle.cu_cli.specs.Steps.Asks.{order_asked, tables_asked}
 use Rattle.cu_cli.specs.Steps.Loading.{order_texts, table_texts}
 use Rattle.cu_cli.specs.Words.{network_files, order_files}
-use Rattle.cu_cli.proofs.LoadLaws.{all_loaded_behind, loaded_then, stops_all_behind, stops_later, stops_sooner}
-use Rattle.cu_cli.proofs.OrderKinds.{read_asked, reading_stops_asked}
+use Rattle.cu_cli.proofs.LoadLaws.{all_loaded_behind, early, loaded_then, only_read, only_then, stops_all_behind, stops_later, stops_sooner}
+use Rattle.cu_cli.proofs.OrderKinds.{order_asked_is, reading_stops}
 use Rattle.cu_session.proofs.SessionLaws.{err_is}
 use Rattle.cu_cli.proofs.StopLaws.{if_ok_map, if_err_map}
 use Rattle.cu_cli.proofs.preparing.prepare.Goals as goal
 
 pub returns-in_err-texts-clause-err : goal.returns-in_err-texts-clause-err
 returns-in_err-texts-clause-err g c =
-    let asked = c.args.tables in
     let before = g.H.Shelf.state c.args.shelf.now in
     let now = g.H.Shelf.state c.load_tables.new.shelf in
-    let stops = stops_sooner before now (network_files asked.nodes.now asked.roads.now asked.profiles.now) (order_files (order_asked asked.order))
-    c.in_err-texts.field-0.0 c.in_err-texts.ensures.err in
-    rw (err_is c.from_residual.result c.in_err-texts.field-0.0 c.from_residual.ensures.1) (inl stops)
+    let stops = stops_sooner before now (network_files (tables_asked c.args.tables)) (order_files (order_asked c.args.order)) c.in_err-texts.field-0.0 c.in_err-texts.ensures.err in
+    rw (err_is c.from_residual.result c.in_err-texts.field-0.0 c.from_residual.ensures.1) (inl (inl stops))
 
 pub returns-in_err-given-clause-err : goal.returns-in_err-given-clause-err
 returns-in_err-given-clause-err g c =
-    let asked = c.args.tables in
     let before = g.H.Shelf.state c.args.shelf.now in
     let now = g.H.Shelf.state c.load_order.new.shelf in
     let why = c.in_err-given.field-0.0 in
-    let order = stops_all_behind now (order_files (order_asked asked.order)) why c.in_ok-texts.ensures.loads c.in_ok-texts.ensures.quiet c.in_err-given.ensures.err in
+    let order = stops_all_behind now (order_files (order_asked c.args.order)) why c.in_ok-texts.ensures.loads c.in_err-given.ensures.err in
     let stops =
-    stops_later before now (network_files asked.nodes.now asked.roads.now asked.profiles.now) (order_files (order_asked asked.order))
-    (table_texts c.in_ok-texts.texts) why c.in_ok-texts.ensures.ok order in
-    rw (err_is c.from_residual-in_err-given.result why c.from_residual-in_err-given.ensures.1) (inl stops)
+    stops_later before now (network_files (tables_asked c.args.tables)) (order_files (order_asked c.args.order)) (table_texts c.in_ok-texts.texts) why c.in_ok-texts.ensures.ok order in
+    rw (err_is c.from_residual-in_err-given.result why c.from_residual-in_err-given.ensures.1) (inl (inl stops))
+
+pub returns-in_err-given-clause-loads : goal.returns-in_err-given-clause-loads
+returns-in_err-given-clause-loads g c =
+    rw (err_is c.from_residual-in_err-given.result c.in_err-given.field-0.0 c.from_residual-in_err-given.ensures.1)
+    (only_then (Some c.in_err-given.field-0.0) c.in_ok-texts.ensures.loads c.in_err-given.ensures.loads)
 
 pub returns-clause-ok : goal.returns-clause-ok
 returns-clause-ok g c =
-    let asked = c.args.tables in
+    let asked = order_asked c.args.order in
     let before = g.H.Shelf.state c.args.shelf.now in
     let texts = c.in_ok-texts.texts in
     let given = c.in_ok-given.given in
-    let order = all_loaded_behind (order_files (order_asked asked.order)) (order_texts given) c.in_ok-texts.ensures.loads c.in_ok-given.ensures.ok in
-    let loaded =
-    loaded_then before (network_files asked.nodes.now asked.roads.now asked.profiles.now) (order_files (order_asked asked.order)) (table_texts texts)
-    (order_texts given) c.in_ok-texts.ensures.ok order in
+    let order = all_loaded_behind (order_files asked) (order_texts given) c.in_ok-texts.ensures.loads c.in_ok-given.ensures.ok in
+    let loaded = loaded_then before (network_files (tables_asked c.args.tables)) (order_files asked) (table_texts texts) (order_texts given) c.in_ok-texts.ensures.ok order in
     if_ok_map c.read_prepared.result _ _
-    (λ prepared (places, read). (
+    (λ prepared (places, named, is, few). (
       places,
       (
-        table_texts texts ++ order_texts given,
-        loaded,
-        read_asked (order_asked asked.order) given texts.nodes.items texts.roads.items texts.profiles.items
-            (record { network = prepared.network; places = places }) prepared.order c.in_ok-given.ensures.given read,
+        order_texts given,
+        (texts.nodes.items, texts.roads.items, texts.profiles.items, loaded, named),
+        order_asked_is asked given (record { network = prepared.network; places = places }) prepared.order c.in_ok-given.ensures.given is,
+        few,
       ),
     ))
     c.read_prepared.ensures.ok
 
 pub returns-clause-err : goal.returns-clause-err
 returns-clause-err g c =
-    let asked = c.args.tables in
+    let asked = order_asked c.args.order in
     let before = g.H.Shelf.state c.args.shelf.now in
     let texts = c.in_ok-texts.texts in
     let given = c.in_ok-given.given in
-    let order = all_loaded_behind (order_files (order_asked asked.order)) (order_texts given) c.in_ok-texts.ensures.loads c.in_ok-given.ensures.ok in
-    let loaded =
-    loaded_then before (network_files asked.nodes.now asked.roads.now asked.profiles.now) (order_files (order_asked asked.order)) (table_texts texts)
-    (order_texts given) c.in_ok-texts.ensures.ok order in
+    let order = all_loaded_behind (order_files asked) (order_texts given) c.in_ok-texts.ensures.loads c.in_ok-given.ensures.ok in
+    let loaded = loaded_then before (network_files (tables_asked c.args.tables)) (order_files asked) (table_texts texts) (order_texts given) c.in_ok-texts.ensures.ok order in
     if_err_map c.read_prepared.result _ _
-    (λ why stops. inr (
-      table_texts texts ++ order_texts given,
-      loaded,
-      reading_stops_asked (order_asked asked.order) given texts.nodes.items texts.roads.items texts.profiles.items why c.in_ok-given.ensures.given stops,
-    ))
+    (λ why stops. reading_stops before (g.H.Shelf.state c.load_order.new.shelf) (tables_asked c.args.tables) asked texts given why c.in_ok-given.ensures.given loaded stops)
     c.read_prepared.ensures.err
+
+pub returns-clause-before : goal.returns-clause-before
+returns-clause-before g c = if_err_map c.read_prepared.result _ _ early c.read_prepared.ensures.before
+
+pub returns-clause-loads : goal.returns-clause-loads
+returns-clause-loads g c = only_read c.read_prepared.result (only_then None c.in_ok-texts.ensures.loads c.in_ok-given.ensures.loads) c.read_prepared.ensures.before

@@ -1,5 +1,5 @@
 use Rattle.std.specs.Prelude.{map, string_bytes}
-use Rattle.cu_cli.specs.Words.{command_of}
+use Rattle.cu_cli.specs.Commands.{meaning_of}
 use Rattle.cu_cli.proofs.Completeness.{completes}
 use Rattle.cu_cli.proofs.WorkLaws.{closed}
 use Rattle.cu_cli.proofs.program.run.Goals as goal
@@ -10,4 +10,4 @@ returns-in-Err-clause-ended g c =
 
 pub returns-in-Err-clause-complete : goal.returns-in-Err-clause-complete
 returns-in-Err-clause-complete g c can short fine =
-    completes _ _ _ _ _ _ _ (command_of (map string_bytes c.args.words.now.items)) c.in-Err.stop c.refuse.result can short fine c.in-Err.ensures.works c.refuse.ensures.refuses
+    completes (meaning_of (map string_bytes c.args.words.now.items)) _ _ _ _ _ _ _ c.in-Err.stop c.refuse.result c.in-Err.ensures.works c.refuse.ensures.refuses can short fine

@@ -2,7 +2,6 @@ use Rattle.std.proofs.Common.{◌≡◌, ◌≢◌, ◌++◌, ℕ, List, [], map
 use Rattle.std.specs.Prelude.{IfSome}
 use Rattle.cu_interval.specs.declared.ways.Way.TheVariants.{Road, Via}
 use Rattle.cu_customize.specs.Steps.Best.{IsBestOf}
-use Rattle.cu_customize.specs.Steps.ByMiddles.{IsBestBut}
 use Rattle.cu_customize.proofs.by_middles.best_way.Given as goal
 
 abbrev pub invariant-loop-middle : goal.invariant-loop-middle
@@ -10,5 +9,5 @@ invariant-loop-middle g l = record {
   same : g.F.Functions.state l.functions ≡ g.F.Functions.state l.fn.functions;
   some : IfSome l.best.function (λ _. l.best.ways ≢ []);
   best : (arcs : List ℕ) → IsBestOf l.graph.edges (g.F.Functions.state l.fn.functions) l.leg.from l.leg.to (map Road arcs) l.fn.roads
-      → IsBestBut l.graph.edges (g.F.Functions.state l.fn.functions) l.leg.from l.leg.to l.most (map Road arcs ++ map Via (take l.middle-index l.middles)) l.best;
+      → IsBestOf l.graph.edges (g.F.Functions.state l.fn.functions) l.leg.from l.leg.to (map Road arcs ++ map Via (take l.middle-index l.middles)) l.best;
 }

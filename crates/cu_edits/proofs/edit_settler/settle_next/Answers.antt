@@ -1,18 +1,15 @@
 use Rattle.std.proofs.Common.{refl}
-use Rattle.cu_edits.specs.Steps.Holding.{settling_of}
-use Rattle.cu_edits.proofs.SettlingNext.{ends_within, lower_sides, next_none, next_one, next_roads, next_within}
+use Rattle.cu_edits.specs.Steps.Parts.{settling_over}
+use Rattle.cu_edits.proofs.SettlingNext.{ends_within, lower_sides, next_none, next_one, next_within}
 use Rattle.cu_edits.proofs.edit_settler.settle_next.Goals as goal
 
 pub ends-ends-requires : goal.ends-ends-requires
 ends-ends-requires g c =
-    next_within (settling_of (g.W.Ways.hierarchy c.args.ways.now) c.args.edit.now c.args.settled.now.items) c.args.graph.now c.args.arcs.now c.args.rebuilt.now c.args.known.now c.args.edge
+    next_within (settling_over c.args.parts.now c.args.settled.now.items) c.args.parts.now.graph c.args.parts.now.arcs c.args.rebuilt.now c.args.known.now c.args.edge
     c.requires.holds c.requires.asked
 
-pub learn_sides-requires-clause-graph : goal.learn_sides-requires-clause-graph
-learn_sides-requires-clause-graph g c = c.requires.holds.hierarchy
-
 pub learn_sides-requires-clause-ranks : goal.learn_sides-requires-clause-ranks
-learn_sides-requires-clause-ranks g c = ends_within c.args.graph.now c.args.edge c.ends-ends.result c.ends-ends.ensures.sound c.ends-ends.ensures.there
+learn_sides-requires-clause-ranks g c = ends_within c.args.parts.now.graph c.args.edge c.ends-ends.result c.ends-ends.ensures.sound c.ends-ends.ensures.there
 
 pub learn_sides-requires-clause-size : goal.learn_sides-requires-clause-size
 learn_sides-requires-clause-size g c = c.requires.holds.size
@@ -25,47 +22,34 @@ learn_sides-requires-clause-known g c = c.requires.holds.count
 
 pub settle_edge-requires-clause-edge : goal.settle_edge-requires-clause-edge
 settle_edge-requires-clause-edge g c =
-    next_within (settling_of (g.W.Ways.hierarchy c.args.ways.now) c.args.edit.now c.args.settled.now.items) c.args.graph.now c.args.arcs.now c.args.rebuilt.now c.args.known.now c.args.edge
+    next_within (settling_over c.args.parts.now c.args.settled.now.items) c.args.parts.now.graph c.args.parts.now.arcs c.args.rebuilt.now c.args.known.now c.args.edge
     c.requires.holds c.requires.asked
-
-pub settle_edge-requires-clause-graph : goal.settle_edge-requires-clause-graph
-settle_edge-requires-clause-graph g c = c.requires.holds.hierarchy
-
-pub settle_edge-requires-clause-arcs : goal.settle_edge-requires-clause-arcs
-settle_edge-requires-clause-arcs g c =
-    next_roads (settling_of (g.W.Ways.hierarchy c.args.ways.now) c.args.edit.now c.args.settled.now.items) c.args.graph.now c.args.arcs.now c.args.rebuilt.now c.args.known.now c.requires.holds
-
-pub settle_edge-requires-clause-range : goal.settle_edge-requires-clause-range
-settle_edge-requires-clause-range g c = c.requires.holds.range
-
-pub settle_edge-requires-clause-pieces : goal.settle_edge-requires-clause-pieces
-settle_edge-requires-clause-pieces g c = c.requires.holds.pieces
 
 pub settle_edge-requires-clause-sides : goal.settle_edge-requires-clause-sides
 settle_edge-requires-clause-sides g c =
-    lower_sides c.args.graph.now.edges c.learn_sides.new.known c.args.edge c.ends-ends.result c.ends-ends.ensures.there c.in_ok-learn_sides.ensures.sides
+    lower_sides c.args.parts.now.graph.edges c.learn_sides.new.known c.args.edge c.ends-ends.result c.ends-ends.ensures.there c.in_ok-learn_sides.ensures.sides
 
 pub returns-in_err-learn_sides-clause-holds : goal.returns-in_err-learn_sides-clause-holds
 returns-in_err-learn_sides-clause-holds g c =
     let list = c.args.settled.now.items in
-    next_none (g.W.Ways.hierarchy c.args.ways.now) c.args.edit.now list list c.args.graph.now c.args.arcs.now c.args.rebuilt.now c.learn_sides.new.rebuilt c.args.known.now c.learn_sides.new.known
+    next_none c.args.parts.now.before c.args.parts.now.edit list list c.args.parts.now.graph c.args.parts.now.arcs c.args.rebuilt.now c.learn_sides.new.rebuilt c.args.known.now c.learn_sides.new.known
     c.args.edge c.ends-ends.result c.requires.holds c.requires.asked c.ends-ends.ensures.there c.learn_sides.ensures.learns c.learn_sides.ensures.size c.learn_sides.ensures.keeps refl
 
 pub returns-in_err-lists-clause-holds : goal.returns-in_err-lists-clause-holds
 returns-in_err-lists-clause-holds g c =
     let list = c.args.settled.now.items in
-    next_none (g.W.Ways.hierarchy c.args.ways.now) c.args.edit.now list list c.args.graph.now c.args.arcs.now c.args.rebuilt.now c.learn_sides.new.rebuilt c.args.known.now c.learn_sides.new.known
+    next_none c.args.parts.now.before c.args.parts.now.edit list list c.args.parts.now.graph c.args.parts.now.arcs c.args.rebuilt.now c.learn_sides.new.rebuilt c.args.known.now c.learn_sides.new.known
     c.args.edge c.ends-ends.result c.requires.holds c.requires.asked c.ends-ends.ensures.there c.learn_sides.ensures.learns c.learn_sides.ensures.size c.learn_sides.ensures.keeps refl
 
 pub returns-in_err-copy-clause-holds : goal.returns-in_err-copy-clause-holds
 returns-in_err-copy-clause-holds g c =
     let list = c.args.settled.now.items in
-    next_none (g.W.Ways.hierarchy c.args.ways.now) c.args.edit.now list list c.args.graph.now c.args.arcs.now c.args.rebuilt.now c.learn_sides.new.rebuilt c.args.known.now c.learn_sides.new.known
+    next_none c.args.parts.now.before c.args.parts.now.edit list list c.args.parts.now.graph c.args.parts.now.arcs c.args.rebuilt.now c.learn_sides.new.rebuilt c.args.known.now c.learn_sides.new.known
     c.args.edge c.ends-ends.result c.requires.holds c.requires.asked c.ends-ends.ensures.there c.learn_sides.ensures.learns c.learn_sides.ensures.size c.learn_sides.ensures.keeps refl
 
 pub returns-in_err-push-clause-holds : goal.returns-in_err-push-clause-holds
 returns-in_err-push-clause-holds g c =
-    next_none (g.W.Ways.hierarchy c.args.ways.now) c.args.edit.now c.args.settled.now.items c.push.new.self.items c.args.graph.now c.args.arcs.now c.args.rebuilt.now c.learn_sides.new.rebuilt
+    next_none c.args.parts.now.before c.args.parts.now.edit c.args.settled.now.items c.push.new.self.items c.args.parts.now.graph c.args.parts.now.arcs c.args.rebuilt.now c.learn_sides.new.rebuilt
     c.args.known.now c.learn_sides.new.known c.args.edge c.ends-ends.result c.requires.holds c.requires.asked c.ends-ends.ensures.there c.learn_sides.ensures.learns c.learn_sides.ensures.size
     c.learn_sides.ensures.keeps c.in_err-push.ensures.items
 
@@ -74,21 +58,21 @@ returns-clause-edge g c = c.in_ok-lists.ensures.number
 
 pub returns-clause-settled : goal.returns-clause-settled
 returns-clause-settled g c =
-    (next_one (g.W.Ways.hierarchy c.args.ways.now) c.args.edit.now c.args.settled.now.items c.push.new.self.items c.args.graph.now c.args.arcs.now c.args.rebuilt.now c.learn_sides.new.rebuilt
+    (next_one c.args.parts.now.before c.args.parts.now.edit c.args.settled.now.items c.push.new.self.items c.args.parts.now.graph c.args.parts.now.arcs c.args.rebuilt.now c.learn_sides.new.rebuilt
     c.args.known.now c.learn_sides.new.known _ c.args.edge c.ends-ends.result c.in_ok-lists.lists c.in_ok-copy.copy c.in_ok-lists.functions c.requires.holds c.requires.asked c.ends-ends.ensures.there
     c.learn_sides.ensures.learns c.learn_sides.ensures.size c.learn_sides.ensures.keeps c.in_ok-learn_sides.ensures.sides c.in_ok-lists.ensures
     c.in_ok-copy.ensures c.in_ok-push.ensures.items refl).list
 
 pub returns-clause-resettled : goal.returns-clause-resettled
 returns-clause-resettled g c =
-    (next_one (g.W.Ways.hierarchy c.args.ways.now) c.args.edit.now c.args.settled.now.items c.push.new.self.items c.args.graph.now c.args.arcs.now c.args.rebuilt.now c.learn_sides.new.rebuilt
+    (next_one c.args.parts.now.before c.args.parts.now.edit c.args.settled.now.items c.push.new.self.items c.args.parts.now.graph c.args.parts.now.arcs c.args.rebuilt.now c.learn_sides.new.rebuilt
     c.args.known.now c.learn_sides.new.known _ c.args.edge c.ends-ends.result c.in_ok-lists.lists c.in_ok-copy.copy c.in_ok-lists.functions c.requires.holds c.requires.asked c.ends-ends.ensures.there
     c.learn_sides.ensures.learns c.learn_sides.ensures.size c.learn_sides.ensures.keeps c.in_ok-learn_sides.ensures.sides c.in_ok-lists.ensures c.in_ok-copy.ensures c.in_ok-push.ensures.items
     refl).resettled
 
 pub returns-clause-holds : goal.returns-clause-holds
 returns-clause-holds g c =
-    (next_one (g.W.Ways.hierarchy c.args.ways.now) c.args.edit.now c.args.settled.now.items c.push.new.self.items c.args.graph.now c.args.arcs.now c.args.rebuilt.now c.learn_sides.new.rebuilt
+    (next_one c.args.parts.now.before c.args.parts.now.edit c.args.settled.now.items c.push.new.self.items c.args.parts.now.graph c.args.parts.now.arcs c.args.rebuilt.now c.learn_sides.new.rebuilt
     c.args.known.now c.learn_sides.new.known _ c.args.edge c.ends-ends.result c.in_ok-lists.lists c.in_ok-copy.copy c.in_ok-lists.functions c.requires.holds c.requires.asked c.ends-ends.ensures.there
     c.learn_sides.ensures.learns c.learn_sides.ensures.size c.learn_sides.ensures.keeps c.in_ok-learn_sides.ensures.sides c.in_ok-lists.ensures
     c.in_ok-copy.ensures c.in_ok-push.ensures.items refl).holds

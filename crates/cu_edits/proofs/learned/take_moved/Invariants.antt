@@ -1,5 +1,5 @@
 -- The lists of the edges so far are taken.
-use Rattle.cu_unpack.specs.RebuiltWords.{IsSized}
+use Rattle.cu_unpack.specs.RebuiltRuns.{IsSized}
 use Rattle.cu_edits.specs.Steps.Taking.{HasTaken}
 use Rattle.cu_edits.proofs.learned.take_moved.Given as goal
 

@@ -6,7 +6,7 @@ use Rattle.cu_edits.proofs.learning.learn_sides.Given as goal
 
 abbrev pub invariant-loop-middle : goal.invariant-loop-middle
 invariant-loop-middle g l = record {
-  learns : IsLearning (g.W.Ways.hierarchy l.ways) l.graph.edges l.ends l.middle-items l.middle-index l.fn.known l.known;
+  learns : IsLearning l.parts.before l.parts.graph.edges l.ends l.middle-items l.middle-index l.fn.known l.known;
   size : length l.rebuilt.kept ≡ length l.fn.rebuilt.kept;
-  keeps : Keeps (g.W.Ways.hierarchy l.ways) l.rebuilt;
+  keeps : Keeps l.parts.before l.rebuilt;
 }

@@ -5,10 +5,10 @@ use Rattle.cu_edits.proofs.learning.learn_triangle.Goals as goal
 
 pub returns-clause-learns : goal.returns-clause-learns
 returns-clause-learns g c =
-    let edges = c.args.graph.now.edges in
+    let edges = c.args.parts.now.graph.edges in
     let first = c.in-Some.first in
     let second = c.in-Some-edge.second in
-    learns_then (g.W.Ways.hierarchy c.args.ways.now) (λ (e : ℕ). e ≡ first) (λ (e : ℕ). e ≡ second) (IsSideOver edges c.args.ends c.args.middle) c.args.known.now c.learn_edge.new.known
+    learns_then c.args.parts.now.before (λ (e : ℕ). e ≡ first) (λ (e : ℕ). e ≡ second) (IsSideOver edges c.args.ends c.args.middle) c.args.known.now c.learn_edge.new.known
     c.learn_edge-2.new.known
     (λ e same. first_side edges c.args.ends c.args.middle first second e c.in-Some.ensures.found c.in-Some-edge.ensures.found same)
     (λ e same. second_side edges c.args.ends c.args.middle first second e c.in-Some.ensures.found c.in-Some-edge.ensures.found same)
@@ -16,10 +16,10 @@ returns-clause-learns g c =
 
 pub returns-clause-sides : goal.returns-clause-sides
 returns-clause-sides g c =
-    let edges = c.args.graph.now.edges in
+    let edges = c.args.parts.now.graph.edges in
     let first = c.in-Some.first in
     let second = c.in-Some-edge.second in
     on_ok {P = HasFunctions c.learn_edge-2.new.known second} c.learn_edge-2.result
     (λ two. both_known edges c.in-Some.ensures.sound.rising c.args.ends c.args.middle first second c.learn_edge-2.new.known c.in-Some.ensures.found c.in-Some-edge.ensures.found
-    (known_still (g.W.Ways.hierarchy c.args.ways.now) (λ (e : ℕ). e ≡ second) c.learn_edge.new.known c.learn_edge-2.new.known first c.learn_edge-2.ensures.learns c.in_ok-learn_edge.ensures.known) two)
+    (known_still c.args.parts.now.before (λ (e : ℕ). e ≡ second) c.learn_edge.new.known c.learn_edge-2.new.known first c.learn_edge-2.ensures.learns c.in_ok-learn_edge.ensures.known) two)
     c.learn_edge-2.ensures.known

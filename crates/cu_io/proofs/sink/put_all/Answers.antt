@@ -9,5 +9,5 @@ loop-put-preserved g c =
     let after = c.in_ok-put.ensures in
     record {
       within = grind (arith, common_steps, after.within);
-      wrote = wrote_next c.args.piece.now c.loop-put.put c.in_ok-put.field-0 c.loop-put.invariant.wrote after.appends after.tells after.rises after.later;
+      wrote = wrote_next c.args.piece.now c.loop-put.put c.in_ok-put.field-0 c.loop-put.invariant.wrote after.appends after.tells after.rises after.later after.quiet;
     }

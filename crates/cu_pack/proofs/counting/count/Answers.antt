@@ -1,4 +1,4 @@
-use Rattle.cu_pack.proofs.Totals.{in_limits}
+use Rattle.cu_pack.proofs.Numbering.Totals.{in_limits}
 use Rattle.cu_pack.proofs.counting.count.Goals as goal
 
 pub returns-clause-limits : goal.returns-clause-limits

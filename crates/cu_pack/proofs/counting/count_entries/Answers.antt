@@ -1,5 +1,5 @@
 use Rattle.std.proofs.Common.{◌<◌, length, arith}
-use Rattle.cu_pack.proofs.Totals.{entries_in_limit, lists_more, lists_within}
+use Rattle.cu_pack.proofs.Numbering.Totals.{entries_in_limit, lists_more, lists_within}
 use Rattle.cu_pack.proofs.counting.count_entries.Goals as goal
 
 pub overflow_add-count-in-loop-edge : goal.overflow_add-count-in-loop-edge

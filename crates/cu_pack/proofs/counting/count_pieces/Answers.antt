@@ -1,5 +1,5 @@
 use Rattle.std.proofs.Common.{◌<◌, length, arith}
-use Rattle.cu_pack.proofs.Totals.{pieces_in_limit, pieces_there, total_more, total_within}
+use Rattle.cu_pack.proofs.Numbering.Totals.{pieces_in_limit, pieces_there, total_more, total_within}
 use Rattle.cu_model.specs.Roads.{pieces_of}
 use Rattle.cu_pack.proofs.counting.count_pieces.Goals as goal
 

@@ -4,8 +4,8 @@ use Rattle.cu_model.specs.declared.roads.Edit.TheVariants.{Set}
 use Rattle.cu_model.specs.Edits.{IsEditInRange, edited}
 use Rattle.cu_model.specs.Roads.{pieces_of}
 use Rattle.cu_pack.specs.Spelling.{total}
-use Rattle.cu_pack.proofs.SetItems.{total_all, total_set}
-use Rattle.cu_pack.proofs.Totals.{pieces_in_limit, pieces_there, total_within}
+use Rattle.cu_pack.proofs.Numbering.SetItems.{total_all, total_set}
+use Rattle.cu_pack.proofs.Numbering.Totals.{pieces_in_limit, pieces_there, total_within}
 use Rattle.cu_pack.proofs.editing.count_edited.Goals as goal
 
 pub overflow_sub-result : goal.overflow_sub-result

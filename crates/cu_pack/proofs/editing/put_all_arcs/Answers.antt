@@ -1,6 +1,6 @@
 use Rattle.std.proofs.Common.{◌++◌, ◌∙◌, List, ℕ, ap}
 use Rattle.cu_pack.specs.Spelling.{arc_bytes}
-use Rattle.cu_pack.proofs.SetItems.{put_all}
+use Rattle.cu_pack.proofs.Numbering.SetItems.{put_all}
 use Rattle.cu_pack.proofs.editing.put_all_arcs.Goals as goal
 
 pub returns : goal.returns

@@ -1,8 +1,8 @@
 use Rattle.std.proofs.Common.{◌++◌, ◌∙◌, List, ℕ, ap, flat_map, sym}
 use Rattle.cu_model.specs.declared.roads.RoadArc.{RoadArc}
 use Rattle.cu_pack.specs.Spelling.{arc_bytes}
-use Rattle.cu_pack.proofs.Edited.{arcs_assigned}
-use Rattle.cu_pack.proofs.SetItems.{put_set}
+use Rattle.cu_pack.proofs.Rewrites.Edited.{arcs_assigned}
+use Rattle.cu_pack.proofs.Numbering.SetItems.{put_set}
 use Rattle.cu_pack.proofs.editing.put_assigned.Goals as goal
 
 pub returns : goal.returns

@@ -1,6 +1,6 @@
 use Rattle.std.proofs.Common.{◌++◌, ◌∙◌, List, ℕ, ap, flat_map}
 use Rattle.cu_pack.specs.Spelling.{piece_bytes}
-use Rattle.cu_pack.proofs.SetItems.{put_set}
+use Rattle.cu_pack.proofs.Numbering.SetItems.{put_set}
 use Rattle.cu_pack.proofs.editing.put_set_pieces.Goals as goal
 
 pub returns : goal.returns

@@ -1,9 +1,9 @@
 use Rattle.std.proofs.Common.{◌≤◌, ◌++◌, ◌∙◌, List, [], ℕ, ap, length, arith}
 use Rattle.std.proofs.lemmas.List.Sums.{sum_by-take-le}
 use Rattle.cu_model.specs.Roads.{pieces_of}
-use Rattle.cu_pack.proofs.CountedStarts.{set_behind}
-use Rattle.cu_pack.proofs.SetItems.{set_starts_all, set_starts_first, set_starts_next}
-use Rattle.cu_pack.proofs.Totals.{pieces_in_limit, pieces_there}
+use Rattle.cu_pack.proofs.Numbering.CountedStarts.{set_behind}
+use Rattle.cu_pack.proofs.Numbering.SetItems.{set_starts_all, set_starts_first, set_starts_next}
+use Rattle.cu_pack.proofs.Numbering.Totals.{pieces_in_limit, pieces_there}
 use Rattle.cu_pack.proofs.editing.put_set_starts.Goals as goal
 
 pub loop-behind-init : goal.loop-behind-init

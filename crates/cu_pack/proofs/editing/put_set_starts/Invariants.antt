@@ -2,7 +2,7 @@
 use Rattle.std.proofs.Common.{◌≡◌, ◌≤◌, ◌+◌, ◌++◌, length, map, set, flat_map}
 use Rattle.std.specs.List.{range_with_len}
 use Rattle.cu_pack.specs.Spelling.{long}
-use Rattle.cu_pack.proofs.CountedStarts.{before_list}
+use Rattle.cu_pack.proofs.Numbering.CountedStarts.{before_list}
 use Rattle.cu_pack.proofs.editing.put_set_starts.Given as goal
 
 abbrev pub invariant-loop-behind : goal.invariant-loop-behind

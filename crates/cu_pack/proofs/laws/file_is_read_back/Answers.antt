@@ -1,5 +1,5 @@
-use Rattle.cu_pack.proofs.Accepted.{not_refused}
-use Rattle.cu_pack.proofs.Again.{read_again}
+use Rattle.cu_pack.proofs.Spelled.Accepted.{not_refused}
+use Rattle.cu_pack.proofs.Spelled.Again.{read_again}
 use Rattle.cu_pack.proofs.laws.file_is_read_back.Goals as goal
 
 pub returns-clause-again : goal.returns-clause-again

@@ -1,5 +1,5 @@
-use Rattle.cu_pack.proofs.Again.{one_hierarchy}
-use Rattle.cu_pack.proofs.Parts.{file_long}
+use Rattle.cu_pack.proofs.Spelled.Again.{one_hierarchy}
+use Rattle.cu_pack.proofs.Spelled.Parts.{file_long}
 use Rattle.cu_pack.proofs.laws.file_of_one_hierarchy.Goals as goal
 
 pub returns-clause-long : goal.returns-clause-long

@@ -1,6 +1,6 @@
 use Rattle.std.proofs.Common.{◌≡◌, ◌+◌, ◌∙◌, ap, arith, length, length-append, refl}
-use Rattle.cu_pack.proofs.Bodies.{sealed_in_place}
-use Rattle.cu_pack.proofs.Whole.{spelled}
+use Rattle.cu_pack.proofs.Read.Bodies.{sealed_in_place}
+use Rattle.cu_pack.proofs.Spelled.Whole.{spelled}
 use Rattle.cu_pack.proofs.packing.pack.Goals as goal
 
 pub returns : goal.returns

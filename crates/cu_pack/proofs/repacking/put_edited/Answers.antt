@@ -2,9 +2,9 @@ use Rattle.std.proofs.Common.{◌++◌, ◌∙◌, ap, sym, ℕ, List}
 use Rattle.std.proofs.lemmas.Result.{on_ok_weaker}
 use Rattle.cu_interval.specs.Replacing.{hierarchy_with}
 use Rattle.cu_pack.specs.Spelling.{arcs_section, edges_section, order_section, profiles_section, ways_section}
-use Rattle.cu_pack.proofs.Edited.{edges_edited}
-use Rattle.cu_pack.proofs.Putting.{put_then}
-use Rattle.cu_pack.proofs.Totals.{entries_in_limit}
+use Rattle.cu_pack.proofs.Rewrites.Edited.{edges_edited}
+use Rattle.cu_pack.proofs.Spelled.Putting.{put_then}
+use Rattle.cu_pack.proofs.Numbering.Totals.{entries_in_limit}
 use Rattle.cu_pack.proofs.repacking.put_edited.Goals as goal
 
 pub put_replaced-requires-clause-few : goal.put_replaced-requires-clause-few

@@ -3,7 +3,7 @@ use Rattle.cu_model.proofs.EditLaws.{arcs_edited, nodes_edited, profiles_edited}
 use Rattle.cu_interval.specs.Replacing.{hierarchy_with}
 use Rattle.cu_pack.specs.Layouts.{AreInLimits}
 use Rattle.cu_pack.specs.Spelling.{counts_of}
-use Rattle.cu_pack.proofs.Totals.{entries_in_limit, in_limits, same_counts}
+use Rattle.cu_pack.proofs.Numbering.Totals.{entries_in_limit, in_limits, same_counts}
 use Rattle.cu_pack.proofs.repacking.recount.Goals as goal
 
 pub count_replaced-requires-clause-few : goal.count_replaced-requires-clause-few

@@ -1,5 +1,5 @@
 use Rattle.std.proofs.Common.{◌∙◌}
-use Rattle.cu_pack.proofs.Bodies.{sealed_in_place}
+use Rattle.cu_pack.proofs.Read.Bodies.{sealed_in_place}
 use Rattle.cu_pack.proofs.repacking.repack.Goals as goal
 
 pub returns : goal.returns

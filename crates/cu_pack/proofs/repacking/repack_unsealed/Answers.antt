@@ -1,6 +1,6 @@
 use Rattle.std.proofs.Common.{refl}
 use Rattle.cu_interval.specs.Replacing.{hierarchy_with}
-use Rattle.cu_pack.proofs.Whole.{spelled}
+use Rattle.cu_pack.proofs.Spelled.Whole.{spelled}
 use Rattle.cu_pack.proofs.repacking.repack_unsealed.Goals as goal
 
 pub returns-clause-spelled : goal.returns-clause-spelled

@@ -1,7 +1,7 @@
 use Rattle.std.proofs.Common.{length, arith}
 use Rattle.std.proofs.lemmas.List.Sums.{sum_by-take-le}
-use Rattle.cu_pack.proofs.Stretches.{total_on}
-use Rattle.cu_pack.proofs.Totals.{entries_in_limit}
+use Rattle.cu_pack.proofs.Numbering.Stretches.{total_on}
+use Rattle.cu_pack.proofs.Numbering.Totals.{entries_in_limit}
 use Rattle.cu_pack.proofs.replacing.count_between.Goals as goal
 
 pub overflow_sub-result : goal.overflow_sub-result

@@ -1,8 +1,8 @@
 -- The entries of the lists so far are counted.
 use Rattle.std.proofs.Common.{◌≡◌, length}
 use Rattle.cu_interval.specs.Replacing.{replaced}
-use Rattle.cu_pack.proofs.CountedStarts.{before_list}
-use Rattle.cu_pack.proofs.Replaced.{IsUpTo}
+use Rattle.cu_pack.proofs.Numbering.CountedStarts.{before_list}
+use Rattle.cu_pack.proofs.Rewrites.Replaced.{IsUpTo}
 use Rattle.cu_pack.proofs.replacing.count_replaced.Given as goal
 
 abbrev pub invariant-loop-touched : goal.invariant-loop-touched

@@ -2,7 +2,7 @@
 use Rattle.std.proofs.Common.{◌≡◌, ◌++◌, length, take, flat_map}
 use Rattle.cu_interval.specs.Replacing.{replaced}
 use Rattle.cu_pack.specs.Spelling.{entry_bytes}
-use Rattle.cu_pack.proofs.Replaced.{IsUpTo}
+use Rattle.cu_pack.proofs.Rewrites.Replaced.{IsUpTo}
 use Rattle.cu_pack.proofs.replacing.put_entries.Given as goal
 
 abbrev pub invariant-loop-touched : goal.invariant-loop-touched

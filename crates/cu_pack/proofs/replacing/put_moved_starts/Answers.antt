@@ -1,5 +1,5 @@
 use Rattle.std.proofs.Common.{◌+◌, ℕ, ap, arith}
-use Rattle.cu_pack.proofs.CountedStarts.{put_between_next}
+use Rattle.cu_pack.proofs.Numbering.CountedStarts.{put_between_next}
 use Rattle.cu_pack.proofs.replacing.put_moved_starts.Goals as goal
 
 pub loop-list-preserved : goal.loop-list-preserved

@@ -3,8 +3,8 @@ use Rattle.std.proofs.Common.{◌≡◌, ◌++◌, length, map, flat_map}
 use Rattle.std.specs.List.{range_with_len}
 use Rattle.cu_interval.specs.Replacing.{replaced}
 use Rattle.cu_pack.specs.Spelling.{long}
-use Rattle.cu_pack.proofs.CountedStarts.{before_list}
-use Rattle.cu_pack.proofs.Replaced.{IsUpTo}
+use Rattle.cu_pack.proofs.Numbering.CountedStarts.{before_list}
+use Rattle.cu_pack.proofs.Rewrites.Replaced.{IsUpTo}
 use Rattle.cu_pack.proofs.replacing.put_starts.Given as goal
 
 abbrev pub invariant-loop-touched : goal.invariant-loop-touched

@@ -1,6 +1,6 @@
 use Rattle.std.proofs.Common.{◌≡◌, ◌++◌, ◌∙◌, List, ℕ, flat_map, ap, sym}
 use Rattle.cu_pack.specs.Spelling.{long}
-use Rattle.cu_pack.proofs.CountedStarts.{starts_copied}
+use Rattle.cu_pack.proofs.Numbering.CountedStarts.{starts_copied}
 use Rattle.cu_pack.proofs.replacing.put_starts_between.Goals as goal
 use Rattle.cu_pack.proofs.replacing.put_starts_between.Goals.{then-start-way_start+in_ok-extend_from_slice, else-start-way_start+in_ok-put_moved_starts}
 

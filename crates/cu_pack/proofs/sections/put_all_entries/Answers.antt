@@ -2,8 +2,8 @@ use Rattle.std.proofs.Common.{◌≡◌, ◌<◌, ◌+◌, ◌*◌, ◌∙◌, �
 use Rattle.cu_interval.specs.declared.ways.Dir.TheVariants.{Up, Down}
 use Rattle.cu_interval.specs.Hierarchies.{list_of}
 use Rattle.cu_pack.specs.Spelling.{entry_bytes}
-use Rattle.cu_pack.proofs.Putting.{put_more}
-use Rattle.cu_pack.proofs.Totals.{list_there}
+use Rattle.cu_pack.proofs.Spelled.Putting.{put_more}
+use Rattle.cu_pack.proofs.Numbering.Totals.{list_there}
 use Rattle.cu_pack.proofs.sections.put_all_entries.Goals as goal
 
 pub loop-edge-preserved : goal.loop-edge-preserved

@@ -1,8 +1,8 @@
 use Rattle.std.proofs.Common.{◌<◌, length, flat_map, arith}
 use Rattle.cu_model.specs.Roads.{pieces_of}
 use Rattle.cu_pack.specs.Spelling.{piece_bytes}
-use Rattle.cu_pack.proofs.Putting.{put_more}
-use Rattle.cu_pack.proofs.Totals.{pieces_there}
+use Rattle.cu_pack.proofs.Spelled.Putting.{put_more}
+use Rattle.cu_pack.proofs.Numbering.Totals.{pieces_there}
 use Rattle.cu_pack.proofs.sections.put_all_pieces.Goals as goal
 
 pub loop-profile-preserved : goal.loop-profile-preserved

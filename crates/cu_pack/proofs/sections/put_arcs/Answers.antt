@@ -1,5 +1,5 @@
 use Rattle.cu_pack.specs.Spelling.{arc_bytes}
-use Rattle.cu_pack.proofs.Putting.{put_more}
+use Rattle.cu_pack.proofs.Spelled.Putting.{put_more}
 use Rattle.cu_pack.proofs.sections.put_arcs.Goals as goal
 
 pub loop-arc-preserved : goal.loop-arc-preserved

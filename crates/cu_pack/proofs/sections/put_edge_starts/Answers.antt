@@ -3,14 +3,14 @@ use Rattle.std.specs.List.{range_with_len}
 use Rattle.std.proofs.lemmas.Result.{on_ok_weaker}
 use Rattle.cu_chordal.specs.Graphs.{first_edge_of}
 use Rattle.cu_chordal.proofs.Tables.{first_all}
-use Rattle.cu_pack.specs.Spelling.{word}
-use Rattle.cu_pack.proofs.Putting.{put_next}
+use Rattle.cu_pack.specs.Spelling.{short}
+use Rattle.cu_pack.proofs.Spelled.Putting.{put_next}
 use Rattle.cu_pack.proofs.sections.put_edge_starts.Goals as goal
 
 pub loop-rank-preserved : goal.loop-rank-preserved
 loop-rank-preserved c =
-    put_next word (first_edge_of c.args.graph.now.edges) c.loop-rank.rank c.args.bytes.now.items c.loop-rank.bytes.items c.put_word.new.bytes.items c.loop-rank.invariant
-    (c.in_ok-put_word.ensures ∙ ap (λ (n : ℕ). c.loop-rank.bytes.items ++ word n) c.first_edge.ensures.count)
+    put_next short (first_edge_of c.args.graph.now.edges) c.loop-rank.rank c.args.bytes.now.items c.loop-rank.bytes.items c.put_short.new.bytes.items c.loop-rank.invariant
+    (c.in_ok-put_short.ensures ∙ ap (λ (n : ℕ). c.loop-rank.bytes.items ++ short n) c.first_edge.ensures.count)
 
 pub returns : goal.returns
 returns c =
@@ -21,8 +21,8 @@ returns c =
     let end : c.loop-rank.rank ≡ graph.ranks = omega arith in
     let count : c.edges.result ≡ first_edge_of graph.edges c.loop-rank.rank = c.edges.ensures.count ∙ sym all ∙ ap (first_edge_of graph.edges) (sym end) in
     let next : c.loop-rank.rank + 1 ≡ suc graph.ranks = omega arith in
-    on_ok_weaker c.put_word-2.result
+    on_ok_weaker c.put_short-2.result
     (λ e.
-    put_next word (first_edge_of graph.edges) c.loop-rank.rank c.args.bytes.now.items c.loop-rank.bytes.items c.put_word-2.new.bytes.items c.loop-rank.invariant
-    (e ∙ ap (λ (n : ℕ). c.loop-rank.bytes.items ++ word n) count) ∙ ap (λ (n : ℕ). c.args.bytes.now.items ++ flat_map word (map (first_edge_of graph.edges) (range_with_len 0 n))) next)
-    c.put_word-2.ensures
+    put_next short (first_edge_of graph.edges) c.loop-rank.rank c.args.bytes.now.items c.loop-rank.bytes.items c.put_short-2.new.bytes.items c.loop-rank.invariant
+    (e ∙ ap (λ (n : ℕ). c.loop-rank.bytes.items ++ short n) count) ∙ ap (λ (n : ℕ). c.args.bytes.now.items ++ flat_map short (map (first_edge_of graph.edges) (range_with_len 0 n))) next)
+    c.put_short-2.ensures

@@ -1,6 +1,6 @@
 use Rattle.cu_interval.specs.Hierarchies.{list_of}
 use Rattle.cu_pack.specs.Spelling.{entry_bytes}
-use Rattle.cu_pack.proofs.Putting.{put_more}
+use Rattle.cu_pack.proofs.Spelled.Putting.{put_more}
 use Rattle.cu_pack.proofs.sections.put_entries.Goals as goal
 
 pub loop-index-preserved : goal.loop-index-preserved

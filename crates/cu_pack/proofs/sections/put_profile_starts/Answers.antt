@@ -2,8 +2,8 @@ use Rattle.std.proofs.Common.{◌≡◌, ◌+◌, ◌∙◌, ◌++◌, ℕ, leng
 use Rattle.std.proofs.lemmas.Result.{on_ok_weaker}
 use Rattle.cu_model.specs.Roads.{pieces_of}
 use Rattle.cu_pack.specs.Spelling.{long, starts_from}
-use Rattle.cu_pack.proofs.Putting.{start_last, start_more}
-use Rattle.cu_pack.proofs.Totals.{pieces_in_limit, pieces_there, total_more, total_within}
+use Rattle.cu_pack.proofs.Spelled.Putting.{start_last, start_more}
+use Rattle.cu_pack.proofs.Numbering.Totals.{pieces_in_limit, pieces_there, total_more, total_within}
 use Rattle.cu_pack.proofs.sections.put_profile_starts.Goals as goal
 
 pub overflow_add-start : goal.overflow_add-start

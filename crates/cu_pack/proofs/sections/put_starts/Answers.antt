@@ -2,8 +2,8 @@ use Rattle.std.proofs.Common.{◌+◌, ◌∙◌, ◌++◌, ℕ, length, ap, ari
 use Rattle.cu_interval.specs.declared.ways.Dir.TheVariants.{Up}
 use Rattle.cu_interval.specs.Hierarchies.{list_of}
 use Rattle.cu_pack.specs.Spelling.{long}
-use Rattle.cu_pack.proofs.Putting.{put_then}
-use Rattle.cu_pack.proofs.Totals.{entries_in_limit, lists_more, lists_within}
+use Rattle.cu_pack.proofs.Spelled.Putting.{put_then}
+use Rattle.cu_pack.proofs.Numbering.Totals.{entries_in_limit, lists_more, lists_within}
 use Rattle.cu_pack.proofs.sections.put_starts.Goals as goal
 
 pub overflow_add-middle : goal.overflow_add-middle

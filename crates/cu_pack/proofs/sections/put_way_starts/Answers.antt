@@ -3,8 +3,8 @@ use Rattle.std.proofs.lemmas.Result.{on_ok_weaker}
 use Rattle.cu_interval.specs.declared.ways.Dir.TheVariants.{Up, Down}
 use Rattle.cu_interval.specs.Hierarchies.{list_of}
 use Rattle.cu_pack.specs.Spelling.{long, starts_from}
-use Rattle.cu_pack.proofs.Putting.{start_last, start_more}
-use Rattle.cu_pack.proofs.Totals.{list_there, lists_more}
+use Rattle.cu_pack.proofs.Spelled.Putting.{start_last, start_more}
+use Rattle.cu_pack.proofs.Numbering.Totals.{list_there, lists_more}
 use Rattle.cu_pack.proofs.sections.put_way_starts.Goals as goal
 
 pub loop-edge-preserved : goal.loop-edge-preserved

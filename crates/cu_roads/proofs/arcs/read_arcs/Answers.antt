@@ -23,7 +23,7 @@ returns-in_err-branch-clause-refused c =
 pub returns-in_err-branch-clause-table : goal.returns-in_err-branch-clause-table
 returns-in_err-branch-clause-table c =
     let p = err_from_is_err_and c.from_residual-in_err-branch.result c.from_residual-in_err-branch.ensures.1 in
-    rw (p.1, p.2) (refusal_is takes_arc refuses_arc (λ (why : RoadRefusal). is_of_profiles why ≡ false) (λ s row why h. h.0) _ refl _ _ _
+    rw (p.1, p.2) (refusal_is takes_arc refuses_arc (λ (why : RoadRefusal). is_of_profiles why ≡ false) (λ s row why t h. h.0) _ refl _ _ _
     c.in_ok-each_row_below.field-0 _ c.in_err-branch.was c.in_ok-each_row_below.ensures)
 
 pub returns-clause-arcs : goal.returns-clause-arcs

@@ -1,5 +1,5 @@
 use Rattle.std.proofs.Common.{◌≡◌, false}
-use Rattle.cu_session.specs.Replies.{line_limit}
+use Rattle.cu_session.specs.Scripts.{line_limit}
 use Rattle.cu_session.specs.Steps.Turns.{Session, left_to_read}
 use Rattle.cu_session.proofs.answering.answer_by.Given as goal
 

@@ -1,8 +1,7 @@
 use Rattle.std.proofs.Common.{sym, subst}
 use Rattle.cu_interval.specs.Hierarchies.{HierarchyValue}
-use Rattle.cu_pack.proofs.Again.{same_hierarchy}
-use Rattle.cu_session.specs.Sessions.{EndsSession}
-use Rattle.cu_session.specs.Steps.Turns.{stop_of}
+use Rattle.cu_pack.proofs.Spelled.Again.{same_hierarchy}
+use Rattle.cu_session.specs.Sessions.{EndsSession, stop_of}
 use Rattle.cu_session.proofs.answering.answer_script.Goals as goal
 
 pub returns : goal.returns

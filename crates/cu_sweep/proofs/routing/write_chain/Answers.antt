@@ -8,7 +8,7 @@ use Rattle.cu_interval.specs.Hierarchies.{HierarchyValue}
 use Rattle.cu_unpack.specs.Texts.{walk_text}
 use Rattle.cu_unpack.proofs.Texts.{first_after}
 use Rattle.cu_sweep.specs.Desks.{AreArriving, roads_of}
-use Rattle.cu_sweep.specs.Steps.Places.{calls_of_some}
+use Rattle.cu_sweep.specs.Places.{calls_of_some}
 use Rattle.cu_sweep.proofs.Turned.{begun_within, route_begun, route_next, route_on, route_over, route_stops}
 use Rattle.cu_sweep.proofs.routing.write_chain.Goals as goal
 

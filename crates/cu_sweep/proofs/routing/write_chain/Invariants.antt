@@ -1,6 +1,6 @@
 -- The roads of the calls before a place were written.
 use Rattle.std.proofs.Common.{◌≡◌, ◌≤◌, ◌*◌, ◌-◌}
-use Rattle.cu_sweep.specs.Steps.Places.{turn_of}
+use Rattle.cu_sweep.specs.Steps.Ready.{turn_of}
 use Rattle.cu_sweep.proofs.Turned.{IsOnRoute}
 use Rattle.cu_sweep.proofs.routing.write_chain.Given as goal
 

@@ -1,5 +1,5 @@
 use Rattle.std.proofs.Common.{◌+◌, ◌∙◌, refl, sym, ap, arith, rules}
-use Rattle.cu_sweep.specs.Steps.Places.{second_at}
+use Rattle.cu_sweep.specs.Places.{second_at}
 use Rattle.cu_sweep.specs.Steps.Sweeping.{begun_links}
 use Rattle.cu_sweep.proofs.Readying.{apart, begun_ready, no_second, some_second, turn_over}
 use Rattle.cu_sweep.proofs.sweeping.begin_down.Goals as goal

@@ -14,7 +14,8 @@ use Rattle.cu_interval.specs.declared.ways.Dir.TheVariants.{Down}
 use Rattle.cu_interval.specs.Calls.{IfAt}
 use Rattle.cu_interval.specs.Hierarchies.{HierarchyValue, number_from}
 use Rattle.cu_sweep.specs.Sweeps.{AddsAll, call_at, calls_down, first_long, until_long}
-use Rattle.cu_sweep.specs.Steps.Places.{IsReady, calls_of_some, second_at}
+use Rattle.cu_sweep.specs.Places.{calls_of_some, second_at}
+use Rattle.cu_sweep.specs.Steps.Ready.{IsReady}
 use Rattle.cu_sweep.specs.Steps.Sweeping.{IfSecond, answer_at, begun_links, links_after, long_by, seconds_after}
 use Rattle.cu_sweep.proofs.Readying.{apart, near_at, relaxed_ready, time_left, turn_down}
 use Rattle.cu_sweep.proofs.Passing.{cut_at, take_full}

@@ -3,7 +3,7 @@ use Rattle.cu_interval.specs.declared.relaxing.Relaxed.{Relaxed}
 use Rattle.cu_interval.specs.Calls.{IfAt}
 use Rattle.cu_sweep.specs.Labels.{call_from}
 use Rattle.cu_sweep.specs.Sweeps.{AddsAll, call_at}
-use Rattle.cu_sweep.specs.Steps.Places.{calls_of_some, second_at}
+use Rattle.cu_sweep.specs.Places.{calls_of_some, second_at}
 use Rattle.cu_sweep.specs.Steps.Sweeping.{IfSecond, answer_at, links_after, long_by, seconds_after}
 use Rattle.cu_sweep.proofs.Telling.{adds_none, adds_one, no_later}
 use Rattle.cu_sweep.proofs.sweeping.relax_into.Goals as goal

@@ -10,7 +10,8 @@ use Rattle.cu_interval.specs.declared.ways.Dir.TheVariants.{Up}
 use Rattle.cu_interval.specs.Calls.{IfAt}
 use Rattle.cu_interval.specs.Hierarchies.{HierarchyValue, number_from}
 use Rattle.cu_sweep.specs.Sweeps.{AddsAll, call_at, first_long, second_of}
-use Rattle.cu_sweep.specs.Steps.Places.{IsReady, calls_of_some, second_at}
+use Rattle.cu_sweep.specs.Places.{calls_of_some, second_at}
+use Rattle.cu_sweep.specs.Steps.Ready.{IsReady}
 use Rattle.cu_sweep.specs.Steps.Sweeping.{IfSecond, answer_at, links_after, long_by, seconds_after}
 use Rattle.cu_sweep.proofs.Readying.{apart, near_at, relaxed_ready, time_left, turn_up}
 use Rattle.cu_sweep.proofs.Passing.{cut_at, not_yet, take_full}

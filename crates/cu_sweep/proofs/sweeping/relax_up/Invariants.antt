@@ -4,9 +4,11 @@ use Rattle.cu_chordal.specs.Graphs.{first_edge_of, up_of}
 use Rattle.cu_interval.specs.declared.ways.Dir.TheVariants.{Up}
 use Rattle.cu_interval.specs.Hierarchies.{number_from}
 use Rattle.cu_sweep.specs.Sweeps.{call_at}
-use Rattle.cu_sweep.specs.Steps.Places.{IsReady, second_at}
+use Rattle.cu_sweep.specs.Places.{second_at}
+use Rattle.cu_sweep.specs.Swept.{IsPassed, Sweep}
+use Rattle.cu_sweep.specs.Steps.Ready.{IsReady}
+use Rattle.cu_sweep.specs.Steps.Sweeping.{IsUpSwept, up_after}
 use Rattle.cu_sweep.specs.Labels.{up_label}
-use Rattle.cu_sweep.specs.Steps.Sweeping.{IsPassed, IsUpSwept, Question, up_after}
 use Rattle.cu_sweep.proofs.UpRows.{IsUpPart}
 use Rattle.cu_sweep.proofs.Rows.{IsRow}
 use Rattle.cu_sweep.proofs.sweeping.relax_up.Given as goal
@@ -23,6 +25,6 @@ invariant-edges g l =
       source : second_at l.labels l.fn.rank ≡ second_at l.fn.labels l.fn.rank;
       row : IsRow h (λ y. call_at (number_from 0 h.edges l.fn.rank y) Up (second_at l.fn.labels l.fn.rank)) (take l.higher-index l.highers) (g.R.Relaxer.calls l.fn.relaxer)
           (g.R.Relaxer.calls l.relaxer);
-      swept : (q : Question) (done : List ℕ) → IsUpSwept h q done l.fn.labels l.fn.chain.links → IsPassed h q l.fn.rank → up_after h q done l.fn.rank ≡ up_label h q.from q.second l.fn.rank
+      swept : (q : Sweep) (done : List ℕ) → IsUpSwept h q done l.fn.labels l.fn.chain.links → IsPassed h q l.fn.rank → up_after h q done l.fn.rank ≡ up_label h q.from q.second l.fn.rank
           → IsUpPart h q done l.fn.rank (take l.higher-index l.highers) l.labels l.chain.links;
     }

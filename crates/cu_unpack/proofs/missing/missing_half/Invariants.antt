@@ -1,5 +1,6 @@
 use Rattle.std.proofs.Common.{None, take}
-use Rattle.cu_unpack.specs.Steps.Rebuilding.{FindsMissing, ways_of}
+use Rattle.cu_interval.specs.Shortcuts.{ways_of}
+use Rattle.cu_unpack.specs.Steps.Rebuilding.{FindsMissing}
 use Rattle.cu_unpack.proofs.missing.missing_half.Given as goal
 
 abbrev pub invariant-loop-index : goal.invariant-loop-index

@@ -1,5 +1,6 @@
 use Rattle.std.proofs.Common.{take}
-use Rattle.cu_unpack.specs.Steps.Rebuilding.{IsLeastOf, ways_of}
+use Rattle.cu_interval.specs.Shortcuts.{ways_of}
+use Rattle.cu_unpack.specs.Steps.Rebuilding.{IsLeastOf}
 use Rattle.cu_unpack.proofs.rebuilding.least_function.Given as goal
 
 abbrev pub invariant-loop-index : goal.invariant-loop-index

@@ -1,6 +1,8 @@
 use Rattle.std.proofs.Common.{List, Some, rules, sym, subst, take}
 use Rattle.cu_interval.specs.declared.ways.Entry.{Entry}
-use Rattle.cu_unpack.specs.Steps.Rebuilding.{IsKept, IsAmong, IsLeastOf, ways_of}
+use Rattle.cu_interval.specs.Shortcuts.{ways_of}
+use Rattle.cu_unpack.specs.Rebuilds.{IsKept}
+use Rattle.cu_unpack.specs.Steps.Rebuilding.{IsAmong, IsLeastOf}
 use Rattle.cu_unpack.proofs.HalfEdges.{entry_halves, entry_way, take_entry}
 use Rattle.cu_unpack.proofs.WayFunctions.{least_again, least_more}
 use Rattle.cu_unpack.proofs.rebuilding.least_with.Goals as goal

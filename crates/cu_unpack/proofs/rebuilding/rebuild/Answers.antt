@@ -1,7 +1,7 @@
 use Rattle.std.proofs.Common.{◌≡◌, ◌*◌, ◌++◌, ◌∙◌, List, [], ◌∷◌, ap, length, subst, sym}
-use Rattle.cu_unpack.specs.declared.shortcuts.Shortcut.{Shortcut}
-use Rattle.cu_unpack.specs.Rebuilds.{RebuiltValue}
-use Rattle.cu_unpack.specs.Steps.Rebuilding.{AreKept, IsKept, IsMissing}
+use Rattle.cu_interval.specs.declared.shortcuts.Shortcut.{Shortcut}
+use Rattle.cu_unpack.specs.Rebuilds.{IsKept, RebuiltValue}
+use Rattle.cu_unpack.specs.Steps.Rebuilding.{AreKept, IsMissing}
 use Rattle.cu_unpack.proofs.HalvesFirst.{AreWaitingHalves, IsNextHalf, half_smaller, half_waits, next_taken, one_smaller, still_wait}
 use Rattle.cu_unpack.proofs.KeptFunctions.{are_kept, count_missing, fewer_missing, still_missing}
 use Rattle.cu_unpack.proofs.rebuilding.rebuild.Given as given

@@ -1,6 +1,7 @@
 -- What is kept is right, and what waits is missing. Either one more is kept, or a lower edge is next.
 use Rattle.std.proofs.Common.{◌+◌, ◌*◌, length}
-use Rattle.cu_unpack.specs.Steps.Rebuilding.{AreKept, IsKept, IsMissing}
+use Rattle.cu_unpack.specs.Rebuilds.{IsKept}
+use Rattle.cu_unpack.specs.Steps.Rebuilding.{AreKept, IsMissing}
 use Rattle.cu_unpack.proofs.HalvesFirst.{AreWaitingHalves, next_edge}
 use Rattle.cu_unpack.proofs.KeptFunctions.{count_missing}
 use Rattle.cu_unpack.proofs.rebuilding.rebuild.Given as goal

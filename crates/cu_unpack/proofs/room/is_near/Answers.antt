@@ -1,7 +1,7 @@
 use Rattle.std.proofs.Common.{arith}
 use Rattle.std.proofs.lemmas.Bool.{leb-false, leb-true}
-use Rattle.cu_customize.proofs.TravelLaws.{take_longer}
-use Rattle.cu_unpack.proofs.WordWays.{both_in_time}
+use Rattle.cu_runs.proofs.TravelLaws.{take_longer}
+use Rattle.cu_unpack.proofs.PackedWays.{both_in_time}
 use Rattle.cu_unpack.proofs.room.is_near.Goals as goal
 
 pub returns-clause-near : goal.returns-clause-near

@@ -2,8 +2,9 @@ use Rattle.std.proofs.Common.{◌≡◌, ◌<◌, ◌∙◌, ℕ, Option, Some, 
 use Rattle.cu_interval.specs.declared.ways.Way.TheVariants.{Road, Via}
 use Rattle.cu_interval.specs.Hierarchies.{HierarchyValue, list_of}
 use Rattle.cu_interval.specs.WayLists.{way_at}
+use Rattle.cu_interval.specs.Shortcuts.{IsMiddle}
 use Rattle.cu_unpack.specs.declared.unpacking.Spot.{Spot}
-use Rattle.cu_unpack.specs.Steps.Legs.{FindsRoad, IsMiddle, Parts}
+use Rattle.cu_unpack.specs.Steps.Legs.{FindsRoad, Parts}
 use Rattle.cu_unpack.proofs.Down.{next_low, next_within, part_lower, part_ready, part_somewhere, way_here, went_none, went_nowhere, went_part, went_road}
 use Rattle.cu_unpack.proofs.unpacking.next_road.Goals as goal
 

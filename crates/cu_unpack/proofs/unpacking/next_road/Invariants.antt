@@ -1,7 +1,8 @@
 -- The legs went down so far, and each look-up lowered the lower end of the shortcut that is next.
 use Rattle.std.proofs.Common.{◌≡◌, ◌≤◌, ◌+◌, List}
 use Rattle.std.specs.Prelude.{slice_get}
-use Rattle.cu_unpack.specs.Steps.Legs.{Leg, IsAt, IsSomewhere, low_of}
+use Rattle.cu_interval.specs.declared.shortcuts.Leg.{Leg}
+use Rattle.cu_unpack.specs.Steps.Legs.{IsAt, IsSomewhere, low_of}
 use Rattle.cu_unpack.proofs.Down.{WentDown}
 use Rattle.cu_unpack.proofs.unpacking.next_road.Given as goal
 

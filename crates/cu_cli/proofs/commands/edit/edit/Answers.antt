@@ -1,35 +1,57 @@
-use Rattle.std.proofs.Common.{◌≡◌, ◌∙◌, ◌<◌, ◌≤◌, ℕ, List, length, ap, arith, inl}
+use Rattle.std.proofs.Common.{◌≡◌, ◌∙◌, ◌<◌, ◌≤◌, ◌∷◌, [], ℕ, List, length, ap, arith, inl, false}
+use Rattle.std.specs.Prelude.{Option, codes}
+use Rattle.cu_cli.specs.declared.commands.edit.EditWords.{EditWords}
+use Rattle.cu_cli.specs.declared.stops.Stop.{Stop}
 use Rattle.cu_pack.specs.Spelling.{spelling}
 use Rattle.cu_cli.specs.declared.stops.Stop.TheVariants as stop
-use Rattle.cu_cli.specs.Opening.{OpensEdits}
-use Rattle.cu_cli.specs.Runs.{stored_text}
-use Rattle.cu_cli.specs.Steps.Asks.{editing_asked}
-use Rattle.cu_cli.proofs.EditedLaws.{behind_edits, edit_stopped, edits_large, edits_stopped, edits_stored}
+use Rattle.cu_cli.specs.Commands.Edit.{EndsEdit, editing}
+use Rattle.cu_cli.specs.Opening.{Opens}
+use Rattle.cu_cli.specs.Stops.{numbers_text}
+use Rattle.cu_cli.specs.Steps.Asks.{edit_asked}
+use Rattle.cu_cli.specs.Steps.Outcomes.{Did, Works, World}
+use Rattle.cu_cli.specs.Words.{editing_files}
+use Rattle.cu_cli.proofs.Completeness.{works}
+use Rattle.cu_cli.proofs.LoadLaws.{only_refused}
+use Rattle.cu_cli.proofs.EditedLaws.{behind_edits, edit_law, edit_stopped, edits_large, edits_stopped, edits_stored}
 use Rattle.cu_session.proofs.SessionLaws.{err_is}
 use Rattle.cu_cli.proofs.StopLaws.{stop_is}
 use Rattle.cu_cli.proofs.StoreLaws.{stored_behind, storing_refused, storing_said, storing_unsaid}
 use Rattle.cu_cli.proofs.commands.edit.edit.Goals as goal
 
+edit_works : (words : EditWords) {why : Option Stop} {before now : World} → Did false why (EndsEdit words.hierarchy.now words.edits.now words.out.now) before now → Works
+    (edit_asked words) why before now
+unfolding editing
+edit_works words done = works (edit_asked words) (edit_law words.hierarchy.now words.edits.now words.out.now) done
+
 pub returns-in_err-file : goal.returns-in_err-file
 returns-in_err-file g c =
     rw (err_is c.from_residual.result c.in_err-file.field-0.0 c.from_residual.ensures.1)
-    (record { works = λ source. edit_stopped _ _ source _ (editing_asked c.args.asked) _ c.in_err-file.ensures.loads c.in_err-file.ensures.err c.in_err-file.ensures.before })
+    (record {
+      works = λ source. edit_works c.args.asked (edit_stopped _ _ source _ c.args.asked.hierarchy.now c.args.asked.edits.now c.args.asked.out.now _ c.in_err-file.ensures.loads
+          c.in_err-file.ensures.err c.in_err-file.ensures.before);
+    })
 
 pub returns-in_err-router : goal.returns-in_err-router
 returns-in_err-router g c =
     rw (err_is c.from_residual-in_err-router.result stop.NoMemory c.from_residual-in_err-router.ensures.1)
-    (record { works = λ source. edit_stopped _ _ source _ (editing_asked c.args.asked) stop.NoMemory c.in_ok-file.ensures.loads (inl (inl tt)) tt })
+    (record {
+      works = λ source. edit_works c.args.asked (edit_stopped _ _ source _ c.args.asked.hierarchy.now c.args.asked.edits.now c.args.asked.out.now stop.NoMemory
+          (only_refused stop.NoMemory tt c.in_ok-file.ensures.loads) (inl (inl tt)) tt);
+    })
 
 pub returns-in_err-answer_edits : goal.returns-in_err-answer_edits
 returns-in_err-answer_edits g c =
     let (loaded, spells) = c.in_ok-file.ensures.ok in
     let h = c.in_ok-router.router in
     let text = c.in_ok-file.file.edits.items in
-    let opens : OpensEdits (g.H.Shelf.state c.args.shelf.now) (editing_asked c.args.asked) h text =
+    let opens : Opens (g.H.Shelf.state c.args.shelf.now) (editing_files c.args.asked.hierarchy.now c.args.asked.edits.now) h (text ∷ []) =
     (c.in_ok-file.file.hierarchy.items, loaded, c.in_ok-router.ensures.held) in
     let done = rw c.deref.ensures.value at c.in_err-answer_edits.ensures.ended in
     rw (stop_is c.from_residual-in_err-answer_edits.result _ c.from_residual-in_err-answer_edits.ensures.1)
-    (record { works = λ source. edits_stopped _ _ source _ _ (editing_asked c.args.asked) h c.answer_edits.new.router text c.in_ok-file.ensures.loads opens c.in_err-answer_edits.field-0.0 done })
+    (record {
+      works = λ source. edit_works c.args.asked (edits_stopped _ _ source _ c.args.asked.hierarchy.now c.args.asked.edits.now c.args.asked.out.now _ h c.answer_edits.new.router
+          text c.in_ok-file.ensures.loads opens c.in_err-answer_edits.field-0.0 done);
+    })
 
 pub returns-then-length-limit : goal.returns-then-length-limit
 returns-then-length-limit g c =
@@ -37,13 +59,16 @@ returns-then-length-limit g c =
     let h = c.in_ok-router.router in
     let after = c.answer_edits.new.router in
     let text = c.in_ok-file.file.edits.items in
-    let opens : OpensEdits (g.H.Shelf.state c.args.shelf.now) (editing_asked c.args.asked) h text =
+    let opens : Opens (g.H.Shelf.state c.args.shelf.now) (editing_files c.args.asked.hierarchy.now c.args.asked.edits.now) h (text ∷ []) =
     (c.in_ok-file.file.hierarchy.items, loaded, c.in_ok-router.ensures.held) in
     let done = rw c.deref.ensures.value at c.in_ok-answer_edits.ensures.ended in
     let file : c.as_slice-bytes.result.now ≡ spelling after = c.as_slice-bytes.ensures.value ∙ c.into_file-packed.ensures.spelled.spelled in
     let same : length c.as_slice-bytes.result.now ≡ length (spelling after) = ap (λ (bytes : List ℕ). length bytes) file in
     let large : (g.H.Shelf.state c.args.shelf.now).most < length (spelling after) = omega (arith, same, c.limit.ensures, c.in_ok-file.ensures.loads.most, c.if-length-limit.true) in
-    rw same (record { works = λ source. edits_large _ _ source _ _ (editing_asked c.args.asked) h after text c.in_ok-file.ensures.loads opens done large })
+    rw same (record {
+      works = λ source. edit_works c.args.asked (edits_large _ _ source _ c.args.asked.hierarchy.now c.args.asked.edits.now c.args.asked.out.now _ h after text
+          c.in_ok-file.ensures.loads opens done large);
+    })
 
 pub returns-in_err-store_file : goal.returns-in_err-store_file
 returns-in_err-store_file g c =
@@ -51,7 +76,7 @@ returns-in_err-store_file g c =
     let h = c.in_ok-router.router in
     let after = c.answer_edits.new.router in
     let text = c.in_ok-file.file.edits.items in
-    let opens : OpensEdits (g.H.Shelf.state c.args.shelf.now) (editing_asked c.args.asked) h text =
+    let opens : Opens (g.H.Shelf.state c.args.shelf.now) (editing_files c.args.asked.hierarchy.now c.args.asked.edits.now) h (text ∷ []) =
     (c.in_ok-file.file.hierarchy.items, loaded, c.in_ok-router.ensures.held) in
     let done = rw c.deref.ensures.value at c.in_ok-answer_edits.ensures.ended in
     let file : c.as_slice-bytes.result.now ≡ spelling after = c.as_slice-bytes.ensures.value ∙ c.into_file-packed.ensures.spelled.spelled in
@@ -61,30 +86,31 @@ returns-in_err-store_file g c =
     rw (err_is c.from_residual-in_err-store_file.result c.in_err-store_file.field-0.0 c.from_residual-in_err-store_file.ensures.1)
     (record {
       works = λ source.
-          edits_stored _ _ source _ _ (editing_asked c.args.asked) h after text c.in_ok-file.ensures.loads opens done few
-          (storing_refused source (behind_edits _ _ source _ _ (editing_asked c.args.asked) h after text c.in_ok-file.ensures.loads opens done)
-          (stored_text (length (spelling after))) (stored_behind c.in_ok-file.ensures.loads stores));
+          edit_works c.args.asked (edits_stored _ _ source _ c.args.asked.hierarchy.now c.args.asked.edits.now c.args.asked.out.now _ h after text c.in_ok-file.ensures.loads opens done few
+          (storing_refused source (behind_edits _ _ source _ c.args.asked.hierarchy.now c.args.asked.edits.now c.args.asked.out.now _ h after text c.in_ok-file.ensures.loads opens done)
+          (numbers_text (codes "stored") (length (spelling after) ∷ [])) (stored_behind c.in_ok-file.ensures.loads stores)));
     })
 
-pub returns-in_err-say_stored : goal.returns-in_err-say_stored
-returns-in_err-say_stored g c =
+pub returns-in_err-put_numbers_line : goal.returns-in_err-put_numbers_line
+returns-in_err-put_numbers_line g c =
     let (loaded, spells) = c.in_ok-file.ensures.ok in
     let h = c.in_ok-router.router in
     let after = c.answer_edits.new.router in
     let text = c.in_ok-file.file.edits.items in
-    let opens : OpensEdits (g.H.Shelf.state c.args.shelf.now) (editing_asked c.args.asked) h text =
+    let opens : Opens (g.H.Shelf.state c.args.shelf.now) (editing_files c.args.asked.hierarchy.now c.args.asked.edits.now) h (text ∷ []) =
     (c.in_ok-file.file.hierarchy.items, loaded, c.in_ok-router.ensures.held) in
     let done = rw c.deref.ensures.value at c.in_ok-answer_edits.ensures.ended in
     let file : c.as_slice-bytes.result.now ≡ spelling after = c.as_slice-bytes.ensures.value ∙ c.into_file-packed.ensures.spelled.spelled in
     let same : length c.as_slice-bytes.result.now ≡ length (spelling after) = ap (λ (bytes : List ℕ). length bytes) file in
     let few : length (spelling after) ≤ (g.H.Shelf.state c.args.shelf.now).most = omega (arith, same, c.limit.ensures, c.in_ok-file.ensures.loads.most, c.if-length-limit.false) in
     let stores = rw file at c.in_ok-store_file.ensures.stores in
-    let said = rw same at c.in_err-say_stored.ensures.wrote in
-    rw (err_is c.from_residual-in_err-say_stored.result stop.Sink c.from_residual-in_err-say_stored.ensures.1)
+    let said = rw same at c.in_err-put_numbers_line.ensures.wrote in
+    rw (err_is c.from_residual-in_err-put_numbers_line.result stop.Sink c.from_residual-in_err-put_numbers_line.ensures.1)
     (record {
       works = λ source.
-          edits_stored _ _ source _ _ (editing_asked c.args.asked) h after text c.in_ok-file.ensures.loads opens done few
-          (storing_unsaid source (behind_edits _ _ source _ _ (editing_asked c.args.asked) h after text c.in_ok-file.ensures.loads opens done) (stored_behind c.in_ok-file.ensures.loads stores) said);
+          edit_works c.args.asked (edits_stored _ _ source _ c.args.asked.hierarchy.now c.args.asked.edits.now c.args.asked.out.now _ h after text c.in_ok-file.ensures.loads opens done few
+          (storing_unsaid source (behind_edits _ _ source _ c.args.asked.hierarchy.now c.args.asked.edits.now c.args.asked.out.now _ h after text c.in_ok-file.ensures.loads opens done)
+          (stored_behind c.in_ok-file.ensures.loads stores) said));
     })
 
 pub returns : goal.returns
@@ -93,16 +119,17 @@ returns g c =
     let h = c.in_ok-router.router in
     let after = c.answer_edits.new.router in
     let text = c.in_ok-file.file.edits.items in
-    let opens : OpensEdits (g.H.Shelf.state c.args.shelf.now) (editing_asked c.args.asked) h text =
+    let opens : Opens (g.H.Shelf.state c.args.shelf.now) (editing_files c.args.asked.hierarchy.now c.args.asked.edits.now) h (text ∷ []) =
     (c.in_ok-file.file.hierarchy.items, loaded, c.in_ok-router.ensures.held) in
     let done = rw c.deref.ensures.value at c.in_ok-answer_edits.ensures.ended in
     let file : c.as_slice-bytes.result.now ≡ spelling after = c.as_slice-bytes.ensures.value ∙ c.into_file-packed.ensures.spelled.spelled in
     let same : length c.as_slice-bytes.result.now ≡ length (spelling after) = ap (λ (bytes : List ℕ). length bytes) file in
     let few : length (spelling after) ≤ (g.H.Shelf.state c.args.shelf.now).most = omega (arith, same, c.limit.ensures, c.in_ok-file.ensures.loads.most, c.if-length-limit.false) in
     let stores = rw file at c.in_ok-store_file.ensures.stores in
-    let said = rw same at c.in_ok-say_stored.ensures.wrote in
+    let said = rw same at c.in_ok-put_numbers_line.ensures.wrote in
     record {
       works = λ source.
-          edits_stored _ _ source _ _ (editing_asked c.args.asked) h after text c.in_ok-file.ensures.loads opens done few
-          (storing_said source (behind_edits _ _ source _ _ (editing_asked c.args.asked) h after text c.in_ok-file.ensures.loads opens done) (stored_behind c.in_ok-file.ensures.loads stores) said);
+          edit_works c.args.asked (edits_stored _ _ source _ c.args.asked.hierarchy.now c.args.asked.edits.now c.args.asked.out.now _ h after text c.in_ok-file.ensures.loads opens done few
+          (storing_said source (behind_edits _ _ source _ c.args.asked.hierarchy.now c.args.asked.edits.now c.args.asked.out.now _ h after text c.in_ok-file.ensures.loads opens done)
+          (stored_behind c.in_ok-file.ensures.loads stores) said));
     }

@@ -1,6 +1,6 @@
 use Rattle.std.proofs.Common.{subst}
 use Rattle.cu_interval.specs.Hierarchies.{IsBuilt}
-use Rattle.cu_pack.proofs.Again.{same_hierarchy}
+use Rattle.cu_pack.proofs.Spelled.Again.{same_hierarchy}
 use Rattle.cu_cli.proofs.StopLaws.{if_ok_map}
 use Rattle.cu_cli.proofs.TrialLaws.{spells_built}
 use Rattle.cu_cli.proofs.commands.trial.packed_router.Goals as goal

@@ -1,6 +1,6 @@
 use Rattle.std.proofs.Common.{◌≡◌, Some, ap, ◌∙◌}
 use Rattle.cu_model.specs.declared.checker.PieceChecker.{PieceChecker}
-use Rattle.cu_model.specs.Checker.{behind}
+use Rattle.cu_model.specs.Steps.Checking.{behind}
 use Rattle.cu_model.proofs.Pushes.{checks_alone, checks_behind, taken}
 use Rattle.cu_model.proofs.checker.PieceChecker.push.Goals as goal
 use Rattle.cu_model.proofs.checker.PieceChecker.push.Goals.{in-Some, in-None}

@@ -1,5 +1,5 @@
 use Rattle.std.proofs.Common.{arith}
-use Rattle.cu_pack.proofs.Bodies.{range_kept, sealed_long}
+use Rattle.cu_pack.proofs.Read.Bodies.{range_kept, sealed_long}
 use Rattle.cu_pack.proofs.body.Body.between.Goals as goal
 
 pub slice_bounds-result-end : goal.slice_bounds-result-end

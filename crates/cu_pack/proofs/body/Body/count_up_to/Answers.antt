@@ -1,5 +1,5 @@
 use Rattle.std.proofs.Common.{arith}
-use Rattle.cu_pack.proofs.Bodies.{count_kept, rises_kept, sealed_long}
+use Rattle.cu_pack.proofs.Read.Bodies.{count_kept, rises_kept, sealed_long}
 use Rattle.cu_pack.proofs.body.Body.count_up_to.Goals as goal
 
 pub count_up_to-requires-clause-room : goal.count_up_to-requires-clause-room

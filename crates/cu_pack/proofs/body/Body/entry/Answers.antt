@@ -1,5 +1,5 @@
 use Rattle.std.proofs.Common.{◌∙◌, arith}
-use Rattle.cu_pack.proofs.Bodies.{entry_kept, sealed_long}
+use Rattle.cu_pack.proofs.Read.Bodies.{entry_kept, sealed_long}
 use Rattle.cu_pack.proofs.body.Body.entry.Goals as goal
 
 pub entry-requires : goal.entry-requires

@@ -1,5 +1,5 @@
 use Rattle.std.proofs.Common.{◌∙◌, arith}
-use Rattle.cu_pack.proofs.Bodies.{sealed_long, long_kept}
+use Rattle.cu_pack.proofs.Read.Bodies.{sealed_long, long_kept}
 use Rattle.cu_pack.proofs.body.Body.long.Goals as goal
 
 pub long-requires : goal.long-requires

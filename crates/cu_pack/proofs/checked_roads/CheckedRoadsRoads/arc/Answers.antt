@@ -1,8 +1,8 @@
 use Rattle.std.proofs.Common.{◌∙◌, Some, ap, subst, sym, arith}
 use Rattle.cu_model.specs.Networks.{IsNetwork}
 use Rattle.cu_pack.specs.Reading.{network_in}
-use Rattle.cu_pack.proofs.Passed.{network_valid}
-use Rattle.cu_pack.proofs.ViewedRoads.{arc_seen, arcs_seen}
+use Rattle.cu_pack.proofs.Spelled.Passed.{network_valid}
+use Rattle.cu_pack.proofs.Viewed.ViewedRoads.{arc_seen, arcs_seen}
 use Rattle.cu_pack.proofs.checked_roads.CheckedRoadsRoads.arc.Goals as goal
 
 pub arc-requires : goal.arc-requires

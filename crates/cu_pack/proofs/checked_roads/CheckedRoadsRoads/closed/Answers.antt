@@ -1,8 +1,8 @@
 use Rattle.std.proofs.Common.{ap, subst, arith}
 use Rattle.cu_model.specs.Networks.{IsNetwork}
 use Rattle.cu_pack.specs.Reading.{network_in}
-use Rattle.cu_pack.proofs.Passed.{network_valid}
-use Rattle.cu_pack.proofs.ViewedRoads.{arcs_seen}
+use Rattle.cu_pack.proofs.Spelled.Passed.{network_valid}
+use Rattle.cu_pack.proofs.Viewed.ViewedRoads.{arcs_seen}
 use Rattle.cu_pack.proofs.checked_roads.CheckedRoadsRoads.closed.Goals as goal
 
 pub is_closed-requires-clause-arc : goal.is_closed-requires-clause-arc

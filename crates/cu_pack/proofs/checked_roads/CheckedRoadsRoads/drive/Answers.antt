@@ -3,7 +3,7 @@ use Rattle.cu_model.specs.Networks.{IsNetwork}
 use Rattle.cu_model.specs.Roads.{arc_value}
 use Rattle.cu_model.proofs.RoadLaws.{arc_value-fifo, arc_value-onward}
 use Rattle.cu_pack.specs.Reading.{network_in}
-use Rattle.cu_pack.proofs.ViewedRoads.{arcs_seen}
+use Rattle.cu_pack.proofs.Viewed.ViewedRoads.{arcs_seen}
 use Rattle.cu_pack.proofs.checked_roads.CheckedRoadsRoads.drive.Goals as goal
 
 pub arrive-requires-clause-arc : goal.arrive-requires-clause-arc

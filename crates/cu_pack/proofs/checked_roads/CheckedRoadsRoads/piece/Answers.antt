@@ -1,8 +1,8 @@
 use Rattle.std.proofs.Common.{ap, subst}
 use Rattle.cu_model.specs.Networks.{IsNetwork}
 use Rattle.cu_pack.specs.Reading.{network_in}
-use Rattle.cu_pack.proofs.Passed.{network_valid}
-use Rattle.cu_pack.proofs.ViewedRoads.{piece_inside, piece_seen}
+use Rattle.cu_pack.proofs.Spelled.Passed.{network_valid}
+use Rattle.cu_pack.proofs.Viewed.ViewedRoads.{piece_inside, piece_seen}
 use Rattle.cu_pack.proofs.checked_roads.CheckedRoadsRoads.piece.Goals as goal
 
 pub piece_of-requires : goal.piece_of-requires

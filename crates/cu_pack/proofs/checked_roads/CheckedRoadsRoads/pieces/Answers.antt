@@ -1,8 +1,8 @@
 use Rattle.std.proofs.Common.{◌∙◌, length, ap, subst, sym, arith}
 use Rattle.cu_model.specs.Networks.{IsNetwork}
 use Rattle.cu_pack.specs.Reading.{network_in}
-use Rattle.cu_pack.proofs.Passed.{network_valid}
-use Rattle.cu_pack.proofs.ViewedRoads.{pieces_seen, profiles_seen}
+use Rattle.cu_pack.proofs.Spelled.Passed.{network_valid}
+use Rattle.cu_pack.proofs.Viewed.ViewedRoads.{pieces_seen, profiles_seen}
 use Rattle.cu_pack.proofs.checked_roads.CheckedRoadsRoads.pieces.Goals as goal
 
 pub piece_count-requires-clause-profile : goal.piece_count-requires-clause-profile

@@ -2,8 +2,8 @@ use Rattle.std.proofs.Common.{◌∙◌, ap, subst}
 use Rattle.cu_model.specs.Networks.{IsNetwork}
 use Rattle.cu_pack.specs.declared.layout.Counts.{Counts}
 use Rattle.cu_pack.specs.Reading.{network_in}
-use Rattle.cu_pack.proofs.Passed.{network_valid}
-use Rattle.cu_pack.proofs.ViewedRoads.{profiles_seen}
+use Rattle.cu_pack.proofs.Spelled.Passed.{network_valid}
+use Rattle.cu_pack.proofs.Viewed.ViewedRoads.{profiles_seen}
 use Rattle.cu_pack.proofs.checked_roads.CheckedRoadsRoads.profiles.Goals as goal
 
 pub returns-clause-count : goal.returns-clause-count

@@ -1,5 +1,5 @@
 use Rattle.std.proofs.Math.Nat.{min-le_left, min-le_right}
-use Rattle.cu_pack.proofs.Cursors.{cursors_more}
+use Rattle.cu_pack.proofs.Numbering.Cursors.{cursors_more}
 use Rattle.cu_pack.proofs.checks.entries.are_ways.Goals as goal
 
 pub has_way-requires-clause-places : goal.has_way-requires-clause-places

@@ -1,7 +1,7 @@
 use Rattle.std.proofs.Common.{◌<◌, ℕ, suc, subst, sym, arith}
 use Rattle.cu_interval.proofs.EndsLaws.{number_within}
 use Rattle.cu_pack.specs.Reading.{counts_in, way_start}
-use Rattle.cu_pack.proofs.WayEntries.{number_inside, way_what, way_where}
+use Rattle.cu_pack.proofs.Read.WayEntries.{number_inside, way_what, way_where}
 use Rattle.cu_pack.proofs.checks.entries.has_way.Goals as goal
 
 pub list_number-requires : goal.list_number-requires

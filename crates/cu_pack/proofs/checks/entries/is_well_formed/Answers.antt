@@ -3,7 +3,7 @@ use Rattle.std.specs.Prelude.{◌↔◌}
 use Rattle.cu_interval.specs.declared.ways.Way.{Way}
 use Rattle.cu_interval.specs.Hierarchies.{IsWellFormed}
 use Rattle.cu_pack.specs.Reading.{decoded}
-use Rattle.cu_pack.proofs.WayEntries.{road_formed}
+use Rattle.cu_pack.proofs.Read.WayEntries.{road_formed}
 use Rattle.cu_pack.proofs.checks.entries.is_well_formed.Goals as goal
 
 pub returns-in-Road-clause-formed : goal.returns-in-Road-clause-formed

@@ -2,7 +2,7 @@ use Rattle.std.proofs.Common.{◌≡◌, ℕ, List, Bool, true, false, IsTrue, n
 use Rattle.cu_model.specs.declared.roads.RoadArc.{RoadArc}
 use Rattle.cu_pack.specs.declared.layout.Counts.{Counts}
 use Rattle.cu_pack.specs.Reading.{arc_in, rank_of_in}
-use Rattle.cu_pack.proofs.WayEntries.{leads_inside, leads_what, leads_where}
+use Rattle.cu_pack.proofs.Read.WayEntries.{leads_inside, leads_what, leads_where}
 use Rattle.cu_pack.proofs.checks.entries.leads.Goals as goal
 
 -- a road's ends have these ranks

@@ -1,7 +1,7 @@
 use Rattle.std.proofs.Common.{◌∙◌, subst, sym}
 use Rattle.cu_model.specs.Orders.{ListsEachNodeOnce}
-use Rattle.cu_pack.proofs.GraphRead.{nodes_read, order_read}
-use Rattle.cu_pack.proofs.Ordered.{nodes_once, ordered}
+use Rattle.cu_pack.proofs.Read.GraphRead.{nodes_read, order_read}
+use Rattle.cu_pack.proofs.Spelled.Ordered.{nodes_once, ordered}
 use Rattle.cu_pack.proofs.checks.graph.read_order.Goals as goal
 
 pub of-requires : goal.of-requires

@@ -1,9 +1,9 @@
 use Rattle.std.proofs.Common.{◌∙◌, ℕ, List, length, ap, sym, arith}
 use Rattle.cu_model.specs.Orders.{OrderValue}
 use Rattle.cu_pack.specs.Reading.{network_in}
-use Rattle.cu_pack.proofs.Adopted.{order_long, starts_long, uppers_long}
-use Rattle.cu_pack.proofs.Driven.{nodes_same}
-use Rattle.cu_pack.proofs.GraphRead.{found_read}
+use Rattle.cu_pack.proofs.Viewed.Adopted.{order_long, starts_long, uppers_long}
+use Rattle.cu_pack.proofs.Read.Driven.{nodes_same}
+use Rattle.cu_pack.proofs.Read.GraphRead.{found_read}
 use Rattle.cu_pack.proofs.checks.graph.wrong_part.Goals as goal
 
 pub first_wrong-requires-clause-same : goal.first_wrong-requires-clause-same

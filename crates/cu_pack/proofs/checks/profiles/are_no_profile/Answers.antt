@@ -4,8 +4,8 @@ use Rattle.cu_model.specs.declared.profiles.Piece.{Piece}
 use Rattle.cu_model.specs.Checker.{Checks}
 use Rattle.cu_pack.specs.Reading.{piece_kind}
 use Rattle.cu_pack.specs.Steps.Pieces.{AreNoProfile, pieces_between}
-use Rattle.cu_pack.proofs.PieceLaws.{fault_decides, length-pieces, pieces_more}
-use Rattle.cu_pack.proofs.Totals.{few_pieces}
+use Rattle.cu_pack.proofs.Read.PieceLaws.{fault_decides, length-pieces, pieces_more}
+use Rattle.cu_pack.proofs.Numbering.Totals.{few_pieces}
 use Rattle.cu_pack.proofs.checks.profiles.are_no_profile.Goals as goal
 
 pub returns-then-end-start : goal.returns-then-end-start

@@ -1,7 +1,7 @@
 use Rattle.std.proofs.Common.{◌<◌, ◌∙◌, ap, sym, arith, below_more}
 use Rattle.cu_pack.specs.declared.layout.Counts.{Counts}
 use Rattle.cu_pack.specs.Reading.{counts_in}
-use Rattle.cu_pack.proofs.PieceLaws.{not_wrong}
+use Rattle.cu_pack.proofs.Read.PieceLaws.{not_wrong}
 use Rattle.cu_pack.proofs.checks.profiles.wrong_profile.Goals as goal
 
 pub loop-profile-preserved : goal.loop-profile-preserved

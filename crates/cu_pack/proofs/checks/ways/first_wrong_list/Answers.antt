@@ -4,9 +4,9 @@ use Rattle.cu_pack.specs.declared.layout.Counts.{Counts}
 use Rattle.cu_pack.specs.Checks.{IsFirstWrong, IsGraph, IsWrongList}
 use Rattle.cu_pack.specs.Reading.{counts_in, edge_start, way_start}
 use Rattle.cu_pack.specs.Steps.Ways.{AreBothRight}
-use Rattle.cu_pack.proofs.Cursors.{cursors_more}
-use Rattle.cu_pack.proofs.EdgesRead.{next_edge, starts_within}
-use Rattle.cu_pack.proofs.FirstList.{all_edges, entries_left, first_list, no_edge_before, no_list}
+use Rattle.cu_pack.proofs.Numbering.Cursors.{cursors_more}
+use Rattle.cu_pack.proofs.Read.EdgesRead.{next_edge, starts_within}
+use Rattle.cu_pack.proofs.Read.FirstList.{all_edges, entries_left, first_list, no_edge_before, no_list}
 use Rattle.cu_pack.proofs.checks.ways.first_wrong_list.Goals as goal
 
 pub loop-low-init : goal.loop-low-init

@@ -1,6 +1,6 @@
 use Rattle.std.proofs.Common.{◌∙◌, sym, subst}
 use Rattle.cu_pack.specs.Steps.Cursors.{AreCursors}
-use Rattle.cu_pack.proofs.Cursors.{cursors_start}
+use Rattle.cu_pack.proofs.Numbering.Cursors.{cursors_start}
 use Rattle.cu_pack.proofs.checks.ways.wrong_list.Goals as goal
 
 pub first_wrong_list-requires-clause-places : goal.first_wrong_list-requires-clause-places

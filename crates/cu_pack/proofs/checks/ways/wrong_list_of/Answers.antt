@@ -2,7 +2,7 @@ use Rattle.std.proofs.Common.{◌≤◌, ◌∙◌, ℕ, Some, ap, sym, arith, b
 use Rattle.cu_chordal.specs.declared.graph.Ends.{Ends}
 use Rattle.cu_pack.specs.Reading.{edge_start}
 use Rattle.cu_pack.specs.Steps.Ways.{AreBothRight}
-use Rattle.cu_pack.proofs.EdgesRead.{edge_there, next_edge, starts_within}
+use Rattle.cu_pack.proofs.Read.EdgesRead.{edge_there, next_edge, starts_within}
 use Rattle.cu_pack.proofs.checks.ways.wrong_list_of.Goals as goal
 
 pub upper-requires : goal.upper-requires

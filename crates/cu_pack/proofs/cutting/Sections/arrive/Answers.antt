@@ -6,8 +6,8 @@ use Rattle.cu_model.specs.declared.roads.RoadArc.{RoadArc}
 use Rattle.cu_model.proofs.RoadLaws.{in_limit}
 use Rattle.cu_pack.specs.Reading.{arc_in, profile_in}
 use Rattle.cu_pack.specs.Steps.Parts.{HasProfile}
-use Rattle.cu_pack.proofs.Driven.{arc_profile, arc_value_same, has_profile}
-use Rattle.cu_pack.proofs.Passed.{network_valid}
+use Rattle.cu_pack.proofs.Read.Driven.{arc_profile, arc_value_same, has_profile}
+use Rattle.cu_pack.proofs.Spelled.Passed.{network_valid}
 use Rattle.cu_pack.proofs.cutting.Sections.arrive.Goals as goal
 
 pub piece_begun-requires : goal.piece_begun-requires

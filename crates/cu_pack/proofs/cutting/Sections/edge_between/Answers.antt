@@ -1,6 +1,6 @@
 use Rattle.std.proofs.Common.{◌≡◌, ◌+◌, ◌-◌, ◌∙◌, ap, arith}
 use Rattle.cu_pack.specs.Reading.{edge_start, upper_in}
-use Rattle.cu_pack.proofs.Parted.{part_missed}
+use Rattle.cu_pack.proofs.Read.Parted.{part_missed}
 use Rattle.cu_pack.proofs.cutting.Sections.edge_between.Goals as goal
 
 pub returns-then-number-eq0 : goal.returns-then-number-eq0

@@ -1,4 +1,4 @@
-use Rattle.cu_pack.proofs.EdgesRead.{edge_read, has_part}
+use Rattle.cu_pack.proofs.Read.EdgesRead.{edge_read, has_part}
 use Rattle.cu_pack.proofs.cutting.Sections.edge_by.Goals as goal
 
 pub edge_behind-requires-clause-low : goal.edge_behind-requires-clause-low

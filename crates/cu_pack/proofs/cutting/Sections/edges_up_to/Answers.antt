@@ -2,7 +2,7 @@ use Rattle.std.proofs.Common.{◌≡◌, ◌+◌, ◌-◌, ◌*◌, ◌∙◌, s
 use Rattle.cu_pack.specs.declared.layout.Layout.{Layout}
 use Rattle.cu_pack.specs.Layouts.{uppers_at}
 use Rattle.cu_pack.specs.Reading.{counts_in, edge_start}
-use Rattle.cu_pack.proofs.Parted.{column_rises_at, count_up_to_at, layout_known, part_rises}
+use Rattle.cu_pack.proofs.Read.Parted.{column_rises_at, count_up_to_at, layout_known, part_rises}
 use Rattle.cu_pack.proofs.cutting.Sections.edges_up_to.Goals as goal
 
 pub count_up_to-requires-clause-rising : goal.count_up_to-requires-clause-rising

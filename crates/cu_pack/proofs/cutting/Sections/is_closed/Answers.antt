@@ -2,7 +2,7 @@ use Rattle.std.proofs.Common.{◌≡◌, ◌∙◌, ℕ, ap, sym, arith}
 use Rattle.cu_model.specs.declared.roads.RoadArc.{RoadArc}
 use Rattle.cu_model.specs.Profiles.{is_closed}
 use Rattle.cu_pack.specs.Reading.{arc_in, piece_from, piece_place, profile_start}
-use Rattle.cu_pack.proofs.Driven.{arc_profile, closed_first, closed_same, pieces_same, start_rises, start_within}
+use Rattle.cu_pack.proofs.Read.Driven.{arc_profile, closed_first, closed_same, pieces_same, start_rises, start_within}
 use Rattle.cu_pack.proofs.cutting.Sections.is_closed.Goals as goal
 
 pub profile_start-first-requires : goal.profile_start-first-requires

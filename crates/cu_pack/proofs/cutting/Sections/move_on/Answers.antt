@@ -1,4 +1,4 @@
-use Rattle.cu_pack.proofs.EdgesRead.{has_part}
+use Rattle.cu_pack.proofs.Read.EdgesRead.{has_part}
 use Rattle.cu_pack.proofs.cutting.Sections.move_on.Goals as goal
 
 pub edge_reaching-requires-clause-low : goal.edge_reaching-requires-clause-low

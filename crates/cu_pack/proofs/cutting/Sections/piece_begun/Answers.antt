@@ -2,7 +2,7 @@ use Rattle.std.proofs.Common.{◌≡◌, ◌+◌, ◌-◌, ◌∙◌, ℕ, suc, 
 use Rattle.cu_pack.specs.declared.layout.Layout.{Layout}
 use Rattle.cu_pack.specs.Layouts.{pieces_at}
 use Rattle.cu_pack.specs.Reading.{counts_in, piece_from, piece_place, profile_start}
-use Rattle.cu_pack.proofs.Parted.{column_rises_at, count_up_to_at, layout_known, pieces_begun, pieces_rise}
+use Rattle.cu_pack.proofs.Read.Parted.{column_rises_at, count_up_to_at, layout_known, pieces_begun, pieces_rise}
 use Rattle.cu_pack.proofs.cutting.Sections.piece_begun.Goals as goal
 
 pub count_up_to-begun-requires-clause-rising : goal.count_up_to-begun-requires-clause-rising

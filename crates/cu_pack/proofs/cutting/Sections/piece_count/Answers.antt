@@ -1,5 +1,5 @@
 use Rattle.std.proofs.Common.{arith}
-use Rattle.cu_pack.proofs.Driven.{next_start, pieces_few, pieces_long, start_rises}
+use Rattle.cu_pack.proofs.Read.Driven.{next_start, pieces_few, pieces_long, start_rises}
 use Rattle.cu_pack.proofs.cutting.Sections.piece_count.Goals as goal
 
 pub overflow_cast-result : goal.overflow_cast-result

@@ -1,6 +1,6 @@
 use Rattle.std.proofs.Common.{◌≡◌, ◌+◌, ◌∙◌, ℕ, Some, ap, sym, arith}
 use Rattle.cu_pack.specs.Reading.{piece_from, piece_place, profile_start}
-use Rattle.cu_pack.proofs.Driven.{piece_there, pieces_long, start_within}
+use Rattle.cu_pack.proofs.Read.Driven.{piece_there, pieces_long, start_within}
 use Rattle.cu_pack.proofs.cutting.Sections.piece_of.Goals as goal
 
 pub overflow_add-start : goal.overflow_add-start

@@ -3,8 +3,8 @@ use Rattle.cu_pack.specs.declared.layout.Layout.{Layout}
 use Rattle.cu_pack.specs.Layouts.{pieces_at}
 use Rattle.cu_pack.specs.Reading.{counts_in, piece_from, piece_place, profile_start}
 use Rattle.cu_pack.specs.Steps.Columns.{IsCountUpTo}
-use Rattle.cu_pack.proofs.InForce.{piece_in_force}
-use Rattle.cu_pack.proofs.Parted.{column_rises_at, count_up_to_at, layout_known, pieces_begun, pieces_rise}
+use Rattle.cu_pack.proofs.Read.InForce.{piece_in_force}
+use Rattle.cu_pack.proofs.Read.Parted.{column_rises_at, count_up_to_at, layout_known, pieces_begun, pieces_rise}
 use Rattle.cu_pack.proofs.cutting.Sections.rule_begun.Goals as goal
 
 pub count_up_to-begun-requires-clause-rising : goal.count_up_to-begun-requires-clause-rising

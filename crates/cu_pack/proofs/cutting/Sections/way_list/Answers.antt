@@ -3,7 +3,7 @@ use Rattle.cu_pack.specs.declared.layout.Layout.{Layout}
 use Rattle.cu_pack.specs.Layouts.{AreInLimits, entries_at, file_length}
 use Rattle.cu_pack.specs.Reading.{counts_in, entry_place, way_start}
 use Rattle.cu_pack.specs.Steps.Slices.{IsWaySlice, entries_from}
-use Rattle.cu_pack.proofs.Parted.{layout_known, list_few, list_placed, list_slice}
+use Rattle.cu_pack.proofs.Read.Parted.{layout_known, list_few, list_placed, list_slice}
 use Rattle.cu_pack.proofs.cutting.Sections.way_list.Goals as goal
 
 pub overflow_cast-count : goal.overflow_cast-count

@@ -1,6 +1,6 @@
 use Rattle.std.proofs.Common.{ℕ, List, sym, subst}
 use Rattle.cu_pack.specs.Checks.{Spells}
-use Rattle.cu_pack.proofs.Bodies.{spelled_sealed}
+use Rattle.cu_pack.proofs.Read.Bodies.{spelled_sealed}
 use Rattle.cu_pack.proofs.view.PackedView.adopt.Goals as goal
 
 pub adopt_unsealed-requires : goal.adopt_unsealed-requires

@@ -2,8 +2,8 @@ use Rattle.std.proofs.Common.{◌≡◌, ◌∙◌, ℕ, List, sym, subst, ap, a
 use Rattle.cu_pack.specs.Checks.{Spells, sealed}
 use Rattle.cu_pack.specs.Layouts.{AreInLimits, file_length}
 use Rattle.cu_pack.specs.Reading.{decoded}
-use Rattle.cu_pack.proofs.Bodies.{counts_kept, unsealed_long}
-use Rattle.cu_pack.proofs.Views.{limits_known, said_again, size_known}
+use Rattle.cu_pack.proofs.Read.Bodies.{counts_kept, unsealed_long}
+use Rattle.cu_pack.proofs.Viewed.Views.{limits_known, said_again, size_known}
 use Rattle.cu_pack.proofs.view.PackedView.adopt_unsealed.Goals as goal
 
 pub of-requires : goal.of-requires

@@ -3,8 +3,8 @@ use Rattle.cu_pack.specs.declared.layout.Layout.{Layout}
 use Rattle.cu_pack.specs.Checks.{Spells}
 use Rattle.cu_pack.specs.Layouts.{arcs_at}
 use Rattle.cu_pack.specs.Reading.{counts_in}
-use Rattle.cu_pack.proofs.ViewedParts.{arcs_part, same_part}
-use Rattle.cu_pack.proofs.Views.{arcs_known, limits_known, size_known}
+use Rattle.cu_pack.proofs.Viewed.ViewedParts.{arcs_part, same_part}
+use Rattle.cu_pack.proofs.Viewed.Views.{arcs_known, limits_known, size_known}
 use Rattle.cu_pack.proofs.view.PackedView.arcs_part.Goals as goal
 
 pub between-requires-clause-room : goal.between-requires-clause-room

@@ -1,7 +1,7 @@
 use Rattle.std.proofs.Common.{◌∙◌, subst}
 use Rattle.std.proofs.lemmas.Result.{IfOk-weaker}
 use Rattle.cu_pack.specs.Checks.{Spells}
-use Rattle.cu_pack.proofs.Views.{starts_known}
+use Rattle.cu_pack.proofs.Viewed.Views.{starts_known}
 use Rattle.cu_pack.proofs.view.PackedView.edge_starts.Goals as goal
 
 pub returns : goal.returns

@@ -3,8 +3,8 @@ use Rattle.cu_pack.specs.declared.layout.Layout.{Layout}
 use Rattle.cu_pack.specs.Checks.{Spells}
 use Rattle.cu_pack.specs.Layouts.{edge_starts_at, way_starts_at}
 use Rattle.cu_pack.specs.Reading.{counts_in}
-use Rattle.cu_pack.proofs.ViewedParts.{edges_part, same_part}
-use Rattle.cu_pack.proofs.Views.{size_known}
+use Rattle.cu_pack.proofs.Viewed.ViewedParts.{edges_part, same_part}
+use Rattle.cu_pack.proofs.Viewed.Views.{size_known}
 use Rattle.cu_pack.proofs.view.PackedView.edges_part.Goals as goal
 
 pub between-requires-clause-room : goal.between-requires-clause-room

@@ -2,7 +2,7 @@ use Rattle.std.proofs.Common.{◌∙◌, ap, subst}
 use Rattle.std.proofs.lemmas.Result.{IfOk-weaker}
 use Rattle.cu_model.specs.Orders.{OrderValue}
 use Rattle.cu_pack.specs.Checks.{Spells}
-use Rattle.cu_pack.proofs.Views.{order_known}
+use Rattle.cu_pack.proofs.Viewed.Views.{order_known}
 use Rattle.cu_pack.proofs.view.PackedView.nodes_by_rank.Goals as goal
 
 pub returns-clause-all : goal.returns-clause-all

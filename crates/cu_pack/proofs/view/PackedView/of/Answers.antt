@@ -1,7 +1,7 @@
 use Rattle.std.proofs.Common.{ℕ, List, rules, subst, sym}
 use Rattle.cu_pack.specs.Checks.{Spells}
 use Rattle.cu_pack.specs.Reading.{decoded}
-use Rattle.cu_pack.proofs.Sealed.{all_pass}
+use Rattle.cu_pack.proofs.Spelled.Sealed.{all_pass}
 use Rattle.cu_pack.proofs.view.PackedView.of.Goals as goal
 
 pub invariant_of-result : goal.invariant_of-result

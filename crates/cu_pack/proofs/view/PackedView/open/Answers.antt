@@ -3,7 +3,7 @@ use Rattle.std.specs.Prelude.{◌*◌, IfErr, suc}
 use Rattle.std.proofs.lemmas.Result.{IfErr-weaker}
 use Rattle.cu_pack.specs.Checks.{IsGraph, IsRefused, IsWrongList, NoneWrong, Spells}
 use Rattle.cu_pack.specs.Reading.{counts_in}
-use Rattle.cu_pack.proofs.Sealed.{all_pass}
+use Rattle.cu_pack.proofs.Spelled.Sealed.{all_pass}
 use Rattle.cu_pack.proofs.view.PackedView.open.Goals as goal
 
 pub returns-in_err-check_roads-clause-refused : goal.returns-in_err-check_roads-clause-refused

@@ -3,8 +3,8 @@ use Rattle.cu_pack.specs.declared.layout.Layout.{Layout}
 use Rattle.cu_pack.specs.Checks.{Spells}
 use Rattle.cu_pack.specs.Layouts.{arcs_at}
 use Rattle.cu_pack.specs.Reading.{counts_in}
-use Rattle.cu_pack.proofs.ViewedParts.{order_part, same_part}
-use Rattle.cu_pack.proofs.Views.{size_known}
+use Rattle.cu_pack.proofs.Viewed.ViewedParts.{order_part, same_part}
+use Rattle.cu_pack.proofs.Viewed.Views.{size_known}
 use Rattle.cu_pack.proofs.view.PackedView.order_part.Goals as goal
 
 pub between-requires-clause-room : goal.between-requires-clause-room

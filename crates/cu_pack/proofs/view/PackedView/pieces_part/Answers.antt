@@ -5,9 +5,9 @@ use Rattle.cu_pack.specs.declared.layout.Layout.{Layout}
 use Rattle.cu_pack.specs.Checks.{Spells}
 use Rattle.cu_pack.specs.Layouts.{pieces_at}
 use Rattle.cu_pack.specs.Reading.{counts_in}
-use Rattle.cu_pack.proofs.Stretches.{total_on}
-use Rattle.cu_pack.proofs.ViewedParts.{pieces_part, same_part}
-use Rattle.cu_pack.proofs.Views.{counts_known, limits_known, size_known}
+use Rattle.cu_pack.proofs.Numbering.Stretches.{total_on}
+use Rattle.cu_pack.proofs.Viewed.ViewedParts.{pieces_part, same_part}
+use Rattle.cu_pack.proofs.Viewed.Views.{counts_known, limits_known, size_known}
 use Rattle.cu_pack.proofs.view.PackedView.pieces_part.Goals as goal
 
 pub overflow_mul-first : goal.overflow_mul-first

@@ -1,7 +1,7 @@
 use Rattle.std.proofs.Common.{◌∙◌, arith, subst}
 use Rattle.cu_pack.specs.Checks.{Spells}
-use Rattle.cu_pack.proofs.ViewedParts.{profile_start_known}
-use Rattle.cu_pack.proofs.Views.{profiles_known}
+use Rattle.cu_pack.proofs.Viewed.ViewedParts.{profile_start_known}
+use Rattle.cu_pack.proofs.Viewed.Views.{profiles_known}
 use Rattle.cu_pack.proofs.view.PackedView.profile_start.Goals as goal
 
 pub profile_start-requires : goal.profile_start-requires

@@ -3,8 +3,8 @@ use Rattle.cu_pack.specs.declared.layout.Layout.{Layout}
 use Rattle.cu_pack.specs.Checks.{Spells}
 use Rattle.cu_pack.specs.Layouts.{profile_starts_at}
 use Rattle.cu_pack.specs.Reading.{counts_in}
-use Rattle.cu_pack.proofs.ViewedParts.{profile_starts_part, same_part}
-use Rattle.cu_pack.proofs.Views.{profiles_known, limits_known, size_known}
+use Rattle.cu_pack.proofs.Viewed.ViewedParts.{profile_starts_part, same_part}
+use Rattle.cu_pack.proofs.Viewed.Views.{profiles_known, limits_known, size_known}
 use Rattle.cu_pack.proofs.view.PackedView.profile_starts_part.Goals as goal
 
 pub overflow_add-starts : goal.overflow_add-starts

@@ -3,8 +3,8 @@ use Rattle.cu_pack.specs.declared.layout.Layout.{Layout}
 use Rattle.cu_pack.specs.Checks.{Spells}
 use Rattle.cu_pack.specs.Layouts.{edge_starts_at, profile_starts_at}
 use Rattle.cu_pack.specs.Reading.{counts_in}
-use Rattle.cu_pack.proofs.ViewedParts.{profiles_part, same_part}
-use Rattle.cu_pack.proofs.Views.{size_known}
+use Rattle.cu_pack.proofs.Viewed.ViewedParts.{profiles_part, same_part}
+use Rattle.cu_pack.proofs.Viewed.Views.{size_known}
 use Rattle.cu_pack.proofs.view.PackedView.profiles_part.Goals as goal
 
 pub between-requires-clause-room : goal.between-requires-clause-room

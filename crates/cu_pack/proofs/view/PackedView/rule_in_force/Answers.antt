@@ -5,9 +5,9 @@ use Rattle.cu_pack.specs.Checks.{Spells}
 use Rattle.cu_pack.specs.InForce.{IsPieceInForce, IsRuleInForce}
 use Rattle.cu_pack.specs.Reading.{arc_in, profile_in}
 use Rattle.cu_pack.specs.Steps.Parts.{HasProfile}
-use Rattle.cu_pack.proofs.Driven.{arc_profile, has_profile}
-use Rattle.cu_pack.proofs.InForce.{road_in_force}
-use Rattle.cu_pack.proofs.Views.{arcs_known, graph_known, network_known}
+use Rattle.cu_pack.proofs.Read.Driven.{arc_profile, has_profile}
+use Rattle.cu_pack.proofs.Read.InForce.{road_in_force}
+use Rattle.cu_pack.proofs.Viewed.Views.{arcs_known, graph_known, network_known}
 use Rattle.cu_pack.proofs.view.PackedView.rule_in_force.Goals as goal
 
 pub arc-requires : goal.arc-requires

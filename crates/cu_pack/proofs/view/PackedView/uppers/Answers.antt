@@ -1,7 +1,7 @@
 use Rattle.std.proofs.Common.{◌∙◌, subst}
 use Rattle.std.proofs.lemmas.Result.{IfOk-weaker}
 use Rattle.cu_pack.specs.Checks.{Spells}
-use Rattle.cu_pack.proofs.Views.{uppers_known}
+use Rattle.cu_pack.proofs.Viewed.Views.{uppers_known}
 use Rattle.cu_pack.proofs.view.PackedView.uppers.Goals as goal
 
 pub returns-clause-all : goal.returns-clause-all

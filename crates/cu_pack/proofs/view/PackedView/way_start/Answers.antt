@@ -1,7 +1,7 @@
 use Rattle.std.proofs.Common.{◌∙◌, arith, subst}
 use Rattle.cu_pack.specs.Checks.{Spells}
-use Rattle.cu_pack.proofs.ViewedParts.{way_start_known}
-use Rattle.cu_pack.proofs.Views.{edges_known}
+use Rattle.cu_pack.proofs.Viewed.ViewedParts.{way_start_known}
+use Rattle.cu_pack.proofs.Viewed.Views.{edges_known}
 use Rattle.cu_pack.proofs.view.PackedView.way_start.Goals as goal
 
 pub way_start-requires : goal.way_start-requires

@@ -2,7 +2,7 @@ use Rattle.std.proofs.Common.{◌∙◌, ap, sym, subst, arith}
 use Rattle.cu_pack.specs.Checks.{Spells}
 use Rattle.cu_pack.specs.Reading.{list_in}
 use Rattle.cu_pack.specs.Steps.Parts.{HasList}
-use Rattle.cu_pack.proofs.Views.{has_ways, ways_known}
+use Rattle.cu_pack.proofs.Viewed.Views.{has_ways, ways_known}
 use Rattle.cu_pack.proofs.view.PackedView.ways.Goals as goal
 
 pub list_number-requires : goal.list_number-requires

@@ -2,7 +2,7 @@ use Rattle.std.proofs.Common.{◌≡◌, ◌-◌, length}
 use Rattle.cu_chordal.specs.Graphs.{ChordalValue}
 use Rattle.cu_chordal.specs.Lists.{HoldGraph, edges_of_lists}
 use Rattle.cu_interval.specs.Hierarchies.{graph_of}
-use Rattle.cu_pack.proofs.Copied.{both_ok, graph_same, lists_hold}
+use Rattle.cu_pack.proofs.Numbering.Copied.{both_ok, graph_same, lists_hold}
 use Rattle.cu_pack.proofs.view.copies.chordal_of.Goals as goal
 
 held : (c : goal.In_ok-uppers) → HoldGraph c.in_ok-starts.starts.items c.in_ok-uppers.uppers.items

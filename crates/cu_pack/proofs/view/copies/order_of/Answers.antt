@@ -1,7 +1,7 @@
 use Rattle.std.proofs.Common.{◌≡◌, ◌∙◌, sym, subst}
 use Rattle.cu_model.specs.Orders.{IsOrder, ListsEachNodeOnce, OrderValue}
-use Rattle.cu_pack.proofs.Copied.{both_ok, order_once}
-use Rattle.cu_pack.proofs.GraphRead.{order_same}
+use Rattle.cu_pack.proofs.Numbering.Copied.{both_ok, order_once}
+use Rattle.cu_pack.proofs.Read.GraphRead.{order_same}
 use Rattle.cu_pack.proofs.view.copies.order_of.Goals as goal
 
 pub of-requires : goal.of-requires

@@ -1,5 +1,5 @@
 use Rattle.std.proofs.Common.{◌<◌, ◌%◌, ℕ, ap, arith, rules}
-use Rattle.cu_pack.proofs.WayRows.{way_slice_begun, way_slice_long, way_slice_rises, way_slice_way}
+use Rattle.cu_pack.proofs.Read.WayRows.{way_slice_begun, way_slice_long, way_slice_rises, way_slice_way}
 use Rattle.cu_pack.proofs.way_slices.WaySlice.at.Goals as goal
 
 pub count_up_to-begun-requires-clause-rising : goal.count_up_to-begun-requires-clause-rising

@@ -1,5 +1,5 @@
 use Rattle.std.proofs.Common.{◌∙◌, Some, sym, ap, arith}
-use Rattle.cu_pack.proofs.WayRows.{way_slice_entry, way_slice_long}
+use Rattle.cu_pack.proofs.Read.WayRows.{way_slice_entry, way_slice_long}
 use Rattle.cu_pack.proofs.way_slices.WaySlice.entry.Goals as goal
 
 pub overflow_add-self-inside : goal.overflow_add-self-inside

@@ -1,6 +1,6 @@
 use Rattle.std.proofs.Common.{◌<◌, arith, rules}
-use Rattle.cu_pack.proofs.InForce.{way_in_force}
-use Rattle.cu_pack.proofs.WayRows.{way_slice_begun, way_slice_long, way_slice_rises}
+use Rattle.cu_pack.proofs.Read.InForce.{way_in_force}
+use Rattle.cu_pack.proofs.Read.WayRows.{way_slice_begun, way_slice_long, way_slice_rises}
 use Rattle.cu_pack.proofs.way_slices.WaySlice.in_force.Goals as goal
 
 pub count_up_to-next-requires-clause-rising : goal.count_up_to-next-requires-clause-rising

@@ -1,5 +1,5 @@
 use Rattle.std.proofs.Common.{sym}
-use Rattle.cu_pack.proofs.WayRows.{way_slice_long}
+use Rattle.cu_pack.proofs.Read.WayRows.{way_slice_long}
 use Rattle.cu_pack.proofs.way_slices.WaySlice.len.Goals as goal
 
 pub returns-clause-count : goal.returns-clause-count

@@ -1,4 +1,4 @@
-use Rattle.cu_unpack.proofs.WordWays.{stays}
+use Rattle.cu_unpack.proofs.PackedWays.{stays}
 use Rattle.cu_unpack.proofs.room.Room.new.Goals as goal
 
 pub invariant_of-result : goal.invariant_of-result

@@ -2,7 +2,7 @@ use Rattle.std.proofs.Common.{subst, arith}
 use Rattle.cu_chordal.specs.Graphs.{FindsEdge}
 use Rattle.cu_interval.specs.Hierarchies.{HierarchyValue}
 use Rattle.cu_pack.specs.Checks.{Spells}
-use Rattle.cu_pack.proofs.Views.{graph_known, nodes_known}
+use Rattle.cu_pack.proofs.Viewed.Views.{graph_known, nodes_known}
 use Rattle.cu_pack.proofs.view.hierarchy.PackedViewWays.edge.Goals as goal
 
 pub edge-requires : goal.edge-requires

@@ -1,8 +1,8 @@
 use Rattle.std.proofs.Common.{◌∙◌, ℕ, Some, ap, sym, subst, arith}
 use Rattle.cu_chordal.specs.declared.graph.Ends.{Ends}
 use Rattle.cu_pack.specs.Checks.{Spells}
-use Rattle.cu_pack.proofs.Views.{edges_known}
-use Rattle.cu_pack.proofs.ViewedEdges.{ends_known, starts_rise}
+use Rattle.cu_pack.proofs.Viewed.Views.{edges_known}
+use Rattle.cu_pack.proofs.Viewed.ViewedEdges.{ends_known, starts_rise}
 use Rattle.cu_pack.proofs.view.hierarchy.PackedViewWays.ends.Goals as goal
 
 pub low_of-requires-clause-starts : goal.low_of-requires-clause-starts

@@ -1,7 +1,7 @@
 use Rattle.std.proofs.Common.{◌∙◌, Some, ap, sym, subst, arith}
 use Rattle.cu_pack.specs.Checks.{Spells}
-use Rattle.cu_pack.proofs.Views.{node_known, nodes_known}
-use Rattle.cu_pack.proofs.ViewedEdges.{node_inside}
+use Rattle.cu_pack.proofs.Viewed.Views.{node_known, nodes_known}
+use Rattle.cu_pack.proofs.Viewed.ViewedEdges.{node_inside}
 use Rattle.cu_pack.proofs.view.hierarchy.PackedViewWays.node.Goals as goal
 
 pub node_at-requires : goal.node_at-requires

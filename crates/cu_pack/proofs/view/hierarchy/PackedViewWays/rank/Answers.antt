@@ -1,7 +1,7 @@
 use Rattle.std.proofs.Common.{◌∙◌, Some, ap, sym, subst, arith}
 use Rattle.cu_pack.specs.Checks.{Spells}
-use Rattle.cu_pack.proofs.Views.{nodes_known, rank_known}
-use Rattle.cu_pack.proofs.ViewedEdges.{rank_inside}
+use Rattle.cu_pack.proofs.Viewed.Views.{nodes_known, rank_known}
+use Rattle.cu_pack.proofs.Viewed.ViewedEdges.{rank_inside}
 use Rattle.cu_pack.proofs.view.hierarchy.PackedViewWays.rank.Goals as goal
 
 pub rank_of-requires : goal.rank_of-requires

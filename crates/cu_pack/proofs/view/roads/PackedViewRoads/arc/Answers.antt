@@ -1,7 +1,7 @@
 use Rattle.std.proofs.Common.{◌∙◌, Some, ap, sym, subst, arith}
 use Rattle.cu_pack.specs.Checks.{Spells}
-use Rattle.cu_pack.proofs.Views.{arcs_known, network_known}
-use Rattle.cu_pack.proofs.ViewedRoads.{arc_seen}
+use Rattle.cu_pack.proofs.Viewed.Views.{arcs_known, network_known}
+use Rattle.cu_pack.proofs.Viewed.ViewedRoads.{arc_seen}
 use Rattle.cu_pack.proofs.view.roads.PackedViewRoads.arc.Goals as goal
 
 pub arc-requires : goal.arc-requires

@@ -2,7 +2,7 @@ use Rattle.std.proofs.Common.{◌∙◌, ap, subst, arith}
 use Rattle.cu_model.specs.Networks.{NetworkValue}
 use Rattle.cu_model.specs.Roads.{is_closed_arc}
 use Rattle.cu_pack.specs.Checks.{Spells}
-use Rattle.cu_pack.proofs.Views.{arcs_known, graph_known, network_known}
+use Rattle.cu_pack.proofs.Viewed.Views.{arcs_known, graph_known, network_known}
 use Rattle.cu_pack.proofs.view.roads.PackedViewRoads.closed.Goals as goal
 
 pub is_closed-requires-clause-roads : goal.is_closed-requires-clause-roads

@@ -3,7 +3,7 @@ use Rattle.cu_model.specs.Networks.{NetworkValue}
 use Rattle.cu_model.specs.Roads.{arc_value}
 use Rattle.cu_model.proofs.RoadLaws.{arc_value-fifo, arc_value-onward}
 use Rattle.cu_pack.specs.Checks.{Spells}
-use Rattle.cu_pack.proofs.Views.{arcs_known, graph_known, network_known}
+use Rattle.cu_pack.proofs.Viewed.Views.{arcs_known, graph_known, network_known}
 use Rattle.cu_pack.proofs.view.roads.PackedViewRoads.drive.Goals as goal
 
 arrives : (c : goal.After-arrive) → c.arrive.result ≡ arc_value c.args.self.now.network c.args.arc c.args.second

@@ -1,7 +1,7 @@
 use Rattle.std.proofs.Common.{subst}
 use Rattle.cu_pack.specs.Checks.{Spells}
-use Rattle.cu_pack.proofs.Views.{graph_known, network_known}
-use Rattle.cu_pack.proofs.ViewedRoads.{piece_inside, piece_seen}
+use Rattle.cu_pack.proofs.Viewed.Views.{graph_known, network_known}
+use Rattle.cu_pack.proofs.Viewed.ViewedRoads.{piece_inside, piece_seen}
 use Rattle.cu_pack.proofs.view.roads.PackedViewRoads.piece.Goals as goal
 
 pub piece_of-requires : goal.piece_of-requires

@@ -1,7 +1,7 @@
 use Rattle.std.proofs.Common.{◌∙◌, ap, sym, subst, arith, length}
 use Rattle.cu_pack.specs.Checks.{Spells}
-use Rattle.cu_pack.proofs.Views.{graph_known, network_known, profiles_known}
-use Rattle.cu_pack.proofs.ViewedRoads.{pieces_seen}
+use Rattle.cu_pack.proofs.Viewed.Views.{graph_known, network_known, profiles_known}
+use Rattle.cu_pack.proofs.Viewed.ViewedRoads.{pieces_seen}
 use Rattle.cu_pack.proofs.view.roads.PackedViewRoads.pieces.Goals as goal
 
 pub piece_count-requires-clause-roads : goal.piece_count-requires-clause-roads

@@ -1,7 +1,7 @@
 use Rattle.std.proofs.Common.{◌∙◌, ap, subst}
 use Rattle.cu_pack.specs.Checks.{Spells}
 use Rattle.cu_pack.specs.declared.layout.Counts.{Counts}
-use Rattle.cu_pack.proofs.Views.{profiles_known}
+use Rattle.cu_pack.proofs.Viewed.Views.{profiles_known}
 use Rattle.cu_pack.proofs.view.roads.PackedViewRoads.profiles.Goals as goal
 
 pub returns-clause-count : goal.returns-clause-count

@@ -1,0 +1,53 @@
+# Bad input of every script: one line on standard error that begins with the script's name, status 1, nothing else
+# written, neither to standard output nor to a file.
+
+# try_badly SCRIPT WORD..: what is wrong with how it refuses, or nothing.
+try_badly() {
+  before="$(ls "$data" "$room/rests")"
+  CATCHUP="${CATCHUP-$data/stub/program}" try "$@" <"${input-/dev/null}" >"$room/tried"
+  read -r _ status bytes _ <"$room/tried"
+  [ "$status $bytes" = "1, 0" ] || printf 'status %s %s bytes; ' "$status" "$bytes"
+  [ "$(wc -l <"$room/said" | tr -d ' ')" = 1 ] || printf '%s lines; ' "$(wc -l <"$room/said")"
+  grep -q "^$1: " "$room/said" || printf 'another name; '
+  [ "$before" = "$(ls "$data" "$room/rests")" ] || printf 'files; '
+}
+
+make_bad_files() {
+  mkdir -p bad/folder
+  : >bad/blank
+  echo 'no table' >bad/garbage
+  printf 'node,x,y\n0,1\n' >bad/header
+  head -c 5000 /dev/urandom >bad/binary
+  printf 'arrive=160 arcs=0 3\n' >bad/reply
+}
+
+check_bad_words() {
+  make_bad_files
+  for bad in missing folder blank garbage header binary; do
+    check "bad input: $bad in a table's place" "" "$(
+      input=bad/reply try_badly draw-route "bad/$bad" roads
+      input=bad/reply try_badly draw-route nodes "bad/$bad"
+      input=bad/reply try_badly draw-route nodes roads "bad/$bad"
+      input=bad/reply try_badly draw-route --script "bad/$bad" nodes roads
+      try_badly order-by-metis "bad/$bad" roads
+      try_badly order-by-metis nodes "bad/$bad"
+      try_badly draw-day "bad/$bad" 0 3
+      try_badly draw-day "bad/$bad" roads profiles identity 0 3
+    )"
+  done
+  for bad in garbage header binary; do
+    check "bad input: $bad in the replies' place" "" "$(input="bad/$bad" try_badly draw-route nodes roads)"
+  done
+  for script in draw-route draw-day order-by-metis package; do
+    check "bad input: words of $script" "" "$(try_badly "$script"; try_badly "$script" a b c d e f g; try_badly "$script" --none such)"
+  done
+  check "bad input: words of release" "" "$(try_badly release --none; try_badly release a b)"
+  check "bad input: words of check-release" "" "$(try_badly check-release a b)"
+  check "bad input: no program" "" "$(CATCHUP=/none/such try_badly draw-day nodes roads profiles identity 0 3)"
+  check "bad input: no folder for temporary files" "1 1 1" "$(
+    for script in draw-route order-by-metis; do
+      TMPDIR=/none/such "$scripts/$script" nodes roads </dev/null 2>&1 | wc -l | tr '\n' ' '
+    done
+    TMPDIR=/none/such CATCHUP="$data/stub/program" "$scripts/draw-day" town.cu 0 3 2>&1 | wc -l | tr -d ' \n')"
+  check "bad input: closed standard input" "1" "$(TMPDIR="$room/rests" "$scripts/draw-route" nodes roads <&- 2>&1 | wc -l | tr -d ' ')"
+}

@@ -1,0 +1,33 @@
+-- The commands: what each means by its words.
+use Rattle.std.specs.Prelude.{ℕ, List, [], ◌∷◌, codes, bytes_eq}
+use Rattle.cu_cli.specs.Meanings.{Meaning, no_command, when◌asks◌else◌}
+use Rattle.cu_cli.specs.Commands.Ask.{ask_of}
+use Rattle.cu_cli.specs.Commands.Build.{build_of}
+use Rattle.cu_cli.specs.Commands.Edit.{edit_of}
+use Rattle.cu_cli.specs.Commands.Make.{make_of}
+use Rattle.cu_cli.specs.Commands.Order.{order_of}
+use Rattle.cu_cli.specs.Commands.Serve.{serve_of}
+use Rattle.cu_cli.specs.Commands.Trial.{trial_of}
+use Rattle.cu_cli.specs.Commands.Verify.{verify_of}
+pub mod Ask
+pub mod Build
+pub mod Edit
+pub mod Make
+pub mod Order
+pub mod Serve
+pub mod Trial
+pub mod Verify
+
+-- what the words ask for
+abbrev pub meaning_of : List (List ℕ) → Meaning
+meaning_of [] = no_command
+meaning_of (word ∷ words) =
+    when bytes_eq word (codes "serve") asks serve_of words
+    else when bytes_eq word (codes "order") asks order_of words
+    else when bytes_eq word (codes "make") asks make_of words
+    else when bytes_eq word (codes "build") asks build_of words
+    else when bytes_eq word (codes "ask") asks ask_of words
+    else when bytes_eq word (codes "edit") asks edit_of words
+    else when bytes_eq word (codes "verify") asks verify_of words
+    else when bytes_eq word (codes "trial") asks trial_of words
+    else no_command

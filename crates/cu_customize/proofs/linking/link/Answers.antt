@@ -1,5 +1,0 @@
-use Rattle.std.proofs.Common.{arith}
-use Rattle.cu_customize.proofs.linking.link.Goals as goal
-
-pub returns-clause-value : goal.returns-clause-value
-returns-clause-value c t h = c.in_ok-link_between.ensures.value t (omega arith) h

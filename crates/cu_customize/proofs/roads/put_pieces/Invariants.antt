@@ -1,7 +1,0 @@
-use Rattle.std.proofs.Common.{◌≡◌, ◌++◌, map, take}
-use Rattle.cu_model.specs.Roads.{pieces_of}
-use Rattle.cu_arrival.specs.Steps.OfPieces.{run_of}
-use Rattle.cu_customize.proofs.roads.put_pieces.Given as goal
-
-abbrev pub invariant-loop-index : goal.invariant-loop-index
-invariant-loop-index g l = l.words.items ≡ l.fn.words.items ++ map run_of (take l.index (pieces_of (g.R.Roads.network l.roads) l.profile))

@@ -1,7 +1,0 @@
-use Rattle.std.proofs.Common.{arith}
-use Rattle.cu_customize.proofs.BoundLaws.{least_behind}
-use Rattle.cu_customize.proofs.windows.Bounds.least_with.Goals as goal
-
-pub returns : goal.returns
-returns c = λ first behind function one two.
-    least_behind first behind function c.args.self.now c.args.second.now c.requires.same one two c.args.window c.requires.window _ (omega (arith, c.from.ensures, c.from-2.ensures))

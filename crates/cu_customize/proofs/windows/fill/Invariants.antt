@@ -1,6 +1,0 @@
-use Rattle.std.proofs.Common.{◌≡◌}
-use Rattle.cu_customize.specs.Windows.{AreEach}
-use Rattle.cu_customize.proofs.windows.fill.Given as goal
-
-abbrev pub invariant-windows : goal.invariant-windows
-invariant-windows l = AreEach (λ window one. one ≡ l.number) l.numbers l.window

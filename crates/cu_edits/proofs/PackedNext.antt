@@ -1,0 +1,255 @@
+-- One edge more is settled by packed runs, or none.
+use Rattle.std.proofs.Common.{◌≡◌, ◌≢◌, ◌≤◌, ◌<◌, ◌+◌, ◌++◌, ◌*◌, ◌∙◌, ℕ, suc, Bool, List, [], ◌∷◌, Option, Some, None, ap, sym, subst, arith, inl, inr, length}
+use Rattle.std.specs.Prelude.{IfSome, slice_get, slice_set}
+use Rattle.std.proofs.lemmas.Option.{slice_get_within}
+use Rattle.cu_model.specs.declared.roads.Edit.{Edit}
+use Rattle.cu_model.specs.Edits.{edited}
+use Rattle.cu_model.specs.Networks.{NetworkValue}
+use Rattle.cu_model.proofs.RoadLaws.{all_at}
+use Rattle.cu_arrival.specs.declared.runs.Run.{Run}
+use Rattle.cu_chordal.specs.declared.graph.Ends.{Ends}
+use Rattle.cu_chordal.specs.Graphs.{ChordalValue}
+use Rattle.cu_interval.specs.declared.ways.Dir.{Dir}
+use Rattle.cu_interval.specs.declared.ways.Dir.TheVariants.{Up, Down}
+use Rattle.cu_interval.specs.declared.ways.Entry.{Entry}
+use Rattle.cu_interval.specs.declared.ways.TouchedEdge.{TouchedEdge}
+use Rattle.cu_interval.specs.Hierarchies.{HierarchyValue, IsHierarchyOf, end_of, list_number, list_of, start_of}
+use Rattle.cu_interval.specs.Resettling.{IsResettledList}
+use Rattle.cu_customize.specs.Functions.{kept_state}
+use Rattle.cu_runs.specs.Layers.{layered}
+use Rattle.cu_customize.specs.Settling.{IsDayValueOf, IsSettledList}
+use Rattle.cu_customize.specs.declared.pulling.SettledRuns.{SettledRuns}
+use Rattle.cu_unpack.specs.RebuiltRuns.{IsRebuiltRuns, PackedValue}
+use Rattle.cu_edits.specs.declared.new_list.Outcome.{Outcome}
+use Rattle.cu_edits.specs.declared.new_list.Outcome.TheVariants.{Stands, Moves}
+use Rattle.cu_edits.specs.declared.new_list.NewList.{NewList}
+use Rattle.cu_edits.specs.Customized.{AreCustomized}
+use Rattle.cu_edits.specs.Settling.{IsResettledEdge, SettlingValue, list_in, settled_so_far}
+use Rattle.cu_edits.specs.Steps.Packed.{AreCandidatesAtHand, IsPackedList, IsSettlingPacked, LearnsPacked}
+use Rattle.cu_edits.specs.Steps.Holding.{IsNext, settling_of}
+use Rattle.cu_edits.specs.Steps.Moving.{IsOutcome, IsOutcomeOf, IsNewList, KeepsOutcome, MayStand, MovedValue, SayValue}
+use Rattle.cu_edits.specs.Steps.Settled.{AreSettled}
+use Rattle.cu_edits.proofs.AtHand.{same_edges}
+use Rattle.cu_edits.proofs.NewLists as new
+use Rattle.cu_edits.proofs.Placing.{before_last, behind_all, outcome_in, keeping_places, placed_both}
+use Rattle.cu_edits.proofs.SettledFrames.{settled_with}
+use Rattle.cu_edits.proofs.SettledOnce as once
+use Rattle.cu_edits.proofs.StandingLists.{ArePlaced, moves_more, stands_more}
+
+-- the next edge is one of the graph's
+pub edge_inside : (s : SettlingValue) (graph : ChordalValue) (edge : ℕ) → IsHierarchyOf graph s.before → IsNext s edge → edge < length graph.edges
+edge_inside s graph edge of asked =
+    let (ends, at, is) = asked.touched in
+    let inside = slice_get_within s.before.edges edge ends at in
+    let long : length graph.edges ≡ length s.before.edges = ap (λ (k : ChordalValue). length k.edges) of.0 in
+    omega (arith, inside, long)
+
+-- more was learned
+pub packed_learnt : (s : SettlingValue) (graph : ChordalValue) (arcs : List (List ℕ)) (packed learnt : PackedValue) (moved : MovedValue) → IsSettlingPacked s graph arcs packed moved
+    → LearnsPacked s.before packed learnt → IsSettlingPacked s graph arcs learnt moved
+packed_learnt s graph arcs packed learnt moved old learns = record {
+  are = old.are;
+  parts = old.parts;
+  known = learns.packed;
+  places = old.places;
+  inside = old.inside;
+  stands = old.stands;
+  moves = old.moves;
+}
+
+-- so it holds where no list was moved
+pub packed_still : (s : SettlingValue) (graph : ChordalValue) (arcs : List (List ℕ)) (packed learnt : PackedValue) (moved now : MovedValue) → IsSettlingPacked s graph arcs packed moved
+    → LearnsPacked s.before packed learnt → now ≡ moved → IsSettlingPacked s graph arcs learnt now
+packed_still s graph arcs packed learnt moved now old learns same = subst (IsSettlingPacked s graph arcs learnt) (sym same) (packed_learnt s graph arcs packed learnt moved old learns)
+
+module _ (s : SettlingValue) (graph : ChordalValue) (arcs : List (List ℕ)) (packed : PackedValue) (moved : MovedValue)
+    (holds : IsSettlingPacked s graph arcs packed moved) (edge : ℕ) (asked : IsNext s edge)
+    (marks : List Bool) (customized : AreCustomized s.before marks) (dir : Dir) where
+  -- a list that stands
+  pub list_stands : MayStand s.before s.edit arcs marks moved edge dir → (list : NewList) → list.ways ≡ list_of s.before edge dir → list.outcome ≡ Stands → IsNewList s moved edge dir list
+  list_stands may list same outcome = record {
+    resettled = λ ends at.
+        subst (IsResettledList (settled_so_far s) (start_of ends dir) (end_of ends dir)) (sym same)
+        (new.old_resettled s graph arcs packed moved holds edge dir asked.sides ends at marks customized may);
+    outcome = λ ends at.
+        subst (IsOutcome s moved edge dir ends list.ways) (sym outcome) (
+          same,
+          subst (new.AreFramed s graph arcs packed moved holds edge dir asked.sides ends at) (sym same)
+              (new.old_framed s graph arcs packed moved holds edge dir asked.sides ends at (new.old_unmoved s graph arcs packed moved holds edge dir asked.sides ends at marks customized may)),
+        );
+  }
+
+  -- the halves that are at hand
+  known_or_behind : (ends : Ends) (at : slice_get s.before.edges edge ≡ Some ends) → AreCandidatesAtHand s.before s.edit marks moved packed edge dir → (m : ℕ)
+      → new.IsKnownOrBehind s graph arcs packed moved holds edge dir asked.sides ends at m
+  known_or_behind ends at (inl all) m to on first second = inl (new.both_at_hand s graph arcs packed moved holds edge dir asked.sides ends at m (all ends at m) first second)
+  known_or_behind ends at (inr (keeps, ways, some)) m to on first second = elim (some ends at m) [
+    | inl unmoved ↦
+        let both = new.both_stand s graph arcs packed moved holds edge dir asked.sides ends at m unmoved first second in
+        inr (
+          both.0,
+          both.1,
+          record {
+            resettled = customized edge keeps.marked dir ends at;
+            unmoved = keeps.ways ends at;
+            known = λ k d lt. new.knows_at_hand s graph arcs packed moved holds edge dir asked.sides ends at _ (ways ends at k d lt);
+          },
+        )
+    | inr hand ↦ inl (new.both_at_hand s graph arcs packed moved holds edge dir asked.sides ends at m hand first second)
+  ]
+
+  -- a list that was settled
+  module _ (hand : AreCandidatesAtHand s.before s.edit marks moved packed edge dir) (found : SettledRuns)
+      (by : IsPackedList s.before.edges arcs (kept_state (edited s.before.network s.edit) (layered packed.functions moved.places moved.functions)) edge dir found) where
+    resettled : (ends : Ends) → slice_get s.before.edges edge ≡ Some ends → IsResettledList (settled_so_far s) (start_of ends dir) (end_of ends dir) found.ways
+    resettled ends at =
+        let (list, there) = once.listed s.before arcs holds.parts.roads edge dir ends at in
+        new.new_resettled s graph arcs packed moved holds edge dir asked.sides ends at list (holds.parts.roads.each edge dir ends list at there) (known_or_behind ends at hand) found.ways
+        (by.ways ends list at there)
+
+    outcome_of : (ends : Ends) (at : slice_get s.before.edges edge ≡ Some ends) (outcome : Outcome) → IsOutcomeOf s.before s.edit moved edge dir found outcome
+        → IsOutcome s moved edge dir ends found.ways outcome
+    outcome_of ends at Stands (same, unmoved) = (
+      same,
+      subst (new.AreFramed s graph arcs packed moved holds edge dir asked.sides ends at) (sym same) (new.old_framed s graph arcs packed moved holds edge dir asked.sides ends at (unmoved ends at)),
+    )
+    outcome_of ends at (Moves function) same =
+        let (list, there) = once.listed s.before arcs holds.parts.roads edge dir ends at in
+        subst (SayValue (settled_so_far s) (start_of ends dir) (end_of ends dir) found.ways) (sym same)
+        (new.new_value s graph arcs packed moved holds edge dir asked.sides ends at list (holds.parts.roads.each edge dir ends list at there) (known_or_behind ends at hand) found.ways
+        (by.ways ends list at there) found.function (by.value ends at))
+
+    pub list_settled : (list : NewList) → list.ways ≡ found.ways → IsOutcomeOf s.before s.edit moved edge dir found list.outcome → IsNewList s moved edge dir list
+    list_settled list same outcome = record {
+      resettled = λ ends at. subst (IsResettledList (settled_so_far s) (start_of ends dir) (end_of ends dir)) (sym same) (resettled ends at);
+      outcome = λ ends at. subst (λ (ways : List Entry). IsOutcome s moved edge dir ends ways list.outcome) (sym same) (outcome_of ends at list.outcome outcome);
+    }
+
+-- one edge more was settled
+pub record IsOneMore (h : HierarchyValue) (edit : Edit) (before after : List TouchedEdge) (graph : ChordalValue) (arcs : List (List ℕ)) (packed : PackedValue)
+    (moved : MovedValue) (t : TouchedEdge) : Type 0 where
+  pub list : after ≡ before ++ (t ∷ [])
+  pub resettled : IsResettledEdge (settled_so_far (settling_of h edit after)) t
+  pub holds : IsSettlingPacked (settling_of h edit after) graph arcs packed moved
+
+module _ (s : SettlingValue) (graph : ChordalValue) (arcs : List (List ℕ)) (packed : PackedValue) (moved after : MovedValue) (holds : IsSettlingPacked s graph arcs packed moved) (t : TouchedEdge)
+    (asked : IsNext s t.edge) (up down : NewList) (upper : IsNewList s moved t.edge Up up) (lower : IsNewList s moved t.edge Down down) (first : t.up ≡ up.ways) (second : t.down ≡ down.ways)
+    (placed : ArePlaced moved after t.edge (outcome_in up.outcome down.outcome)) where
+  abbrev pub now : HierarchyValue
+  now = settled_so_far s
+
+  abbrev pub next : HierarchyValue
+  next = settled_so_far (settled_with s t)
+
+  resettled_now : (dir : Dir) (ends : Ends) → slice_get s.before.edges t.edge ≡ Some ends → IsResettledList now (start_of ends dir) (end_of ends dir) (list_in t dir)
+  resettled_now Up ends at = subst (IsResettledList now (start_of ends Up) (end_of ends Up)) (sym first) (upper.resettled ends at)
+  resettled_now Down ends at = subst (IsResettledList now (start_of ends Down) (end_of ends Down)) (sym second) (lower.resettled ends at)
+
+  became : (dir : Dir) (ends : Ends) → slice_get s.before.edges t.edge ≡ Some ends → IsOutcome s moved t.edge dir ends (list_in t dir) (outcome_in up.outcome down.outcome dir)
+  became Up ends at = subst (λ (ways : List Entry). IsOutcome s moved t.edge Up ends ways up.outcome) (sym first) (upper.outcome ends at)
+  became Down ends at = subst (λ (ways : List Entry). IsOutcome s moved t.edge Down ends ways down.outcome) (sym second) (lower.outcome ends at)
+
+  pub next_resettled : IsResettledEdge next t
+  next_resettled = once.edge_resettled s holds.are t asked.touched asked.fresh asked.sides resettled_now
+
+  more : AreSettled (settled_with s t)
+  more = once.more s holds.are t asked.touched asked.fresh asked.sides resettled_now
+
+  says : (dir : Dir) (function : Option (List Run)) (ends : Ends) → slice_get s.before.edges t.edge ≡ Some ends
+      → SayValue now (start_of ends dir) (end_of ends dir) (list_in t dir) function → IsRebuiltRuns next t.edge dir function
+  says dir None ends at empty = once.new_list s holds.are t asked.touched asked.fresh asked.sides resettled_now dir ∙ empty
+  says dir (Some runs) ends at (some, is, onward, least) = (
+    subst (λ (es : List Entry). es ≢ []) (sym (once.new_list s holds.are t asked.touched asked.fresh asked.sides resettled_now dir)) some,
+    is,
+    onward,
+    once.new_values s holds.are t asked.touched asked.fresh asked.sides resettled_now dir runs ends at is.over_day.starts least,
+  )
+
+  pub packed_more : IsSettlingPacked (settled_with s t) graph arcs packed after
+  packed_more = record {
+    are = more;
+    parts = holds.parts;
+    known = holds.known;
+    places = placed.long ∙ holds.places;
+    inside = placed.inside;
+    stands = stands_more s holds.are t asked.touched asked.fresh more moved after (outcome_in up.outcome down.outcome) placed became holds.stands;
+    moves = moves_more s holds.are t asked.touched asked.fresh more moved after (outcome_in up.outcome down.outcome) placed became holds.inside says holds.moves;
+  }
+
+-- what settling one edge more gives, by its parts
+pub packed_one : (h : HierarchyValue) (edit : Edit) (before after : List TouchedEdge) (graph : ChordalValue) (arcs : List (List ℕ)) (packed : PackedValue)
+    (moved one two last : MovedValue) (t copy : TouchedEdge)
+    (up down : NewList) (upwards downwards : ℕ) → IsSettlingPacked (settling_of h edit before) graph arcs packed moved → IsNext (settling_of h edit before) t.edge
+    → IsNewList (settling_of h edit before) moved t.edge Up up → IsNewList (settling_of h edit before) moved t.edge Down down → t.up ≡ up.ways → t.down ≡ down.ways
+    → KeepsOutcome moved one up.outcome upwards → KeepsOutcome one two down.outcome downwards
+    → last.places ≡ slice_set (slice_set two.places (list_number t.edge Up) upwards) (list_number t.edge Down) downwards → last.functions ≡ two.functions
+    → copy ≡ t → after ≡ before ++ (copy ∷ []) → IsOneMore h edit before after graph arcs packed last t
+packed_one h edit before after graph arcs packed moved one two last t copy up down upwards downwards holds asked upper lower first second keep_up keep_down places functions copied pushed =
+    let s = settling_of h edit before in
+    let list : after ≡ before ++ (t ∷ []) = pushed ∙ ap (λ (x : TouchedEdge). before ++ (x ∷ [])) copied in
+    let (ends, at, is) = asked.touched in
+    let inside = slice_get_within h.edges t.edge ends at in
+    let long = holds.places in
+    let placed = placed_both moved one two last t.edge up.outcome down.outcome upwards downwards (omega (arith, inside, long)) holds.inside keep_up keep_down places functions in
+    record {
+      list = list;
+      resettled = subst (λ (xs : List TouchedEdge). IsResettledEdge (settled_so_far (settling_of h edit xs)) t) (sym list)
+          (next_resettled s graph arcs packed moved last holds t asked up down upper lower first second placed);
+      holds = subst (λ (xs : List TouchedEdge). IsSettlingPacked (settling_of h edit xs) graph arcs packed last) (sym list)
+          (packed_more s graph arcs packed moved last holds t asked up down upper lower first second placed);
+    }
+
+-- functions that are only kept change nothing
+pub packed_kept : (s : SettlingValue) (graph : ChordalValue) (arcs : List (List ℕ)) (packed : PackedValue) (old new : MovedValue) (outcome : Outcome) (place : ℕ) → KeepsOutcome old new outcome place
+    → IsSettlingPacked s graph arcs packed old → IsSettlingPacked s graph arcs packed new
+packed_kept s graph arcs packed old new Stands place (none, same) holds = subst (IsSettlingPacked s graph arcs packed) (sym same) holds
+packed_kept s graph arcs packed old new (Moves function) place (here, same) holds =
+    let longer = behind_all old.functions function in
+    subst (IsSettlingPacked s graph arcs packed) (sym same) (record {
+      are = holds.are;
+      parts = holds.parts;
+      known = holds.known;
+      places = holds.places;
+      inside = λ k d lt. let le = holds.inside k d lt in omega (arith, le, longer);
+      stands = holds.stands;
+      moves = λ e d given (p, at, there).
+          let le = all_at (λ (k : ℕ). k ≤ length old.functions) old.places (list_number e d) (suc p) holds.inside at in
+          holds.moves e d given (p, at, sym (before_last old.functions function p (omega (arith, le))) ∙ there);
+    })
+
+-- there is a place for both lists of the next edge
+pub place_within : (s : SettlingValue) (graph : ChordalValue) (arcs : List (List ℕ)) (packed : PackedValue) (moved one two : MovedValue) (edge : ℕ) (up down : Outcome) (upwards downwards : ℕ)
+    → IsSettlingPacked s graph arcs packed moved → IsNext s edge → KeepsOutcome moved one up upwards → KeepsOutcome one two down downwards → 2 * edge + 1 < length two.places
+place_within s graph arcs packed moved one two edge up down upwards downwards holds asked first second =
+    let (ends, at, is) = asked.touched in
+    let inside = slice_get_within s.before.edges edge ends at in
+    let long = holds.places in
+    let same : length two.places ≡ length moved.places = ap length (keeping_places one two down downwards second ∙ keeping_places moved one up upwards first) in
+    omega (arith, inside, long, same)
+
+-- what became of a list, where the moved lists are those of before
+pub new_list_over : (s : SettlingValue) (moved kept : MovedValue) (edge : ℕ) (dir : Dir) (found : Option NewList) (list : NewList) → found ≡ Some list → kept ≡ moved
+    → IfSome found (IsNewList s moved edge dir) → IsNewList s kept edge dir list
+new_list_over s moved kept edge dir found list is same made =
+    subst (λ (m : MovedValue). IsNewList s m edge dir list) (sym same) (subst (λ (o : Option NewList). IfSome o (IsNewList s moved edge dir)) is made)
+
+-- a list that was settled over the graph, by functions that are those meant
+pub list_by : (h : HierarchyValue) (graph : ChordalValue) → IsHierarchyOf graph h → (arcs : List (List ℕ)) (after g : NetworkValue) → after ≡ g
+    → (given meant : List (Option (List Run))) → given ≡ meant
+    → (edge : ℕ) (dir : Dir) (found : Option SettledRuns) (settled : SettledRuns) → found ≡ Some settled
+    → ((ends : Ends) (roads : List ℕ) → slice_get graph.edges edge ≡ Some ends → slice_get arcs (list_number edge dir) ≡ Some roads
+    → IfSome found (λ (s : SettledRuns). IsSettledList graph.edges roads (kept_state after given) (start_of ends dir) (end_of ends dir) s.ways))
+    → ((ends : Ends) → slice_get graph.edges edge ≡ Some ends
+    → IfSome found (λ (s : SettledRuns). IsDayValueOf graph.edges (kept_state after given) (start_of ends dir) (end_of ends dir) s.ways s.function))
+    → IsPackedList h.edges arcs (kept_state g meant) edge dir settled
+list_by h graph of arcs after g same given meant equal edge dir found settled is ways value =
+    subst (λ (es : List Ends). IsPackedList es arcs (kept_state g meant) edge dir settled) (same_edges h graph of)
+    (subst (λ (fs : List (Option (List Run))). IsPackedList graph.edges arcs (kept_state g fs) edge dir settled) equal
+    (subst (λ (n : NetworkValue). IsPackedList graph.edges arcs (kept_state n given) edge dir settled) same (record {
+      ways = λ ends roads at there.
+          subst (λ (o : Option SettledRuns). IfSome o (λ (s : SettledRuns). IsSettledList graph.edges roads (kept_state after given) (start_of ends dir) (end_of ends dir) s.ways)) is
+          (ways ends roads at there);
+      value = λ ends at.
+          subst (λ (o : Option SettledRuns). IfSome o (λ (s : SettledRuns). IsDayValueOf graph.edges (kept_state after given) (start_of ends dir) (end_of ends dir) s.ways s.function)) is
+          (value ends at);
+    })))

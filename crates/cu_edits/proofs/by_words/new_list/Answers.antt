@@ -1,5 +1,0 @@
-use Rattle.std.proofs.Common.{◌∙◌, sym}
-use Rattle.cu_edits.proofs.by_words.new_list.Goals as goal
-
-pub returns-then-is_as_before-clause-fate : goal.returns-then-is_as_before-clause-fate
-returns-then-is_as_before-clause-fate g c = (sym c.entries.ensures.all ∙ c.is_as_before.ensures.same c.if-is_as_before.true, c.is_as_before.ensures.ways c.if-is_as_before.true)

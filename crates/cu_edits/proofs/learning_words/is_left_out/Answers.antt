@@ -1,9 +1,0 @@
-use Rattle.std.proofs.Common.{inl, subst, sym}
-use Rattle.cu_edits.specs.declared.learning_words.Middles.{Middles}
-use Rattle.cu_edits.specs.Steps.ByWords.{AreLearned}
-use Rattle.cu_edits.proofs.learning_words.is_left_out.Goals as goal
-
-pub returns-in-Moved : goal.returns-in-Moved
-returns-in-Moved g c is words =
-    subst (λ (which : Middles). AreLearned which c.args.moved.now words c.args.parts.now.graph.now.edges c.args.ends c.args.dir c.args.middle) (sym c.in-Moved.is)
-    (inl (c.are_both_unmoved.ensures is))

@@ -1,9 +1,0 @@
-use Rattle.std.proofs.Common.{sym, subst}
-use Rattle.cu_interval.specs.declared.ways.Way.{Way}
-use Rattle.cu_edits.specs.Steps.Moving.{IsUnmovedWay}
-use Rattle.cu_edits.proofs.standing.is_way_unmoved.Goals as goal
-
-pub returns-in-Via : goal.returns-in-Via
-returns-in-Via g c is =
-    subst (λ (way : Way). IsUnmovedWay (g.W.Ways.hierarchy c.args.parts.now.ways.now).network c.args.parts.now.edit.now c.args.parts.now.graph.now.edges c.args.moved.now c.args.ends c.args.dir way)
-    (sym c.in-Via.is) (c.are_both_unmoved.ensures is)

@@ -1,0 +1,287 @@
+//! Settling the touched edges of an edit by packed runs.
+
+ghost use Rattle.std.specs.Prelude.{◌≡◌, ◌<◌, ◌++◌, ◌∷◌, [], IfNone, IfOk, IfSome, OnErr, length, true};
+ghost use Rattle.cu_interval.specs.declared.ways.Dir.TheVariants.{Up, Down};
+ghost use Rattle.cu_interval.specs.Hierarchies.{list_of};
+ghost use Rattle.cu_edits.specs.Settling.{IsResettledEdge, settled_so_far};
+ghost use Rattle.cu_edits.specs.Learned.{ArePackedOf};
+ghost use Rattle.cu_edits.specs.Steps.Packed.{AreCandidatesAtHand, IfNear, LearnsPacked};
+ghost use Rattle.cu_edits.specs.Steps.SettlerStates.{HoldsPacked, SettlesList};
+ghost use Rattle.cu_edits.specs.Steps.Holding.{IsNext};
+ghost use Rattle.cu_edits.specs.Steps.Moving.{AreWaysUnmoved, IsOutcomeOf, IsNewList, KeepsWays, MayStand};
+ghost use Rattle.cu_edits.specs.Steps.Parts.{FitTogether, TellsLists, settling_over};
+
+use crate::copied_lists::copy_touched;
+use crate::edit_parts::EditParts;
+use crate::learning_packed::{Middles, learn_middles, learn_ways};
+use crate::moved_lists::MovedLists;
+use crate::new_list::{NewList, Outcome};
+use crate::settler_state::PackedState;
+use crate::unchanged_lists::{
+    are_halves_unmoved, are_old_entries, are_roads_unchanged, are_ways_unmoved, copy_old_list,
+};
+use cu_customize::SettledRuns;
+use cu_interval::{Dir, Entry, TouchedEdge, Ways};
+use cu_model::NoMemory;
+use cu_unpack::PackedFunctions;
+use std::alloc::Global;
+
+/// Settles one edge more by packed runs: each of its lists stands, or is settled by the functions of its halves, which are learned
+/// as they are needed. None where a way takes longer than packed runs can say; nothing is settled then. What was learned stays,
+/// after a refusal too.
+pub fn settle_packed<W: Ways>(
+    alloc: Global,
+    parts: &EditParts<'_, W>,
+    state: &mut PackedState,
+    settled: &mut Vec<TouchedEdge>,
+    edge: u32,
+) -> Result<Option<TouchedEdge>, NoMemory>
+    requires holds { HoldsPacked parts.now settled.old.items state.old }
+    requires asked { IsNext (settling_over parts.now settled.old.items) edge }
+    ensures edge { IfOk result (λ found. IfSome found (λ touched. touched.edge ≡ edge)) }
+    ensures settled { IfOk result (λ found. IfSome found
+        (λ touched. settled.new.items ≡ settled.old.items ++ touched ∷ [])) }
+    ensures resettled { IfOk result (λ found. IfSome found (IsResettledEdge (settled_so_far
+        (settling_over parts.now settled.new.items)))) }
+    ensures far { IfOk result (λ found. IfNone found (settled.new.items ≡ settled.old.items)) }
+    ensures kept { OnErr result (settled.new.items ≡ settled.old.items) }
+    ensures holds { HoldsPacked parts.now settled.new.items state.new }
+{
+    let Some((up, down)) = next_lists(alloc, parts, state, settled, edge)? else {
+        return Ok(None);
+    };
+    let lists = keep_lists(alloc, parts, state, settled, edge, up, down)?;
+    Ok(Some(lists))
+}
+
+// Both lists of the edge that is settled next, upwards and downwards. None where a way takes longer than packed runs can say.
+fn next_lists<W: Ways>(
+    alloc: Global,
+    parts: &EditParts<'_, W>,
+    state: &mut PackedState,
+    settled: &[TouchedEdge],
+    edge: u32,
+) -> Result<Option<(NewList, NewList)>, NoMemory>
+    requires holds { HoldsPacked parts.now settled.now state.old }
+    requires asked { IsNext (settling_over parts.now settled.now) edge }
+    ensures up { IfOk result (λ found. IfSome found (λ lists. IsNewList (settling_over parts.now settled.now)
+        state.new.moved edge Up lists.0)) }
+    ensures down { IfOk result (λ found. IfSome found (λ lists. IsNewList (settling_over parts.now settled.now)
+        state.new.moved edge Down lists.1)) }
+    ensures holds { HoldsPacked parts.now settled.now state.new }
+{
+    let Some(up) = next_list(alloc, parts, state, edge, Dir::Up)? else {
+        return Ok(None);
+    };
+    let Some(down) = next_list(alloc, parts, state, edge, Dir::Down)? else {
+        return Ok(None);
+    };
+    Ok(Some((up, down)))
+}
+
+// Both lists of an edge are settled: keeps what became of them.
+fn keep_lists<W: Ways>(
+    alloc: Global,
+    parts: &EditParts<'_, W>,
+    state: &mut PackedState,
+    settled: &mut Vec<TouchedEdge>,
+    edge: u32,
+    up: NewList,
+    down: NewList,
+) -> Result<TouchedEdge, NoMemory>
+    requires holds { HoldsPacked parts.now settled.old.items state.old }
+    requires asked { IsNext (settling_over parts.now settled.old.items) edge }
+    requires up { IsNewList (settling_over parts.now settled.old.items)
+        state.old.moved edge Up up }
+    requires down { IsNewList (settling_over parts.now settled.old.items)
+        state.old.moved edge Down down }
+    ensures edge { IfOk result (λ touched. touched.edge ≡ edge) }
+    ensures settled { IfOk result
+        (λ touched. settled.new.items ≡ settled.old.items ++ touched ∷ []) }
+    ensures resettled { IfOk result (IsResettledEdge (settled_so_far
+        (settling_over parts.now settled.new.items))) }
+    ensures kept { OnErr result (settled.new.items ≡ settled.old.items) }
+    ensures holds { HoldsPacked parts.now settled.new.items state.new }
+{
+    let lists = TouchedEdge {
+        edge,
+        up: up.ways,
+        down: down.ways,
+    };
+    let copy = copy_touched(alloc, &lists)?;
+    let upwards = state.moved.keep(up.outcome)?;
+    let downwards = state.moved.keep(down.outcome)?;
+    settled.push(copy)?;
+    state.moved.place(edge, upwards, downwards);
+    Ok(lists)
+}
+
+// The list of the edge that is settled next in a direction. None where a way takes longer than packed runs can say.
+fn next_list<W: Ways>(
+    alloc: Global,
+    parts: &EditParts<'_, W>,
+    state: &mut PackedState,
+    edge: u32,
+    dir: Dir,
+) -> Result<Option<NewList>, NoMemory>
+    requires packed { ArePackedOf parts.now.before state.old.functions }
+    requires moved { TellsLists parts.now state.old.moved }
+    requires edge { edge < length parts.now.graph.edges }
+    ensures list { IfOk result (SettlesList parts.now state.old edge dir) }
+    ensures learns { LearnsPacked parts.now.before
+        state.old.functions state.new.functions }
+    ensures moved { state.new.moved ≡ state.old.moved }
+{
+    if may_stand(parts, &state.moved, edge, dir) {
+        let ways = copy_old_list(alloc, parts, edge, dir)?;
+        return Ok(Some(NewList {
+            ways,
+            outcome: Outcome::Stands,
+        }));
+    }
+    settle_list(alloc, parts, state, edge, dir)
+}
+
+// Does the list of an edge in a direction stand, since it is known to be what customization makes of the lists below it, and
+// nothing that it may be made of has changed?
+fn may_stand<W: Ways>(parts: &EditParts<'_, W>, moved: &MovedLists, edge: u32, dir: Dir) -> bool
+    requires moved { TellsLists parts.now moved.now }
+    requires edge { edge < length parts.now.graph.edges }
+    ensures stands { result ≡ true → MayStand parts.now.before parts.now.edit
+        parts.now.arcs parts.now.customized moved.now edge dir }
+    ensures fit { FitTogether parts.now }
+{
+    if !parts.is_marked(edge) {
+        return false;
+    }
+    if !are_roads_unchanged(parts, edge, dir) {
+        return false;
+    }
+    are_halves_unmoved(parts, moved, parts.ends(edge), dir)
+}
+
+// Settles the list of an edge in a direction by packed runs. None where a way takes longer than they can say.
+fn settle_list<W: Ways>(
+    alloc: Global,
+    parts: &EditParts<'_, W>,
+    state: &mut PackedState,
+    edge: u32,
+    dir: Dir,
+) -> Result<Option<NewList>, NoMemory>
+    requires packed { ArePackedOf parts.now.before state.old.functions }
+    requires moved { TellsLists parts.now state.old.moved }
+    requires edge { edge < length parts.now.graph.edges }
+    ensures list { IfOk result (SettlesList parts.now state.old edge dir) }
+    ensures learns { LearnsPacked parts.now.before
+        state.old.functions state.new.functions }
+    ensures moved { state.new.moved ≡ state.old.moved }
+{
+    let moved = &state.moved;
+    if !learn_candidates(alloc, parts, moved, edge, dir, &mut state.functions)? {
+        return Ok(None);
+    }
+    let functions = moved.over(state.functions.functions());
+    let roads = parts.edited_roads();
+    let graph = parts.graph();
+    let arcs = parts.edge_arcs();
+    let settling = &mut state.settling;
+    let Some(found) = settling.settle(alloc, &roads, graph, arcs, functions, edge, dir)? else {
+        return Ok(None);
+    };
+    Ok(Some(new_list(parts, moved, edge, dir, found)))
+}
+
+// Learns the halves of the candidates that a list of an edge may be made of after the edit: of all, or, where its ways are as
+// they were and it was the best that could be made, of these ways and of those by a middle of which a half was moved.
+fn learn_candidates<W: Ways>(
+    alloc: Global,
+    parts: &EditParts<'_, W>,
+    moved: &MovedLists,
+    edge: u32,
+    dir: Dir,
+    packed: &mut PackedFunctions,
+) -> Result<bool, NoMemory>
+    requires packed { ArePackedOf parts.now.before packed.old }
+    requires moved { TellsLists parts.now moved.now }
+    requires edge { edge < length parts.now.graph.edges }
+    ensures learns { LearnsPacked parts.now.before packed.old packed.new }
+    ensures known { IfNear result (AreCandidatesAtHand parts.now.before parts.now.edit
+        parts.now.customized moved.now packed.new edge dir) }
+    ensures fit { FitTogether parts.now }
+{
+    let ends = parts.ends(edge);
+    if !keeps_its_ways(parts, moved, edge, dir) {
+        return learn_middles(alloc, parts, moved, ends, dir, Middles::Any, packed);
+    }
+    if !learn_ways(alloc, parts, moved, edge, dir, packed)? {
+        return Ok(false);
+    }
+    learn_middles(alloc, parts, moved, ends, dir, Middles::Moved, packed)
+}
+
+// Is the list of an edge in a direction known to be what customization makes of the lists below it, and are its ways as they
+// were?
+fn keeps_its_ways<W: Ways>(
+    parts: &EditParts<'_, W>,
+    moved: &MovedLists,
+    edge: u32,
+    dir: Dir,
+) -> bool
+    requires moved { TellsLists parts.now moved.now }
+    requires edge { edge < length parts.now.graph.edges }
+    ensures { result ≡ true → KeepsWays parts.now.before parts.now.edit
+        parts.now.customized moved.now edge dir }
+{
+    if !parts.is_marked(edge) {
+        return false;
+    }
+    are_ways_unmoved(parts, moved, edge, dir)
+}
+
+// What became of the list of an edge in a direction that was settled so.
+fn new_list<W: Ways>(
+    parts: &EditParts<'_, W>,
+    moved: &MovedLists,
+    edge: u32,
+    dir: Dir,
+    found: SettledRuns,
+) -> NewList
+    requires moved { TellsLists parts.now moved.now }
+    requires edge { edge < length parts.now.graph.edges }
+    ensures ways { result.ways ≡ found.ways }
+    ensures outcome { IsOutcomeOf parts.now.before parts.now.edit moved.now edge dir
+        found result.outcome }
+{
+    let SettledRuns { ways, function } = found;
+    if is_as_before(parts, moved, edge, dir, ways.entries()) {
+        return NewList {
+            ways,
+            outcome: Outcome::Stands,
+        };
+    }
+    NewList {
+        ways,
+        outcome: Outcome::Moves(function),
+    }
+}
+
+// Are these the entries of the list of an edge in a direction before the edit, and its ways as they were?
+fn is_as_before<W: Ways>(
+    parts: &EditParts<'_, W>,
+    moved: &MovedLists,
+    edge: u32,
+    dir: Dir,
+    entries: &[Entry],
+) -> bool
+    requires moved { TellsLists parts.now moved.now }
+    requires edge { edge < length parts.now.graph.edges }
+    ensures same { result ≡ true
+        → entries.now ≡ list_of parts.now.before edge dir }
+    ensures ways { result ≡ true
+        → AreWaysUnmoved parts.now.before parts.now.edit moved.now edge dir }
+{
+    if !are_old_entries(parts, edge, dir, entries) {
+        return false;
+    }
+    are_ways_unmoved(parts, moved, edge, dir)
+}

@@ -1,9 +1,0 @@
-use Rattle.std.proofs.Common.{◌==◌, sym}
-use Rattle.cu_model.proofs.LineCuts.{slice_split_some, slice_split_whole}
-use Rattle.cu_model.proofs.queries.cut_field.Goals as goal
-
-pub returns-in-Some : goal.returns-in-Some
-returns-in-Some c = slice_split_some (λ b. b == 44) c.args.line.now 0 c.in-Some.end (sym c.in-Some.ensures)
-
-pub returns-in-None : goal.returns-in-None
-returns-in-None c = slice_split_whole (λ b. b == 44) c.args.line.now (sym c.in-None.ensures)

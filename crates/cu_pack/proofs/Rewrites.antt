@@ -1,0 +1,4 @@
+-- Files after an edit.
+pub mod Replaced
+pub mod Rewritten
+pub mod Edited

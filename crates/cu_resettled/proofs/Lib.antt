@@ -1,0 +1,10 @@
+pub mod Unmoved
+pub mod Unchanged
+pub mod ResettledRoads
+pub mod ResettledLows
+pub mod ResettledValues
+pub mod ResettledDecided
+pub mod RebuiltBelow
+pub mod ResettledPairs
+pub mod ResettledBuilt
+pub mod ResettledOnce

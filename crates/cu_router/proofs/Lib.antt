@@ -1,0 +1,4 @@
+mod HeldLaws
+mod RoomLaws
+mod RouteLaws
+mod ArrivalLaws

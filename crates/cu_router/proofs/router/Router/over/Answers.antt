@@ -1,0 +1,15 @@
+use Rattle.std.proofs.Common.{◌∙◌, ap, arith, length}
+use Rattle.cu_interval.specs.Hierarchies.{HierarchyValue}
+use Rattle.cu_router.proofs.router.Router.over.Goals as goal
+
+pub invariant_of-result : goal.invariant_of-result
+invariant_of-result c =
+    let same = c.view-view.ensures.same in
+    let made = c.in_ok-queries.ensures in (
+      record {
+        nodes = made.nodes ∙ c.nodes-nodes.ensures.count ∙ ap (λ (h : HierarchyValue). h.network.nodes) same;
+        lists = omega (arith, made.lists, c.edges-edges.ensures.count, ap (λ (h : HierarchyValue). length h.edges) same);
+        knows = made.knows c.args.held;
+      },
+      tt,
+    )

@@ -1,0 +1,5 @@
+pub mod Swept
+pub mod Answers
+pub mod Edited
+pub mod Changes
+pub mod Steps

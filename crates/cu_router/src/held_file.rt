@@ -1,0 +1,169 @@
+//! The packed bytes of a hierarchy, and what is kept of it beside them.
+
+ghost use Rattle.std.specs.Prelude.{◌≡◌, IfOk, length};
+ghost use Rattle.cu_model.specs.Edits.{IsEditInRange};
+ghost use Rattle.cu_edits.specs.Settling.{numbers_of};
+ghost use Rattle.cu_elimtree.specs.SweepArcs.{parents_in};
+ghost use Rattle.cu_interval.specs.Hierarchies.{HierarchyValue, IsBuilt, IsHierarchy, graph_of};
+ghost use Rattle.cu_interval.specs.Replacing.{hierarchy_with};
+ghost use Rattle.cu_interval.specs.Touching.{NumbersTouched};
+ghost use Rattle.cu_pack.specs.Checks.{Spells, sealed};
+ghost use Rattle.cu_pack.specs.Reading.{decoded};
+ghost use Rattle.cu_router.specs.Changes.{IsChange, KnowsCustomized};
+
+use cu_chordal::Chordal;
+use cu_edits::CustomizedEdges;
+use cu_elimtree::Tree;
+use cu_interval::{TouchedEdge, Ways};
+use cu_model::{Edit, NoMemory};
+use cu_pack::{PackedView, chordal_of, repack_unsealed, seal};
+use std::alloc::Global;
+use std::marker::Model;
+
+/// The packed bytes of a hierarchy, built or not, with its graph, its tree, and which of its edges are known to be customized.
+/// Contracts see the hierarchy.
+#[derive(Drop)]
+pub struct HeldFile {
+    // The packed file, but that its last 32 bytes need not be its digest: an edit writes none.
+    bytes: Vec<u8>,
+    has_digest: bool,
+    graph: Chordal,
+    tree: Tree,
+    customized: CustomizedEdges,
+}
+
+impl Model for HeldFile {
+    ghost use Rattle.cu_interval.specs.Hierarchies.{HierarchyValue};
+    ghost use Rattle.cu_pack.specs.Checks.{sealed};
+    ghost use Rattle.cu_pack.specs.Reading.{decoded};
+    ghost use Rattle.cu_router.specs.Steps.Holding.{HoldsFile};
+
+    ghost Value = { HierarchyValue };
+
+    ghost view = { λ file. decoded (sealed file.bytes.items) };
+
+    ghost invariant = { λ file. HoldsFile (decoded (sealed file.bytes.items)) file.bytes.items
+        file.has_digest file.graph file.tree file.customized };
+}
+
+impl HeldFile {
+    /// Holds the packed file of a hierarchy.
+    pub fn new(alloc: Global, bytes: Vec<u8>) -> Result<HeldFile, NoMemory>
+        requires spelled { (h : HierarchyValue) × Spells bytes.items h }
+        ensures held { IfOk result (λ file. Spells bytes.items file) }
+    {
+        let edges = PackedView::adopt(&bytes).edges();
+        let customized = CustomizedEdges::none(alloc, edges)?;
+        HeldFile::knowing(alloc, bytes, customized)
+    }
+
+    /// Holds the packed file of a built hierarchy: all its edges are known to be customized.
+    pub fn built(alloc: Global, bytes: Vec<u8>) -> Result<HeldFile, NoMemory>
+        requires spelled { (h : HierarchyValue) × Spells bytes.items h }
+        requires built { (h : HierarchyValue) → Spells bytes.items h → IsBuilt h }
+        ensures held { IfOk result (λ file. Spells bytes.items file) }
+    {
+        let edges = PackedView::adopt(&bytes).edges();
+        let customized = CustomizedEdges::all(alloc, edges)?;
+        HeldFile::knowing(alloc, bytes, customized)
+    }
+
+    // Holds the packed file of a hierarchy, where these of its edges are known to be customized.
+    fn knowing(
+        alloc: Global,
+        bytes: Vec<u8>,
+        customized: CustomizedEdges,
+    ) -> Result<HeldFile, NoMemory>
+        requires spelled { (h : HierarchyValue) × Spells bytes.items h }
+        requires known { (h : HierarchyValue) → Spells bytes.items h
+            → KnowsCustomized h customized }
+        ensures held { IfOk result (λ file. Spells bytes.items file) }
+    {
+        let graph = chordal_of(alloc, &PackedView::adopt(&bytes))?;
+        let tree = Tree::of(alloc, &graph)?;
+        Ok(HeldFile {
+            bytes,
+            has_digest: true,
+            graph,
+            tree,
+            customized,
+        })
+    }
+
+    /// The hierarchy over its bytes. Takes no memory.
+    pub fn view(&self) -> PackedView<'_>
+        ensures same { result ≡ self.now }
+        ensures sound { IsHierarchy self.now }
+    {
+        adopt(&self.bytes)
+    }
+
+    /// The graph of its edges. Takes no memory.
+    pub fn graph(&self) -> &Chordal
+        ensures { result.now ≡ graph_of self.now }
+    {
+        &self.graph
+    }
+
+    /// The elimination tree of its graph. Takes no memory.
+    pub fn tree(&self) -> &Tree
+        ensures { result.now ≡ parents_in (graph_of self.now) }
+    {
+        &self.tree
+    }
+
+    /// Which of its edges are known to be customized. Takes no memory.
+    pub fn customized(&self) -> &CustomizedEdges
+        ensures { KnowsCustomized self.now result.now }
+    {
+        &self.customized
+    }
+
+    /// The packed bytes, but for their digest, of the hierarchy after an edit that resettles the lists of these edges. Nothing is
+    /// changed over to them yet.
+    pub fn repacked(
+        &self,
+        alloc: Global,
+        edit: &Edit,
+        lists: &[TouchedEdge],
+    ) -> Result<Vec<u8>, NoMemory>
+        requires range { IsEditInRange self.now.network edit.now }
+        requires touched { NumbersTouched self.now edit.now (numbers_of lists.now) }
+        requires sound { IsHierarchy (hierarchy_with self.now edit.now lists.now) }
+        ensures spelled { IfOk result
+            (λ bytes. Spells (sealed bytes.items) (hierarchy_with self.now edit.now lists.now)) }
+    {
+        repack_unsealed(alloc, &self.view(), edit, lists)
+    }
+
+    /// Holds the hierarchy after an edit, which resettled the lists of these edges, by its packed bytes but for their digest.
+    /// Takes no memory.
+    pub fn change_over(&mut self, bytes: Vec<u8>, lists: &[TouchedEdge])
+        requires change { IsChange self.old bytes.items lists.now }
+        ensures changed { (h : HierarchyValue) → Spells (sealed bytes.items) h → self.new ≡ h }
+    {
+        self.bytes = bytes;
+        self.has_digest = false;
+        self.customized.mark(lists);
+    }
+
+    /// The packed file of the hierarchy as it is now. Takes no memory.
+    pub fn into_file(self) -> Vec<u8>
+        ensures spelled { Spells result.items self }
+    {
+        if self.has_digest {
+            return self.bytes;
+        }
+        let mut bytes = self.bytes;
+        seal(bytes.as_mut_slice());
+        bytes
+    }
+}
+
+// The view of bytes that are a packed file but for its digest: no two hierarchies have the same.
+fn adopt(bytes: &[u8]) -> PackedView<'_>
+    requires spelled { Spells (sealed bytes.now) (decoded (sealed bytes.now)) }
+    ensures same { result ≡ decoded (sealed bytes.now) }
+{
+    PackedView::adopt_unsealed(bytes)
+}

@@ -1,0 +1,27 @@
+//! What queries and edits of a hierarchy are answered from: its packed bytes, and beside them room for each of both.
+//!
+//! A [`Router`] is three things. [`HeldFile`] holds the bytes, with the graph, the tree and the marks of the hierarchy that they
+//! spell: it lends a view of them, writes the bytes of the hierarchy after an edit, and changes over to those. [`QueryRoom`]
+//! answers queries over a held file (`IsHeldAnswer` in `specs/Answers.antt`), takes no memory for them, and keeps what they
+//! learn of the hierarchy until it is told to forget. The third is room for edits, made by the first of them. So whoever works at
+//! an edit may borrow the held file while queries are answered; what these keep stays true of the bytes until they change over.
+//!
+//! An edit writes no digest; [`Router::into_file`] does, once the file is asked for. [`Router::built`] is for bytes that are
+//! known to be those of a built hierarchy: an edit then settles an edge that it touches only where something that its lists may
+//! be made of has changed. A held file keeps which edges are known to be customized; an edit adds those that it settles.
+//!
+//! It stands on `cu_model` and `cu_io` for queries and sinks, on `cu_pack` for the bytes, on `cu_sweep`, `cu_recall`, `cu_unpack`,
+//! `cu_elimtree` and `cu_chordal` for queries, and on `cu_edits`, `cu_interval` and `cu_links` for edits. Private is the room for
+//! edits; `specs/Steps` is cited by private functions alone.
+#![tactic(auto)]
+
+mod edit_room;
+mod held_file;
+mod query_room;
+mod router;
+mod writing;
+
+pub use held_file::HeldFile;
+pub use query_room::QueryRoom;
+pub use router::Router;
+pub use writing::{put_damage, put_dir, put_word_and_long, put_word_and_number};

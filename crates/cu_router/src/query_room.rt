@@ -1,0 +1,236 @@
+//! What answers queries beside a held file.
+
+ghost use Rattle.std.specs.Prelude.{◌≡◌, ◌≤◌, ◌<◌, ◌*◌, ◌^◌, Some, IfOk, IfSome, false, length, slice_get};
+ghost use Rattle.cu_io.specs.Sinks.{Wrote};
+ghost use Rattle.cu_chordal.specs.declared.graph.TheConstants.{MAX_EDGES};
+ghost use Rattle.cu_model.specs.declared.limits.TheConstants.{DAY, MAX_NODES};
+ghost use Rattle.cu_model.specs.Answers.{arrive_text};
+ghost use Rattle.cu_elimtree.specs.SweepArcs.{parents_in};
+ghost use Rattle.cu_interval.specs.Hierarchies.{HierarchyValue, IsBuilt, IsHierarchy, IsHierarchyOf};
+ghost use Rattle.cu_recall.specs.Rooms.{Fits};
+ghost use Rattle.cu_recall.specs.Spans.{Knows};
+ghost use Rattle.cu_sweep.specs.Answers.{IsLeastWhereBuilt, IsReal};
+ghost use Rattle.cu_sweep.specs.Desks.{AreArriving, HoldsFound, roads_of};
+ghost use Rattle.cu_sweep.specs.Sweeps.{found};
+ghost use Rattle.cu_router.specs.Answers.{FindsArrival, IsHeldAnswer};
+ghost use Rattle.cu_router.specs.Swept.{swept_reply};
+
+use crate::held_file::HeldFile;
+use crate::writing::put_damage;
+use cu_chordal::Chordal;
+use cu_elimtree::Tree;
+use cu_interval::Ways;
+use cu_io::{Sink, SinkFailed, put_all, put_number};
+use cu_model::{NoMemory, Query};
+use cu_recall::{Recall, RecalledWays, Room, Row};
+use cu_sweep::{Found, SweepDesk, route};
+use cu_unpack::{Unpacker, Work};
+use std::alloc::Global;
+use std::marker::Model;
+
+/// Room for the queries of a hierarchy, in which they keep what they learn of it. Contracts see for how many nodes it was made,
+/// and what is kept of each list.
+#[derive(Drop)]
+pub struct QueryRoom {
+    desk: SweepDesk,
+    // Both are there but while a query is answered: what relaxes for it and what writes its walk own them.
+    room: Option<Room>,
+    work: Option<Work>,
+}
+
+impl Model for QueryRoom {
+    ghost use Rattle.cu_recall.specs.Rooms.{RoomValue};
+    ghost use Rattle.cu_router.specs.Steps.Rooms.{IsWholeRoom, kept_in};
+
+    ghost Value = { RoomValue };
+
+    ghost view = { λ queries. kept_in queries.room };
+
+    ghost invariant = { λ queries. IsWholeRoom queries.desk queries.room queries.work };
+}
+
+impl QueryRoom {
+    /// Room for the queries of a hierarchy of so many nodes and edges. Nothing is known, so it fits every such hierarchy.
+    pub fn new(alloc: Global, nodes: u32, edges: u32) -> Result<QueryRoom, NoMemory>
+        requires nodes { nodes ≤ MAX_NODES }
+        requires edges { edges ≤ MAX_EDGES }
+        ensures nodes { IfOk result (λ queries. queries.nodes ≡ nodes) }
+        ensures lists { IfOk result (λ queries. length queries.rows ≡ 2 * edges) }
+        ensures knows { IfOk result (λ queries. (h : HierarchyValue) → Knows h queries.rows) }
+    {
+        Ok(QueryRoom {
+            desk: SweepDesk::new(alloc, nodes)?,
+            room: Some(Room::new(alloc, nodes, edges)?),
+            work: Some(Work::new(alloc, nodes)?),
+        })
+    }
+
+    /// What is kept of the first lists, or of none. Takes no memory.
+    pub fn rows(&self) -> &[Row]
+        ensures knows { (h : HierarchyValue) → Knows h self.now.rows → Knows h result.now }
+    {
+        let Some(room) = &self.room else {
+            unreachable!()
+        };
+        room.rows()
+    }
+
+    /// Forgets what was learnt, as must be done when the held file changes over. Takes no memory.
+    pub fn forget(&mut self)
+        ensures nodes { self.new.nodes ≡ self.old.nodes }
+        ensures lists { length self.new.rows ≡ length self.old.rows }
+        ensures knows { (h : HierarchyValue) → Knows h self.new.rows }
+    {
+        let Some(room) = &mut self.room else {
+            unreachable!()
+        };
+        room.forget();
+    }
+
+    /// Writes the reply of a held file to a query between nodes below the number of nodes, leaving at a second of the day.
+    /// Takes no memory.
+    pub fn put_answer<K: Sink>(
+        &mut self,
+        held: &HeldFile,
+        query: Query,
+        sink: &mut K,
+    ) -> Result<(), SinkFailed>
+        requires fits { Fits held.now self.old }
+        requires from { query.from < held.now.network.nodes }
+        requires to { query.to < held.now.network.nodes }
+        requires second { query.second < DAY }
+        ensures answer { IsHeldAnswer held.now query (swept_reply held.now query) }
+        ensures wrote { Wrote (K.state sink.old) (K.state sink.new) result
+            (swept_reply held.now query) }
+        ensures fits { Fits held.now self.new }
+    {
+        let Some(room) = self.room.take() else {
+            unreachable!()
+        };
+        let Some(work) = self.work.take() else {
+            unreachable!()
+        };
+        let view = held.view();
+        let from = view.rank(query.from);
+        let to = view.rank(query.to);
+        let tree = held.tree();
+        let graph = held.graph();
+        let desk = &mut self.desk;
+        let mut recall = Recall::new(&view, graph, room);
+        let found = cu_sweep::query(tree, graph, desk, &mut recall, from, to, query.second);
+        let room = recall.into_room();
+        let ways = RecalledWays::new(&view, graph, room.rows());
+        let mut unpacker = Unpacker::new(&ways, work);
+        let outcome = put_found(found, desk, &mut unpacker, from, to, query, sink);
+        self.work = Some(unpacker.into_work());
+        self.room = Some(room);
+        outcome
+    }
+
+    /// The least arrival of a query between nodes below the number of nodes, leaving at a second of the day, where the held
+    /// hierarchy is built. None exactly where there is no walk. Takes no memory.
+    pub fn find(&mut self, held: &HeldFile, query: Query) -> Option<u64>
+        requires fits { Fits held.now self.old }
+        requires built { IsBuilt held.now }
+        requires from { query.from < held.now.network.nodes }
+        requires to { query.to < held.now.network.nodes }
+        requires second { query.second < DAY }
+        ensures found { FindsArrival held.now.network query result }
+        ensures near { IfSome result (λ arrival. arrival ≤ 2 ^ 39) }
+        ensures fits { Fits held.now self.new }
+    {
+        let Some(room) = self.room.take() else {
+            unreachable!()
+        };
+        let view = held.view();
+        let from = view.rank(query.from);
+        let to = view.rank(query.to);
+        let tree = held.tree();
+        let graph = held.graph();
+        let mut recall = Recall::new(&view, graph, room);
+        let desk = &mut self.desk;
+        let arrival = find_swept(tree, graph, desk, &mut recall, from, to, query);
+        self.room = Some(recall.into_room());
+        arrival
+    }
+}
+
+// Sweeps for the least arrival of a query between the ranks of its nodes, in a built hierarchy.
+fn find_swept(
+    tree: &Tree,
+    graph: &Chordal,
+    desk: &mut SweepDesk,
+    recall: &mut Recall<'_>,
+    from: u32,
+    to: u32,
+    query: Query,
+) -> Option<u64>
+    requires built { IsBuilt recall.old }
+    requires graph { IsHierarchyOf graph.now recall.old }
+    requires tree { tree.now ≡ parents_in graph.now }
+    requires desk { desk.old.nodes ≡ graph.now.ranks }
+    requires start { slice_get recall.old.order.rank_of query.from ≡ Some from }
+    requires stop { slice_get recall.old.order.rank_of query.to ≡ Some to }
+    requires ranks { (from < graph.now.ranks) × (to < graph.now.ranks) }
+    requires second { query.second < DAY }
+    ensures found { FindsArrival recall.old.network query result }
+    ensures near { IfSome result (λ arrival. arrival ≤ 2 ^ 39) }
+    ensures desk { desk.new.nodes ≡ desk.old.nodes }
+    ensures stays { recall.new ≡ recall.old }
+{
+    match cu_sweep::query(tree, graph, desk, recall, from, to, query.second) {
+        Found::Arrive(arrival) => Some(arrival),
+        Found::NoWalk => None,
+        Found::Long { .. } => unreachable!(),
+    }
+}
+
+// Writes what the sweeps of a query between the ranks of its nodes found.
+fn put_found<K: Sink>(
+    swept: Found,
+    desk: &mut SweepDesk,
+    unpacker: &mut Unpacker<'_, RecalledWays<'_>>,
+    from: u32,
+    to: u32,
+    query: Query,
+    sink: &mut K,
+) -> Result<(), SinkFailed>
+    requires found { swept ≡ found unpacker.old from to query.second }
+    requires holds { HoldsFound unpacker.old from to query.second swept desk.old }
+    requires least { IsLeastWhereBuilt unpacker.old from to query.second swept }
+    requires real { IsReal unpacker.old from to query.second desk.old.calls swept }
+    requires sound { IsHierarchy unpacker.old }
+    requires start { slice_get unpacker.old.order.rank_of query.from ≡ Some from }
+    requires stop { slice_get unpacker.old.order.rank_of query.to ≡ Some to }
+    ensures answer { IsHeldAnswer unpacker.old query (swept_reply unpacker.old query) }
+    ensures wrote { Wrote (K.state sink.old) (K.state sink.new) result
+        (swept_reply unpacker.old query) }
+    ensures desk { desk.new.nodes ≡ desk.old.nodes }
+    ensures stays { unpacker.new ≡ unpacker.old }
+{
+    match swept {
+        Found::Arrive(arrival) => put_arrival(arrival, desk, unpacker, sink),
+        Found::NoWalk => put_all(sink, b"unreachable"),
+        Found::Long { edge, dir, second } => put_damage(edge, dir, second, sink),
+    }
+}
+
+// Writes an arrival and the roads of the walk that the desk found.
+fn put_arrival<K: Sink>(
+    arrival: u64,
+    desk: &mut SweepDesk,
+    unpacker: &mut Unpacker<'_, RecalledWays<'_>>,
+    sink: &mut K,
+) -> Result<(), SinkFailed>
+    requires unturned { desk.old.turned ≡ false }
+    requires arriving { AreArriving unpacker.old desk.old.calls }
+    ensures wrote { Wrote (K.state sink.old) (K.state sink.new) result
+        (arrive_text arrival (roads_of unpacker.old desk.old.calls)) }
+    ensures desk { desk.new.nodes ≡ desk.old.nodes }
+    ensures stays { unpacker.new ≡ unpacker.old }
+{
+    put_all(sink, b"arrive=")?;
+    put_number(sink, arrival)?;
+    put_all(sink, b" arcs=")?;
+    route(desk, unpacker, sink)
+}

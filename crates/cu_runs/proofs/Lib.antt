@@ -1,0 +1,17 @@
+pub mod DayLists
+pub mod LinkLaws
+pub mod MergeLaws
+pub mod CopyLaws
+pub mod CompareLaws
+pub mod RangeLaws
+pub mod WindowLaws
+pub mod BoundLaws
+pub mod SeenLaws
+pub mod AddLaws
+pub mod FirstLaws
+pub mod TravelLaws
+pub mod ReadLaws
+pub mod OneRun
+pub mod RoadRuns
+pub mod Layers
+pub mod Arrivals

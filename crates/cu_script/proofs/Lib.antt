@@ -1,0 +1,2 @@
+pub mod LinePieceLaws
+pub mod LineLaws

@@ -1,0 +1,67 @@
+//! Questions of a script, each kind by the first byte of its lines, and their answers.
+
+ghost use Rattle.std.specs.Prelude.{◌≡◌, ◌≤◌, ℕ, List, length};
+ghost use Rattle.cu_io.specs.Sinks.{Wrote};
+ghost use Rattle.cu_model.specs.Queries.{query_of};
+ghost use Rattle.cu_session.specs.Held.{IsHeldReplyTo};
+ghost use Rattle.cu_session.specs.Questions.{asked_by_query, asked_of, kind_of};
+ghost use Rattle.cu_session.specs.Scripts.{line_limit};
+
+use crate::edit_lines::put_edit_reply;
+use cu_io::{Sink, SinkFailed, put_all};
+use cu_model::{QueryRefusal, Roads, check_query};
+use cu_router::Router;
+use std::alloc::Global;
+
+/// The kinds of line.
+#[derive(Clone, Copy)]
+pub enum Kind {
+    Query,
+    Edit,
+}
+
+// The kind of a line, by its first byte. What is no question may be an edit.
+fn kind_of(line: &[u8]) -> Kind
+    ensures { result ≡ kind_of line.now }
+{
+    match line {
+        [b'q', ..] => Kind::Query,
+        _ => Kind::Edit,
+    }
+}
+
+// Writes the reply to the text of a line; an edit is made before.
+pub(crate) fn put_reply<K: Sink>(
+    alloc: Global,
+    router: &mut Router,
+    line: &[u8],
+    sink: &mut K,
+) -> Result<(), SinkFailed>
+    requires few { length line.now ≤ line_limit }
+    ensures reply { (reply : List ℕ) × IsHeldReplyTo router.old
+        (asked_of router.old.network line.now) reply router.new
+        × Wrote (K.state sink.old) (K.state sink.new) result reply }
+{
+    match kind_of(line) {
+        Kind::Query => put_query_reply(router, line, sink),
+        Kind::Edit => put_edit_reply(alloc, router, line, sink),
+    }
+}
+
+// Writes the reply to the text of a query line.
+fn put_query_reply<K: Sink>(
+    router: &mut Router,
+    line: &[u8],
+    sink: &mut K,
+) -> Result<(), SinkFailed>
+    ensures reply { (reply : List ℕ) × IsHeldReplyTo router.old
+        (asked_by_query (query_of router.old.network.nodes line.now)) reply router.new
+        × Wrote (K.state sink.old) (K.state sink.new) result reply }
+{
+    match check_query(line, router.view().nodes()) {
+        Ok(query) => router.put_answer(query, sink),
+        Err(QueryRefusal::Line) => put_all(sink, b"refused: line"),
+        Err(QueryRefusal::Node) => put_all(sink, b"refused: node"),
+        Err(QueryRefusal::Second) => put_all(sink, b"refused: second"),
+    }
+}

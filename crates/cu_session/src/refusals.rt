@@ -1,0 +1,28 @@
+//! The words of a refusal.
+
+ghost use Rattle.cu_io.specs.Sinks.{Wrote};
+ghost use Rattle.cu_session.specs.Refusals.{piece_refusal_words};
+
+use cu_io::{Sink, SinkFailed, put_all};
+use cu_model::{PieceFault, PieceRefusal};
+use cu_router::put_word_and_number;
+
+/// Writes why the pieces of a profile are refused.
+pub fn put_piece_refusal<K: Sink>(sink: &mut K, refusal: PieceRefusal) -> Result<(), SinkFailed>
+    ensures wrote { Wrote (K.state sink.old) (K.state sink.new) result
+        (piece_refusal_words refusal) }
+{
+    match refusal {
+        PieceRefusal::Kind => put_all(sink, b"kind"),
+        PieceRefusal::Fault(PieceFault::Limit { .. }) => put_all(sink, b"limit"),
+        PieceRefusal::Fault(PieceFault::Start) => put_all(sink, b"start"),
+        PieceRefusal::Fault(PieceFault::Rising { .. }) => put_all(sink, b"rising"),
+        PieceRefusal::Fault(PieceFault::Closed { .. }) => put_all(sink, b"closed"),
+        PieceRefusal::Fault(PieceFault::Early { second }) => put_word_and_number(
+            sink, b"early ", second,
+        ),
+        PieceRefusal::Fault(PieceFault::Fifo { second }) => put_word_and_number(
+            sink, b"fifo ", second,
+        ),
+    }
+}

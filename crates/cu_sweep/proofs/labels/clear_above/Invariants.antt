@@ -1,0 +1,10 @@
+use Rattle.std.proofs.Common.{◌≡◌, ℕ, Some, None}
+use Rattle.std.specs.List.{Contains}
+use Rattle.cu_sweep.specs.Places.{second_at}
+use Rattle.cu_sweep.proofs.labels.clear_above.Given as goal
+
+abbrev pub invariant-ranks : goal.invariant-ranks
+invariant-ranks l = record {
+  cleared : (y : ℕ) → Contains l.yielded y → second_at l.labels y ≡ None;
+  kept : (place second : ℕ) → second_at l.labels place ≡ Some second → second_at l.fn.labels place ≡ Some second;
+}

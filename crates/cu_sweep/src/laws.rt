@@ -1,0 +1,15 @@
+//! Which edges the sweeps take, said of the definitions alone.
+
+ghost use Rattle.std.specs.Prelude.{ℕ};
+ghost use Rattle.cu_interval.specs.declared.ways.Dir.TheVariants.{Up, Down};
+ghost use Rattle.cu_interval.specs.Hierarchies.{HierarchyValue, IsHierarchy};
+ghost use Rattle.cu_sweep.specs.ArcsOnce.{TakesArcsOnce};
+ghost use Rattle.cu_sweep.specs.Sweeps.{down_calls, up_calls};
+
+/// A law: the upward sweep takes sweep arcs of its start alone, and the downward one those of its end, each at most once.
+pub fn sweeps_take_arcs_once()
+    ensures up { (h : HierarchyValue) (from second : ℕ) → IsHierarchy h
+        → TakesArcsOnce h from Up (up_calls h from second) }
+    ensures down { (h : HierarchyValue) (from to second : ℕ) → IsHierarchy h
+        → TakesArcsOnce h to Down (down_calls h from to second) }
+{}

@@ -1,0 +1,82 @@
+//! Both passes of a sweep over ranks, in places for labels and links.
+
+ghost use Rattle.std.specs.Prelude.{◌≡◌, ◌<◌, [], ℕ, All, false, reverse};
+ghost use Rattle.std.specs.List.{AllPairs, Contains};
+ghost use Rattle.cu_chordal.specs.Graphs.{HasEdge};
+ghost use Rattle.cu_elimtree.specs.SweepArcs.{ancestors_in, parents_in};
+ghost use Rattle.cu_interval.specs.Hierarchies.{IsHierarchyOf};
+ghost use Rattle.cu_sweep.specs.Swept.{Sweep};
+ghost use Rattle.cu_sweep.specs.Steps.Ready.{IsReady};
+ghost use Rattle.cu_sweep.specs.Steps.Sweeping.{IsDownOver, IsDownSwept, IsUpOver, IsUpSwept};
+
+use crate::sweeping::{relax_down, relax_up};
+use cu_chordal::Chordal;
+use cu_elimtree::Tree;
+use cu_interval::{Call, Relaxer};
+use cu_links::Chain;
+
+/// The upward pass over the ancestors of a rank. Answers the first call whose walk is too long, with which it ends.
+pub fn pass_up<R: Relaxer>(
+    tree: &Tree,
+    graph: &Chordal,
+    labels: &mut [Option<u64>],
+    chain: &mut Chain,
+    relaxer: &mut R,
+    from: u32,
+) -> Option<Call>
+    requires from { from < graph.now.ranks }
+    requires tree { tree.now ≡ parents_in graph.now }
+    requires graph { IsHierarchyOf graph.now (R.hierarchy relaxer.old) }
+    requires ready { IsReady graph.now.ranks labels.old chain.old }
+    requires unturned { chain.old.turned ≡ false }
+    ensures ready { IsReady graph.now.ranks labels.new chain.new }
+    ensures unturned { chain.new.turned ≡ false }
+    ensures stays { R.hierarchy relaxer.new ≡ R.hierarchy relaxer.old }
+    ensures over { (q : Sweep) → q.from ≡ from
+        → IsUpSwept (R.hierarchy relaxer.old) q [] labels.old chain.old.links
+        → IsUpOver (R.hierarchy relaxer.old) q (ancestors_in graph.now from)
+        (R.calls relaxer.old) (R.calls relaxer.new) labels.new chain.new.links result }
+{
+    'ranks: for rank in tree.ancestors(from) {
+        let long = relax_up(graph, labels, chain, relaxer, rank);
+        if long.is_some() {
+            return long;
+        }
+    }
+    None
+}
+
+/// The downward pass over ranks, from the last to the first. Answers the first call whose walk is too long, with which it
+/// ends.
+pub fn pass_down<R: Relaxer>(
+    graph: &Chordal,
+    labels: &mut [Option<u64>],
+    chain: &mut Chain,
+    relaxer: &mut R,
+    path: &[u32],
+) -> Option<Call>
+    requires path { All (λ rank. rank < graph.now.ranks) path.now }
+    requires rising { AllPairs (λ a b. a < b) path.now }
+    requires upwards { (low high : ℕ) → Contains path.now low → HasEdge graph.now.edges low high
+        → Contains path.now high }
+    requires graph { IsHierarchyOf graph.now (R.hierarchy relaxer.old) }
+    requires ready { IsReady graph.now.ranks labels.old chain.old }
+    requires unturned { chain.old.turned ≡ false }
+    ensures ready { IsReady graph.now.ranks labels.new chain.new }
+    ensures unturned { chain.new.turned ≡ false }
+    ensures stays { R.hierarchy relaxer.new ≡ R.hierarchy relaxer.old }
+    ensures over { (q : Sweep) → path.now ≡ q.path
+        → IsDownSwept (R.hierarchy relaxer.old) q [] labels.old chain.old.links
+        → IsDownOver (R.hierarchy relaxer.old) q (reverse path.now)
+        (R.calls relaxer.old) (R.calls relaxer.new) labels.new chain.new.links result }
+{
+    let mut left = path.len();
+    'ranks: while left > 0 {
+        left -= 1;
+        let long = relax_down(graph, labels, chain, relaxer, path[left]);
+        if long.is_some() {
+            return long;
+        }
+    }
+    None
+}

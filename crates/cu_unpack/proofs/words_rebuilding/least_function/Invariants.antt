@@ -1,9 +1,0 @@
-use Rattle.std.proofs.Common.{take}
-use Rattle.cu_unpack.specs.Steps.Rebuilding.{ways_of}
-use Rattle.cu_unpack.specs.Steps.WordRebuilding.{HoldsLeast}
-use Rattle.cu_unpack.proofs.words_rebuilding.least_function.Given as goal
-
-abbrev pub invariant-loop-index : goal.invariant-loop-index
-invariant-loop-index g l =
-    let h = g.W.Ways.hierarchy l.ways in
-    HoldsLeast h l.shortcut (take l.index (ways_of h l.shortcut)) l.room

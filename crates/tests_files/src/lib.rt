@@ -1,0 +1,14 @@
+//! Tests of packed files: written, opened, asked as they lie, verified, and relaxed with what is remembered of them. What no clause
+//! says: that calls succeed, and files that were made by hand and hashed by another program.
+#![tactic(auto)]
+
+#[cfg(test)]
+mod packing;
+#[cfg(test)]
+mod recalls;
+#[cfg(test)]
+mod refusals;
+#[cfg(test)]
+mod verifying;
+#[cfg(test)]
+mod views;

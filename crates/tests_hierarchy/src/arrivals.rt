@@ -1,0 +1,88 @@
+//! Arrival functions of roads, and of two roads one behind the other.
+
+use cu_arrival::{Arrival, Choice, compose, lesser};
+use cu_model::{Network, Roads};
+use cu_samples::{RUSH_HOUR, Tables, network};
+use std::alloc::Global;
+use std::process::Abort;
+use std::test::Fail;
+
+// The arrival function of a road, which there is and which isn't closed.
+fn road(rt: &impl Abort, alloc: Global, network: &Network, arc: u32) -> Result<Arrival, Fail> {
+    assert!(rt; arc < network.arcs());
+    assert!(rt; !network.closed(arc));
+    Ok(Arrival::of_arc(alloc, network, arc)?)
+}
+
+// The rush hour's first two roads.
+fn both_roads(rt: &impl Abort, alloc: Global) -> Result<Arrival, Fail> {
+    let network = network(alloc, RUSH_HOUR)?;
+    let first = road(rt, alloc, &network, 0)?;
+    let second = road(rt, alloc, &network, 1)?;
+    Ok(compose(alloc, &first, &second)?)
+}
+
+#[test]
+fn composition_of_two_roads(rt: HostRuntime) -> Result<(), Fail> {
+    let both = both_roads(&rt, rt.alloc())?;
+    let copy = both.copy(rt.alloc())?;
+    let values = [
+        (28_739, 28_899),
+        (28_740, 29_100),
+        (35_740, 36_100),
+        (35_940, 36_100),
+        (86_399, 86_559),
+        (86_400 + 28_740, 86_400 + 29_100),
+    ];
+    for (second, arrival) in values {
+        assert_eq!(rt; both.value(second), arrival, "at {second}");
+        assert_eq!(rt; copy.value(second), arrival, "of a copy at {second}");
+    }
+    Ok(())
+}
+
+// A minute and 250 seconds; and 310 seconds, all day or until noon.
+const TIES: Tables<'static> = Tables {
+    roads: b"arc,tail,head,profile\n0,0,1,0\n1,1,2,1\n2,0,2,2\n3,0,2,3\n",
+    profiles: b"profile,from,kind,value\n0,0,travel,60\n1,0,travel,250\n2,0,travel,310\n3,0,travel,310\n3,43200,travel,311\n",
+    ..RUSH_HOUR
+};
+
+// Are these the seconds from which on the one or the other is chosen?
+fn are_choices(choices: &[Choice], wanted: &[(u32, bool)]) -> bool {
+    for (choice, (from, second)) in choices.iter().zip(wanted) {
+        if choice.from != *from || choice.second != *second {
+            return false;
+        }
+    }
+    choices.len() == wanted.len()
+}
+
+// Both roads one behind the other arrive when road 2 does, which is chosen all day; road 3 is a second later from noon on.
+#[test]
+fn a_tie_is_not_earlier(rt: HostRuntime) -> Result<(), Fail> {
+    let alloc = rt.alloc();
+    let network = network(alloc, TIES)?;
+    let first = road(&rt, alloc, &network, 0)?;
+    let second = road(&rt, alloc, &network, 1)?;
+    let both = compose(alloc, &first, &second)?;
+    let (_, tie) = lesser(alloc, &road(&rt, alloc, &network, 2)?, &both)?;
+    assert!(rt; are_choices(&tie, &[(0, false)]));
+    let (_, choices) = lesser(alloc, &road(&rt, alloc, &network, 3)?, &both)?;
+    assert!(rt; are_choices(&choices, &[(0, false), (43_200, true)]));
+    Ok(())
+}
+
+#[test]
+fn lesser_of_a_road_and_two(rt: HostRuntime) -> Result<(), Fail> {
+    let alloc = rt.alloc();
+    let direct = road(&rt, alloc, &network(alloc, RUSH_HOUR)?, 2)?;
+    let (least, choices) = lesser(alloc, &direct, &both_roads(&rt, alloc)?)?;
+    let wanted = [(0, true), (28_740, false), (35_851, true)];
+    assert_eq!(rt; choices.len(), 3);
+    for (choice, (from, second)) in choices.iter().zip(wanted) {
+        assert_eq!(rt; (choice.from, choice.second), (from, second));
+    }
+    assert_eq!(rt; least.value(35_850), 36_100);
+    Ok(())
+}

@@ -1,0 +1,26 @@
+//! Tests of what stands between the tables of a network and its packed file: closed graphs, functions of a day, hierarchies, their
+//! sweeps and walks, and edits of them. What no clause says: that calls succeed, and values that were worked out by hand.
+#![tactic(auto)]
+
+#[cfg(test)]
+mod arrivals;
+#[cfg(test)]
+mod chordal;
+#[cfg(test)]
+mod customize;
+#[cfg(test)]
+mod dissect;
+#[cfg(test)]
+mod edits;
+#[cfg(test)]
+mod elimtree;
+#[cfg(test)]
+mod interval;
+#[cfg(test)]
+mod links;
+#[cfg(test)]
+mod runs;
+#[cfg(test)]
+mod sweep;
+#[cfg(test)]
+mod unpack;

@@ -1,0 +1,228 @@
+//! Queries that were worked by hand.
+
+ghost use Rattle.std.specs.Prelude.{◌≡◌, ◌<◌, false, IfOk, IfSome, OnOk};
+ghost use Rattle.cu_model.specs.declared.limits.TheConstants.{DAY};
+ghost use Rattle.cu_elimtree.specs.SweepArcs.{parents_in};
+ghost use Rattle.cu_interval.specs.Hierarchies.{graph_of};
+ghost use Rattle.cu_sweep.specs.Desks.{AreArriving, HoldsFound};
+
+use cu_elimtree::Tree;
+use cu_interval::{Call, Dir, Hierarchy, Ways};
+use cu_io::MemorySink;
+use cu_model::{DAY, Roads};
+use cu_samples::{RUSH_HOUR, hierarchy};
+use cu_sweep::{Found, SweepDesk, query, route};
+use cu_unpack::{Listed, Unpacker, Work};
+use std::alloc::Global;
+use std::test::Fail;
+
+// A query between two ranks at a second, what it finds, its calls, the room for telling them, and the roads of its walk.
+#[derive(Clone, Copy, Debug)]
+struct Row<'a> {
+    from: u32,
+    to: u32,
+    second: u32,
+    found: Found,
+    calls: &'a [(u32, Dir, u64)],
+    room: u32,
+    roads: &'a [u8],
+}
+
+// Are these the calls that were told? None are where they find no room.
+fn are_told(calls: Option<&[Call]>, wanted: &[(u32, Dir, u64)], room: u32) -> bool {
+    let Some(calls) = calls else {
+        return wanted.len() > room as usize;
+    };
+    if calls.len() != wanted.len() {
+        return false;
+    }
+    for (call, (edge, dir, second)) in calls.iter().zip(wanted) {
+        if call.edge != *edge || call.dir != *dir || call.second != *second {
+            return false;
+        }
+    }
+    true
+}
+
+// A query between two ranks at a second.
+#[derive(Clone, Copy, Debug)]
+struct Asked {
+    from: u32,
+    to: u32,
+    second: u32,
+}
+
+// What the query finds; none where it tells other calls than the row.
+fn ask(
+    alloc: Global,
+    hierarchy: &Hierarchy,
+    tree: &Tree,
+    desk: &mut SweepDesk,
+    asked: Asked,
+    row: &Row<'_>,
+) -> Result<Option<Found>, Fail>
+    requires ranks { (asked.from < 3) × (asked.to < 3) }
+    requires second { asked.second < DAY }
+    requires nodes { hierarchy.now.network.nodes ≡ 3 }
+    requires tree { tree.now ≡ parents_in (graph_of hierarchy.now) }
+    requires desk { desk.old.nodes ≡ 3 }
+    ensures desk { OnOk result (desk.new.nodes ≡ 3) }
+    ensures holds { IfOk result (λ found. IfSome found
+        (λ some. HoldsFound hierarchy.now asked.from asked.to asked.second some desk.new)) }
+{
+    let graph = hierarchy.graph();
+    let _edges = hierarchy.edges();
+    let work = Work::new(alloc, 3)?;
+    let mut listed = Listed::new(alloc, Unpacker::new(hierarchy, work), row.room)?;
+    let Asked { from, to, second } = asked;
+    let found = query(tree, graph, desk, &mut listed, from, to, second);
+    if are_told(listed.calls(), row.calls, row.room) {
+        return Ok(Some(found));
+    }
+    Ok(None)
+}
+
+// Does the route write these roads?
+fn writes(
+    alloc: Global,
+    hierarchy: &Hierarchy,
+    desk: &mut SweepDesk,
+    roads: &[u8],
+) -> Result<bool, Fail>
+    requires nodes { hierarchy.now.network.nodes ≡ 3 }
+    requires unturned { desk.old.turned ≡ false }
+    requires arriving { AreArriving hierarchy.now desk.old.calls }
+    ensures desk { OnOk result (desk.new.nodes ≡ desk.old.nodes) }
+{
+    let work = Work::new(alloc, 3)?;
+    let mut unpacker = Unpacker::new(hierarchy, work);
+    let mut sink = MemorySink::new(alloc, 8, Vec::new(alloc))?;
+    route(desk, &mut unpacker, &mut sink)?;
+    Ok(sink.bytes() == roads)
+}
+
+// Does the query find what the row says, tell its calls, and write its roads?
+fn is_right(
+    alloc: Global,
+    hierarchy: &Hierarchy,
+    tree: &Tree,
+    desk: &mut SweepDesk,
+    row: Row<'_>,
+) -> Result<bool, Fail>
+    requires nodes { hierarchy.now.network.nodes ≡ 3 }
+    requires tree { tree.now ≡ parents_in (graph_of hierarchy.now) }
+    requires desk { desk.old.nodes ≡ 3 }
+    ensures desk { OnOk result (desk.new.nodes ≡ 3) }
+{
+    if row.from >= 3 || row.to >= 3 || row.second >= DAY {
+        return Ok(false);
+    }
+    let query = Asked {
+        from: row.from,
+        to: row.to,
+        second: row.second,
+    };
+    let asked = ask(alloc, hierarchy, tree, desk, query, &row)?;
+    let Some(found) = asked else {
+        return Ok(false);
+    };
+    if found != row.found {
+        return Ok(false);
+    }
+    match found {
+        Found::Arrive(_) => writes(alloc, hierarchy, desk, row.roads),
+        _ => Ok(row.roads.is_empty()),
+    }
+}
+
+// Node 0 has rank 1 and node 2 rank 2, so one call upwards is all there is between them; at 35,850 both ways arrive at 36,100,
+// and the road goes first. No road leads back. A query to its own start arrives at once, by no road. To node 1, at rank 0, the
+// calls downwards come from ranks 2 and 1; in room for three they aren't told.
+const ROWS: [Row<'static>; 7] = [
+    Row {
+        from: 1,
+        to: 2,
+        second: 0,
+        found: Found::Arrive(160),
+        calls: &[(2, Dir::Up, 0)],
+        room: 4,
+        roads: b"0 1",
+    },
+    Row {
+        from: 1,
+        to: 2,
+        second: 28_800,
+        found: Found::Arrive(29_050),
+        calls: &[(2, Dir::Up, 28_800)],
+        room: 4,
+        roads: b"2",
+    },
+    Row {
+        from: 1,
+        to: 2,
+        second: 35_850,
+        found: Found::Arrive(36_100),
+        calls: &[(2, Dir::Up, 35_850)],
+        room: 4,
+        roads: b"2",
+    },
+    Row {
+        from: 2,
+        to: 1,
+        second: 7,
+        found: Found::NoWalk,
+        calls: &[(2, Dir::Down, 7)],
+        room: 4,
+        roads: b"",
+    },
+    Row {
+        from: 1,
+        to: 1,
+        second: 5,
+        found: Found::Arrive(5),
+        calls: &[(2, Dir::Up, 5), (2, Dir::Down, 165)],
+        room: 4,
+        roads: b"",
+    },
+    Row {
+        from: 1,
+        to: 0,
+        second: 0,
+        found: Found::Arrive(60),
+        calls: &[
+            (2, Dir::Up, 0),
+            (2, Dir::Down, 160),
+            (0, Dir::Down, 0),
+            (1, Dir::Down, 160),
+        ],
+        room: 4,
+        roads: b"0",
+    },
+    Row {
+        from: 1,
+        to: 0,
+        second: 0,
+        found: Found::Arrive(60),
+        calls: &[
+            (2, Dir::Up, 0),
+            (2, Dir::Down, 160),
+            (0, Dir::Down, 0),
+            (1, Dir::Down, 160),
+        ],
+        room: 3,
+        roads: b"0",
+    },
+];
+
+#[test]
+fn finds_tells_and_writes(rt: HostRuntime) -> Result<(), Fail> {
+    let alloc = rt.alloc();
+    let hierarchy = hierarchy(alloc, RUSH_HOUR)?;
+    assert!(rt; hierarchy.nodes() == 3);
+    let tree = Tree::of(alloc, hierarchy.graph())?;
+    let mut desk = SweepDesk::new(alloc, 3)?;
+    'rows: for row in &ROWS {
+        assert!(rt; is_right(alloc, &hierarchy, &tree, &mut desk, *row)?);
+    }
+    Ok(())
+}

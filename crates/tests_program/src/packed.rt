@@ -1,0 +1,26 @@
+//! `build` over the rush hour's tables.
+
+use crate::runs::{PLAIN, Run, leaves};
+use cu_samples::BUILT;
+use std::test::Fail;
+
+#[test]
+fn hierarchies_are_stored(rt: HostRuntime) -> Result<(), Fail> {
+    let asked = Run {
+        words: "build nodes roads profiles ranks out",
+        limit: 392,
+        ..PLAIN
+    };
+    let small = Run {
+        limit: 391,
+        ..asked
+    };
+    let rows: [(Run<'_>, u8, &[u8], &[u8]); 2] = [
+        (asked, 0, b"built 3 3 3 392\n", &BUILT),
+        (small, 13, b"too large 392\n", b""),
+    ];
+    for (asked, status, said, out) in rows {
+        assert!(rt; leaves(rt.alloc(), asked, status, said, out));
+    }
+    Ok(())
+}

@@ -1,0 +1,42 @@
+//! `verify` of packed files, built and forged.
+
+use crate::runs::{PLAIN, Run, says};
+use cu_samples::{BUILT, FORGED, later};
+use std::test::Fail;
+
+#[test]
+fn packed_files_are_compared(rt: HostRuntime) -> Result<(), Fail> {
+    let later = later();
+    let rows: [(&str, &[u8], &[u64], u8, &[u8]); 8] = [
+        ("verify packed", &BUILT, &[], 0, b"same\n"),
+        (
+            "verify packed",
+            &later,
+            &[],
+            10,
+            b"differs 2 up 28740 via 0 road 2\n",
+        ),
+        (
+            "verify packed",
+            &FORGED,
+            &[],
+            10,
+            b"differs 3 down 0 via 0 road 7\n",
+        ),
+        ("verify packed", &BUILT[..83], &[], 6, b"file: short\n"),
+        ("verify other", &BUILT, &[], 3, b"shelf: fault hierarchy\n"),
+        ("verify packed out", &BUILT, &[], 2, b"words\n"),
+        ("verify packed", &BUILT, &[0], 8, b""),
+        ("verify packed", &later, &[0], 8, b""),
+    ];
+    for (words, packed, sink, status, said) in rows {
+        let asked = Run {
+            words,
+            packed,
+            sink,
+            ..PLAIN
+        };
+        assert!(rt; says(rt.alloc(), asked, status, said));
+    }
+    Ok(())
+}

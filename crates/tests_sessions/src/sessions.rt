@@ -1,0 +1,103 @@
+//! Sessions and edits over a small packed file; replies worked out by hand.
+
+use cu_io::{MemorySink, MemorySource};
+use cu_pack::PackedView;
+use cu_samples::{BUILT, RUSH_HOUR, SCRIPTS, Star, forged, later, packed};
+use cu_session::{Router, answer_edits, session};
+use std::alloc::Global;
+use std::test::Fail;
+
+// What a session answers to a script over a packed file, and its status.
+fn answer(alloc: Global, file: &[u8], script: &str) -> Result<(u8, Vec<u8>), Fail> {
+    let bytes = Vec::from_slice(alloc, file)?;
+    let _view = PackedView::open(alloc, &bytes)?;
+    let mut source = MemorySource::of(Vec::from_slice(alloc, script.as_bytes())?, Vec::new(alloc));
+    let mut sink = MemorySink::new(alloc, 4096, Vec::new(alloc))?;
+    let status = session(alloc, bytes, &mut source, &mut sink);
+    Ok((status, Vec::from_slice(alloc, sink.bytes())?))
+}
+
+// The replies to a text of edits from a router, and its file after them.
+fn edited(alloc: Global, mut router: Router, text: &str) -> Result<(Vec<u8>, Vec<u8>), Fail> {
+    let mut sink = MemorySink::new(alloc, 4096, Vec::new(alloc))?;
+    let _ended = answer_edits(alloc, &mut router, text.as_bytes(), &mut sink);
+    Ok((Vec::from_slice(alloc, sink.bytes())?, router.into_file()))
+}
+
+#[test]
+fn sessions_are_answered(rt: HostRuntime) -> Result<(), Fail> {
+    for script in &SCRIPTS {
+        let (status, said) = answer(rt.alloc(), script.file, script.lines)?;
+        assert_eq!(rt; said.as_slice(), script.replies.as_bytes());
+        assert_eq!(rt; status, 0);
+    }
+    let (status, said) = answer(rt.alloc(), &later(), "q,0,2,28740\n")?;
+    assert_eq!(rt; said.as_slice(), b"arrive=29100 arcs=0 1\n".as_slice());
+    assert_eq!(rt; status, 0);
+    Ok(())
+}
+
+#[test]
+fn edits_are_made(rt: HostRuntime) -> Result<(), Fail> {
+    let alloc = rt.alloc();
+    let router = Router::new(alloc, packed(alloc, RUSH_HOUR)?)?;
+    let text = "s,0,0,travel,200\nq,0,2,0\r\ns,0,0,travel,60";
+    let (said, bytes) = edited(alloc, router, text)?;
+    assert_eq!(rt;
+        said.as_slice(),
+        b"done 2\nrefused: line\ndone 2\n".as_slice()
+    );
+    assert_eq!(rt; bytes.as_slice(), BUILT.as_slice());
+    Ok(())
+}
+
+#[test]
+fn edits_are_the_same_where_edges_are_known(rt: HostRuntime) -> Result<(), Fail> {
+    let alloc = rt.alloc();
+    let text = "s,0,0,travel,200\na,2,0\n";
+    let router = Router::built(alloc, packed(alloc, RUSH_HOUR)?)?;
+    let (said, known) = edited(alloc, router, text)?;
+    assert_eq!(rt; said.as_slice(), b"done 2\ndone 1\n".as_slice());
+    let router = Router::new(alloc, packed(alloc, RUSH_HOUR)?)?;
+    let (said, unknown) = edited(alloc, router, text)?;
+    assert_eq!(rt; said.as_slice(), b"done 2\ndone 1\n".as_slice());
+    assert_eq!(rt; known.as_slice(), unknown.as_slice());
+    Ok(())
+}
+
+// The packed file of a star of 29 leaves whose roads take a week, or a minute by the second profile. Each shortcut above the middle's
+// own edges is forged to lead by the rank before its lower end, so that its way is twice as long as that of the one below: from
+// the lower end 25 on it takes longer than is said in short.
+fn far(alloc: Global) -> Result<Vec<u8>, Fail> {
+    let star = Star::of(alloc, 29)?;
+    let profiles = b"profile,from,kind,value\n0,0,travel,604800\n1,0,travel,60\n";
+    let file = packed(alloc, star.tables(profiles))?;
+    let length = file.len().saturating_sub(32);
+    // 12 bytes for each of both lists of an edge, the last four of them the middle.
+    let mut place = length.saturating_sub(435 * 24);
+    let mut changes = Vec::new(alloc);
+    for low in 0..29u8 {
+        for _high in low..29 {
+            if low > 0 {
+                changes.push((place.saturating_add(8), low - 1))?;
+                changes.push((place.saturating_add(20), low - 1))?;
+            }
+            place = place.saturating_add(24);
+        }
+    }
+    Ok(forged(alloc, &file, &changes, length)?)
+}
+
+// The road from the last leaf to the middle is given a minute: the middle's edge and the first leaves' are settled by packed runs, and
+// from leaf 26 on, where a forged half takes too long for them, the others by plain functions.
+#[test]
+fn edges_settled_plainly_after_words(rt: HostRuntime) -> Result<(), Fail> {
+    let alloc = rt.alloc();
+    let lines = "q,29,28,0\na,57,1\nq,29,28,0\nq,28,29,0\n";
+    let (status, said) = answer(alloc, &far(alloc)?, lines)?;
+    let replies =
+        b"damaged 434 down 0\ndone 29\narrive=604860 arcs=57 54\narrive=1209600 arcs=55 56\n";
+    assert_eq!(rt; said.as_slice(), replies.as_slice());
+    assert_eq!(rt; status, 0);
+    Ok(())
+}

@@ -1,0 +1,156 @@
+//! What files, readers and writers get and give.
+mod disk_files;
+mod interrupted;
+mod lines;
+mod watched;
+
+use cu_io::{
+    LoadFailed, MemoryShelf, MemorySink, MemorySource, Shelf, Sink, SinkFailed, Source,
+    SourceFailed, StdSink, StdSource, StoreFailed, SureShelf, SureSink, SureSource, end_line,
+    put_all, put_line, put_number,
+};
+use std::alloc::{AllocError, Global};
+use std::test::Fail;
+
+// A source in memory of these bytes, whose reads fail as told.
+fn source_of(alloc: Global, bytes: &[u8], fails: &[u64]) -> Result<MemorySource, AllocError> {
+    let bytes = Vec::from_slice(alloc, bytes)?;
+    Ok(MemorySource::of(bytes, Vec::from_slice(alloc, fails)?))
+}
+
+// Whether the reads of a source answer so, each with these bytes in a buffer of two behind it.
+fn gives<S: Source>(source: &mut S, wanted: &[(Result<usize, SourceFailed>, [u8; 2])]) -> bool {
+    let mut part = [0; 2];
+    for (answer, bytes) in wanted {
+        if source.read(&mut part) != *answer || part != *bytes {
+            return false;
+        }
+    }
+    true
+}
+
+// Whether a sink takes a piece and flushes it, and refuses a flush and another piece then.
+fn takes_once<K: Sink>(sink: &mut K, piece: &[u8], other: &[u8]) -> bool {
+    put_all(sink, piece).is_ok()
+        && sink.flush().is_ok()
+        && sink.flush().is_err()
+        && put_all(sink, other).is_err()
+}
+
+// Whether a load of a name answers so.
+fn loads<S: Shelf>(
+    shelf: &mut S,
+    alloc: Global,
+    name: &str,
+    wanted: Result<&[u8], LoadFailed>,
+) -> bool {
+    let mut bytes = Vec::new(alloc);
+    let loaded = match shelf.load(alloc, name, &mut bytes) {
+        Ok(()) => Ok(bytes.as_slice()),
+        Err(refusal) => Err(refusal),
+    };
+    loaded == wanted
+}
+
+#[test]
+fn source_gives_its_bytes_and_fails_where_told(rt: HostRuntime) -> Result<(), Fail> {
+    let mut source = source_of(rt.alloc(), &[1, 2, 3], &[1])?;
+    let wanted = [
+        (Ok(2), [1, 2]),
+        (Err(SourceFailed), [1, 2]),
+        (Ok(1), [3, 2]),
+        (Ok(0), [3, 2]),
+    ];
+    assert!(rt; gives(&mut source, &wanted));
+    Ok(())
+}
+
+#[test]
+fn sink_takes_what_finds_room(rt: HostRuntime) -> Result<(), Fail> {
+    let fails = Vec::from_slice(rt.alloc(), &[2])?;
+    let mut sink = MemorySink::new(rt.alloc(), 5, fails)?;
+    assert!(rt; takes_once(&mut sink, b"cat", b"chup"));
+    assert_eq!(rt; sink.bytes(), b"catch".as_slice());
+    Ok(())
+}
+
+// Whether a shelf that is told to fail at its calls 3 and 5, and to load no more than 4 bytes, does so.
+fn works_as_told(shelf: &mut MemoryShelf, alloc: Global) -> bool {
+    shelf.limit() == 4
+        && shelf.store(alloc, "short", b"four").is_ok()
+        && shelf.store(alloc, "long", b"fives").is_ok()
+        && loads(shelf, alloc, "short", Ok(b"four"))
+        && loads(shelf, alloc, "short", Err(LoadFailed::Fault))
+        && loads(shelf, alloc, "long", Err(LoadFailed::TooLong))
+        && shelf.store(alloc, "short", b"") == Err(StoreFailed::Fault)
+        && loads(shelf, alloc, "absent", Err(LoadFailed::Fault))
+}
+
+#[test]
+fn shelf_holds_files_and_fails_where_told(rt: HostRuntime) -> Result<(), Fail> {
+    let fails = Vec::from_slice(rt.alloc(), &[3, 5])?;
+    let mut shelf = MemoryShelf::new(rt.alloc(), 4, fails);
+    assert!(rt; works_as_told(&mut shelf, rt.alloc()));
+    Ok(())
+}
+
+// Writes numbers and lines, each function once.
+fn write_all_kinds(sink: &mut MemorySink) -> Result<(), SinkFailed> {
+    put_number(sink, 0)?;
+    end_line(sink)?;
+    put_number(sink, u64::MAX)?;
+    put_line(sink, b" done")
+}
+
+#[test]
+fn numbers_and_lines_are_written(rt: HostRuntime) -> Result<(), Fail> {
+    let mut sink = MemorySink::new(rt.alloc(), 40, Vec::new(rt.alloc()))?;
+    assert!(rt; write_all_kinds(&mut sink).is_ok());
+    assert_eq!(rt; sink.bytes(), b"0\n18446744073709551615 done\n".as_slice());
+    Ok(())
+}
+
+// Whether a sink over a buffer of four bytes takes an empty piece, and refuses a longer one than finds room.
+fn takes_four(room: &mut [u8; 4]) -> bool {
+    let mut sink = StdSink::new(room.as_mut_slice());
+    sink.write(b"") == Ok(0) && put_all(&mut sink, b"catchup").is_err() && sink.flush().is_ok()
+}
+
+#[test]
+fn reader_and_writer_are_source_and_sink(rt: HostRuntime) {
+    let mut source = StdSource::new(b"abc".as_slice());
+    let wanted = [(Ok(2), *b"ab"), (Ok(1), *b"cb"), (Ok(0), *b"cb")];
+    assert!(rt; gives(&mut source, &wanted));
+    let mut room = [0; 4];
+    assert!(rt; takes_four(&mut room));
+    assert_eq!(rt; room, *b"catc");
+}
+
+#[test]
+fn sure_source_gives_its_bytes(rt: HostRuntime) -> Result<(), Fail> {
+    let mut source = SureSource::of(Vec::from_slice(rt.alloc(), &[1, 2, 3])?);
+    let wanted = [(Ok(2), [1, 2]), (Ok(1), [3, 2]), (Ok(0), [3, 2])];
+    assert!(rt; gives(&mut source, &wanted));
+    Ok(())
+}
+
+#[test]
+fn sure_sink_takes_each_piece(rt: HostRuntime) -> Result<(), Fail> {
+    let mut sink = SureSink::new();
+    assert!(rt; put_all(&mut sink, b"abc").is_ok() && sink.flush().is_ok());
+    assert_eq!(rt; sink.write(b"de"), Ok(2));
+    Ok(())
+}
+
+#[test]
+fn sure_shelf_holds_what_was_stored(rt: HostRuntime) -> Result<(), Fail> {
+    let alloc = rt.alloc();
+    let mut shelf = SureShelf::new(alloc, 2);
+    assert_eq!(rt; shelf.limit(), 2);
+    assert!(rt; loads(&mut shelf, alloc, "a", Ok(b"")));
+    assert!(rt; shelf.store(alloc, "a", b"12").is_ok() && shelf.store(alloc, "b", b"345").is_ok());
+    assert!(rt; loads(&mut shelf, alloc, "a", Ok(b"12")));
+    assert!(rt; loads(&mut shelf, alloc, "b", Err(LoadFailed::TooLong)));
+    assert!(rt; loads(&mut shelf, alloc, "c", Ok(b"")));
+    Ok(())
+}

@@ -1,0 +1,273 @@
+//! Which answers of a file system a load of a shelf on disk calls a fault, and what of earlier stores is removed.
+ghost use Rattle.std.specs.Prelude.{◌≤◌, IfOk};
+
+use super::loads;
+use cu_io::{DiskShelf, LoadFailed, Lock, Shelf, ShelfFile};
+use std::alloc::Allocator;
+use std::cell::Cell;
+use std::fs::{File, Files, Metadata, OpenFile, OpenOptions, Permissions};
+use std::io::{Error, ErrorKind, Seek, SeekFrom};
+use std::path::PathBuf;
+use std::test::Fail;
+use std::{fs, io};
+
+// What files answer: how long they say that they are, how many bytes each of their reads gives, and which read fails. And
+// how many reads were made, and what a lock of a fresh file found while it was renamed.
+#[derive(Drop)]
+struct Script {
+    length: u64,
+    gives: &'static [usize],
+    fails_at: usize,
+    reads: Cell<usize>,
+    renamed: Cell<Option<Lock>>,
+}
+
+impl Script {
+    fn of(length: u64, gives: &'static [usize], fails_at: usize) -> Script {
+        Script {
+            length,
+            gives,
+            fails_at,
+            reads: Cell::new(0),
+            renamed: Cell::new(None),
+        }
+    }
+
+    fn turn(&self, room: usize) -> io::Result<usize>
+        ensures { IfOk result (λ count. count ≤ room) }
+    {
+        let at = self.reads.get();
+        self.reads.set(at.saturating_add(1));
+        if at == self.fails_at {
+            return Err(Error::from(ErrorKind::Other));
+        }
+        match self.gives.get(at) {
+            Some(count) => Ok((*count).min(room)),
+            None => Ok(0),
+        }
+    }
+}
+
+// The files of the file system, but for what a load reads of them.
+#[derive(Drop)]
+struct Scripted<'a> {
+    files: &'a HostRuntime,
+    script: &'a Script,
+}
+
+#[derive(Drop)]
+struct ScriptedFile<'a> {
+    file: File,
+    script: &'a Script,
+}
+
+impl<'a> Files for Scripted<'a> {
+    type File = ScriptedFile<'a>;
+
+    type Dir = <HostRuntime as Files>::Dir;
+
+    fn open_file(&self, how: &OpenOptions, path: &str) -> io::Result<ScriptedFile<'a>> {
+        let file = self.files.open_file(how, path)?;
+        Ok(ScriptedFile {
+            file,
+            script: self.script,
+        })
+    }
+
+    fn open_dir(&self, path: &str) -> io::Result<<HostRuntime as Files>::Dir> {
+        self.files.open_dir(path)
+    }
+
+    fn metadata(&self, path: &str) -> io::Result<Metadata> {
+        self.files.metadata(path)
+    }
+
+    fn symlink_metadata(&self, path: &str) -> io::Result<Metadata> {
+        self.files.symlink_metadata(path)
+    }
+
+    fn copy(&self, from: &str, to: &str) -> io::Result<u64> {
+        self.files.copy(from, to)
+    }
+
+    fn rename(&self, from: &str, to: &str) -> io::Result<()> {
+        let fresh = fs::open(self.files, from)?;
+        self.script.renamed.set(Some(fresh.lock_if_free()));
+        self.files.rename(from, to)
+    }
+
+    fn remove_file(&self, path: &str) -> io::Result<()> {
+        self.files.remove_file(path)
+    }
+
+    fn create_dir(&self, path: &str) -> io::Result<()> {
+        self.files.create_dir(path)
+    }
+
+    fn remove_dir(&self, path: &str) -> io::Result<()> {
+        self.files.remove_dir(path)
+    }
+
+    fn remove_dir_all<B: Allocator>(&self, alloc: B, path: &str) -> io::Result<()> {
+        self.files.remove_dir_all(alloc, path)
+    }
+
+    fn canonicalize<B: Allocator>(&self, alloc: B, path: &str) -> io::Result<PathBuf<B>> {
+        self.files.canonicalize(alloc, path)
+    }
+}
+
+impl io::Read for ScriptedFile<'_> {
+    fn read(&mut self, into: &mut [u8]) -> io::Result<usize> {
+        let count = self.script.turn(into.len())?;
+        into[..count].fill(b'a');
+        Ok(count)
+    }
+}
+
+impl io::Write for ScriptedFile<'_> {
+    fn write(&mut self, piece: &[u8]) -> io::Result<usize> {
+        self.file.write(piece)
+    }
+
+    fn flush(&mut self) -> io::Result<()> {
+        self.file.flush()
+    }
+}
+
+impl Seek for ScriptedFile<'_> {
+    fn seek(&mut self, to: SeekFrom) -> io::Result<u64> {
+        self.file.seek(to)
+    }
+}
+
+impl OpenFile for ScriptedFile<'_> {
+    fn metadata(&self) -> io::Result<Metadata> {
+        self.file.metadata()
+    }
+
+    fn set_len(&self, size: u64) -> io::Result<()> {
+        self.file.set_len(size)
+    }
+
+    fn sync_all(&self) -> io::Result<()> {
+        self.file.sync_all()
+    }
+
+    fn sync_data(&self) -> io::Result<()> {
+        self.file.sync_data()
+    }
+
+    fn set_permissions(&self, permissions: Permissions) -> io::Result<()> {
+        self.file.set_permissions(permissions)
+    }
+}
+
+impl ShelfFile for ScriptedFile<'_> {
+    fn least_length(&self) -> u64 {
+        self.script.length
+    }
+
+    fn lock_if_free(&self) -> Lock {
+        self.file.lock_if_free()
+    }
+}
+
+const TOO_LONG: u64 = 4_294_967_297;
+
+const NEVER: usize = usize::MAX;
+
+// Whether a load over a script answers so.
+fn loads_scripted(rt: &HostRuntime, script: &Script, wanted: Result<&[u8], LoadFailed>) -> bool {
+    let mut shelf = DiskShelf::new(Scripted { files: rt, script });
+    let mut bytes = Vec::new(rt.alloc());
+    let loaded = match shelf.load(rt.alloc(), "scripted", &mut bytes) {
+        Ok(()) => Ok(bytes.as_slice()),
+        Err(refusal) => Err(refusal),
+    };
+    loaded == wanted
+}
+
+#[test]
+fn a_load_faults_where_the_system_fails_and_nowhere_else(rt: HostRuntime) -> Result<(), Fail> {
+    fs::write(&rt, "scripted", "")?;
+    let rows: [(Script, Result<&[u8], LoadFailed>, usize); 6] = [
+        (Script::of(0, &[], NEVER), Ok(b""), 1),
+        (Script::of(0, &[1, 2], NEVER), Ok(b"aaa"), 3),
+        (Script::of(TOO_LONG - 1, &[3], NEVER), Ok(b"aaa"), 2),
+        (Script::of(TOO_LONG, &[3], 0), Err(LoadFailed::TooLong), 0),
+        (Script::of(0, &[3], 0), Err(LoadFailed::Fault), 1),
+        (Script::of(0, &[3], 1), Err(LoadFailed::Fault), 2),
+    ];
+    for (script, loaded, reads) in rows {
+        assert!(rt; loads_scripted(&rt, &script, loaded));
+        assert_eq!(rt; script.reads.get(), reads);
+    }
+    fs::remove_file(&rt, "scripted")?;
+    Ok(())
+}
+
+#[test]
+fn a_file_past_the_limit_is_not_read(rt: HostRuntime) -> Result<(), Fail> {
+    let file = fs::create(&rt, "long")?;
+    file.set_len(TOO_LONG)?;
+    assert!(rt;
+        loads(
+            &mut DiskShelf::new(&rt),
+            rt.alloc(),
+            "long",
+            Err(LoadFailed::TooLong)
+        )
+    );
+    fs::remove_file(&rt, "long")?;
+    Ok(())
+}
+
+// Stores a text in a folder, and answers what a lock of the fresh file found while it was renamed.
+fn stored(rt: &HostRuntime) -> Option<Lock> {
+    let script = Script::of(0, &[], NEVER);
+    let files = Scripted {
+        files: rt,
+        script: &script,
+    };
+    let mut shelf = DiskShelf::new(files);
+    match shelf.store(rt.alloc(), "left/file", b"text") {
+        Ok(()) => script.renamed.get(),
+        Err(_) => None,
+    }
+}
+
+fn is_there(rt: &HostRuntime, name: &str) -> bool {
+    fs::symlink_metadata(rt, name).is_ok()
+}
+
+#[test]
+fn a_store_removes_what_killed_ones_left(rt: HostRuntime) -> Result<(), Fail> {
+    fs::create_dir(&rt, "left")?;
+    for name in [
+        "left/.catchup-stored-0",
+        "left/.catchup-stored-7",
+        "left/.stored-0",
+    ] {
+        fs::write(&rt, name, "left")?;
+    }
+    fs::create_dir(&rt, "left/.catchup-stored-1")?;
+    rt.symlink(".stored-0", "left/.catchup-stored-2")?;
+    let busy = fs::create(&rt, "left/.catchup-stored-3")?;
+    assert!(rt; busy.lock_if_free() == Lock::Held);
+    assert!(rt; stored(&rt) == Some(Lock::Busy));
+    for name in ["left/.catchup-stored-0", "left/.catchup-stored-7"] {
+        assert!(rt; !is_there(&rt, name));
+    }
+    for number in [
+        "catchup-stored-1",
+        "catchup-stored-2",
+        "catchup-stored-3",
+        "stored-0",
+    ] {
+        let name = format!(in rt.alloc(); "left/.{number}")?;
+        assert!(rt; is_there(&rt, name.as_str()));
+    }
+    fs::remove_dir_all(&rt, "left")?;
+    Ok(())
+}
