@@ -1,8 +1,7 @@
-# Draws travel time over departure from the replies to `q,FROM,TO,SECOND` at each `step` seconds of the day. A run is a
-# longest row of departures with the same walk. Walks are numbered by how long they hold, the longest first.
+# Draws travel time over departure from the pieces of a day and the walks that were asked. A run is a longest row of
+# departures with the same walk. Walks are numbered by how long they hold, the longest first.
 
 BEGIN {
-  asked = int((86399 + step) / step)
   plot_left = 84
   plot_width = 576
   plot_top = 102
@@ -10,17 +9,9 @@ BEGIN {
   most_walks = 8
 }
 
-/^arrive=[0-9]+ arcs=([0-9]+( [0-9]+)*)?$/ {
-  read_reply(substr($1, 8) - count * step, substr($0, index($0, "arcs=") + 5))
-  next
-}
-
-$0 == "unreachable" { refuse("no walk leads from node " from " to node " to) }
-
-{ refuse("the program answers: " substr($0, 1, 200)) }
-
 END {
-  if (count != asked) refuse("the program gave " count + 0 " replies to " asked " lines")
+  find_corners()
+  find_runs()
   rank_walks()
   set_scale()
   first_line = plot_top + plot_height + 66
@@ -36,22 +27,45 @@ END {
   print "</svg>"
 }
 
-function read_reply(seconds, roads) {
-  if (count == 0 || seconds < travel[least]) least = count
-  if (count == 0 || seconds > travel[greatest]) greatest = count
-  travel[count] = seconds
-  if (count == 0 || roads != roads_before) {
+# The first and the last second of each piece, between which travel times go straight; and the first of those with the
+# least travel time, and with the greatest.
+function find_corners(    piece) {
+  for (piece = 1; piece <= pieces; piece++) {
+    add_corner(begin[piece], piece)
+    if (end_of(piece) - 1 > begin[piece]) add_corner(end_of(piece) - 1, piece)
+  }
+}
+
+function add_corner(second, piece,    seconds) {
+  seconds = travel_in(piece, second)
+  if (!corners || seconds < least_travel) {
+    least = second
+    least_travel = seconds
+  }
+  if (!corners || seconds > greatest_travel) {
+    greatest = second
+    greatest_travel = seconds
+  }
+  corner[++corners] = second
+  corner_travel[corners] = seconds
+}
+
+# Two neighbours that were asked and have different walks are one second apart.
+function find_runs(    i, roads, run) {
+  for (i = 1; i <= asked; i++) {
+    roads = asked_walk[i]
+    if (i > 1 && roads == asked_walk[i - 1]) continue
     if (!(roads in number)) {
       number[roads] = ++walks
       walk_roads[walks] = roads
     }
-    roads_before = roads
     run_walk[++runs] = number[roads]
-    run_first[runs] = count
+    run_first[runs] = asked_at[i]
   }
-  run_last[runs] = count
-  held[run_walk[runs]]++
-  count++
+  for (run = 1; run <= runs; run++) {
+    run_last[run] = (run < runs ? run_first[run + 1] : 86400) - 1
+    held[run_walk[run]] += run_last[run] + 1 - run_first[run]
+  }
 }
 
 # The walk of each rank, by how many departures it is the best at, and the rank of each walk.
@@ -72,13 +86,13 @@ function walk_colour(walk) {
 # The axis of travel times: from nought, or from a mark below the least where all are far from nought.
 function set_scale(    steps, count, i, low) {
   count = split("1 2 5 10 15 30 60 120 300 600 900 1800 3600 7200 10800 21600 43200", steps, " ")
-  low = travel[least] > travel[greatest] * 0.7 ? travel[least] * 2 - travel[greatest] : 0
-  if (travel[least] == travel[greatest]) low = 0
-  for (i = 1; i < count && (travel[greatest] - low) / steps[i] > 7; i++) continue
+  low = least_travel > greatest_travel * 0.7 ? least_travel * 2 - greatest_travel : 0
+  if (least_travel == greatest_travel) low = 0
+  for (i = 1; i < count && (greatest_travel - low) / steps[i] > 7; i++) continue
   mark_step = steps[i]
-  while ((travel[greatest] - low) / mark_step > 7) mark_step *= 2
+  while ((greatest_travel - low) / mark_step > 7) mark_step *= 2
   bottom = int(low / mark_step) * mark_step
-  top = (int(travel[greatest] / mark_step) + 1) * mark_step
+  top = (int(greatest_travel / mark_step) + 1) * mark_step
   for (i = bottom; i <= top; i += mark_step) {
     if (20 + text_width(duration(i)) > plot_left) plot_left = 20 + text_width(duration(i))
   }
@@ -112,25 +126,24 @@ function moment(second) {
   return second % 60 ? clock(second) sprintf(":%02d", second % 60) : clock(second)
 }
 
-function extremes(    which) {
-  which = step == 1 ? "" : " asked"
-  if (travel[least] == travel[greatest]) return "always " duration(travel[least]) (step == 1 ? "" : ", as asked")
-  return "least" which " " duration(travel[least]) " at " moment(least * step) \
-    ", greatest" which " " duration(travel[greatest]) " at " moment(greatest * step)
+function extremes() {
+  if (least_travel == greatest_travel) return "always " duration(least_travel)
+  return "least " duration(least_travel) " at " moment(least) ", greatest " duration(greatest_travel) " at " moment(greatest)
 }
 
 function how_asked() {
-  return "asked at each " (step == 1 ? "second" : duration(step)) ", a colour for each walk" \
+  return "exact at each second; a colour for each walk, asked at " \
+    (every == 1 ? "each second" : "corners and each " duration(every)) \
     (bottom ? "; the axis begins at " duration(bottom) ", not at 0" : "")
 }
 
 function description(    text, i, most) {
-  text = "Travel time over departure, asked at each " (step == 1 ? "second" : duration(step)) " of the day: " extremes() ". "
+  text = "Travel time over departure, at each second of the day: " extremes() ". "
   if (walks == 1) return text "One walk is the best all day: " walk_name(1) "."
   text = text "The walk changes " plural(runs - 1, "time") ", among " walks " walks."
   most = runs > 12 ? 12 : runs
   for (i = 1; i <= most; i++) {
-    text = text " From " moment(run_first[i] * step) " " walk_name(rank[run_walk[i]]) "."
+    text = text " From " moment(run_first[i]) " " walk_name(rank[run_walk[i]]) "."
   }
   return text (runs > most ? " And so on." : "")
 }
@@ -171,18 +184,36 @@ function print_axes(    seconds, hour, base) {
   print_text(plot_left - 8, plot_top - 12, "fill=\"#555555\" text-anchor=\"end\"", "travel time")
 }
 
-# The points of a run: its ends, and where the curve turns. It leads on to the next run's first, since the walk changes
+# The points of a run: its ends, and the corners in between. It leads on to the next run's first, since the walk changes
 # in between.
-function run_points(run,    i, last, points, point, before) {
+function run_points(run,    i, last, points) {
+  if (run in points_of) return points_of[run]
   last = last_of(run)
-  for (i = run_first[run]; i <= last; i++) {
-    if (i > run_first[run] && i < last && travel[i] - travel[i - 1] == travel[i + 1] - travel[i]) continue
-    point = place(over(i * step)) "," place(up(travel[i]))
-    if (point == before) continue
-    points = points " " point
-    before = point
+  points = point_at(run_first[run], travel_at(run_first[run]))
+  point_before = points
+  while (passed < corners && corner[passed + 1] <= run_first[run]) passed++
+  for (i = passed + 1; i <= corners && corner[i] < last; i++) {
+    if (!is_straight(corner[i], corner_travel[i])) points = points next_point(corner[i], corner_travel[i])
   }
-  return substr(points, 2)
+  points_of[run] = points next_point(last, travel_at(last))
+  return points_of[run]
+}
+
+# Whether the curve goes straight over a second: a piece may go on where the one before would have gone too.
+function is_straight(second, seconds) {
+  return seconds - travel_at(second - 1) == travel_at(second + 1) - seconds
+}
+
+function point_at(second, seconds) {
+  return place(over(second)) "," place(up(seconds))
+}
+
+# A blank and a point, unless it is that before.
+function next_point(second, seconds,    point) {
+  point = point_at(second, seconds)
+  if (point == point_before) return ""
+  point_before = point
+  return " " point
 }
 
 function last_of(run) {
@@ -194,8 +225,8 @@ function print_areas(    run, base) {
   print "<g id=\"areas\" fill-opacity=\"0.13\" stroke=\"none\">"
   for (run = 1; run <= runs; run++) {
     print "<polygon fill=\"" walk_colour(run_walk[run]) "\" points=\"" \
-      place(over(run_first[run] * step)) "," base " " run_points(run) " " \
-      place(over(last_of(run) * step)) "," base "\"/>"
+      place(over(run_first[run])) "," base " " run_points(run) " " \
+      place(over(last_of(run))) "," base "\"/>"
   }
   print "</g>"
 }
@@ -211,24 +242,24 @@ function print_curve(    run) {
 
 function print_marks() {
   print "<g id=\"marks\">"
-  print_mark(greatest, -12, travel[least] == travel[greatest] ? "always" : "greatest")
-  if (travel[least] != travel[greatest]) {
-    print_mark(least, up(travel[least]) > plot_top + plot_height - 30 ? -12 : 22, "least")
+  print_mark(greatest, greatest_travel, -12, least_travel == greatest_travel ? "always" : "greatest")
+  if (least_travel != greatest_travel) {
+    print_mark(least, least_travel, up(least_travel) > plot_top + plot_height - 30 ? -12 : 22, "least")
   }
   print "</g>"
 }
 
-function print_mark(asked_at, lower, words,    at_x, half, anchor) {
-  at_x = over(asked_at * step)
-  words = words " " duration(travel[asked_at])
-  if (travel[least] != travel[greatest]) words = words " at " moment(asked_at * step)
+function print_mark(second, seconds, lower, words,    at_x, half, anchor) {
+  at_x = over(second)
+  words = words " " duration(seconds)
+  if (least_travel != greatest_travel) words = words " at " moment(second)
   half = text_width(words) / 2
   anchor = "middle"
   if (at_x < plot_left + half) anchor = "start"
   else if (at_x > plot_left + plot_width - half) anchor = "end"
-  print "<circle cx=\"" place(at_x) "\" cy=\"" place(up(travel[asked_at])) "\" r=\"4.5\"" \
+  print "<circle cx=\"" place(at_x) "\" cy=\"" place(up(seconds)) "\" r=\"4.5\"" \
     " fill=\"#ffffff\" stroke=\"#222222\" stroke-width=\"1.5\"/>"
-  print_label(at_x, up(travel[asked_at]) + lower, "text-anchor=\"" anchor "\"", words)
+  print_label(at_x, up(seconds) + lower, "text-anchor=\"" anchor "\"", words)
 }
 
 # When a walk is the best: its first runs, and how many more there are.
@@ -242,12 +273,12 @@ function walk_times(i,    run, many, text) {
 
 function walk_line(i) {
   if (walks == 1) return walk_name(i) ": all day"
-  return walk_name(i) ", " duration(held[at_rank[i]] * step) ": " walk_times(i)
+  return walk_name(i) ", " duration(held[at_rank[i]]) ": " walk_times(i)
 }
 
 function run_times(run) {
-  if (run_first[run] == run_last[run]) return moment(run_first[run] * step)
-  return moment(run_first[run] * step) " to " moment(run_last[run] * step)
+  if (run_first[run] == run_last[run]) return moment(run_first[run])
+  return moment(run_first[run]) " to " moment(run_last[run])
 }
 
 function print_walks(    i, line, others) {
@@ -258,7 +289,7 @@ function print_walks(    i, line, others) {
     else print_walk(line, walk_colour(at_rank[i]), walk_line(i))
   }
   if (walks > shown) {
-    print_walk(first_line + 20 * shown, "#9a9fa6", plural(walks - shown, "more walk") ": " duration(others * step) " in all")
+    print_walk(first_line + 20 * shown, "#9a9fa6", plural(walks - shown, "more walk") ": " duration(others) " in all")
   }
   print "</g>"
 }

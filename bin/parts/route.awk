@@ -54,7 +54,7 @@ END {
   print "</svg>"
 }
 
-function read_reply(line) {
+function read_reply(line,    pieces) {
   sub(/\r$/, "", line)
   if (++replies > most_replies) refuse("more than " most_replies " replies can't be drawn: take some of them")
   if (line ~ /^arrive=[0-9]+ arcs=([0-9]+( [0-9]+)*)?$/) {
@@ -64,6 +64,9 @@ function read_reply(line) {
   } else if (line ~ /^(unreachable|no memory|done [0-9]+|damaged [0-9]+ (up|down) [0-9]+|refused: [a-z]+( [0-9]+)*)$/) {
     text[replies] = line
     add_kind(line)
+  } else if (line ~ /^day [0-9]+,(travel|until),[0-9]+/) {
+    text[replies] = "a day of " plural(split(line, pieces, " ") - 1, "piece")
+    add_kind("whole day")
   } else {
     gsub(/[^ -~]/, "?", line)
     refuse_reply("this is no reply: " substr(line, 1, 60))

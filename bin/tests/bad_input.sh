@@ -43,6 +43,14 @@ check_bad_words() {
   done
   check "bad input: words of release" "" "$(try_badly release --none; try_badly release a b)"
   check "bad input: words of check-release" "" "$(try_badly check-release a b)"
+  check "bad input: words of check-scripts" "" "$(try_badly check-scripts --none; try_badly check-scripts a b)"
+  check "bad input: words of count-definitions" "" "$(try_badly count-definitions --none; try_badly count-definitions a:b:c
+    try_badly count-definitions cu_cli.specs.Runs:None)"
+  for script in draw-route draw-day order-by-metis package release check-release check-scripts count-definitions; do
+    check "help: words of $script" "0 0 usage: $script" "$(
+      "$scripts/$script" --help >"$room/out" 2>"$room/said"
+      echo "$? $(wc -c <"$room/said" | tr -d ' ') $(head -n 1 "$room/out" | cut -d ' ' -f 1,2)")"
+  done
   check "bad input: no program" "" "$(CATCHUP=/none/such try_badly draw-day nodes roads profiles identity 0 3)"
   check "bad input: no folder for temporary files" "1 1 1" "$(
     for script in draw-route order-by-metis; do

@@ -24,7 +24,9 @@ check_package() {
   examples="$room/unpacked/usr/share/doc/catchup/examples"
   check "a package: its sums are right" "0" "$(dpkg-deb -e "$package" "$room/unpacked/DEBIAN"; cd "$room/unpacked" &&
     md5sum --quiet -c DEBIAN/md5sums >/dev/null 2>&1; echo $?)"
-  check "a package: answers" "built 3 3 3 368|arrive=160 arcs=0 1|arrive=29050 arcs=2" "$(run_installed | in_a_row)"
+  check "a package: answers" "built 3 3 3 416|arrive=160 arcs=0 1|arrive=29050 arcs=2" "$(run_installed | in_a_row)"
+  check "a package: the manual's example" "built 3 3 3 416|arrive=160 arcs=0 1|arrive=29050 arcs=2" "$(run_manual | in_a_row)"
+  check "a package: asks nobody to build" "0" "$(CATCHUP_BUILD=1 PATH="$plain" "$installed/catchup" ask "$room/town.cu" </dev/null 2>&1; echo $?)"
   check "a package: draws" "0 0" "$(draw_installed)"
   check "a package: orders" "0|1|2|3|4" "$(PATH="$plain" "$installed/order-by-metis" nodes loops | in_a_row)"
 }
@@ -33,6 +35,14 @@ run_installed() {
   (cd "$examples/rush_hour" && PATH="$plain" &&
     "$installed/catchup" build nodes.csv roads.csv profiles.csv identity "$room/town.cu" &&
     printf 'q,0,2,0\nq,0,2,28800\n' | "$installed/catchup" ask "$room/town.cu")
+}
+
+# The lines between .nf and .fi, over what is unpacked.
+run_manual() {
+  gzip -dc "$room/unpacked/usr/share/man/man1/catchup.1.gz" |
+    sed -n '/^\.nf$/,/^\.fi$/{/^\./d; s/\\e/\\/g; s/\\-/-/g; p;}' | sed "s|/usr/share|$room/unpacked&|" >"$room/example"
+  mkdir "$room/of_manual"
+  TMPDIR="$room/of_manual" PATH="$installed:$plain" sh "$room/example" 2>&1
 }
 
 draw_installed() {

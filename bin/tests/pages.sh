@@ -32,7 +32,7 @@ for ((n = 1; n <= many; n++)); do
   echo $? >"$steps/$n.status"
 done
 END
-  (cd "$clone" && PATH="$plain" TMPDIR="$room/rests" steps="$steps" many="$many" timeout 100 bash "$steps/all")
+  (cd "$clone" && PATH="$plain" TMPDIR="$room/rests" steps="$steps" many="$many" timeout 900 bash "$steps/all")
 }
 
 check_page() {

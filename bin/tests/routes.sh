@@ -25,6 +25,8 @@ check_routes() {
   check "routes: words say what is shown" "1" \
     "$(count '<desc.* 1: arrives 00:02:40, 2 roads, node 0 to 3\. Reply 2: unreachable\.')"
   check "routes: places are to scale, y upwards" "1 1 1 1" "$(compare_places)"
+  check "routes: a day is told by its pieces" "status 0 1" \
+    "$(printf 'day 0,travel,60 28800,until,28900 28841,travel,60\n' | route nodes roads | cut -c 1-8) $(count '>a day of 3 pieces<')"
   check "routes: a damaged shortcut is told" "status 0 1" \
     "$(printf 'damaged 5 up 0\n' | route nodes roads | cut -c 1-8) $(count '>damaged 5 up 0<')"
   check "routes: no reply" "0 0" \
@@ -195,10 +197,12 @@ check_odd_names() {
   sed 's/^\([0-9]*\),/"\1",/' roads >"$odd/it's=roads"
   route nodes roads <five >/dev/null
   cp five "$room/out" "$odd/"
+  mkdir "$room/anybody"
   chmod -R a+rX "$room"
+  chmod a+w "$room/anybody"
   chmod -R a-w "$odd"
   cd "$odd" || exit 1
-  LC_ALL=de_DE.UTF-8 as_nobody "$scripts/draw-route" "-nodes here" "it's=roads" <five \
+  as_nobody env TMPDIR="$room/anybody" LC_ALL=de_DE.UTF-8 "$scripts/draw-route" "-nodes here" "it's=roads" <five \
     >"$room/odd" 2>&1
   check "odd names: are read, and nothing is written beside them" "" "$(diff "$room/odd" out)"
   cd "$data" || exit 1

@@ -1,5 +1,5 @@
 -- What a stretch says of the arrival function that it is of.
-use Rattle.std.proofs.Common.{◌≡◌, ◌≤◌, ◌<◌, ◌+◌, ◌-◌, ◌*◌, ◌/◌, ◌^◌, ◌∙◌, ℕ, suc, List, Some, refl, sym, ap, subst, arith, inl, inr, length, get_or}
+use Rattle.std.proofs.Common.{◌≡◌, ◌≤◌, ◌<◌, ◌+◌, ◌-◌, ◌*◌, ◌/◌, ◌^◌, ◌∙◌, ◌⊎◌, ℕ, suc, List, Some, refl, sym, ap, subst, arith, inl, inr, length, get_or}
 use Rattle.std.specs.Prelude.{slice_get}
 use Rattle.std.proofs.lemmas.Option.{slice_get-get_or, get_or_from_slice_get, slice_get_within, slice_get_cases}
 use Rattle.cu_model.specs.Days.{day}
@@ -92,3 +92,17 @@ module _ (runs : List Run) (x : Stretch) (t : ℕ) (f : IsArrivalFunction runs) 
       let (run, there, begun, rule) = stretch.run in
       let limit = all_at IsRunInLimit runs x.index run f.limits there in
       rw rule (on_day-number run.rule x.midnight (2 ^ 62) limit.1)
+
+  -- it ends with its day, or where a run begins
+  pub stretch_next : x.midnight ≡ 0 → (x.end ≡ day) ⊎ ((i : ℕ) × (run : Run) × (slice_get runs i ≡ Some run) × (run.from ≡ x.end))
+  stretch_next none = elim (slice_get_cases runs (x.index + 1)).1 [
+    | inl found ↦
+        let (run, inside, there, same) = found in
+        let until : until_next (slice_get runs (x.index + 1)) ≡ run.from = rw there refl in
+        let end = stretch.end in
+        inr (x.index + 1, run, there, omega (arith, none, end, until))
+    | inr past ↦
+        let until : until_next (slice_get runs (x.index + 1)) ≡ day = rw past.1 refl in
+        let end = stretch.end in
+        inl (omega (arith, none, end, until))
+  ]

@@ -16,4 +16,4 @@ mod stretches;
 
 pub use composition::compose;
 pub use minimum::lesser;
-pub use runs::{Arrival, Choice, Run, RunRule};
+pub use runs::{Arrival, Choice, Run, RunRule, Stretch};

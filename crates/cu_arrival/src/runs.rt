@@ -1,12 +1,14 @@
 //! Arrival functions: runs that say when a road or shortcut arrives, at each second of a day that repeats.
 
-ghost use Rattle.std.specs.Prelude.{◌≡◌, ◌≤◌, ◌<◌, ◌+◌, ◌*◌, ◌^◌, ◌/◌, ◌%◌, ℕ, Some, IfOk, length, map, false};
+ghost use Rattle.std.specs.Prelude.{◌≡◌, ◌≤◌, ◌<◌, ◌+◌, ◌*◌, ◌^◌, ◌/◌, ◌%◌, ◌⊎◌, ℕ, Some, IfOk, length, map, slice_get, false};
 ghost use Rattle.cu_model.specs.declared.limits.TheConstants.{DAY};
 ghost use Rattle.cu_model.specs.Roads.{arc_value, is_closed_arc, pieces_of};
-ghost use Rattle.cu_arrival.specs.Runs.{IsArrivalFunction, run_at, arrival_value, rule_number, rule_value};
+ghost use Rattle.cu_arrival.specs.declared.runs.Run.{Run};
+ghost use Rattle.cu_arrival.specs.Runs.{IsArrivalFunction, arrives, run_at, arrival_value, rule_number, rule_value};
 ghost use Rattle.cu_arrival.specs.Steps.OfPieces.{run_of};
 
 use crate::packing::RunList;
+use crate::stretches::stretch_at;
 use cu_model::{DAY, NoMemory, Piece, Roads, Rule};
 use std::alloc::Global;
 use std::marker::Model;
@@ -33,6 +35,13 @@ pub struct Run {
 pub struct Choice {
     pub from: u32,
     pub second: bool,
+}
+
+/// A rule, and the second before which it holds, 1 to 86,400.
+#[derive(Clone, Copy, Debug, PartialEq, Eq)]
+pub struct Stretch {
+    pub rule: RunRule,
+    pub end: u32,
 }
 
 /// An arrival function: when a road or shortcut arrives, at each second of a day that repeats. Contracts see it as its
@@ -120,6 +129,26 @@ impl Arrival {
     {
         let run = run_begun(&self.runs, (second % u64::from(DAY)) as u32);
         departing(run.rule, second)
+    }
+
+    /// The rule that holds at a second of the day, below 86,400, and until when: up to where another run begins, or to the
+    /// day's end.
+    pub fn stretch(&self, second: u32) -> Stretch
+        requires { second < DAY }
+        ensures later { second < result.end }
+        ensures within { result.end ≤ DAY }
+        ensures kept { (t : ℕ) → second ≤ t → t < result.end
+            → arrival_value self.now t ≡ arrives result.rule t }
+        ensures next { (result.end ≡ DAY)
+            ⊎ ((index : ℕ) × (run : Run) × (slice_get self.now index ≡ Some run)
+            × (run.from ≡ result.end)) }
+        ensures limit { rule_number result.rule ≤ 2 ^ 62 }
+    {
+        let stretch = stretch_at(&self.runs, u64::from(second));
+        Stretch {
+            rule: stretch.rule,
+            end: stretch.end as u32,
+        }
     }
 }
 

@@ -10,8 +10,6 @@ use Rattle.cu_model.specs.Orders.{OrderValue}
 use Rattle.cu_chordal.specs.Edges.{HasTooManyEdges}
 use Rattle.cu_interval.specs.Hierarchies.{HierarchyValue}
 use Rattle.cu_order.specs.declared.refusals.OrderRefusal.{OrderRefusal}
-use Rattle.cu_pack.specs.Checks.{IsRefused, Spells}
-use Rattle.cu_pack.proofs.Spelled.Accepted.{not_refused}
 use Rattle.cu_roads.specs.NetworkTexts.{NetworkRead, network_of}
 use Rattle.cu_roads.specs.declared.refusals.RoadRefusal.{RoadRefusal}
 use Rattle.cu_session.specs.declared.stops.SessionStop.{SessionStop}
@@ -21,7 +19,7 @@ use Rattle.cu_cli.specs.declared.stops.Stop.{Stop}
 use Rattle.cu_cli.specs.declared.stops.Stop.TheVariants as stop
 use Rattle.cu_cli.specs.Endings.{Answers, Ending, EndsPacking, EndsStoring, IsTooLarge, ending_of}
 use Rattle.cu_cli.specs.Meanings.{Meaning, no_command}
-use Rattle.cu_cli.specs.Opening.{IsOpenable, StopsChecks, StopsOpening}
+use Rattle.cu_cli.specs.Opening.{IsFileOf, IsOpenable, StopsChecks, StopsOpening}
 use Rattle.cu_cli.specs.Preparing.{AreLoaded, IsLoaded, IsOrderOf, IsOrderRefused, IsServable, ReadsTables, StopsLoad, StopsLoading}
 use Rattle.cu_cli.specs.Preparing.{StopsNetwork, StopsOrder, StopsPreparing, StopsTables}
 use Rattle.cu_cli.specs.Runs.{IsShort, MayStop, MeetsNoFault}
@@ -30,6 +28,7 @@ use Rattle.cu_cli.specs.Storing.{FileMade, FileStored, StopsStore, StopsStoring}
 use Rattle.cu_cli.specs.Steps.Asks.{Means}
 use Rattle.cu_cli.specs.Steps.Outcomes.{Completes, Did, Refuses, SaysStop, Works, World, world_of}
 use Rattle.cu_cli.specs.Words.{FileAsked, OrderAsked, TablesAsked, table_files}
+use Rattle.cu_cli.proofs.FileLaws.{not_no_file}
 use Rattle.cu_cli.proofs.LoadLaws.{only_nothing}
 use Rattle.cu_cli.proofs.WorkLaws.{stopped_before}
 
@@ -132,7 +131,7 @@ one_text a files file text other told h k =
     let too = rw told at k.0 in
     cc (there, too)
 
-same_texts : (a : ShelfState) (files : List ℕ → Option (List ℕ)) (asked : List FileAsked) (texts others : List (List ℕ)) → a.held ≡ Some files
+pub same_texts : (a : ShelfState) (files : List ℕ → Option (List ℕ)) (asked : List FileAsked) (texts others : List (List ℕ)) → a.held ≡ Some files
     → AreLoaded a asked texts → AreLoaded a asked others → others ≡ texts
 same_texts a files [] [] [] told h k = refl
 same_texts a files [] [] (x ∷ xs) told h k = absurd k
@@ -157,7 +156,7 @@ load_stops a b files file text (stop.TooLong whose) told h fine k =
 load_stops a b files file text stop.NoMemory told h fine k = refl
 load_stops a b files file text _ told h fine k = absurd k
 
-loads_stop : (a b : ShelfState) (files : List ℕ → Option (List ℕ)) (asked : List FileAsked) (texts : List (List ℕ)) (why : Stop) → a.held ≡ Some files → AreLoaded a asked texts
+pub loads_stop : (a b : ShelfState) (files : List ℕ → Option (List ℕ)) (asked : List FileAsked) (texts : List (List ℕ)) (why : Stop) → a.held ≡ Some files → AreLoaded a asked texts
     → ((name : List ℕ) → Rose (a.load_faults name) (b.load_faults name) → ⊥) → StopsLoading a b asked why → why ≡ stop.NoMemory
 loads_stop a b files [] texts why told h fine k = absurd k
 loads_stop a b files (file ∷ asked) [] why told h fine k = absurd h
@@ -202,12 +201,11 @@ preparing_stops a b tables asked why (files, read, given, told, (nodes, roads, p
     let reads : other ≡ read = cc (here, named) in
     order_stops asked read given why ordered few (subst (λ (n : NetworkRead). StopsOrder asked n given why) reads order)
 
--- no check refuses the packed file of a hierarchy
-checks_stop : (bytes : List ℕ) (h : HierarchyValue) (why : Stop) → Spells bytes h → StopsChecks bytes why → why ≡ stop.NoMemory
-checks_stop bytes h (stop.File refusal) spells (refused, some) =
-    absurd (not_refused h spells.sound refusal some (subst (λ (t : List ℕ). IsRefused t refusal) spells.spelled refused))
-checks_stop bytes h stop.NoMemory spells k = refl
-checks_stop bytes h _ spells k = absurd k
+-- no check refuses the packed file of a hierarchy, in either version
+checks_stop : (bytes : List ℕ) (h : HierarchyValue) (why : Stop) → IsFileOf bytes h → StopsChecks bytes why → why ≡ stop.NoMemory
+checks_stop bytes h (stop.File refusal) file (refused, some) = absurd (not_no_file bytes h refusal file refused some)
+checks_stop bytes h stop.NoMemory file k = refl
+checks_stop bytes h _ file k = absurd k
 
 -- nothing but want of memory stops the opening of files the first of which is the packed file of a hierarchy
 pub opening_stops : (a b : ShelfState) (asked : List FileAsked) (why : Stop) → IsOpenable asked a → ((name : List ℕ) → Rose (a.load_faults name) (b.load_faults name) → ⊥)

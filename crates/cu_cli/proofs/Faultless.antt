@@ -31,6 +31,7 @@ faultless (Some stop.Sink) file source sink = sink refl
 faultless (Some stop.Words) file source sink = tt
 faultless (Some (stop.TooLong whose)) file source sink = tt
 faultless (Some (stop.Network refusal)) file source sink = tt
+faultless (Some (stop.Measured refusal)) file source sink = tt
 faultless (Some (stop.Order refusal)) file source sink = tt
 faultless (Some (stop.File refusal)) file source sink = tt
 faultless (Some (stop.Differs found)) file source sink = tt

@@ -4,9 +4,11 @@ mod LoadLaws
 mod OrderKinds
 mod WorkLaws
 mod StoreLaws
+mod FileLaws
 mod Completeness
 mod OpeningLaws
 mod EditedLaws
 mod TrialLaws
 mod Faultless
 mod VerifyLaws
+mod MeasureLaws

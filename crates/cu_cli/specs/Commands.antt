@@ -5,6 +5,8 @@ use Rattle.cu_cli.specs.Commands.Ask.{ask_of}
 use Rattle.cu_cli.specs.Commands.Build.{build_of}
 use Rattle.cu_cli.specs.Commands.Edit.{edit_of}
 use Rattle.cu_cli.specs.Commands.Make.{make_of}
+use Rattle.cu_cli.specs.Commands.Measure.{measure_of}
+use Rattle.cu_cli.specs.Commands.Migrate.{migrate_of}
 use Rattle.cu_cli.specs.Commands.Order.{order_of}
 use Rattle.cu_cli.specs.Commands.Serve.{serve_of}
 use Rattle.cu_cli.specs.Commands.Trial.{trial_of}
@@ -13,6 +15,8 @@ pub mod Ask
 pub mod Build
 pub mod Edit
 pub mod Make
+pub mod Measure
+pub mod Migrate
 pub mod Order
 pub mod Serve
 pub mod Trial
@@ -29,5 +33,7 @@ meaning_of (word ∷ words) =
     else when bytes_eq word (codes "ask") asks ask_of words
     else when bytes_eq word (codes "edit") asks edit_of words
     else when bytes_eq word (codes "verify") asks verify_of words
+    else when bytes_eq word (codes "measure") asks measure_of words
+    else when bytes_eq word (codes "migrate") asks migrate_of words
     else when bytes_eq word (codes "trial") asks trial_of words
     else no_command

@@ -21,6 +21,8 @@ use Rattle.cu_pack.specs.declared.refusals.Field.TheVariants as field
 use Rattle.cu_pack.specs.declared.refusals.PackRefusal.{PackRefusal}
 use Rattle.cu_pack.specs.declared.refusals.PackRefusal.TheVariants as pack
 use Rattle.cu_session.specs.Refusals.{piece_refusal_words}
+use Rattle.cu_wait.specs.declared.refusals.MeasuredRefusal.{MeasuredRefusal}
+use Rattle.cu_wait.specs.declared.refusals.MeasuredRefusal.TheVariants as measured
 use Rattle.cu_router.specs.Swept.{dir_word}
 
 -- a word, and numbers behind it, each behind a space
@@ -64,6 +66,18 @@ order_fault (order.Twice row) = decimal row ++ codes " twice"
 order_fault (order.Count rows) = decimal rows ++ codes " count"
 order_fault order.NoMemory = []
 
+abbrev pub measured_fault : MeasuredRefusal → List ℕ
+measured_fault measured.Header = codes "header"
+measured_fault (measured.Fields row) = decimal row ++ codes " fields"
+measured_fault (measured.Number row) = decimal row ++ codes " number"
+measured_fault (measured.Sequence row) = decimal row ++ codes " sequence"
+measured_fault (measured.TooMany row) = decimal row ++ codes " count"
+measured_fault (measured.Mode row) = decimal row ++ codes " mode"
+measured_fault (measured.Limit row) = decimal row ++ codes " limit"
+measured_fault (measured.Start row) = decimal row ++ codes " start"
+measured_fault (measured.Rising row) = decimal row ++ codes " rising"
+measured_fault measured.NoMemory = []
+
 abbrev pub field_word : Field → List ℕ
 field_word field.Nodes = codes "nodes"
 field_word field.Arcs = codes "arcs"
@@ -85,6 +99,7 @@ file_fault (pack.RoadArc arc) = numbers_text (codes "arc") (arc ∷ [])
 file_fault (pack.Profile number) = numbers_text (codes "profile") (number ∷ [])
 file_fault (pack.Graph rank) = numbers_text (codes "graph") (rank ∷ [])
 file_fault (pack.Ways edge dir) = numbers_text (codes "ways") (edge ∷ []) ++ codes " " ++ dir_word dir
+file_fault (pack.Bound edge dir) = numbers_text (codes "bound") (edge ∷ []) ++ codes " " ++ dir_word dir
 file_fault pack.NoMemory = []
 
 -- the way that a list takes, if it isn't empty
@@ -120,6 +135,7 @@ said_of stop.Words = line_of (codes "words")
 said_of (stop.Fault whose) = line_of (codes "shelf: fault " ++ role_word whose)
 said_of (stop.TooLong whose) = line_of (codes "shelf: long " ++ role_word whose)
 said_of (stop.Network refusal) = line_of (codes "network: " ++ road_fault refusal)
+said_of (stop.Measured refusal) = line_of (codes "measured: " ++ measured_fault refusal)
 said_of (stop.Order refusal) = line_of (codes "order: " ++ order_fault refusal)
 said_of (stop.File refusal) = line_of (codes "file: " ++ file_fault refusal)
 said_of stop.TooManyEdges = line_of (codes "too many shortcuts")
@@ -133,6 +149,7 @@ status_of stop.Words = 2
 status_of (stop.Fault whose) = 3
 status_of (stop.TooLong whose) = 3
 status_of (stop.Network refusal) = 4
+status_of (stop.Measured refusal) = 4
 status_of (stop.Order refusal) = 5
 status_of (stop.File refusal) = 6
 status_of stop.Source = 7

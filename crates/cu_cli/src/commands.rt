@@ -9,6 +9,8 @@ mod ask;
 mod build;
 mod edit;
 mod make;
+mod measure;
+mod migrate;
 mod order;
 mod serve;
 mod trial;
@@ -20,6 +22,8 @@ use build::BuildWords;
 use cu_io::{Shelf, Sink, Source};
 use edit::EditWords;
 use make::MakeWords;
+use measure::MeasureWords;
+use migrate::MigrateWords;
 use order::OrderWords;
 use serve::ServeWords;
 use std::alloc::Global;
@@ -43,6 +47,10 @@ pub enum Command<'a> {
     Edit(EditWords<'a>),
     /// `verify HIERARCHY`
     Verify(VerifyWords<'a>),
+    /// `measure MEASURED OUT`
+    Measure(MeasureWords<'a>),
+    /// `migrate HIERARCHY OUT`
+    Migrate(MigrateWords<'a>),
     /// `trial START WIDTH HEIGHT TURNS`
     Trial(TrialWords),
 }
@@ -60,6 +68,8 @@ pub fn parse_words(words: &Vec<String>) -> Option<Command<'_>>
         "ask" => Some(Command::Ask(ask::parse(words)?)),
         "edit" => Some(Command::Edit(edit::parse(words)?)),
         "verify" => Some(Command::Verify(verify::parse(words)?)),
+        "measure" => Some(Command::Measure(measure::parse(words)?)),
+        "migrate" => Some(Command::Migrate(migrate::parse(words)?)),
         "trial" => Some(Command::Trial(trial::parse(words)?)),
         _ => None,
     }
@@ -85,6 +95,8 @@ pub fn perform<H: Shelf, S: Source, K: Sink>(
         Command::Ask(asked) => ask::ask(alloc, asked, shelf, source, sink),
         Command::Edit(asked) => edit::edit(alloc, asked, shelf, sink),
         Command::Verify(asked) => verify::verify(alloc, asked, shelf, sink),
+        Command::Measure(asked) => measure::measure(alloc, asked, shelf, sink),
+        Command::Migrate(asked) => migrate::migrate(alloc, asked, shelf, sink),
         Command::Trial(asked) => trial::trial(alloc, asked, sink),
     }
 }

@@ -2,7 +2,8 @@
 
 ghost use Rattle.std.specs.Prelude.{◌≡◌, ◌++◌, codes, decimal};
 ghost use Rattle.cu_io.specs.Sinks.{Wrote, WroteLine};
-ghost use Rattle.cu_cli.specs.Stops.{difference_text, field_word, file_fault, file_word, order_fault, place_words, profile_fault, road_fault, row_fault, way_words};
+ghost use Rattle.cu_router.specs.Swept.{dir_word};
+ghost use Rattle.cu_cli.specs.Stops.{difference_text, field_word, file_fault, file_word, measured_fault, order_fault, place_words, profile_fault, road_fault, row_fault, way_words};
 
 use crate::stops::Difference;
 use cu_interval::{Dir, Way};
@@ -12,6 +13,7 @@ use cu_pack::{Field, PackRefusal};
 use cu_profile::ProfileRefusal;
 use cu_roads::{File, RoadRefusal};
 use cu_session::{put_dir, put_piece_refusal, put_word_and_long, put_word_and_number};
+use cu_wait::MeasuredRefusal;
 
 /// Writes and ends the line of a refused network.
 pub fn put_network_line<K: Sink>(sink: &mut K, refusal: RoadRefusal) -> Result<(), SinkFailed>
@@ -90,6 +92,32 @@ fn file_text(file: File) -> &'static [u8]
     }
 }
 
+/// Writes and ends the line of a refused text of measured profiles.
+pub fn put_measured_line<K: Sink>(sink: &mut K, refusal: MeasuredRefusal) -> Result<(), SinkFailed>
+    ensures wrote { WroteLine (K.state sink.old) (K.state sink.new) result (codes "measured: " ++ measured_fault refusal) }
+{
+    put_all(sink, b"measured: ")?;
+    put_measured_words(sink, refusal)?;
+    end_line(sink)
+}
+
+fn put_measured_words<K: Sink>(sink: &mut K, refusal: MeasuredRefusal) -> Result<(), SinkFailed>
+    ensures wrote { Wrote (K.state sink.old) (K.state sink.new) result (measured_fault refusal) }
+{
+    match refusal {
+        MeasuredRefusal::Header => put_all(sink, b"header"),
+        MeasuredRefusal::Fields { row } => put_number_and_word(sink, row, b" fields"),
+        MeasuredRefusal::Number { row } => put_number_and_word(sink, row, b" number"),
+        MeasuredRefusal::Sequence { row } => put_number_and_word(sink, row, b" sequence"),
+        MeasuredRefusal::TooMany { row } => put_number_and_word(sink, row, b" count"),
+        MeasuredRefusal::Mode { row } => put_number_and_word(sink, row, b" mode"),
+        MeasuredRefusal::Limit { row } => put_number_and_word(sink, row, b" limit"),
+        MeasuredRefusal::Start { row } => put_number_and_word(sink, row, b" start"),
+        MeasuredRefusal::Rising { row } => put_number_and_word(sink, row, b" rising"),
+        MeasuredRefusal::NoMemory => Ok(()),
+    }
+}
+
 /// Writes and ends the line of a refused order.
 pub fn put_order_line<K: Sink>(sink: &mut K, refusal: OrderRefusal) -> Result<(), SinkFailed>
     ensures wrote { WroteLine (K.state sink.old) (K.state sink.new) result (codes "order: " ++ order_fault refusal) }
@@ -146,13 +174,20 @@ fn put_file_fault<K: Sink>(sink: &mut K, refusal: PackRefusal) -> Result<(), Sin
         PackRefusal::RoadArc { arc } => put_word_and_number(sink, b"arc ", arc),
         PackRefusal::Profile { number } => put_word_and_number(sink, b"profile ", number),
         PackRefusal::Graph { rank } => put_word_and_number(sink, b"graph ", rank),
-        PackRefusal::Ways { edge, dir } => {
-            put_word_and_number(sink, b"ways ", edge)?;
-            put_all(sink, b" ")?;
-            put_dir(sink, dir)
-        }
+        PackRefusal::Ways { edge, dir } => put_shortcut(sink, b"ways ", edge, dir),
+        PackRefusal::Bound { edge, dir } => put_shortcut(sink, b"bound ", edge, dir),
         PackRefusal::NoMemory => Ok(()),
     }
+}
+
+// Writes a word, an edge and a direction.
+fn put_shortcut<K: Sink>(sink: &mut K, word: &[u8], edge: u32, dir: Dir) -> Result<(), SinkFailed>
+    ensures wrote { Wrote (K.state sink.old) (K.state sink.new) result
+        (word.now ++ decimal edge ++ codes " " ++ dir_word dir) }
+{
+    put_word_and_number(sink, word, edge)?;
+    put_all(sink, b" ")?;
+    put_dir(sink, dir)
 }
 
 // Writes a word and two numbers.

@@ -1,18 +1,18 @@
 //! Packed files, loaded and checked. Whatever is refused stops the run.
 
-ghost use Rattle.std.specs.Prelude.{◌∷◌, [], OnOk, IfOk, IfErr};
+ghost use Rattle.std.specs.Prelude.{◌≡◌, ◌∷◌, [], IfErr, IfOk};
 ghost use Rattle.cu_interval.specs.Hierarchies.{HierarchyValue};
 ghost use Rattle.cu_pack.specs.Checks.{Spells};
-ghost use Rattle.cu_cli.specs.Opening.{StopsChecks, StopsOpening};
-ghost use Rattle.cu_cli.specs.Preparing.{AreLoaded};
+ghost use Rattle.cu_cli.specs.Opening.{IsFileOf, Opens, StopsChecks, StopsOpening};
 ghost use Rattle.cu_cli.specs.Steps.Loading.{OnlyLoads};
+ghost use Rattle.cu_cli.specs.Steps.Opening.{FailsFirst, names_version_1};
 ghost use Rattle.cu_cli.specs.Steps.Outcomes.{IsBeforeScript, IsRefusal, stop_of};
 ghost use Rattle.cu_cli.specs.Words.{editing_files, hierarchy_file};
 
 use crate::preparing::load_file;
 use crate::stops::{Role, Stop};
 use cu_io::Shelf;
-use cu_pack::PackedView;
+use cu_pack::{PackRefusal, PackedView, migrate};
 use std::alloc::Global;
 
 /// A packed file, and the text of its edits.
@@ -22,33 +22,30 @@ pub struct EditedFile {
     pub edits: Vec<u8>,
 }
 
-/// The bytes of a file, which are the packed file of a hierarchy.
+/// The packed file, in version 2, of the hierarchy whose packed file the bytes of a file are, in either version.
 pub fn open_file<H: Shelf>(alloc: Global, name: &str, shelf: &mut H) -> Result<Vec<u8>, Stop>
-    ensures ok { IfOk result (λ bytes.
-        AreLoaded (H.state shelf.old) (hierarchy_file name.now ∷ []) (bytes.items ∷ [])
-        × ((h : HierarchyValue) × Spells bytes.items h)) }
+    ensures ok { IfOk result (λ bytes. (h : HierarchyValue)
+        × Opens (H.state shelf.old) (hierarchy_file name.now ∷ []) h [] × Spells bytes.items h) }
     ensures err { IfErr result (StopsOpening (H.state shelf.old) (H.state shelf.new)
         (hierarchy_file name.now ∷ [])) }
     ensures before { IfErr result IsBeforeScript }
     ensures loads { OnlyLoads (stop_of result) (H.state shelf.old) (H.state shelf.new) }
 {
     let bytes = load_file(alloc, Role::Hierarchy, name, shelf)?;
-    check_file(alloc, &bytes)?;
-    Ok(bytes)
+    checked_file(alloc, bytes)
 }
 
-/// The bytes of a file, which are the packed file of a hierarchy, and those of its edits. Both are loaded before the
-/// first is checked.
+/// The packed file, in version 2, of the hierarchy whose packed file the bytes of a file are, in either version, and the
+/// bytes of its edits. Both are loaded before the first is checked.
 pub fn open_edited<H: Shelf>(
     alloc: Global,
     hierarchy: &str,
     edits: &str,
     shelf: &mut H,
 ) -> Result<EditedFile, Stop>
-    ensures ok { IfOk result (λ file.
-        AreLoaded (H.state shelf.old) (editing_files hierarchy.now edits.now)
-        (file.hierarchy.items ∷ file.edits.items ∷ [])
-        × ((h : HierarchyValue) × Spells file.hierarchy.items h)) }
+    ensures ok { IfOk result (λ file. (h : HierarchyValue)
+        × Opens (H.state shelf.old) (editing_files hierarchy.now edits.now) h (file.edits.items ∷ [])
+        × Spells file.hierarchy.items h) }
     ensures err { IfErr result (StopsOpening (H.state shelf.old) (H.state shelf.new)
         (editing_files hierarchy.now edits.now)) }
     ensures before { IfErr result IsBeforeScript }
@@ -56,16 +53,40 @@ pub fn open_edited<H: Shelf>(
 {
     let hierarchy = load_file(alloc, Role::Hierarchy, hierarchy, shelf)?;
     let edits = load_file(alloc, Role::Edits, edits, shelf)?;
-    check_file(alloc, &hierarchy)?;
+    let hierarchy = checked_file(alloc, hierarchy)?;
     Ok(EditedFile { hierarchy, edits })
 }
 
-// The bytes are the packed file of a hierarchy; or the first check that they fail.
-fn check_file(alloc: Global, bytes: &[u8]) -> Result<(), Stop>
-    ensures spelled { OnOk result ((h : HierarchyValue) × Spells bytes.now h) }
-    ensures refused { IfErr result (StopsChecks bytes.now) }
+// The packed file, in version 2, of the hierarchy whose packed file these bytes are, in either version; or the first check
+// that they fail.
+fn checked_file(alloc: Global, bytes: Vec<u8>) -> Result<Vec<u8>, Stop>
+    ensures spelled { IfOk result
+        (λ file. (h : HierarchyValue) × IsFileOf bytes.items h × Spells file.items h) }
+    ensures refused { IfErr result (StopsChecks bytes.items) }
     ensures before { IfErr result IsRefusal }
 {
-    PackedView::open(alloc, bytes)?;
-    Ok(())
+    let Some(refusal) = first_failed(alloc, &bytes) else {
+        return Ok(bytes);
+    };
+    if names_version_1(refusal) {
+        return Ok(migrate(alloc, &bytes)?);
+    }
+    Err(Stop::from(refusal))
+}
+
+// Whether a file is refused for being of version 1.
+fn names_version_1(refusal: PackRefusal) -> bool
+    ensures { result ≡ names_version_1 refusal }
+{
+    match refusal {
+        PackRefusal::Version { found } => found == 1,
+        _ => false,
+    }
+}
+
+// The first check of version 2 that bytes fail.
+fn first_failed(alloc: Global, bytes: &[u8]) -> Option<PackRefusal>
+    ensures { FailsFirst bytes.now result }
+{
+    PackedView::open(alloc, bytes).err()
 }

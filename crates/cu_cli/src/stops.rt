@@ -5,7 +5,9 @@ ghost use Rattle.cu_io.specs.Sinks.{WroteLine};
 ghost use Rattle.cu_cli.specs.Stops.{role_word, said_of, status_of};
 ghost use Rattle.cu_cli.specs.Steps.Outcomes.{Refuses, Said};
 
-use crate::faults::{put_difference_line, put_file_line, put_network_line, put_order_line};
+use crate::faults::{
+    put_difference_line, put_file_line, put_measured_line, put_network_line, put_order_line,
+};
 use crate::saying::put_numbers_line;
 use cu_chordal::CloseRefusal;
 use cu_interval::{Dir, Way};
@@ -15,6 +17,7 @@ use cu_order::OrderRefusal;
 use cu_pack::PackRefusal;
 use cu_roads::RoadRefusal;
 use cu_session::SessionStop;
+use cu_wait::MeasuredRefusal;
 
 /// Whose word of a command names a file.
 #[derive(Clone, Copy, Debug, PartialEq, Eq)]
@@ -66,6 +69,8 @@ pub enum Stop {
     TooLong(Role),
     /// The network texts are refused.
     Network(RoadRefusal),
+    /// The text of measured profiles is refused.
+    Measured(MeasuredRefusal),
     /// The order text is refused.
     Order(OrderRefusal),
     /// The loaded bytes are the packed file of no hierarchy.
@@ -94,7 +99,7 @@ impl Stop {
         match self {
             Stop::Words => 2,
             Stop::Fault(_) | Stop::TooLong(_) => 3,
-            Stop::Network(_) => 4,
+            Stop::Network(_) | Stop::Measured(_) => 4,
             Stop::Order(_) => 5,
             Stop::File(_) => 6,
             Stop::Source => 7,
@@ -118,6 +123,20 @@ impl From<RoadRefusal> for Stop {
         match refusal {
             RoadRefusal::NoMemory => Stop::NoMemory,
             other => Stop::Network(other),
+        }
+    }
+}
+
+impl From<MeasuredRefusal> for Stop {
+    ghost use Rattle.std.specs.Prelude.{◌≡◌};
+    ghost use Rattle.cu_cli.specs.Steps.Outcomes.{stop_of_measured};
+
+    ghost from_gives = { λ refusal stop. stop ≡ stop_of_measured refusal };
+
+    fn from(refusal: MeasuredRefusal) -> Stop {
+        match refusal {
+            MeasuredRefusal::NoMemory => Stop::NoMemory,
+            other => Stop::Measured(other),
         }
     }
 }
@@ -224,6 +243,7 @@ fn say<K: Sink>(stop: Stop, sink: &mut K) -> Result<(), SinkFailed>
         Stop::Fault(role) => put_role_line(sink, b"shelf: fault ", role),
         Stop::TooLong(role) => put_role_line(sink, b"shelf: long ", role),
         Stop::Network(refusal) => put_network_line(sink, refusal),
+        Stop::Measured(refusal) => put_measured_line(sink, refusal),
         Stop::Order(refusal) => put_order_line(sink, refusal),
         Stop::File(refusal) => put_file_line(sink, refusal),
         Stop::TooManyEdges => put_line(sink, b"too many shortcuts"),

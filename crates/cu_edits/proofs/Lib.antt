@@ -1,5 +1,6 @@
 pub mod AddingEdges
 pub mod BothHalves
+pub mod BoundsStay
 pub mod ChangedRoads
 pub mod DrivenPieces
 pub mod EditSettling

@@ -137,6 +137,31 @@ module _ (s : SettlingValue) where
   final_still t e (inl c) = inl (settled_still t e c)
   final_still t e (inr untouched) = inr untouched
 
+  -- where none but touched edges have new lists
+  module _ (sound : IsHierarchy s.before) (only : (edge : ℕ) → IsSettled s edge → IsTouchedEdge s.before s.edit edge) where
+    other_list : (e : ℕ) (d : Dir) → (IsTouchedEdge s.before s.edit e → ⊥) → list_of (settled_so_far s) e d ≡ list_of s.before e d
+    other_list e d untouched = list_kept s.before s.edit s.settled e d (λ c. untouched (only e c))
+
+    other_framed : (edge : ℕ) (dir : Dir) (u v : ℕ) (way : Way) → LeadsOver s.before.edges edge dir u v
+        → (IsTouchedEdge s.before s.edit edge → ⊥) → IsWellFormed s.before u v way → IsFramed s.before (settled_so_far s) (UntouchedPair s.before s.edit) u v way
+    other_framed edge dir u v (Road road) leads untouched formed = λ t.
+        sym ((unchanged_alike s.before.network s.edit road
+        (λ changed. untouched (leads_touched s.before sound s.edit edge dir u v road leads (leads_joins s.before.network s.before.order road u v formed).0 changed))).value t)
+    other_framed edge dir u v (Via m) leads untouched (to, on, first, second, some, more) =
+        let halves = halves_good s.before.edges (λ e. IsTouchedEdge s.before s.edit e → ⊥) edge dir u v m leads (untouched_sides sound edge untouched) first second in
+        (to, on, halves.0, halves.1)
+
+    -- what isn't touched is as it was before the edit
+    pub other_frame : IsFrame s.before (settled_so_far s) (UntouchedPair s.before s.edit)
+    other_frame = record {
+      lists = λ u v (edge, dir, leads, untouched).
+          list_at s.before s.before sound refl edge dir u v leads ∙ sym (other_list edge dir untouched) ∙ sym (list_at s.before (settled_so_far s) sound refl edge dir u v leads);
+      ways = λ u v (edge, dir, leads, untouched).
+          all_so (λ (entry : Entry). IsWellFormed s.before u v entry.way)
+          (λ (entry : Entry). IsFramed s.before (settled_so_far s) (UntouchedPair s.before s.edit) u v entry.way) (list_from s.before u v)
+          (λ entry. other_framed edge dir u v entry.way leads untouched) (list_formed s.before sound u v);
+    }
+
   module _ (are : AreSettled s) where
     -- a list of an edge that is settled
     pub settled_list : (t : TouchedEdge) (d : Dir) → Contains s.settled t → list_of (settled_so_far s) t.edge d ≡ list_in t d
@@ -148,7 +173,7 @@ module _ (s : SettlingValue) where
 
     -- and of one that isn't touched
     pub untouched_list : (e : ℕ) (d : Dir) → (IsTouchedEdge s.before s.edit e → ⊥) → list_of (settled_so_far s) e d ≡ list_of s.before e d
-    untouched_list e d untouched = list_kept s.before s.edit s.settled e d (λ c. untouched (are.touched e c))
+    untouched_list e d untouched = other_list are.sound are.touched e d untouched
 
     resettled_at : (t : TouchedEdge) (dir : Dir) (u v : ℕ) → Contains s.settled t → LeadsOver s.before.edges t.edge dir u v
         → IsResettledList (settled_so_far s) u v (list_in t dir)
@@ -187,25 +212,9 @@ module _ (s : SettlingValue) where
       ways = λ u v (edge, dir, leads, final). final_ways (s.settled ++ (t ∷ [])) edge dir u v leads final;
     }
 
-    untouched_framed : (edge : ℕ) (dir : Dir) (u v : ℕ) (way : Way) → LeadsOver s.before.edges edge dir u v
-        → (IsTouchedEdge s.before s.edit edge → ⊥) → IsWellFormed s.before u v way → IsFramed s.before (settled_so_far s) (UntouchedPair s.before s.edit) u v way
-    untouched_framed edge dir u v (Road road) leads untouched formed = λ t.
-        sym ((unchanged_alike s.before.network s.edit road
-        (λ changed. untouched (leads_touched s.before are.sound s.edit edge dir u v road leads (leads_joins s.before.network s.before.order road u v formed).0 changed))).value t)
-    untouched_framed edge dir u v (Via m) leads untouched (to, on, first, second, some, more) =
-        let halves = halves_good s.before.edges (λ e. IsTouchedEdge s.before s.edit e → ⊥) edge dir u v m leads (untouched_sides are.sound edge untouched) first second in
-        (to, on, halves.0, halves.1)
-
     -- what isn't touched is as it was before the edit
     pub untouched_frame : IsFrame s.before (settled_so_far s) (UntouchedPair s.before s.edit)
-    untouched_frame = record {
-      lists = λ u v (edge, dir, leads, untouched).
-          list_at s.before s.before are.sound refl edge dir u v leads ∙ sym (untouched_list edge dir untouched) ∙ sym (list_at s.before (settled_so_far s) are.sound refl edge dir u v leads);
-      ways = λ u v (edge, dir, leads, untouched).
-          all_so (λ (entry : Entry). IsWellFormed s.before u v entry.way)
-          (λ (entry : Entry). IsFramed s.before (settled_so_far s) (UntouchedPair s.before s.edit) u v entry.way) (list_from s.before u v)
-          (λ entry. untouched_framed edge dir u v entry.way leads untouched) (list_formed s.before are.sound u v);
-    }
+    untouched_frame = other_frame are.sound are.touched
 
     -- the list of an edge with final sides stays resettled
     pub resettled_stays : (t : TouchedEdge) → IsTouchedEdge s.before s.edit t.edge → (IsSettled s t.edge → ⊥)

@@ -1,4 +1,7 @@
 pub mod ArcLists
+pub mod BoundExamples
+pub mod BoundFuel
+pub mod BoundLaws
 pub mod Bounds
 pub mod BuiltWalks
 pub mod Candidates
@@ -11,9 +14,11 @@ pub mod FormedExamples
 pub mod Fuel
 pub mod HalfLaws
 pub mod Lookups
+pub mod KeptBounds
 pub mod LowLists
 pub mod Middles
 pub mod Near
+pub mod PieceLaws
 pub mod Rebuilding
 pub mod Replacing
 pub mod Simple

@@ -4,6 +4,8 @@ pub mod FirstWays
 pub mod Hierarchies
 pub mod Shortcuts
 pub mod Unpacking
+pub mod LeastBounds
+pub mod LeastPieces
 pub mod Calls
 pub mod Touching
 pub mod Resettling

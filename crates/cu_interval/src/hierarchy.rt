@@ -4,6 +4,7 @@ ghost use Rattle.std.specs.Prelude.{◌≡◌, ◌≤◌, ◌<◌, ℕ, Some, If
 ghost use Rattle.cu_chordal.specs.Graphs.{FindsEdge};
 ghost use Rattle.cu_interval.specs.WayLists.{way_at};
 ghost use Rattle.cu_interval.specs.Hierarchies.{HierarchyValue, IsHierarchy, IsHierarchyOf, graph_of, list_of};
+ghost use Rattle.cu_interval.specs.LeastBounds.{least_bound};
 
 use crate::shortcuts::Shortcut;
 use crate::ways::{Dir, Entry, Way, WayList};
@@ -72,6 +73,15 @@ pub trait Ways: Roads {
         ensures sound { IsHierarchy (hierarchy self.now) };
 
     ghost same_network: { (ways : Self) → (hierarchy ways).network ≡ Self.Roads.network ways };
+}
+
+/// Ways that know the least bound of each list.
+pub trait BoundedWays: Ways {
+    /// The seconds below which no travel over the list of an edge in a direction falls; 2^60 where it has no entry. Takes no
+    /// memory.
+    fn least(&self, edge: u32, dir: Dir) -> u64
+        requires edge { edge < length (Self.Ways.hierarchy self.now).edges }
+        ensures bound { result ≡ least_bound (Self.Ways.hierarchy self.now) edge dir };
 }
 
 /// A hierarchy in memory. It keeps no travel times but the profiles.

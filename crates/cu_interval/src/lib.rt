@@ -9,6 +9,9 @@
 //! A [`Shortcut`] is an edge in a direction, a [`Leg`] the ranks that it leads from and to; [`halves`] and [`find_halves`] are
 //! the edges of its halves at a middle (`specs/Shortcuts.antt`).
 //!
+//! The least bound of a list is what no travel over it falls below (`specs/LeastBounds.antt`): [`BoundedWays`] knows those of a
+//! hierarchy, and `relaxed_takes` in `proofs/BoundLaws.antt` is that no answer of a relaxation falls below its list's.
+//!
 //! [`EdgeArcs`] promises the roads of each edge in each direction, and that they are few (`specs/EdgeArcs.antt`).
 //! [`Relaxer`] is whatever asks a shortcut at a second: it promises the drive of the unpacked walk, where that has fewer
 //! roads than there are nodes (`specs/Unpacking.antt`).
@@ -28,7 +31,7 @@ mod shortcuts;
 mod ways;
 
 pub use edge_arcs::EdgeArcs;
-pub use hierarchy::{Hierarchy, Ways};
+pub use hierarchy::{BoundedWays, Hierarchy, Ways};
 pub use relaxing::{Call, Relaxed, Relaxer};
 pub use shortcuts::{Leg, Shortcut, find_halves, halves, leg_of};
 pub use ways::{Dir, Entry, TouchedEdge, Way, WayList};

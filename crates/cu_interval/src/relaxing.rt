@@ -5,6 +5,7 @@ ghost use Rattle.cu_interval.specs.declared.relaxing.Call.{Call};
 ghost use Rattle.cu_interval.specs.Hierarchies.{HierarchyValue, IsHierarchy};
 ghost use Rattle.cu_interval.specs.Unpacking.{relaxed};
 ghost use Rattle.cu_interval.specs.Calls.{Adds, IfAt};
+ghost use Rattle.cu_interval.specs.LeastBounds.{far, least_bound};
 
 use crate::ways::Dir;
 
@@ -41,4 +42,10 @@ pub trait Relaxer {
         ensures stays { hierarchy self.new ≡ hierarchy self.old }
         ensures told { Adds (calls self.old) (calls self.new)
             (record { edge = edge; dir = dir; second = at }) };
+
+    /// The seconds below which no answer of this shortcut falls, at most 2^60. It is no call. Takes no memory.
+    fn least(&self, edge: u32, dir: Dir) -> u64
+        requires edge { edge < length (hierarchy self.now).edges }
+        ensures bound { result ≡ least_bound (hierarchy self.now) edge dir }
+        ensures most { result ≤ far };
 }

@@ -2,6 +2,7 @@ pub mod OptionLaws
 pub mod ListLaws
 pub mod DayLaws
 pub mod ProfileLaws
+pub mod FormLaws
 pub mod RoadLaws
 pub mod EditLaws
 pub mod Begun

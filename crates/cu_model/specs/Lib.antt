@@ -3,6 +3,7 @@ pub mod Begun
 pub mod Growing
 pub mod Days
 pub mod Profiles
+pub mod DayForms
 pub mod Faults
 pub mod Checker
 pub mod Networks

@@ -3,3 +3,4 @@ pub mod Read
 pub mod Spelled
 pub mod Viewed
 pub mod Rewrites
+pub mod FileExamples

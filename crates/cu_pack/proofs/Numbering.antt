@@ -12,3 +12,4 @@ pub mod Copied
 pub mod Stretches
 pub mod CountedStarts
 pub mod SetItems
+pub mod PairedLists

@@ -13,3 +13,4 @@ pub mod FirstList
 pub mod Parted
 pub mod Bodies
 pub mod InForce
+pub mod FirstBound

@@ -2,3 +2,4 @@
 pub mod Replaced
 pub mod Rewritten
 pub mod Edited
+pub mod OtherBounds

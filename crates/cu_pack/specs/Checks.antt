@@ -10,6 +10,7 @@ use Rattle.cu_chordal.specs.WrongParts.{IsWrongPart}
 use Rattle.cu_interval.specs.declared.ways.Dir.{Dir}
 use Rattle.cu_interval.specs.declared.ways.Entry.{Entry}
 use Rattle.cu_interval.specs.Hierarchies.{HierarchyValue, IsHierarchy, IsWellFormed, end_of, list_number, start_of}
+use Rattle.cu_interval.specs.LeastBounds.{least_bound}
 use Rattle.cu_interval.specs.WayLists.{IsWayList}
 use Rattle.cu_pack.specs.declared.refusals.Field.{Field}
 use Rattle.cu_pack.specs.declared.refusals.Field.TheVariants as field
@@ -17,8 +18,8 @@ use Rattle.cu_pack.specs.declared.refusals.PackRefusal.{PackRefusal}
 use Rattle.cu_pack.specs.declared.refusals.PackRefusal.TheVariants as refused
 use Rattle.cu_pack.specs.Layouts.{AreInLimits, file_length}
 use Rattle.cu_pack.specs.Places.{long_at, short_at}
-use Rattle.cu_pack.specs.Spelling.{spelling}
-use Rattle.cu_pack.specs.Reading.{arc_in, counts_in, decoded, entry_kind, list_in, network_in, node_at_in, piece_kind, profile_in, profile_start, order_in, rank_of_in, uppers_in}
+use Rattle.cu_pack.specs.Spelling.{spelling_in}
+use Rattle.cu_pack.specs.Reading.{arc_in, bound_in, counts_in, decoded, entry_kind, list_in, network_in, node_at_in, piece_kind, profile_in, profile_start, order_in, rank_of_in, uppers_in}
 use Rattle.cu_pack.specs.Reading.{edge_starts_in, way_start}
 
 -- none of the first so many is wrong
@@ -43,9 +44,14 @@ pub record IsOurs (bytes : List ℕ) : Type 0 where
   pub long : IsLong bytes
   pub magic : take 8 bytes ≡ codes "CATCHUPH"
 
+-- of one of both versions
 pub record IsOfVersion (bytes : List ℕ) : Type 0 where
   pub ours : IsOurs bytes
-  pub version : short_at bytes 8 ≡ 1
+  pub version : (short_at bytes 8 ≡ 1) ⊎ (short_at bytes 8 ≡ 2)
+
+-- of the version that is wanted
+abbrev pub IsIn : ℕ → List ℕ → Type 0
+IsIn version bytes = short_at bytes 8 ≡ version
 
 pub record IsWhole (bytes : List ℕ) : Type 0 where
   pub version : IsOfVersion bytes
@@ -138,6 +144,15 @@ IsWrongList bytes list =
     ⊎ ((edge : ℕ) × (dir : Dir) × (edge < (counts_in bytes).edges) × (list ≡ list_number edge dir) × AreEntriesWrong bytes list edge dir)
     ⊎ ((list ≡ 2 * (counts_in bytes).edges) × (way_start bytes list ≢ (counts_in bytes).entries))
 
+pub record HasWays (bytes : List ℕ) : Type 0 where
+  pub graph : IsGraph bytes
+  pub lists : NoneWrong (IsWrongList bytes) (suc (2 * (counts_in bytes).edges))
+
+-- the number that is kept of a list isn't its least bound
+abbrev pub IsWrongBound : List ℕ → ℕ → Type 0
+IsWrongBound bytes list =
+    (edge : ℕ) × (dir : Dir) × (edge < (counts_in bytes).edges) × (list ≡ list_number edge dir) × (bound_in bytes list ≢ least_bound (decoded bytes) edge dir)
+
 -- a count past its limit
 abbrev pub IsPastLimit : List ℕ → Field → Type 0
 IsPastLimit bytes field.Nodes = MAX_NODES < (counts_in bytes).nodes
@@ -161,23 +176,35 @@ AreBeforeInLimits bytes field.Entries =
     ((counts_in bytes).nodes ≤ MAX_NODES) × ((counts_in bytes).arcs ≤ MAX_ARCS) × ((counts_in bytes).profiles ≤ MAX_PROFILES)
     × ((counts_in bytes).edges ≤ MAX_EDGES) × ((counts_in bytes).pieces ≤ MAX_PROFILES * DAY)
 
--- bytes are refused so: all checks before this one pass, and it fails
+-- bytes are refused so where one version is wanted: all checks before this one pass, and it fails
+abbrev pub IsRefusedIn : ℕ → List ℕ → PackRefusal → Type 0
+IsRefusedIn version bytes refused.Short = length bytes < 84
+IsRefusedIn version bytes refused.Magic = IsLong bytes × (take 8 bytes ≢ codes "CATCHUPH")
+IsRefusedIn version bytes (refused.Version found) = IsOurs bytes × (found ≡ short_at bytes 8) × (found ≢ version)
+IsRefusedIn version bytes (refused.Length said found) = IsIn version bytes × IsOfVersion bytes × (said ≡ long_at bytes 44) × (found ≡ length bytes) × (said ≢ found)
+IsRefusedIn version bytes refused.Digest = IsIn version bytes × IsWhole bytes × (digest_in bytes ≢ sha256 (body_in bytes))
+IsRefusedIn version bytes (refused.Limit field) = IsIn version bytes × IsSealed bytes × AreBeforeInLimits bytes field × IsPastLimit bytes field
+IsRefusedIn version bytes (refused.Size counted found) =
+    IsIn version bytes × IsLimited bytes × (counted ≡ file_length (counts_in bytes)) × (found ≡ length bytes) × (counted ≢ found)
+IsRefusedIn version bytes (refused.Order rank) = IsIn version bytes × IsSized bytes × IsFirstWrong (IsWrongRank bytes) (counts_in bytes).nodes rank
+IsRefusedIn version bytes (refused.RoadArc arc) = IsIn version bytes × IsOrdered bytes × IsFirstWrong (IsWrongArc bytes) (counts_in bytes).arcs arc
+IsRefusedIn version bytes (refused.Profile number) = IsIn version bytes × IsJoined bytes × IsFirstWrong (IsWrongProfile bytes) (suc (counts_in bytes).profiles) number
+IsRefusedIn version bytes (refused.Graph rank) = IsIn version bytes × HasRoads bytes × IsFirstWrong (IsWrongRankUp bytes) (suc (counts_in bytes).nodes) rank
+IsRefusedIn version bytes (refused.Ways edge dir) =
+    IsIn version bytes × IsGraph bytes × IsFirstWrong (IsWrongList bytes) (suc (2 * (counts_in bytes).edges)) (list_number edge dir)
+IsRefusedIn version bytes (refused.Bound edge dir) =
+    (version ≡ 2) × IsIn version bytes × HasWays bytes × IsFirstWrong (IsWrongBound bytes) (2 * (counts_in bytes).edges) (list_number edge dir)
+IsRefusedIn version bytes refused.NoMemory = Unit {0}
+
+-- bytes are refused so: they are no packed file of version 2
 abbrev pub IsRefused : List ℕ → PackRefusal → Type 0
-IsRefused bytes refused.Short = length bytes < 84
-IsRefused bytes refused.Magic = IsLong bytes × (take 8 bytes ≢ codes "CATCHUPH")
-IsRefused bytes (refused.Version found) = IsOurs bytes × (found ≡ short_at bytes 8) × (found ≢ 1)
-IsRefused bytes (refused.Length said found) = IsOfVersion bytes × (said ≡ long_at bytes 44) × (found ≡ length bytes) × (said ≢ found)
-IsRefused bytes refused.Digest = IsWhole bytes × (digest_in bytes ≢ sha256 (body_in bytes))
-IsRefused bytes (refused.Limit field) = IsSealed bytes × AreBeforeInLimits bytes field × IsPastLimit bytes field
-IsRefused bytes (refused.Size counted found) = IsLimited bytes × (counted ≡ file_length (counts_in bytes)) × (found ≡ length bytes) × (counted ≢ found)
-IsRefused bytes (refused.Order rank) = IsSized bytes × IsFirstWrong (IsWrongRank bytes) (counts_in bytes).nodes rank
-IsRefused bytes (refused.RoadArc arc) = IsOrdered bytes × IsFirstWrong (IsWrongArc bytes) (counts_in bytes).arcs arc
-IsRefused bytes (refused.Profile number) = IsJoined bytes × IsFirstWrong (IsWrongProfile bytes) (suc (counts_in bytes).profiles) number
-IsRefused bytes (refused.Graph rank) = HasRoads bytes × IsFirstWrong (IsWrongRankUp bytes) (suc (counts_in bytes).nodes) rank
-IsRefused bytes (refused.Ways edge dir) = IsGraph bytes × IsFirstWrong (IsWrongList bytes) (suc (2 * (counts_in bytes).edges)) (list_number edge dir)
-IsRefused bytes refused.NoMemory = Unit {0}
+IsRefused bytes refusal = IsRefusedIn 2 bytes refusal
+
+-- these bytes are the packed file of this hierarchy in a version
+pub record SpellsIn (version : ℕ) (bytes : List ℕ) (h : HierarchyValue) : Type 0 where
+  pub sound : IsHierarchy h
+  pub spelled : bytes ≡ spelling_in version h
 
 -- these bytes are the packed file of this hierarchy
-pub record Spells (bytes : List ℕ) (h : HierarchyValue) : Type 0 where
-  pub sound : IsHierarchy h
-  pub spelled : bytes ≡ spelling h
+abbrev pub Spells : List ℕ → HierarchyValue → Type 0
+Spells bytes h = SpellsIn 2 bytes h

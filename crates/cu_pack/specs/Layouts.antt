@@ -1,5 +1,5 @@
 -- Where the sections of a packed file lie: one behind the other, behind a header and before a digest.
-use Rattle.std.specs.Prelude.{ℕ, ◌≤◌, ◌+◌, ◌*◌}
+use Rattle.std.specs.Prelude.{ℕ, ◌≤◌, ◌+◌, ◌*◌, ◌==◌, if◌then◌else◌}
 use Rattle.cu_model.specs.declared.limits.TheConstants.{DAY, MAX_ARCS, MAX_NODES, MAX_PROFILES}
 use Rattle.cu_chordal.specs.declared.graph.TheConstants.{MAX_EDGES}
 use Rattle.cu_pack.specs.declared.layout.Counts.{Counts}
@@ -38,8 +38,15 @@ way_starts_at c = uppers_at c + 4 * c.edges
 abbrev pub entries_at : Counts → ℕ
 entries_at c = way_starts_at c + 8 * (2 * c.edges + 1)
 
+abbrev pub bounds_at : Counts → ℕ
+bounds_at c = entries_at c + 12 * c.entries
+
+-- how many bytes the least bounds of all lists have, which the first version doesn't keep
+abbrev pub bounds_length : Counts → ℕ
+bounds_length c = if c.version == 2 then 16 * c.edges else 0
+
 abbrev pub digest_at : Counts → ℕ
-digest_at c = entries_at c + 12 * c.entries
+digest_at c = bounds_at c + bounds_length c
 
 -- the bytes of a file with so many of each
 abbrev pub file_length : Counts → ℕ
@@ -57,6 +64,7 @@ layout_of c = record {
   uppers = uppers_at c;
   way_starts = way_starts_at c;
   entries = entries_at c;
+  bounds = bounds_at c;
   digest = digest_at c;
   length = file_length c;
 }

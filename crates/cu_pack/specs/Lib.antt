@@ -4,4 +4,5 @@ pub mod Spelling
 pub mod Reading
 pub mod InForce
 pub mod Checks
+pub mod Repacking
 pub mod Steps

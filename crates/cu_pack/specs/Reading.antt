@@ -13,12 +13,13 @@ use Rattle.cu_interval.specs.declared.ways.Way.{Way}
 use Rattle.cu_interval.specs.declared.ways.Way.TheVariants.{Road, Via}
 use Rattle.cu_interval.specs.Hierarchies.{HierarchyValue}
 use Rattle.cu_pack.specs.declared.layout.Counts.{Counts}
-use Rattle.cu_pack.specs.Layouts.{arcs_at, edge_starts_at, entries_at, pieces_at, profile_starts_at, rank_of_at, uppers_at, way_starts_at}
+use Rattle.cu_pack.specs.Layouts.{arcs_at, bounds_at, edge_starts_at, entries_at, pieces_at, profile_starts_at, rank_of_at, uppers_at, way_starts_at}
 use Rattle.cu_pack.specs.Places.{long_at, short_at}
 
--- the counts of the header
+-- the version and the counts of the header
 unfoldable pub counts_in : List ℕ → Counts
 counts_in bytes = record {
+  version = short_at bytes 8;
   nodes = short_at bytes 12;
   arcs = short_at bytes 16;
   profiles = short_at bytes 20;
@@ -110,6 +111,10 @@ abbrev pub list_in : List ℕ → ℕ → List Entry
 list_in bytes list =
     map (λ entry. entry_from bytes (entry_place bytes entry))
     (range_with_len (way_start bytes list) (way_start bytes (suc list) - way_start bytes list))
+
+-- the least bound that is kept of a way list
+abbrev pub bound_in : List ℕ → ℕ → ℕ
+bound_in bytes list = long_at bytes (bounds_at (counts_in bytes) + 8 * list)
 
 -- the network, the order and the hierarchy that the bytes say
 unfoldable pub network_in : List ℕ → NetworkValue

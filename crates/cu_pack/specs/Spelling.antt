@@ -1,5 +1,5 @@
 -- The bytes that a hierarchy is packed as.
-use Rattle.std.specs.Prelude.{ℕ, suc, List, [], ◌∷◌, ◌++◌, ◌+◌, codes, length, map}
+use Rattle.std.specs.Prelude.{ℕ, suc, List, [], ◌∷◌, ◌++◌, ◌≡◌, ◌⊎◌, ◌+◌, ◌==◌, if◌then◌else◌, codes, length, map}
 use Rattle.std.specs.Int.{w32, w64, to_le_bytes}
 use Rattle.std.specs.List.{flat_map, range_with_len, sum_by}
 use Rattle.sha2.specs.Sha256.{sha256}
@@ -13,6 +13,7 @@ use Rattle.cu_interval.specs.declared.ways.Entry.{Entry}
 use Rattle.cu_interval.specs.declared.ways.Way.{Way}
 use Rattle.cu_interval.specs.declared.ways.Way.TheVariants.{Road, Via}
 use Rattle.cu_interval.specs.Hierarchies.{HierarchyValue}
+use Rattle.cu_bounds.specs.KeptBounds.{bounds_of}
 use Rattle.cu_pack.specs.declared.layout.Counts.{Counts}
 use Rattle.cu_pack.specs.Layouts.{file_length}
 
@@ -54,9 +55,14 @@ starts_from start (list ∷ lists) = start ∷ starts_from (start + length list)
 abbrev pub total : {T : Type 0} → List (List T) → ℕ
 total lists = sum_by (λ list. length list) lists
 
--- how many of each a hierarchy has
-abbrev pub counts_of : HierarchyValue → Counts
-counts_of h = record {
+-- the versions: the second keeps the least bound of each list too
+abbrev pub IsVersion : ℕ → Type 0
+IsVersion version = (version ≡ 1) ⊎ (version ≡ 2)
+
+-- how many of each a hierarchy has, and the version in which it is packed
+abbrev pub counts_of : ℕ → HierarchyValue → Counts
+counts_of version h = record {
+  version = version;
   nodes = h.network.nodes;
   arcs = length h.network.arcs;
   profiles = length h.network.profiles;
@@ -68,7 +74,7 @@ counts_of h = record {
 -- the header: whose file it is, the version, the counts, and how many bytes there are with the digest
 unfoldable pub header : Counts → List ℕ
 header c =
-    codes "CATCHUPH" ++ (short 1 ++ (short c.nodes ++ (short c.arcs ++ (short c.profiles ++ (short c.edges
+    codes "CATCHUPH" ++ (short c.version ++ (short c.nodes ++ (short c.arcs ++ (short c.profiles ++ (short c.edges
     ++ (long c.pieces ++ (long c.entries ++ long (file_length c))))))))
 
 -- the node at each rank, and the rank of each node
@@ -95,11 +101,20 @@ edges_section h = flat_map short (edge_starts h) ++ flat_map short (map (λ (end
 abbrev pub ways_section : HierarchyValue → List ℕ
 ways_section h = flat_map long (starts_from 0 h.lists) ++ flat_map (flat_map entry_bytes) h.lists
 
--- all bytes before the digest
-unfoldable pub body : HierarchyValue → List ℕ
-body h =
-    header (counts_of h) ++ (order_section h ++ (arcs_section h ++ (profiles_section h ++ (edges_section h ++ ways_section h))))
+-- the least bound of each list by its number, which the first version doesn't keep
+abbrev pub bounds_section : ℕ → HierarchyValue → List ℕ
+bounds_section version h = if version == 2 then flat_map long (bounds_of h) else []
 
--- the bytes that a hierarchy is packed as
-unfoldable pub spelling : HierarchyValue → List ℕ
-spelling h = body h ++ sha256 (body h)
+-- all bytes before the digest, in a version
+unfoldable pub body : ℕ → HierarchyValue → List ℕ
+body version h =
+    header (counts_of version h)
+    ++ (order_section h ++ (arcs_section h ++ (profiles_section h ++ (edges_section h ++ (ways_section h ++ bounds_section version h)))))
+
+-- the bytes that a hierarchy is packed as in a version, 1 or 2
+unfoldable pub spelling_in : ℕ → HierarchyValue → List ℕ
+spelling_in version h = body version h ++ sha256 (body version h)
+
+-- the bytes that a hierarchy is packed as: those of version 2
+abbrev pub spelling : HierarchyValue → List ℕ
+spelling h = spelling_in 2 h

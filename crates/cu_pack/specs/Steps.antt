@@ -3,8 +3,10 @@ pub mod Columns
 pub mod Cursors
 pub mod Cuts
 pub mod Entries
+pub mod Fronts
 pub mod Parts
 pub mod Pieces
+pub mod Renewing
 pub mod Slices
 pub mod Starts
 pub mod Ways

@@ -1,5 +1,6 @@
 //! The checks of a packed file, each over its sections.
 
+pub mod bounds;
 pub mod entries;
 pub mod graph;
 pub mod header;

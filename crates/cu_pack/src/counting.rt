@@ -8,12 +8,13 @@ use crate::layout::Counts;
 use cu_interval::{Dir, Hierarchy, Ways};
 use cu_model::{Network, Roads};
 
-// How many of each there are. None is past its limit.
+// How many of each there are, for a file of version 2. None is past its limit.
 pub fn count(hierarchy: &Hierarchy) -> Counts
-    ensures counts { result ≡ counts_of hierarchy.now }
+    ensures counts { result ≡ counts_of 2 hierarchy.now }
     ensures limits { AreInLimits result }
 {
     Counts {
+        version: 2,
         nodes: hierarchy.nodes(),
         arcs: hierarchy.arcs(),
         profiles: hierarchy.profiles(),

@@ -2,12 +2,16 @@
 
 ghost use Rattle.std.specs.Prelude.{◌≡◌, ◌≤◌, ◌<◌, ◌*◌, ◌-◌, Some, length, slice_range, suc};
 ghost use Rattle.cu_model.specs.Profiles.{piece_at};
+ghost use Rattle.cu_interval.specs.Hierarchies.{HierarchyValue};
+ghost use Rattle.cu_pack.specs.Checks.{IsIn, sealed};
 ghost use Rattle.cu_pack.specs.Layouts.{AreInLimits, file_length, layout_of};
-ghost use Rattle.cu_pack.specs.Reading.{arc_in, counts_in, edge_start, entry_from, entry_kind, entry_place, node_at_in, piece_from, piece_kind, piece_place, list_in, profile_in, profile_start, rank_of_in, upper_in, way_start};
+ghost use Rattle.cu_pack.specs.Reading.{arc_in, bound_in, counts_in, edge_start, entry_from, entry_kind, entry_place, node_at_in, piece_from, piece_kind, piece_place, list_in, profile_in, profile_start, rank_of_in, upper_in, way_start};
 ghost use Rattle.cu_pack.specs.Steps.Cursors.{IsBefore, IsReaching};
+ghost use Rattle.cu_pack.specs.Steps.Fronts.{SpellsSections};
 ghost use Rattle.cu_pack.specs.Steps.Parts.{FindsUpper, HasList, HasPart, HasProfile, IsLowOf, IsPartUpTo, StartsRise};
 
 use crate::body::Body;
+use crate::checks::header::header_counts;
 use crate::layout::{Counts, Layout};
 use crate::way_slices::WaySlice;
 use cu_interval::Entry;
@@ -50,6 +54,14 @@ impl<'a> Sections<'a> {
             counts,
             layout,
         }
+    }
+
+    /// The sections of bytes that are a hierarchy's file, whatever stands in the place of its bounds and of its digest.
+    pub fn unsealed(bytes: &'a [u8]) -> Sections<'a>
+        requires spelled { (h : HierarchyValue) × SpellsSections (sealed bytes.now) h }
+        ensures same { result ≡ sealed bytes.now }
+    {
+        Sections::of(Body::of(bytes), header_counts(bytes))
     }
 
     /// How many of each there are.
@@ -178,6 +190,16 @@ impl<'a> Sections<'a> {
     {
         self.body
             .short(self.layout.entries as usize + 12 * entry as usize + 4)
+    }
+
+    /// The least bound that a file of version 2 keeps of a way list.
+    pub fn bound(&self, list: u32) -> u64
+        requires version { IsIn 2 self.now }
+        requires list { list < 2 * (counts_in self.now).edges }
+        ensures bound { result ≡ bound_in self.now list }
+    {
+        self.body
+            .long(self.layout.bounds as usize + 8 * list as usize)
     }
 
     /// An entry, counted over all way lists.

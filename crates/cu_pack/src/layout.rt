@@ -1,11 +1,13 @@
 //! Where the sections of a packed file lie.
 
 ghost use Rattle.std.specs.Prelude.{◌≡◌};
-ghost use Rattle.cu_pack.specs.Layouts.{AreInLimits, layout_of};
+ghost use Rattle.cu_pack.specs.Layouts.{AreInLimits, bounds_length, layout_of};
 
-/// How many of each a packed file has.
+/// The version of a packed file, and how many of each it has.
 #[derive(Clone, Copy, Debug, PartialEq, Eq)]
 pub struct Counts {
+    /// The version, 1 or 2: the second keeps the least bounds too.
+    pub version: u32,
     pub nodes: u32,
     pub arcs: u32,
     pub profiles: u32,
@@ -18,7 +20,7 @@ pub struct Counts {
 
 /// Where each section of a packed file starts, in bytes from its begin. They follow each other without gaps, in this
 /// order, behind a header of 52 bytes; behind the last one stand the 32 bytes of the digest. All numbers are
-/// little-endian: of 4 bytes, but of 8 in both sections of starts whose entries may be many.
+/// little-endian: of 4 bytes, but of 8 in the bounds and in both sections of starts whose entries may be many.
 #[derive(Clone, Copy, Debug, PartialEq, Eq)]
 pub struct Layout {
     /// The node at each rank: 4 bytes each.
@@ -39,6 +41,8 @@ pub struct Layout {
     pub way_starts: u64,
     /// Each entry's second, kind and number: 12 bytes each. Kind 0 is a road, 1 a middle.
     pub entries: u64,
+    /// Each way list's least bound: 8 bytes each. The first version doesn't keep them.
+    pub bounds: u64,
     /// The digest, SHA-256 of all bytes before it.
     pub digest: u64,
     /// The bytes of the whole file.
@@ -60,7 +64,8 @@ impl Layout {
         let uppers = edge_starts + 4 * (u64::from(counts.nodes) + 1);
         let way_starts = uppers + 4 * u64::from(counts.edges);
         let entries = way_starts + 8 * (2 * u64::from(counts.edges) + 1);
-        let digest = entries + 12 * counts.entries;
+        let bounds = entries + 12 * counts.entries;
+        let digest = bounds + bounds_length(counts);
         Layout {
             node_at,
             rank_of,
@@ -71,8 +76,20 @@ impl Layout {
             uppers,
             way_starts,
             entries,
+            bounds,
             digest,
             length: digest + 32,
         }
+    }
+}
+
+// How many bytes the least bounds of all lists have.
+fn bounds_length(counts: &Counts) -> u64
+    ensures { result ≡ bounds_length counts.now }
+{
+    if counts.version == 2 {
+        16 * u64::from(counts.edges)
+    } else {
+        0
     }
 }

@@ -3,29 +3,37 @@
 //! [`pack`] gives the bytes of `spelling` (`specs/Spelling.antt`). [`PackedView::open`] takes bytes that are the
 //! packed file of a hierarchy, and refuses all others by the first check that fails ([`PackRefusal`],
 //! `specs/Checks.antt`). [`PackedView::adopt`] takes bytes that are known to be such a file, and checks nothing. A
-//! view stands for the hierarchy (`Roads`, `Ways`), and each look-up reads the borrowed bytes: [`WaySlice`] is a
-//! way list in them. [`WayInForce`] and [`RuleInForce`] say a way or a rule with the seconds at which it holds
-//! (`specs/InForce.antt`). [`order_of`] and [`chordal_of`] copy the order and the graph. [`repack`] gives the file of a
-//! view's hierarchy with its network edited and the way lists of some edges replaced: whatever stays is copied as it
-//! lies, so that an edit which touches little costs little more than a copy of the file and its digest.
-//! [`repack_unsealed`] saves the digest too, [`PackedView::adopt_unsealed`] reads its bytes as they are, and [`seal`]
-//! writes the digest once the whole file is asked for.
+//! view stands for the hierarchy (`Roads`, `Ways`, `BoundedWays`), and each look-up reads the borrowed bytes:
+//! [`WaySlice`] is a way list in them. [`WayInForce`] and [`RuleInForce`] say a way or a rule with the seconds at which it
+//! holds (`specs/InForce.antt`). [`order_of`] and [`chordal_of`] copy the order and the graph. [`repack`] gives the file of
+//! a view's hierarchy with its network edited and the way lists of some edges replaced: whatever stays is copied as it
+//! lies, and the least bounds are found anew. [`repack_unsealed`] saves the digest, [`PackedView::adopt_unsealed`] reads its
+//! bytes as they are, and [`seal`] writes the digest once the whole file is asked for. [`repack_touched`] is for edits that
+//! leave the least bounds of all other lists: it finds those of the replaced lists alone.
 //!
-//! Two laws speak of files alone. [`file_of_one_hierarchy`]: no two hierarchies have the same file, and a file is
-//! as long as its counts say. [`file_is_read_back`]: a file says its hierarchy (`specs/Reading.antt`), and no check
+//! A file has a version. The first keeps no least bounds; all calls mean the second, but for [`migrate`], which makes a
+//! file of version 2 from one of version 1.
+//!
+//! Two laws speak of files alone, in each version. [`file_of_one_hierarchy`]: no two hierarchies have the same file, and a
+//! file is as long as its counts say. [`file_is_read_back`]: a file says its hierarchy (`specs/Reading.antt`), and no check
 //! refuses it.
 //!
 //! Where each section of a file lies is said once, by [`Layout`] (`specs/Layouts.antt`). What is private stands on it
 //! in layers: `bytes` reads a number at a place, `searching` counts the numbers of a column up to a bound, `body` does
 //! both before a digest that needn't be there, `cutting` looks up whatever a section holds, and `copying` reads whole
 //! columns into memory. `driving` and `joining` answer for roads and edges as soon as the checks of their sections have
-//! passed; the later checks (`checks`) and the view call the same ones. `sections` puts the sections of a hierarchy,
-//! `editing` and `replacing` those of a view's after an edit. What only private functions cite is in `specs/Steps`.
+//! passed; the later checks (`checks`) and the view call the same ones. `ways_in_file` stands for the hierarchy of sections
+//! whose bounds nobody has looked at, `bounds_in_file` for the numbers in their place. `sections` puts the sections of a
+//! hierarchy, `editing` and `replacing` those of a view's after an edit, `bounding` the bounds. What only private functions
+//! cite is in `specs/Steps`.
 //!
-//! It stands on `cu_model`, `cu_chordal` and `cu_interval`, and on the crate `sha2` for the digest (FIPS 180-4).
+//! It stands on `cu_model`, `cu_chordal` and `cu_interval`, on `cu_bounds` for the least bounds, and on the crate `sha2`
+//! for the digest (FIPS 180-4).
 #![tactic(auto)]
 
 mod body;
+mod bounding;
+mod bounds_in_file;
 mod bytes;
 mod checked_roads;
 mod checks;
@@ -37,6 +45,7 @@ mod editing;
 mod joining;
 mod laws;
 mod layout;
+mod migrating;
 mod numbers;
 mod opening;
 mod packing;
@@ -48,13 +57,15 @@ mod searching;
 mod sections;
 mod view;
 mod way_slices;
+mod ways_in_file;
 
 pub use cutting::in_force::RuleInForce;
 pub use laws::{file_is_read_back, file_of_one_hierarchy};
 pub use layout::{Counts, Layout};
+pub use migrating::migrate;
 pub use packing::pack;
 pub use refusals::{Field, PackRefusal};
-pub use repacking::{repack, repack_unsealed};
+pub use repacking::{repack, repack_touched, repack_unsealed};
 pub use sealing::seal;
 pub use view::PackedView;
 pub use view::copies::{chordal_of, order_of};

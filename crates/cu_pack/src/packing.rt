@@ -3,6 +3,7 @@
 ghost use Rattle.std.specs.Prelude.{◌≡◌, ◌++◌, IfOk, OnOk};
 ghost use Rattle.cu_pack.specs.Spelling.{arcs_section, edges_section, order_section, profiles_section, spelling, ways_section};
 
+use crate::bounding::put_least_bounds;
 use crate::counting::count;
 use crate::layout::Layout;
 use crate::sealing::seal;
@@ -20,12 +21,13 @@ pub fn pack(alloc: Global, hierarchy: &Hierarchy) -> Result<Vec<u8>, NoMemory>
     let mut bytes = Vec::with_capacity(alloc, layout.length as usize)?;
     put_header(&mut bytes, &counts, layout.length)?;
     put_parts(&mut bytes, hierarchy)?;
+    put_least_bounds(alloc, &mut bytes, hierarchy)?;
     bytes.extend_from_slice(&[0; 32])?;
     seal(bytes.as_mut_slice());
     Ok(bytes)
 }
 
-// All sections between the header and the digest.
+// All sections between the header and the bounds.
 fn put_parts(bytes: &mut Vec<u8>, hierarchy: &Hierarchy) -> Result<(), NoMemory>
     ensures { OnOk result (bytes.new.items ≡ bytes.old.items ++ (order_section hierarchy.now
         ++ (arcs_section hierarchy.now ++ (profiles_section hierarchy.now

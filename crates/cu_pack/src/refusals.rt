@@ -24,7 +24,7 @@ pub enum PackRefusal {
     /// The first 8 bytes aren't `CATCHUPH`.
     #[error("not a packed hierarchy")]
     Magic,
-    /// The version isn't 1.
+    /// The version isn't the one that is wanted: 2 where a file is opened, 1 where it is migrated.
     #[error("version {found} is not known")]
     Version { found: u32 },
     /// The length that the header says isn't the number of bytes.
@@ -54,6 +54,9 @@ pub enum PackRefusal {
     /// The ways of this edge in this direction aren't well formed; or, behind the last, entries are left.
     #[error("the ways of edge {edge} are not well formed")]
     Ways { edge: u32, dir: Dir },
+    /// The number that is kept for the ways of this edge in this direction isn't their least bound.
+    #[error("the least bound of edge {edge} is another one")]
+    Bound { edge: u32, dir: Dir },
     /// Memory ran out.
     #[error("out of memory")]
     NoMemory,

@@ -8,14 +8,18 @@ ghost use Rattle.cu_interval.specs.Hierarchies.{IsHierarchy};
 ghost use Rattle.cu_interval.specs.Replacing.{hierarchy_with};
 ghost use Rattle.cu_pack.specs.Checks.{sealed};
 ghost use Rattle.cu_pack.specs.Layouts.{AreInLimits};
+ghost use Rattle.cu_pack.specs.Repacking.{KeepsOtherBounds};
 ghost use Rattle.cu_pack.specs.Spelling.{arcs_section, counts_of, edges_section, order_section, profiles_section, spelling, ways_section};
+ghost use Rattle.cu_pack.specs.Steps.Fronts.{front};
 
+use crate::bounding::{bounds_behind, renew_behind, with_bounds};
 use crate::editing::{count_edited, put_edited_arcs, put_edited_profiles};
 use crate::layout::{Counts, Layout};
 use crate::replacing::{count_replaced, put_replaced};
 use crate::sealing::seal;
 use crate::sections::put_header;
 use crate::view::PackedView;
+use cu_bounds::copy_bounds;
 use cu_interval::{TouchedEdge, Ways};
 use cu_model::{Edit, NoMemory, Roads};
 use std::alloc::Global;
@@ -23,7 +27,7 @@ use std::alloc::Global;
 /// The packed file of a view's hierarchy with its network edited and both way lists of some edges replaced. The numbers
 /// of the edit are those of the network, the edges rise and are below the number of edges, and what is left is a
 /// hierarchy. Its order and graph are copied from the view's file as they lie, and so is whatever else lies between two
-/// places that change. Takes the memory of the new file.
+/// places that change; the least bounds are found anew. Takes the memory of the new file.
 pub fn repack(
     alloc: Global,
     view: &PackedView<'_>,
@@ -61,16 +65,62 @@ pub fn repack_unsealed(
         (λ bytes. sealed bytes.items ≡ spelling (hierarchy_with view.now edit.now lists.now)) }
     ensures long { IfOk result (λ bytes. 32 ≤ length bytes.items) }
 {
+    let mut bytes = edited_front(alloc, view, edit, lists)?;
+    let bounds = bounds_behind(alloc, &mut bytes, view.edges())?;
+    with_bounds(bytes, &bounds)
+}
+
+/// [`repack_unsealed`] after an edit that leaves the least bounds of all other lists as they are: they are copied, and
+/// those of these edges are found anew from the bounds of their halves. So the entries of their lists alone are gone
+/// through.
+pub fn repack_touched(
+    alloc: Global,
+    view: &PackedView<'_>,
+    edit: &Edit,
+    lists: &[TouchedEdge],
+) -> Result<Vec<u8>, NoMemory>
+    requires edit { IsEditInRange view.now.network edit.now }
+    requires rising { IsStrictlyIncreasing
+        (map (λ (touched : TouchedEdge). touched.edge) lists.now) }
+    requires edges { All
+        (λ (touched : TouchedEdge). touched.edge < length view.now.edges) lists.now }
+    requires sound { IsHierarchy (hierarchy_with view.now edit.now lists.now) }
+    requires stays { KeepsOtherBounds view.now edit.now lists.now }
+    ensures spelled { IfOk result
+        (λ bytes. sealed bytes.items ≡ spelling (hierarchy_with view.now edit.now lists.now)) }
+    ensures long { IfOk result (λ bytes. 32 ≤ length bytes.items) }
+{
+    let mut bytes = edited_front(alloc, view, edit, lists)?;
+    let mut bounds = copy_bounds(alloc, view)?;
+    renew_behind(&mut bytes, view.edges(), bounds.as_mut_slice(), lists)?;
+    with_bounds(bytes, &bounds)
+}
+
+// All of the file that is before the bounds. It has room for the rest.
+fn edited_front(
+    alloc: Global,
+    view: &PackedView<'_>,
+    edit: &Edit,
+    lists: &[TouchedEdge],
+) -> Result<Vec<u8>, NoMemory>
+    requires edit { IsEditInRange view.now.network edit.now }
+    requires rising { IsStrictlyIncreasing
+        (map (λ (touched : TouchedEdge). touched.edge) lists.now) }
+    requires edges { All
+        (λ (touched : TouchedEdge). touched.edge < length view.now.edges) lists.now }
+    requires sound { IsHierarchy (hierarchy_with view.now edit.now lists.now) }
+    ensures { IfOk result
+        (λ bytes. bytes.items ≡ front 2 (hierarchy_with view.now edit.now lists.now)) }
+{
     let counts = recount(view, edit, lists);
     let layout = Layout::of(&counts);
     let mut bytes = Vec::with_capacity(alloc, layout.length as usize)?;
     put_header(&mut bytes, &counts, layout.length)?;
     put_edited(&mut bytes, view, edit, lists)?;
-    bytes.extend_from_slice(&[0; 32])?;
     Ok(bytes)
 }
 
-// How many of each there are after the edit. None is past its limit.
+// How many of each there are after the edit, for a file of version 2. None is past its limit.
 fn recount(view: &PackedView<'_>, edit: &Edit, lists: &[TouchedEdge]) -> Counts
     requires edit { IsEditInRange view.now.network edit.now }
     requires rising { IsStrictlyIncreasing
@@ -78,10 +128,11 @@ fn recount(view: &PackedView<'_>, edit: &Edit, lists: &[TouchedEdge]) -> Counts
     requires edges { All
         (λ (touched : TouchedEdge). touched.edge < length view.now.edges) lists.now }
     requires sound { IsHierarchy (hierarchy_with view.now edit.now lists.now) }
-    ensures counts { result ≡ counts_of (hierarchy_with view.now edit.now lists.now) }
+    ensures counts { result ≡ counts_of 2 (hierarchy_with view.now edit.now lists.now) }
     ensures limits { AreInLimits result }
 {
     Counts {
+        version: 2,
         nodes: view.nodes(),
         arcs: view.arcs(),
         profiles: view.profiles(),
@@ -91,7 +142,7 @@ fn recount(view: &PackedView<'_>, edit: &Edit, lists: &[TouchedEdge]) -> Counts
     }
 }
 
-// All sections between the header and the digest.
+// All sections between the header and the bounds.
 fn put_edited(
     bytes: &mut Vec<u8>,
     view: &PackedView<'_>,

@@ -22,7 +22,7 @@ pub fn put_header(bytes: &mut Vec<u8>, counts: &Counts, length: u64) -> Result<(
     ensures { OnOk result (bytes.new.items ≡ bytes.old.items ++ header counts.now) }
 {
     bytes.extend_from_slice(b"CATCHUPH")?;
-    put_short(bytes, 1)?;
+    put_short(bytes, counts.version)?;
     put_short(bytes, counts.nodes)?;
     put_short(bytes, counts.arcs)?;
     put_short(bytes, counts.profiles)?;

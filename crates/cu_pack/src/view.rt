@@ -1,13 +1,12 @@
 //! A hierarchy over the bytes of its packed file.
 
-ghost use Rattle.std.specs.Prelude.{◌≡◌, ◌*◌, suc};
+ghost use Rattle.std.specs.Prelude.{◌≡◌};
 ghost use Rattle.cu_interval.specs.Hierarchies.{HierarchyValue};
-ghost use Rattle.cu_pack.specs.Checks.{IsGraph, IsWrongList, NoneWrong, Spells, sealed};
-ghost use Rattle.cu_pack.specs.Reading.{counts_in, decoded};
+ghost use Rattle.cu_pack.specs.Checks.{Spells, sealed};
+ghost use Rattle.cu_pack.specs.Reading.{decoded};
 
-use crate::body::Body;
-use crate::checks::header::header_counts;
 use crate::cutting::Sections;
+use crate::ways_in_file::WaysInFile;
 use std::marker::Model;
 
 pub mod copies;
@@ -51,17 +50,22 @@ impl<'a> PackedView<'a> {
         ensures spells { Spells (sealed bytes.now) result }
     {
         PackedView {
-            sections: Sections::of(Body::of(bytes), header_counts(bytes)),
+            sections: Sections::unsealed(bytes),
         }
     }
 
-    /// The view of bytes that pass every check, cut into their sections.
-    pub(crate) fn of(bytes: &'a [u8], sections: Sections<'a>) -> PackedView<'a>
-        requires same { sections ≡ bytes.now }
-        requires graph { IsGraph bytes.now }
-        requires ways { NoneWrong (IsWrongList bytes.now) (suc (2 * (counts_in bytes.now).edges)) }
-        ensures said { result ≡ decoded bytes.now }
+    /// The view of the sections of a hierarchy's packed file.
+    pub(crate) fn of(sections: Sections<'a>) -> PackedView<'a>
+        requires spelled { Spells sections (decoded sections) }
+        ensures said { result ≡ decoded sections.entry }
     {
         PackedView { sections }
+    }
+
+    // The hierarchy of its sections alone.
+    fn ways_in_file(&self) -> WaysInFile<'_, 'a>
+        ensures same { result ≡ self.now }
+    {
+        WaysInFile::of(&self.sections)
     }
 }

@@ -18,7 +18,8 @@ use Rattle.cu_profile.specs.ProfileTexts.{rows_fault, then_more, wrong_kind}
 use Rattle.cu_profile.specs.Steps.ReadRows.{AddsRow, BeginsRow, EndsProfile, EndsRows, groups_behind, IsBetweenRows, joined, last_profile, last_profile_with, RefusesRow, rows_behind, TakesRow}
 use Rattle.cu_profile.proofs.KeptProfiles.{joined_kept, kept_few}
 
-passes : (b1 b2 b3 b4 b5 : Bool) (x1 x2 x3 x4 x5 : ProfileRefusal)
+-- where none of five checks refuses, the last two pass
+pub passes : {R : Type 0} (b1 b2 b3 b4 b5 : Bool) (x1 x2 x3 x4 x5 : R)
     → (if b1 then Some x1 else if not b2 then Some x2 else if not b3 then Some x3 else if not b4 then Some x4 else if b5 then Some x5 else None) ≡ None
     → (b4 ≡ true) × (b5 ≡ false)
 passes true b2 b3 b4 b5 x1 x2 x3 x4 x5 e = absurd (cc e)
@@ -39,15 +40,16 @@ or-true true b e = inl refl
 or-true false b e = inr e
 
 -- behind a profile comes itself or the next one
-next_profile : (last k : ℕ) → may_follow (Some last) k ≡ true → last ≢ k → k ≡ last + 1
+pub next_profile : (last k : ℕ) → may_follow (Some last) k ≡ true → last ≢ k → k ≡ last + 1
 next_profile last k e other = elim (or-true (k == last) (k == last + 1) e) [
   | inl same ↦ absurd (other (sym (eqb-true k last same)))
   | inr next ↦ eqb-true k (last + 1) next
 ]
 
-small_next : (last : Option ℕ) (k : ℕ) → IfSome last (λ l. l < MAX_PROFILES) → may_follow last k ≡ true → k ≢ MAX_PROFILES → k < MAX_PROFILES
-small_next None k h e n = let z = eqb-true k 0 e in omega (arith, z)
-small_next (Some l) k h e n = elim (or-true (k == l) (k == l + 1) e) [
+-- a profile that may follow on one below a limit, and isn't at it, is below it
+pub small_next : (most : ℕ) (last : Option ℕ) (k : ℕ) → 0 < most → IfSome last (λ l. l < most) → may_follow last k ≡ true → k ≢ most → k < most
+small_next most None k some h e n = let z = eqb-true k 0 e in omega (arith, z, some)
+small_next most (Some l) k some h e n = elim (or-true (k == l) (k == l + 1) e) [
   | inl same ↦ let z = eqb-true k l same in omega (arith, z, h)
   | inr next ↦ let z = eqb-true k (l + 1) next in omega (arith, z, h, n)
 ]
@@ -175,7 +177,7 @@ pub takes_row : (s m t : ProfileRows) (row : List (List ℕ)) (line : PieceRow) 
     → BeginsRow s m line.profile → AddsRow m t line → TakesRow s row t
 takes_row s m t row line passed profile piece b a = λ between.
     let (follows, other) = row_passes s.row s.last row passed in
-    let small = small_next s.last (profile_number row) between.small follows other in
+    let small = small_next MAX_PROFILES s.last (profile_number row) (omega arith) between.small follows other in
     let last : t.last ≡ Some (profile_number row) = a.last ∙ ap Some profile in
     let few = b.few between (rw profile follows) in (
       record {

@@ -13,6 +13,7 @@ use Rattle.cu_model.specs.Numbers.{is_number_word, number_value}
 use Rattle.cu_tables.specs.Checks.{below, unless}
 use Rattle.cu_tables.specs.Tables.{field_of, kept_number, rows_below, table}
 use Rattle.cu_profile.specs.declared.refusals.ProfileRefusal.{ProfileRefusal}
+use Rattle.cu_profile.specs.declared.rows.RowNumbers.{RowNumbers}
 use Rattle.cu_profile.specs.declared.rows.TheConstants.{MAX_ROWS}
 use Rattle.cu_profile.specs.declared.refusals.ProfileRefusal.TheVariants.{Header, Fields, Number, Sequence, TooMany, Row}
 
@@ -22,6 +23,13 @@ header = codes "profile" ∷ codes "from" ∷ codes "kind" ∷ codes "value" ∷
 -- whether the profile, from and value fields of a row are number words
 abbrev pub has_numbers : List (List ℕ) → Bool
 has_numbers row = is_number_word (field_of row 0) && is_number_word (field_of row 1) && is_number_word (field_of row 3)
+
+-- the numbers of a row, where its number fields are number words
+abbrev pub numbers_of : List (List ℕ) → Option RowNumbers
+numbers_of row =
+    if has_numbers row
+    then Some (record { profile = kept_number (field_of row 0); from = kept_number (field_of row 1); value = kept_number (field_of row 3) })
+    else None
 
 -- the number of the profile that a row belongs to
 abbrev pub profile_number : List (List ℕ) → ℕ
@@ -42,10 +50,14 @@ piece_row_fault number last row =
     else if profile_number row == MAX_PROFILES then Some (TooMany number)
     else None
 
+-- the first fault of rows, each of which may have one by itself, from the row with this number on
+abbrev pub first_fault : {R : Type 0} → (ℕ → Option ℕ → List (List ℕ) → Option R) → ℕ → Option ℕ → List (List (List ℕ)) → Option R
+first_fault row_fault number last [] = None
+first_fault row_fault number last (row ∷ rows) = option_or (row_fault number last row) (first_fault row_fault (number + 1) (Some (profile_number row)) rows)
+
 -- the first row that fails such a check, from the row with this number on
 abbrev pub rows_fault : ℕ → Option ℕ → List (List (List ℕ)) → Option ProfileRefusal
-rows_fault number last [] = None
-rows_fault number last (row ∷ rows) = option_or (piece_row_fault number last row) (rows_fault (number + 1) (Some (profile_number row)) rows)
+rows_fault number last rows = first_fault piece_row_fault number last rows
 
 -- the piece of these fields, none where the kind is none of the three words
 abbrev pub piece_of_fields : List ℕ → ℕ → ℕ → Option Piece
@@ -107,15 +119,19 @@ by_profile [] = []
 by_profile (row ∷ rows) = onto row (by_profile rows)
 
 -- a profile and then more; the first refusal stands
-abbrev pub then_more : Result (List Piece) ProfileRefusal → Result (List (List Piece)) ProfileRefusal → Result (List (List Piece)) ProfileRefusal
+abbrev pub then_more : {P R : Type 0} → Result P R → Result (List P) R → Result (List P) R
 then_more (Err refusal) more = Err refusal
 then_more (Ok profile) (Err refusal) = Err refusal
 then_more (Ok profile) (Ok profiles) = Ok (profile ∷ profiles)
 
--- the profile of each group of rows, the first row of which has this number
+-- what each group of rows gives, the first row of which has this number, and the first refusal of one
+abbrev pub of_groups : {P R : Type 0} → (ℕ → List (List (List ℕ)) → Result P R) → ℕ → List (List (List (List ℕ))) → Result (List P) R
+of_groups of_rows first [] = Ok []
+of_groups of_rows first (rows ∷ groups) = then_more (of_rows first rows) (of_groups of_rows (first + length rows) groups)
+
+-- the profile of each group of rows
 abbrev pub profiles_of_groups : ℕ → List (List (List (List ℕ))) → Result (List (List Piece)) ProfileRefusal
-profiles_of_groups first [] = Ok []
-profiles_of_groups first (rows ∷ groups) = then_more (profile_of_rows first rows) (profiles_of_groups (first + length rows) groups)
+profiles_of_groups first groups = of_groups profile_of_rows first groups
 
 -- the profiles of the rows below the header: first each row is checked by itself, and then profile by profile
 abbrev pub profiles_of_rows : List (List (List ℕ)) → Result (List (List Piece)) ProfileRefusal

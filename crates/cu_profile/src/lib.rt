@@ -14,5 +14,5 @@ mod writer;
 
 pub use reader::read_profiles;
 pub use refusals::ProfileRefusal;
-pub use rows::piece_of;
+pub use rows::{MAX_ROWS, RowNumbers, may_follow, piece_of, row_numbers};
 pub use writer::write_profiles;

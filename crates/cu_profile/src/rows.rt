@@ -3,8 +3,8 @@
 ghost use Rattle.std.specs.Prelude.{◌≡◌, ◌<◌, IfSome, OnOk, length, map};
 ghost use Rattle.csv.specs.Records.{fields_of};
 ghost use Rattle.cu_profile.specs.declared.rows.TheConstants.{MAX_ROWS};
-ghost use Rattle.cu_profile.specs.ProfileTexts.{header, may_follow, piece_of_fields};
-ghost use Rattle.cu_profile.specs.Steps.ReadRows.{RowChecked, numbers_of};
+ghost use Rattle.cu_profile.specs.ProfileTexts.{header, may_follow, numbers_of, piece_of_fields};
+ghost use Rattle.cu_profile.specs.Steps.ReadRows.{RowChecked};
 
 use crate::refusals::ProfileRefusal;
 use csv::ByteRecord;
@@ -35,10 +35,10 @@ pub(crate) struct PieceRow {
 
 /// The number fields of a row. A number too wide is 4,294,967,295, which is past each limit.
 #[derive(Clone, Copy)]
-pub(crate) struct RowNumbers {
-    profile: u32,
-    from: u32,
-    value: u32,
+pub struct RowNumbers {
+    pub profile: u32,
+    pub from: u32,
+    pub value: u32,
 }
 
 /// Checks the row with this number, behind a row of the last profile.
@@ -72,7 +72,8 @@ pub(crate) fn check_row(
     })
 }
 
-fn row_numbers(row: &ByteRecord) -> Option<RowNumbers>
+/// The numbers of a row of four fields, none where one of its three number fields isn't a number word.
+pub fn row_numbers(row: &ByteRecord) -> Option<RowNumbers>
     requires { length (fields_of row.now) ≡ 4 }
     ensures { result ≡ numbers_of (fields_of row.now) }
 {
@@ -86,7 +87,8 @@ fn row_numbers(row: &ByteRecord) -> Option<RowNumbers>
     })
 }
 
-fn may_follow(last: Option<u32>, profile: u32) -> bool
+/// Whether a row of this profile may come behind one of the last profile: 0 comes first, then the same or the next one.
+pub fn may_follow(last: Option<u32>, profile: u32) -> bool
     ensures { result ≡ may_follow last profile }
 {
     match last {

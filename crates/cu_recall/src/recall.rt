@@ -5,6 +5,7 @@ ghost use Rattle.cu_model.specs.Days.{day};
 ghost use Rattle.cu_chordal.specs.declared.graph.TheConstants.{MAX_EDGES};
 ghost use Rattle.cu_interval.specs.Calls.{Adds, IfAt};
 ghost use Rattle.cu_interval.specs.Hierarchies.{IsHierarchy, IsHierarchyOf, graph_of, list_number};
+ghost use Rattle.cu_interval.specs.LeastBounds.{far, least_bound};
 ghost use Rattle.cu_interval.specs.Unpacking.{relaxed};
 ghost use Rattle.cu_unpack.specs.Answers.{IsLowWhereBuilt};
 ghost use Rattle.cu_recall.specs.Rooms.{Fits};
@@ -17,7 +18,7 @@ use crate::room::{Room, make_rows};
 use crate::spans::Driven;
 use crate::unpacking::unpack;
 use cu_chordal::Chordal;
-use cu_interval::{Dir, Relaxed, Relaxer, Shortcut, Ways};
+use cu_interval::{BoundedWays, Dir, Relaxed, Relaxer, Shortcut, Ways};
 use cu_model::{DAY, Roads};
 use cu_pack::PackedView;
 use std::marker::Model;
@@ -81,6 +82,14 @@ impl<'a> Relaxer for Recall<'a> {
         let graph = self.graph;
         let room = &mut self.room;
         relax_over(view, graph, room, edge, dir, at)
+    }
+
+    fn least(&self, edge: u32, dir: Dir) -> u64
+        requires edge { edge < length self.now.edges }
+        ensures bound { result ≡ least_bound self.now edge dir }
+        ensures most { result ≤ far }
+    {
+        self.view.least(edge, dir)
     }
 }
 

@@ -9,7 +9,7 @@ use crate::looking::met_last;
 use crate::recall::asked_of;
 use crate::spans::{Parts, Row};
 use cu_chordal::{Chordal, Ends};
-use cu_interval::{Dir, Entry, Way, Ways};
+use cu_interval::{BoundedWays, Dir, Entry, Way, Ways};
 use cu_model::{Piece, RoadArc, Roads};
 use cu_pack::PackedView;
 use std::marker::Model;
@@ -125,6 +125,12 @@ impl<'a> Ways for RecalledWays<'a> {
 
     fn entry(&self, edge: u32, dir: Dir, index: u32) -> Entry {
         self.view.entry(edge, dir, index)
+    }
+}
+
+impl<'a> BoundedWays for RecalledWays<'a> {
+    fn least(&self, edge: u32, dir: Dir) -> u64 {
+        self.view.least(edge, dir)
     }
 }
 

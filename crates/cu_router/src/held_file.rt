@@ -16,7 +16,7 @@ use cu_edits::CustomizedEdges;
 use cu_elimtree::Tree;
 use cu_interval::{TouchedEdge, Ways};
 use cu_model::{Edit, NoMemory};
-use cu_pack::{PackedView, chordal_of, repack_unsealed, seal};
+use cu_pack::{PackedView, chordal_of, repack_touched, seal};
 use std::alloc::Global;
 use std::marker::Model;
 
@@ -133,7 +133,7 @@ impl HeldFile {
         ensures spelled { IfOk result
             (λ bytes. Spells (sealed bytes.items) (hierarchy_with self.now edit.now lists.now)) }
     {
-        repack_unsealed(alloc, &self.view(), edit, lists)
+        repack_touched(alloc, &self.view(), edit, lists)
     }
 
     /// Holds the hierarchy after an edit, which resettled the lists of these edges, by its packed bytes but for their digest.

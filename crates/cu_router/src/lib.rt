@@ -3,7 +3,8 @@
 //! A [`Router`] is three things. [`HeldFile`] holds the bytes, with the graph, the tree and the marks of the hierarchy that they
 //! spell: it lends a view of them, writes the bytes of the hierarchy after an edit, and changes over to those. [`QueryRoom`]
 //! answers queries over a held file (`IsHeldAnswer` in `specs/Answers.antt`), takes no memory for them, and keeps what they
-//! learn of the hierarchy until it is told to forget. The third is room for edits, made by the first of them. So whoever works at
+//! learn of the hierarchy until it is told to forget. A whole day is answered over a held file alone (`specs/Days.antt`), and takes
+//! memory while it is. The third is room for edits, made by the first of them. So whoever works at
 //! an edit may borrow the held file while queries are answered; what these keep stays true of the bytes until they change over.
 //!
 //! An edit writes no digest; [`Router::into_file`] does, once the file is asked for. [`Router::built`] is for bytes that are
@@ -11,10 +12,11 @@
 //! be made of has changed. A held file keeps which edges are known to be customized; an edit adds those that it settles.
 //!
 //! It stands on `cu_model` and `cu_io` for queries and sinks, on `cu_pack` for the bytes, on `cu_sweep`, `cu_recall`, `cu_unpack`,
-//! `cu_elimtree` and `cu_chordal` for queries, and on `cu_edits`, `cu_interval` and `cu_links` for edits. Private is the room for
+//! `cu_elimtree` and `cu_chordal` for queries, on `cu_day` for days, and on `cu_edits`, `cu_interval` and `cu_links` for edits. Private is the room for
 //! edits; `specs/Steps` is cited by private functions alone.
 #![tactic(auto)]
 
+mod days;
 mod edit_room;
 mod held_file;
 mod query_room;

@@ -7,12 +7,16 @@ ghost use Rattle.cu_model.specs.Edits.{IsEditInRange};
 ghost use Rattle.cu_interval.specs.Hierarchies.{HierarchyValue, IsBuilt, IsHierarchy};
 ghost use Rattle.cu_pack.specs.Checks.{Spells};
 ghost use Rattle.cu_router.specs.Answers.{FindsArrival, IsHeldAnswer};
+ghost use Rattle.cu_router.specs.Days.{IsHeldDay};
 ghost use Rattle.cu_router.specs.Edited.{IsEdited};
 ghost use Rattle.cu_router.specs.Swept.{swept_reply};
 
+use crate::days::find_day;
 use crate::edit_room::{EditRoom, make_edit_room, touch_held};
 use crate::held_file::HeldFile;
 use crate::query_room::QueryRoom;
+use cu_arrival::Arrival;
+use cu_day::DayAsked;
 use cu_interval::Ways;
 use cu_io::{Sink, SinkFailed};
 use cu_model::{Edit, NoMemory, Query, Roads};
@@ -118,6 +122,16 @@ impl Router {
         ensures stays { self.new ≡ self.old }
     {
         self.queries.find(&self.held, query)
+    }
+
+    /// The arrivals over a whole day between nodes below the number of nodes, each the least over all walks where the hierarchy is
+    /// built. None exactly where no chain of lists leads from the one to the other; in a built hierarchy, where there is no walk.
+    pub fn find_day(&self, alloc: Global, query: DayAsked) -> Result<Option<Arrival>, NoMemory>
+        requires from { query.from < self.now.network.nodes }
+        requires to { query.to < self.now.network.nodes }
+        ensures found { IfOk result (IsHeldDay self.now query) }
+    {
+        find_day(alloc, &self.held, query)
     }
 
     /// Makes an edit, whose numbers are in range, and answers how many edges it touches. Where memory runs out nothing has

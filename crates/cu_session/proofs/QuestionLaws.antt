@@ -1,13 +1,37 @@
 -- The answers of a hierarchy to questions.
-use Rattle.std.proofs.Common.{◌≡◌, ℕ, List, Result, Ok, refl}
+use Rattle.std.proofs.Common.{◌≡◌, ℕ, List, Result, Ok, refl, inl, inr, true}
+use Rattle.std.specs.Prelude.{Option, Some, None}
+use Rattle.cu_arrival.specs.declared.runs.Run.{Run}
+use Rattle.cu_arrival.specs.Runs.{arrival_value}
+use Rattle.cu_day.specs.DayAnswers.{IsDayAnswer, IsLeastDayFunction, IsTextOf}
 use Rattle.cu_model.specs.declared.queries.Query.{Query}
 use Rattle.cu_model.specs.declared.queries.QueryRefusal.{QueryRefusal}
+use Rattle.cu_model.specs.Networks.{NetworkValue}
 use Rattle.cu_interval.specs.Hierarchies.{HierarchyValue}
 use Rattle.cu_router.specs.Answers.{IsHeldAnswer}
-use Rattle.cu_session.specs.Held.{IsHeldReplyTo}
-use Rattle.cu_session.specs.Questions.{asked_by_query}
+use Rattle.cu_router.specs.Days.{IsHeldDay}
+use Rattle.cu_day.specs.declared.lines.DayAsked.{DayAsked}
+use Rattle.cu_day.specs.declared.lines.DayRefusal.{DayRefusal}
+use Rattle.cu_session.specs.Held.{IsHeldAnswerTo, IsHeldReplyTo}
+use Rattle.cu_session.specs.Questions.{MayLack, asked_by_day, asked_by_query, day_question}
 
 -- the answer of the held hierarchy is the reply to a query
 pub query_answered : (h : HierarchyValue) (query : Query) (reply : List ℕ) (asked : Result Query QueryRefusal) → asked ≡ Ok query → IsHeldAnswer h query reply
     → IsHeldReplyTo h (asked_by_query asked) reply h
 query_answered h query reply asked is answer = rw is ((answer, λ built. (answer.least built, (h, refl, refl, built, answer.swept))), refl)
+
+-- the text of the least arrivals is right over the network
+text_right : (g : NetworkValue) (u v : ℕ) (function : Option (List Run)) (reply : List ℕ) → IsLeastDayFunction g u v function → IsTextOf function reply → IsDayAnswer g u v reply
+text_right g u v None reply least text = inr (least, text)
+text_right g u v (Some runs) reply least text = inl (arrival_value runs, least, text)
+
+-- the text of the held hierarchy's day function is the answer to a question for a day
+pub day_told : (h : HierarchyValue) (query : DayAsked) (function : Option (List Run)) (reply : List ℕ) → IsHeldDay h query function → IsTextOf function reply
+    → IsHeldAnswerTo h (day_question query) reply
+day_told h query function reply day text =
+    ((function, day, text), (λ built. text_right h.network query.from query.to function reply (day.least built) text))
+
+-- and so the reply to a line that asks for it, or that there was no memory
+pub day_answered : (h : HierarchyValue) (query : DayAsked) (reply : List ℕ) (asked : Result DayAsked DayRefusal) → asked ≡ Ok query
+    → MayLack true reply (IsHeldAnswerTo h (day_question query) reply) → IsHeldReplyTo h (asked_by_day asked) reply h
+day_answered h query reply asked is answer = rw is (answer, refl)

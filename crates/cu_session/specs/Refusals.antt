@@ -6,6 +6,8 @@ use Rattle.cu_model.specs.declared.profiles.PieceRefusal.{PieceRefusal}
 use Rattle.cu_model.specs.declared.profiles.PieceRefusal.TheVariants as piece
 use Rattle.cu_model.specs.declared.queries.QueryRefusal.{QueryRefusal}
 use Rattle.cu_model.specs.declared.queries.QueryRefusal.TheVariants as query
+use Rattle.cu_day.specs.declared.lines.DayRefusal.{DayRefusal}
+use Rattle.cu_day.specs.declared.lines.DayRefusal.TheVariants as day
 use Rattle.cu_script.specs.declared.lines.EditRefusal.{EditRefusal}
 use Rattle.cu_script.specs.declared.lines.EditRefusal.TheVariants as edit
 
@@ -26,6 +28,11 @@ abbrev pub check_word : QueryRefusal → List ℕ
 check_word query.Line = codes "line"
 check_word query.Node = codes "node"
 check_word query.Second = codes "second"
+
+-- the word of a check that a line which asks for a day fails
+abbrev pub day_check_word : DayRefusal → List ℕ
+day_check_word day.Line = codes "line"
+day_check_word day.Node = codes "node"
 
 -- the words of a check that an edit line fails
 abbrev pub edit_check_words : EditRefusal → List ℕ

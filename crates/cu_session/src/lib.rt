@@ -1,7 +1,7 @@
 //! Scripts and edits answered over the packed bytes of a hierarchy.
 //!
 //! [`session`] answers the script of a source (`EndsSession` in `specs/Sessions.antt`): each query by the two sweeps over the
-//! hierarchy that the bytes spell, each edit by the touched edges, after which the bytes are those of the resettled hierarchy
+//! hierarchy that the bytes spell, each question for a whole day by its day function, each edit by the touched edges, after which the bytes are those of the resettled hierarchy
 //! (`specs/Held.antt`). Where the first hierarchy is built, the replies are right over all walks of the network as edited so
 //! far (`specs/Replies.antt`), and no clause of those speaks of a hierarchy but for the choice among equal walks and the number of
 //! touched edges. [`answer_edits`] makes the lines of a file of edits. [`Router`] is what both answer from: it adopts its
@@ -12,7 +12,8 @@
 //! edge that it touches only where something that its lists may be made of has changed. A router keeps which edges are known
 //! to be customized; an edit adds those that it settles.
 //!
-//! It stands on `cu_model` and `cu_io` for lines, queries and sinks, on `cu_script` for lines of edits, on `cu_chordal`,
+//! It stands on `cu_model` and `cu_io` for lines, queries and sinks, on `cu_script` for lines of edits, on `cu_day` for lines
+//! that ask for a day and how it is written, on `cu_chordal`,
 //! `cu_interval` and `cu_pack` for the hierarchies that bytes spell, and on `cu_router` for what answers them.
 //! Private is the turn over one line. `specs/Steps` is cited by private functions alone.
 #![tactic(auto)]

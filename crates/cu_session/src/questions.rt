@@ -1,15 +1,17 @@
 //! Questions of a script, each kind by the first byte of its lines, and their answers.
 
-ghost use Rattle.std.specs.Prelude.{◌≡◌, ◌≤◌, ℕ, List, length};
+ghost use Rattle.std.specs.Prelude.{◌≡◌, ◌≤◌, ◌<◌, ℕ, List, true, length};
 ghost use Rattle.cu_io.specs.Sinks.{Wrote};
 ghost use Rattle.cu_model.specs.Queries.{query_of};
-ghost use Rattle.cu_session.specs.Held.{IsHeldReplyTo};
-ghost use Rattle.cu_session.specs.Questions.{asked_by_query, asked_of, kind_of};
+ghost use Rattle.cu_day.specs.DayLines.{day_of};
+ghost use Rattle.cu_session.specs.Held.{IsHeldAnswerTo, IsHeldReplyTo};
+ghost use Rattle.cu_session.specs.Questions.{MayLack, asked_by_day, asked_by_query, asked_of, day_question, kind_of};
 ghost use Rattle.cu_session.specs.Scripts.{line_limit};
 
 use crate::edit_lines::put_edit_reply;
+use cu_day::{DayAsked, DayRefusal, check_day, write_day};
 use cu_io::{Sink, SinkFailed, put_all};
-use cu_model::{QueryRefusal, Roads, check_query};
+use cu_model::{NoMemory, QueryRefusal, Roads, check_query};
 use cu_router::Router;
 use std::alloc::Global;
 
@@ -17,6 +19,7 @@ use std::alloc::Global;
 #[derive(Clone, Copy)]
 pub enum Kind {
     Query,
+    Day,
     Edit,
 }
 
@@ -26,6 +29,7 @@ fn kind_of(line: &[u8]) -> Kind
 {
     match line {
         [b'q', ..] => Kind::Query,
+        [b'd', ..] => Kind::Day,
         _ => Kind::Edit,
     }
 }
@@ -44,6 +48,7 @@ pub(crate) fn put_reply<K: Sink>(
 {
     match kind_of(line) {
         Kind::Query => put_query_reply(router, line, sink),
+        Kind::Day => put_day_reply(alloc, router, line, sink),
         Kind::Edit => put_edit_reply(alloc, router, line, sink),
     }
 }
@@ -63,5 +68,43 @@ fn put_query_reply<K: Sink>(
         Err(QueryRefusal::Line) => put_all(sink, b"refused: line"),
         Err(QueryRefusal::Node) => put_all(sink, b"refused: node"),
         Err(QueryRefusal::Second) => put_all(sink, b"refused: second"),
+    }
+}
+
+// Writes the reply to the text of a line that asks for a whole day.
+fn put_day_reply<K: Sink>(
+    alloc: Global,
+    router: &Router,
+    line: &[u8],
+    sink: &mut K,
+) -> Result<(), SinkFailed>
+    ensures reply { (reply : List ℕ) × IsHeldReplyTo router.now
+        (asked_by_day (day_of router.now.network.nodes line.now)) reply router.now
+        × Wrote (K.state sink.old) (K.state sink.new) result reply }
+{
+    match check_day(line, router.view().nodes()) {
+        Ok(query) => put_day(alloc, router, query, sink),
+        Err(DayRefusal::Line) => put_all(sink, b"refused: line"),
+        Err(DayRefusal::Node) => put_all(sink, b"refused: node"),
+    }
+}
+
+// Writes the arrivals over a day between two nodes; that there is no way; or that there was no memory to find them.
+fn put_day<K: Sink>(
+    alloc: Global,
+    router: &Router,
+    query: DayAsked,
+    sink: &mut K,
+) -> Result<(), SinkFailed>
+    requires from { query.from < router.now.network.nodes }
+    requires to { query.to < router.now.network.nodes }
+    ensures reply { (reply : List ℕ)
+        × MayLack true reply (IsHeldAnswerTo router.now (day_question query) reply)
+        × Wrote (K.state sink.old) (K.state sink.new) result reply }
+{
+    match router.find_day(alloc, query) {
+        Ok(Some(function)) => write_day(&function, sink),
+        Ok(None) => put_all(sink, b"unreachable"),
+        Err(NoMemory) => put_all(sink, b"no memory"),
     }
 }

@@ -1,5 +1,5 @@
 -- Each call of a sweep is over a sweep arc of its own.
-use Rattle.std.proofs.Common.{◌≡◌, ◌≢◌, ◌<◌, ◌∙◌, ℕ, List, [], ◌∷◌, ◌++◌, Option, Some, None, refl, sym, ap, subst, arith, inl, inr, reverse}
+use Rattle.std.proofs.Common.{◌≡◌, ◌≢◌, ◌<◌, ◌+◌, ◌∙◌, ℕ, Bool, true, false, if◌then◌else◌, List, [], ◌∷◌, Option, Some, None, refl, sym, ap, subst, arith, inl, inr, reverse}
 use Rattle.std.specs.Prelude.{All, slice_get}
 use Rattle.std.specs.List.{AllPairs, Contains, filter_map, flat_map}
 use Rattle.std.proofs.lemmas.List.Elements.{All-append, All-cons, All-contains, All-nil}
@@ -14,10 +14,11 @@ use Rattle.cu_interval.specs.declared.ways.Dir.{Dir}
 use Rattle.cu_interval.specs.declared.ways.Dir.TheVariants.{Up, Down}
 use Rattle.cu_interval.specs.declared.relaxing.Call.{Call}
 use Rattle.cu_interval.specs.Hierarchies.{HierarchyValue, IsHierarchy, graph_of, number_from}
+use Rattle.cu_interval.specs.LeastBounds.{least_bound}
 use Rattle.cu_interval.proofs.Lookups.{number_found}
 use Rattle.cu_sweep.specs.ArcsOnce.{IsArcCall, TakesArcsOnce}
 use Rattle.cu_sweep.specs.Labels.{call_from, down_label, up_label}
-use Rattle.cu_sweep.specs.Sweeps.{call_at, calls_down, calls_up, down_calls, second_of, up_calls}
+use Rattle.cu_sweep.specs.Sweeps.{below, call_at, call_unless, down_calls, down_label_from, is_by, second_of, up_calls, up_label_from}
 use Rattle.cu_sweep.proofs.Ancestry.{ancestors_rising}
 use Rattle.cu_sweep.proofs.Behind.{reverse_first, turned_back}
 
@@ -67,14 +68,19 @@ record IsOver (h : HierarchyValue) (dir : Dir) (low high : ℕ) (call : Call) : 
   at : slice_get h.edges call.edge ≡ Some (record { low = low; high = high })
   along : call.dir ≡ dir
 
+-- a call that isn't left out is the call itself
+kept_call : (left_out : Bool) (first call : Call) → (if left_out then None else Some first) ≡ Some call → first ≡ call
+kept_call true first call e = absurd (cc e)
+kept_call false first call e = cc e
+
 module _ (h : HierarchyValue) (f : IsHierarchy h) (dir : Dir) where
-  over_edge : (x y : ℕ) (n : Option ℕ) (second : Option ℕ) (call : Call) → number_from 0 h.edges x y ≡ n → call_at n dir second ≡ Some call
+  over_edge : (x y : ℕ) (n second reached : Option ℕ) (call : Call) → number_from 0 h.edges x y ≡ n → call_unless h reached (call_at n dir second) ≡ Some call
       → IsOver h dir x y call
-  over_edge x y None second call number e = absurd (cc e)
-  over_edge x y (Some edge) None call number e = absurd (cc e)
-  over_edge x y (Some edge) (Some at) call number e =
+  over_edge x y None second reached call number e = absurd (cc e)
+  over_edge x y (Some edge) None reached call number e = absurd (cc e)
+  over_edge x y (Some edge) (Some at) reached call number e =
       let (k, is, there_) = number_found 0 h.edges x y edge number in
-      let same : call_from edge dir at ≡ call = cc e in
+      let same : call_from edge dir at ≡ call = kept_call (is_by reached (at + least_bound h edge dir)) (call_from edge dir at) call e in
       let edge_is : k ≡ call.edge = let first : call.edge ≡ edge = subst (λ (c : Call). c.edge ≡ edge) same refl in omega (arith, first, is) in
       record {
         at = subst (λ (i : ℕ). slice_get h.edges i ≡ Some (record { low = x; high = y })) edge_is there_;
@@ -90,21 +96,25 @@ module _ (h : HierarchyValue) (f : IsHierarchy h) (dir : Dir) where
       let ends : record { low = x; high = y } ≡ record { low = u; high = v } = same_Some (record { low = x; high = y }) (record { low = u; high = v }) (sym p ∙ there_) in
       other (ap (λ (e : Ends). e.low) ends) (ap (λ (e : Ends). e.high) ends)
 
-  module _ (seconds : ℕ → ℕ → Option ℕ) where
+  module _ (seconds reached : ℕ → ℕ → Option ℕ) where
+    abbrev call_over : ℕ → ℕ → Option Call
+    call_over x y = call_unless h (reached x y) (call_at (number_from 0 h.edges x y) dir (seconds x y))
+
     abbrev row : ℕ → List Call
-    row x = filter_map (λ y. call_at (number_from 0 h.edges x y) dir (seconds x y)) (up_of h.edges x)
+    row x = filter_map (call_over x) (up_of h.edges x)
 
     row_over : (x : ℕ) → All (λ (call : Call). (y : ℕ) × Contains (up_of h.edges x) y × IsOver h dir x y call) (row x)
     row_over x =
-        kept_all (λ (call : Call). (y : ℕ) × Contains (up_of h.edges x) y × IsOver h dir x y call) (λ y. call_at (number_from 0 h.edges x y) dir (seconds x y)) (up_of h.edges x)
-        (λ y call c e. (y, c, over_edge x y (number_from 0 h.edges x y) (seconds x y) call refl e))
+        kept_all (λ (call : Call). (y : ℕ) × Contains (up_of h.edges x) y × IsOver h dir x y call) (call_over x) (up_of h.edges x)
+        (λ y call c e. (y, c, over_edge x y (number_from 0 h.edges x y) (seconds x y) (reached x y) call refl e))
 
     row_once : (x : ℕ) → AllPairs (λ (a b : Call). a.edge ≢ b.edge) (row x)
     row_once x =
-        kept_pairs (λ (a b : Call). a.edge ≢ b.edge) (λ y. call_at (number_from 0 h.edges x y) dir (seconds x y)) (up_of h.edges x)
+        kept_pairs (λ (a b : Call). a.edge ≢ b.edge) (call_over x) (up_of h.edges x)
         (up_rising h.edges x f.graph.rising)
         (λ y z a b lt e is.
-        edges_apart x y x z a b (over_edge x y (number_from 0 h.edges x y) (seconds x y) a refl e) (over_edge x z (number_from 0 h.edges x z) (seconds x z) b refl is)
+        edges_apart x y x z a b (over_edge x y (number_from 0 h.edges x y) (seconds x y) (reached x y) a refl e)
+        (over_edge x z (number_from 0 h.edges x z) (seconds x z) (reached x z) b refl is)
         (λ _ same. absurd (omega (arith, lt, same))))
 
     -- the calls of ranks that differ, all of them ancestors of one
@@ -147,10 +157,13 @@ ancestors_apart h f rank = rise_apart (ancestors_in (graph_of h) rank) (ancestor
 
 pub up_once : (h : HierarchyValue) (from second : ℕ) → IsHierarchy h → TakesArcsOnce h from Up (up_calls h from second)
 up_once h from second f =
-    rows_once h f Up (λ x y. second_of (up_label h from second x)) from (ancestors_in (graph_of h) from) (ancestors_apart h f from) (λ x c. c)
+    let ancestors = ancestors_in (graph_of h) from in
+    rows_once h f Up (λ x y. second_of (up_label h from second x)) (λ x y. second_of (up_label_from h from second (below x ancestors) y)) from ancestors
+    (ancestors_apart h f from) (λ x c. c)
 
 pub down_once : (h : HierarchyValue) (from to second : ℕ) → IsHierarchy h → TakesArcsOnce h to Down (down_calls h from to second)
 down_once h from to second f =
     let ancestors = ancestors_in (graph_of h) to in
-    rows_once h f Down (λ x y. second_of (down_label h from second y)) to (reverse ancestors) (turned_apart ancestors (ancestors_apart h f to))
+    rows_once h f Down (λ x y. second_of (down_label h from second y)) (λ x y. second_of (down_label_from h from second (below y (up_of h.edges x)) x)) to
+    (reverse ancestors) (turned_apart ancestors (ancestors_apart h f to))
     (λ x c. turned_back ancestors x c)

@@ -15,11 +15,11 @@ use Rattle.cu_interval.specs.declared.relaxing.Call.{Call}
 use Rattle.cu_interval.specs.Hierarchies.{HierarchyValue, IsHierarchy, number_from}
 use Rattle.cu_interval.proofs.Lookups.{number_found}
 use Rattle.cu_sweep.specs.Labels.{Label, earlier_of, label_over, down_label, up_label}
-use Rattle.cu_sweep.specs.Sweeps.{call_at, second_of}
+use Rattle.cu_sweep.specs.Sweeps.{second_of}
 use Rattle.cu_sweep.specs.Desks.{AreArriving}
 use Rattle.cu_sweep.specs.Places.{calls_between, dir_between, second_at}
 use Rattle.cu_sweep.specs.Swept.{Holds, IsLinkedLabel, IsPassed, Sweep, final_label}
-use Rattle.cu_sweep.specs.Steps.Sweeping.{IfSecond, IsDownSwept, answer_at, begun_links, down_after, down_into, links_after, long_by, seconds_after}
+use Rattle.cu_sweep.specs.Steps.Sweeping.{IfSecond, IsDownSwept, answer_at, begun_links, down_after, down_into, links_after, seconds_after}
 use Rattle.cu_sweep.proofs.Choosing.{after_more, earlier_none}
 use Rattle.cu_sweep.proofs.Holding.{holds_after, holds_other, holds_same}
 use Rattle.cu_sweep.proofs.LabelLaws.{down_label-whole}
@@ -106,16 +106,14 @@ edge_of_number h x y edge e = let (j, is, at) = number_found 0 h.edges x y edge 
 pub down_more : (h : HierarchyValue) (q : Sweep) (done : List ℕ) (x y edge : ℕ) (part : List ℕ) (labels : List (Option ℕ)) (links : List (Option (ℕ × ℕ))) → IsDownPart h q done x part labels links
     → h.network.nodes + x < length labels → h.network.nodes + x < length links → number_from 0 h.edges x y ≡ Some edge → edge < length h.edges
     → second_at labels (h.network.nodes + y) ≡ second_of (down_label h q.from q.second y) → IfSecond (second_at labels (h.network.nodes + y)) (λ at. at < 2 ^ 61)
-    → long_by (answer_at h edge Down (second_at labels (h.network.nodes + y))) (call_at (Some edge) Down (second_at labels (h.network.nodes + y))) ≡ None
     → IsDownPart h q done x (part ++ (y ∷ [])) (seconds_after labels (h.network.nodes + x) (answer_at h edge Down (second_at labels (h.network.nodes + y))))
     (links_after labels links (h.network.nodes + y) edge (h.network.nodes + x) (answer_at h edge Down (second_at labels (h.network.nodes + y))))
-down_more h q done x y edge part labels links f la li number there_ source time long =
+down_more h q done x y edge part labels links f la li number there_ source time =
     let n = h.network.nodes in
     let answer = answer_at h edge Down (second_at labels (n + y)) in
     let from = down_label h q.from q.second y in
     let whole = holds_after h q labels links (n + y) edge (n + x) Down from (down_after h q part x) la li (final_down h q y) (along_down n x y) there_
     (subst (λ (o : Option ℕ). IfSecond o (λ at. at < 2 ^ 61)) source time)
-    (λ s is. subst (λ (o : Option ℕ). long_by (answer_at h edge Down o) (call_at (Some edge) Down o) ≡ None) (source ∙ ap second_of is) long)
     (inr (x, y, refl, refl, edge_of_number h x y edge number)) f.here in
     let back = subst (λ (o : Option ℕ). Holds h q (seconds_after labels (n + x) (answer_at h edge Down o)) (links_after labels links (n + y) edge (n + x) (answer_at h edge Down o)) (n + x)
     (earlier_of (down_after h q part x) (label_over h (Some edge) Down from))) (sym source) whole in

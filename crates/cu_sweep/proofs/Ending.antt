@@ -1,5 +1,5 @@
 -- What a query finds, tells and holds where each of its sweeps ends.
-use Rattle.std.proofs.Common.{◌≡◌, ◌+◌, ◌∙◌, ℕ, Bool, false, List, Option, Some, None, refl, sym, ap, subst}
+use Rattle.std.proofs.Common.{◌≡◌, ◌+◌, ◌∙◌, ℕ, false, List, Option, Some, None, refl, sym, ap, subst}
 use Rattle.cu_interval.specs.declared.relaxing.Call.{Call}
 use Rattle.cu_elimtree.specs.SweepArcs.{ancestors_in}
 use Rattle.cu_interval.specs.Hierarchies.{HierarchyValue, graph_of}

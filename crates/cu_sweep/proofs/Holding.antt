@@ -16,7 +16,7 @@ use Rattle.cu_sweep.specs.Sweeps.{second_of}
 use Rattle.cu_sweep.specs.Desks.{AreArriving, IsArrivingCall}
 use Rattle.cu_sweep.specs.Places.{calls_between, dir_between, second_at}
 use Rattle.cu_sweep.specs.Swept.{Holds, IsLinkedLabel, IsSource, Sweep, final_label}
-use Rattle.cu_sweep.specs.Steps.Sweeping.{IfSecond, answer_at, is_earlier, links_after, long_by, seconds_after}
+use Rattle.cu_sweep.specs.Steps.Sweeping.{IfSecond, answer_at, is_earlier, links_after, seconds_after}
 use Rattle.cu_sweep.proofs.Choosing.{earlier_none}
 
 -- other places keep theirs
@@ -106,23 +106,22 @@ module _ (h : HierarchyValue) (q : Sweep) (labels : List (Option ℕ)) (links : 
 
   by_answer : (dir : Dir) (source : Label) (old : Option Label) (r : Relaxed) → into < length labels → into < length links → final_label h q from ≡ Some source
       → dir_between h.network.nodes from into ≡ Some dir → edge < length h.edges → source.second < 2 ^ 61 → relaxed h edge dir source.second ≡ r
-      → long_by r (Some (call_from edge dir source.second)) ≡ None → IsSource h q into from → Holds h q labels links into old
+      → IsSource h q into from → Holds h q labels links into old
       → HoldsAfter r into (earlier_of old (label_by r (source.calls ++ (call_from edge dir source.second ∷ []))))
-  by_answer dir source old (At arrival) la li final along lt time is long comes o =
+  by_answer dir source old (At arrival) la li final along lt time is comes o =
       chosen arrival (source.calls ++ (call_from edge dir source.second ∷ [])) old
       (given dir source arrival la li final along (one_call h edge dir source.second arrival lt time is) comes) o
-  by_answer dir source old NoWay la li final along lt time is long comes o = subst (Holds h q labels links into) (sym (earlier_none old)) o
-  by_answer dir source old Long la li final along lt time is long comes o = absurd (cc long)
+  by_answer dir source old NoWay la li final along lt time is comes o = subst (Holds h q labels links into) (sym (earlier_none old)) o
+  by_answer dir source old Long la li final along lt time is comes o = subst (Holds h q labels links into) (sym (earlier_none old)) o
 
-  -- after a call that isn't answered by a walk that is too long
+  -- after a call, whether it was made or left out
   pub holds_after : (dir : Dir) (source old : Option Label) → into < length labels → into < length links → final_label h q from ≡ source
       → dir_between h.network.nodes from into ≡ Some dir → edge < length h.edges → IfSecond (second_of source) (λ at. at < 2 ^ 61)
-      → ((s : Label) → source ≡ Some s → long_by (relaxed h edge dir s.second) (Some (call_from edge dir s.second)) ≡ None)
       → IsSource h q into from → Holds h q labels links into old
       → HoldsAfter (answer_at h edge dir (second_of source)) into (earlier_of old (label_over h (Some edge) dir source))
-  holds_after dir None old la li final along lt time long comes o = subst (Holds h q labels links into) (sym (earlier_none old)) o
-  holds_after dir (Some source) old la li final along lt time long comes o =
-      by_answer dir source old (relaxed h edge dir source.second) la li final along lt time refl (long source refl) comes o
+  holds_after dir None old la li final along lt time comes o = subst (Holds h q labels links into) (sym (earlier_none old)) o
+  holds_after dir (Some source) old la li final along lt time comes o =
+      by_answer dir source old (relaxed h edge dir source.second) la li final along lt time refl comes o
 
 pub seconds_other : (labels : List (Option ℕ)) (into place : ℕ) (r : Relaxed) → place ≢ into → second_at (seconds_after labels into r) place ≡ second_at labels place
 seconds_other labels into place (At arrival) ne = (if_other (is_earlier arrival (second_at labels into)) labels [] into place (Some arrival) None ne).0

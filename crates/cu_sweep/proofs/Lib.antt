@@ -20,3 +20,4 @@ pub mod Ancestry
 pub mod RealLabels
 pub mod SweptLabels
 pub mod ArcsOnce
+pub mod LeftOut

@@ -5,18 +5,15 @@ use Rattle.std.proofs.lemmas.List.Elements.{filter_map-append}
 use Rattle.std.proofs.lemmas.Option.{slice_get_within}
 use Rattle.cu_chordal.specs.Graphs.{first_edge_of, up_of}
 use Rattle.cu_chordal.proofs.Tables.{numbered}
-use Rattle.cu_interval.specs.declared.ways.Dir.{Dir}
 use Rattle.cu_interval.specs.declared.relaxing.Call.{Call}
 use Rattle.cu_interval.specs.declared.relaxing.Relaxed.{Relaxed}
 use Rattle.cu_interval.specs.declared.relaxing.Relaxed.TheVariants.{At, NoWay, Long}
 use Rattle.cu_interval.specs.Hierarchies.{HierarchyValue, IsHierarchy, number_from}
-use Rattle.cu_interval.specs.Unpacking.{relaxed}
 use Rattle.cu_interval.proofs.Lookups.{number_finds}
 use Rattle.cu_interval.proofs.EndsLaws.{ends_range}
-use Rattle.cu_sweep.specs.Labels.{call_from}
-use Rattle.cu_sweep.specs.Sweeps.{AddsAll, answered, call_at, ended_by, first_long, long_or, until_long}
+use Rattle.cu_sweep.specs.Sweeps.{AddsAll, answered, ended_by, first_long, long_or, until_long}
 use Rattle.cu_sweep.specs.Places.{calls_of_some}
-use Rattle.cu_sweep.specs.Steps.Sweeping.{answer_at, long_by}
+use Rattle.cu_sweep.specs.Steps.Sweeping.{long_by}
 use Rattle.cu_sweep.proofs.Telling.{adds_none, adds_then, first_before, long_ends, until_before, until_none}
 
 -- the calls to or from these neighbours were told, and none of their walks was too long
@@ -40,16 +37,11 @@ until_one : (h : HierarchyValue) (o : Option Call) → until_long h (calls_of_so
 until_one h None = refl
 until_one h (Some call) = ended_one (answered h call) call
 
-long_call : (r : Relaxed) (call : Call) → long_or r call None ≡ long_by r (Some call)
+-- what a single call's answer says
+pub long_call : (r : Relaxed) (call : Call) → long_or r call None ≡ long_by r (Some call)
 long_call (At t) call = refl
 long_call NoWay call = refl
 long_call Long call = refl
-
--- what a single call's answer says
-pub long_one : (h : HierarchyValue) (edge : ℕ) (dir : Dir) (second : Option ℕ)
-    → first_long h (calls_of_some (call_at (Some edge) dir second)) ≡ long_by (answer_at h edge dir second) (call_at (Some edge) dir second)
-long_one h edge dir None = refl
-long_one h edge dir (Some at) = long_call (relaxed h edge dir at) (call_from edge dir at)
 
 module _ (h : HierarchyValue) (f : ℕ → Option Call) where
   pub row_none : (calls : Option (List Call)) → IsRow h f [] calls calls

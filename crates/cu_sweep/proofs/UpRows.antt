@@ -10,10 +10,10 @@ use Rattle.cu_interval.specs.declared.ways.Dir.TheVariants.{Up}
 use Rattle.cu_interval.specs.Hierarchies.{HierarchyValue, IsHierarchy, number_from}
 use Rattle.cu_interval.proofs.Lookups.{number_at, number_found}
 use Rattle.cu_sweep.specs.Labels.{earlier_of, label_over, start_label, up_label}
-use Rattle.cu_sweep.specs.Sweeps.{call_at, second_of}
+use Rattle.cu_sweep.specs.Sweeps.{second_of}
 use Rattle.cu_sweep.specs.Places.{dir_between, second_at}
 use Rattle.cu_sweep.specs.Swept.{Holds, IsPassed, Sweep, final_label}
-use Rattle.cu_sweep.specs.Steps.Sweeping.{IfSecond, IsUpSwept, answer_at, links_after, long_by, seconds_after, up_after, up_into}
+use Rattle.cu_sweep.specs.Steps.Sweeping.{IfSecond, IsUpSwept, answer_at, links_after, seconds_after, up_after, up_into}
 use Rattle.cu_sweep.proofs.Choosing.{after_more, earlier_none}
 use Rattle.cu_sweep.proofs.Holding.{holds_after, holds_other}
 
@@ -73,9 +73,9 @@ member_other (x ∷ part) y z ne c =
 pub up_more : (h : HierarchyValue) (q : Sweep) (done : List ℕ) (x y edge : ℕ) (part : List ℕ) (labels : List (Option ℕ)) (links : List (Option (ℕ × ℕ))) → IsUpPart h q done x part labels links
     → (Contains part y → ⊥) → x < y → y < h.network.nodes → y < length labels → y < length links → number_from 0 h.edges x y ≡ Some edge → edge < length h.edges
     → second_at labels x ≡ second_of (up_label h q.from q.second x) → IfSecond (second_at labels x) (λ at. at < 2 ^ 61)
-    → long_by (answer_at h edge Up (second_at labels x)) (call_at (Some edge) Up (second_at labels x)) ≡ None → IsPassed h q x
+    → IsPassed h q x
     → IsUpPart h q done x (part ++ (y ∷ [])) (seconds_after labels y (answer_at h edge Up (second_at labels x))) (links_after labels links x edge y (answer_at h edge Up (second_at labels x)))
-up_more h q done x y edge part labels links f new lt within la li number there_ source time long start z p =
+up_more h q done x y edge part labels links f new lt within la li number there_ source time start z p =
     let answer = answer_at h edge Up (second_at labels x) in
     elim (cases_eq z y) [
       | inr other ↦ (
@@ -89,7 +89,7 @@ up_more h q done x y edge part labels links f new lt within la li number there_ 
           let xs : x < h.network.nodes = omega (arith, lt, within) in
           let whole = holds_after h q labels links x edge y Up from (up_after h q done y) la li (final_up h q x xs) (along_up h.network.nodes x y within) there_
           (subst (λ (o : Option ℕ). IfSecond o (λ at. at < 2 ^ 61)) source time)
-          (λ s is. subst (λ (o : Option ℕ). long_by (answer_at h edge Up o) (call_at (Some edge) Up o) ≡ None) (source ∙ ap second_of is) long) (inl start) old in
+          (inl start) old in
           let back = subst (λ (o : Option ℕ). Holds h q (seconds_after labels y (answer_at h edge Up o)) (links_after labels links x edge y (answer_at h edge Up o)) y
           (earlier_of (up_after h q done y) (label_over h (Some edge) Up from))) (sym source) whole in
           let at_y = subst (Holds h q (seconds_after labels y answer) (links_after labels links x edge y answer) y) (up_after_call h q done x y edge number) back in (

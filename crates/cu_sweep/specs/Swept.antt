@@ -9,7 +9,7 @@ use Rattle.cu_interval.specs.Hierarchies.{HierarchyValue, graph_of}
 use Rattle.cu_sweep.specs.Desks.{AreArriving, DeskValue}
 use Rattle.cu_sweep.specs.Labels.{Label, down_label, up_label}
 use Rattle.cu_sweep.specs.Places.{calls_between, calls_found, dir_between, second_at}
-use Rattle.cu_sweep.specs.Sweeps.{AddsAll, calls_down, first_long, second_of, until_long}
+use Rattle.cu_sweep.specs.Sweeps.{AddsAll, down_calls_to, first_long, second_of, until_long}
 
 -- where and when a sweep starts, and the ranks that it goes down over
 pub record Sweep : Type 0 where
@@ -85,9 +85,9 @@ pub record IsReachedAs (h : HierarchyValue) (labels : LabelsValue) (place : ℕ)
 abbrev pub IsSweptDown : HierarchyValue → Sweep → LabelsValue → Type 0
 IsSweptDown h q labels = (rank : ℕ) → Contains q.path rank → IsReachedAs h labels (labels.nodes + rank) (down_label h q.from q.second rank)
 
--- the downward calls: over the path, falling, each at the neighbour's label
+-- the downward calls: over the path, falling
 abbrev pub path_calls : HierarchyValue → Sweep → List Call
-path_calls h q = flat_map (λ x. calls_down h x (λ y. second_of (down_label h q.from q.second y))) (reverse q.path)
+path_calls h q = flat_map (down_calls_to h q.from q.second) (reverse q.path)
 
 -- these calls were made, up to the first whose walk is too long, which is the answer
 pub record Makes (h : HierarchyValue) (calls : List Call) (before now : Option (List Call)) (long : Option Call) : Type 0 where

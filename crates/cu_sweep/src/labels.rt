@@ -95,8 +95,8 @@ impl Labels {
     }
 
     /// Goes up from the start of a sweep that has begun: relaxes the edges from each ancestor of the start to its higher
-    /// neighbours. Answers the first call whose walk is too long, with which it ends. The tree is that of the graph, and the
-    /// relaxer stands for a hierarchy with this graph. Takes no memory.
+    /// neighbours, but for those that can't make a label earlier. Answers the first call whose walk is too long, with which it
+    /// ends. The tree is that of the graph, and the relaxer stands for a hierarchy with this graph. Takes no memory.
     pub fn sweep_up<R: Relaxer>(
         &mut self,
         tree: &Tree,
@@ -129,9 +129,9 @@ impl Labels {
     }
 
     /// Goes down over the path of a sweep that went up: relaxes the edges to each of its ranks, the last first, from the
-    /// higher neighbours, all of which are on the path. Its ranks rise. Answers the first call whose walk is too long, with
-    /// which it ends; else each rank of the path is reached as it can be. The relaxer stands for a hierarchy with this graph.
-    /// Takes no memory.
+    /// higher neighbours, all of which are on the path, but for those that can't make a label earlier. Its ranks rise. Answers
+    /// the first call whose walk is too long, with which it ends; else each rank of the path is reached as it can be. The
+    /// relaxer stands for a hierarchy with this graph. Takes no memory.
     pub fn sweep_down<R: Relaxer>(
         &mut self,
         graph: &Chordal,

@@ -9,6 +9,9 @@
 //! end. A law speaks of the definitions alone, [`sweeps_take_arcs_once`]: a sweep takes sweep arcs, each at most once
 //! (`specs/ArcsOnce.antt`).
 //!
+//! A sweep leaves out each call whose end already has a label no later than the call's second and its list's least bound:
+//! whatever the call answered, no label would be earlier, so all labels and walks are those of all calls.
+//!
 //! It stands on `cu_model`, `cu_io`, `cu_links`, `cu_chordal`, `cu_elimtree`, `cu_interval` and `cu_unpack`. Private are the steps
 //! of both sweeps, and where a desk keeps its labels and links. `specs/Steps` is cited by private functions alone.
 #![tactic(auto)]

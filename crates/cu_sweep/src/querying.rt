@@ -28,7 +28,8 @@ struct Question {
 }
 
 /// The earliest arrival from one rank at another, by the upward sweep over the ancestors of the first and the downward sweep
-/// over those of the second. Both ranks are below the number of ranks, the second is one of a day, the tree is that of the
+/// over those of the second. A call that can't make a label earlier, by the least bound of its list, is left out: labels and
+/// walk are those of all calls. Both ranks are below the number of ranks, the second is one of a day, the tree is that of the
 /// graph, the desk was made for as many nodes, and the relaxer stands for a hierarchy with this graph. Takes no memory.
 pub fn query<R: Relaxer>(
     tree: &Tree,

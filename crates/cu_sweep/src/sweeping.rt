@@ -5,20 +5,20 @@ ghost use Rattle.cu_links.specs.Chains.{IsOnChainTo};
 ghost use Rattle.std.specs.List.{Contains};
 ghost use Rattle.cu_chordal.specs.Graphs.{HasEdge};
 ghost use Rattle.cu_interval.specs.Calls.{IfAt};
-ghost use Rattle.cu_interval.specs.Hierarchies.{IsHierarchyOf};
+ghost use Rattle.cu_interval.specs.Hierarchies.{IsHierarchy, IsHierarchyOf};
 ghost use Rattle.cu_sweep.specs.Labels.{up_label};
-ghost use Rattle.cu_sweep.specs.Sweeps.{AddsAll, call_at, calls_down, calls_up, first_long, until_long};
+ghost use Rattle.cu_sweep.specs.Sweeps.{AddsAll, calls_up, first_long, is_by, until_long};
 ghost use Rattle.cu_sweep.specs.Places.{calls_of_some, second_at};
 ghost use Rattle.cu_sweep.specs.Swept.{IsPassed, Sweep};
 ghost use Rattle.cu_sweep.specs.Steps.Ready.{IsReady};
-ghost use Rattle.cu_sweep.specs.Steps.Sweeping.{IfSecond, IsDownSwept, IsUpSwept, answer_at, begun_links, is_earlier, links_after, long_by, seconds_after, up_after};
+ghost use Rattle.cu_sweep.specs.Steps.Sweeping.{IfSecond, IsDownSwept, IsRankDown, IsUpSwept, answer_at, begun_links, call_into, is_earlier, links_after, long_by, seconds_after, up_after};
 
 use cu_chordal::Chordal;
 use cu_interval::{Call, Dir, Relaxed, Relaxer};
 use cu_links::Chain;
 
-// Relaxes the edges from a rank to its higher neighbours, by rising rank. Answers the first call whose walk is too long,
-// with which it ends.
+// Relaxes the edges from a rank to its higher neighbours, by rising rank, but for those that can't make a label earlier.
+// Answers the first call whose walk is too long, with which it ends.
 pub(crate) fn relax_up<R: Relaxer>(
     graph: &Chordal,
     labels: &mut [Option<u64>],
@@ -34,10 +34,12 @@ pub(crate) fn relax_up<R: Relaxer>(
     ensures unturned { chain.new.turned ≡ false }
     ensures stays { R.hierarchy relaxer.new ≡ R.hierarchy relaxer.old }
     ensures long { result ≡ first_long (R.hierarchy relaxer.old)
-        (calls_up (R.hierarchy relaxer.old) rank (second_at labels.old rank)) }
+        (calls_up (R.hierarchy relaxer.old) rank (second_at labels.old rank)
+        (second_at labels.old)) }
     ensures told { AddsAll (R.calls relaxer.old) (R.calls relaxer.new)
         (until_long (R.hierarchy relaxer.old)
-        (calls_up (R.hierarchy relaxer.old) rank (second_at labels.old rank))) }
+        (calls_up (R.hierarchy relaxer.old) rank (second_at labels.old rank)
+        (second_at labels.old))) }
     ensures swept { (q : Sweep) (done : List ℕ)
         → IsUpSwept (R.hierarchy relaxer.old) q done labels.old chain.old.links
         → IsPassed (R.hierarchy relaxer.old) q rank
@@ -58,8 +60,8 @@ pub(crate) fn relax_up<R: Relaxer>(
     None
 }
 
-// Relaxes the edges to a rank from its higher neighbours, by rising rank, after its downward label has begun as the upward
-// one. Answers the first call whose walk is too long, with which it ends.
+// Relaxes the edges to a rank from its higher neighbours, by rising rank, but for those that can't make its label earlier,
+// after its downward label has begun as the upward one. Answers the first call whose walk is too long, with which it ends.
 pub(crate) fn relax_down<R: Relaxer>(
     graph: &Chordal,
     labels: &mut [Option<u64>],
@@ -74,19 +76,12 @@ pub(crate) fn relax_down<R: Relaxer>(
     ensures ready { IsReady graph.now.ranks labels.new chain.new }
     ensures unturned { chain.new.turned ≡ false }
     ensures stays { R.hierarchy relaxer.new ≡ R.hierarchy relaxer.old }
-    ensures long { result ≡ first_long (R.hierarchy relaxer.old)
-        (calls_down (R.hierarchy relaxer.old) rank
-        (λ y. second_at labels.old (graph.now.ranks + y))) }
-    ensures told { AddsAll (R.calls relaxer.old) (R.calls relaxer.new)
-        (until_long (R.hierarchy relaxer.old)
-        (calls_down (R.hierarchy relaxer.old) rank
-        (λ y. second_at labels.old (graph.now.ranks + y)))) }
-    ensures swept { (q : Sweep) (done : List ℕ)
+    ensures over { (q : Sweep) (done : List ℕ)
         → IsDownSwept (R.hierarchy relaxer.old) q done labels.old chain.old.links
         → IsPassed (R.hierarchy relaxer.old) q rank
         → ((y : ℕ) → HasEdge graph.now.edges rank y → Contains done y)
-        → result ≡ None
-        → IsDownSwept (R.hierarchy relaxer.old) q (done ++ (rank ∷ [])) labels.new chain.new.links }
+        → IsRankDown (R.hierarchy relaxer.old) q rank done
+        (R.calls relaxer.old) (R.calls relaxer.new) labels.new chain.new.links result }
 {
     let nodes = graph.ranks();
     begin_down(labels, chain, nodes, rank);
@@ -128,7 +123,7 @@ fn begin_down(labels: &mut [Option<u64>], chain: &mut Chain, nodes: u32, rank: u
 }
 
 // Relaxes an edge from the label of one place, and gives another place the label where that is strictly earlier. Answers the
-// call where its walk is too long.
+// call where its walk is too long. The call is left out where the other label is no later than any that it could give.
 fn relax_into<R: Relaxer>(
     labels: &mut [Option<u64>],
     chain: &mut Chain,
@@ -145,24 +140,28 @@ fn relax_into<R: Relaxer>(
     requires time { IfSecond (second_at labels.old from) (λ at. at < 2 ^ 61) }
     requires unturned { chain.old.turned ≡ false }
     requires apart { IsOnChainTo chain.old.links into from → ⊥ }
+    requires sound { IsHierarchy (R.hierarchy relaxer.old) }
     ensures labels { labels.new ≡ seconds_after labels.old into
         (answer_at (R.hierarchy relaxer.old) edge dir (second_at labels.old from)) }
     ensures links { chain.new.links ≡ links_after labels.old chain.old.links from edge into
         (answer_at (R.hierarchy relaxer.old) edge dir (second_at labels.old from)) }
     ensures unturned { chain.new.turned ≡ false }
-    ensures long { result ≡ long_by
-        (answer_at (R.hierarchy relaxer.old) edge dir (second_at labels.old from))
-        (call_at (Some edge) dir (second_at labels.old from)) }
+    ensures long { result ≡ first_long (R.hierarchy relaxer.old)
+        (calls_of_some (call_into (R.hierarchy relaxer.old) labels.old (Some edge) dir from into)) }
     ensures near { IfSecond (second_at labels.old from)
         (λ at. IfAt (answer_at (R.hierarchy relaxer.old) edge dir (Some at))
         (λ (arrival : ℕ). arrival ≤ at + 2 ^ 38)) }
     ensures stays { R.hierarchy relaxer.new ≡ R.hierarchy relaxer.old }
     ensures told { AddsAll (R.calls relaxer.old) (R.calls relaxer.new)
-        (calls_of_some (call_at (Some edge) dir (second_at labels.old from))) }
+        (calls_of_some (call_into (R.hierarchy relaxer.old) labels.old (Some edge) dir from into)) }
 {
     let Some(second) = labels[from as usize] else {
         return None;
     };
+    let soonest = second + relaxer.least(edge, dir);
+    if is_reached_by(labels[into as usize], soonest) {
+        return None;
+    }
     let answer = relaxer.relax(edge, dir, second);
     give(labels, chain, from, edge, into, answer);
     long_of(answer, Call { edge, dir, second })
@@ -212,5 +211,15 @@ fn is_earlier_than(arrival: u64, second: Option<u64>) -> bool
     match second {
         None => true,
         Some(second) => arrival < second,
+    }
+}
+
+// Whether there is a second, no later than another.
+fn is_reached_by(second: Option<u64>, soonest: u64) -> bool
+    ensures { result ≡ is_by second soonest }
+{
+    match second {
+        None => false,
+        Some(second) => second <= soonest,
     }
 }

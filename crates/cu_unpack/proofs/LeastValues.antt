@@ -71,15 +71,15 @@ no_earlier a b P (inl less) = omega (arith, less)
 no_earlier a b P (inr tie) = let same = tie.0 in omega (arith, same)
 
 -- the rebuilt values are the least low drives
-abbrev IsRightValue : HierarchyValue → ℕ → ℕ → Type 0
+abbrev pub IsRightValue : HierarchyValue → ℕ → ℕ → Type 0
 IsRightValue h u v = HasLowWalk h.network h.order u v → (t : ℕ) → (a : ℕ) × (rebuilt h u v t ≡ Some a) × IsLeastLowDrive h.network h.order u v t a
 
 -- so they are between all ranks of which one is below this
-abbrev AreRightValues : HierarchyValue → ℕ → Type 0
+abbrev pub AreRightValues : HierarchyValue → ℕ → Type 0
 AreRightValues h m = (x y : ℕ) → min x y < m → IsRightValue h x y
 
 module _ (h : HierarchyValue) (f : IsBuilt h) where
-  some_walk : (u v : ℕ) → u ≢ v → list_from h u v ≢ [] → HasLowWalk h.network h.order u v
+  pub some_walk : (u v : ℕ) → u ≢ v → list_from h u v ≢ [] → HasLowWalk h.network h.order u v
   some_walk u v apart some = (unpacked_walk h u v 0, unpacked-low h f.sound u v 0 apart some)
 
   formed_candidate : (u v : ℕ) (way : Way) → IsWellFormed h u v way → IsCandidate h.network h.order u v way
@@ -141,7 +141,7 @@ module _ (h : HierarchyValue) (f : IsBuilt h) where
         subst (IsLeastLowDrive h.network h.order u v t) days (subst (λ (x : ℕ). IsLeastLowDrive h.network h.order u v x ((t / day) * day + a)) whole later),
       )
 
-  right_values : (m : ℕ) → AreRightValues h m
+  pub right_values : (m : ℕ) → AreRightValues h m
   right_values zero x y lt = absurd (omega (arith, lt))
   right_values (suc m) x y lt = right_value x y (λ p q less. right_values m p q (omega (arith, less, lt)))
 

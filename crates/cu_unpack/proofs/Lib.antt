@@ -14,3 +14,4 @@ pub mod KnownLists
 pub mod PackedWays
 pub mod VisitedOnce
 pub mod LeastValues
+pub mod FarBounds

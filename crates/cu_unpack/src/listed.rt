@@ -3,6 +3,7 @@
 ghost use Rattle.std.specs.Prelude.{◌≡◌, ◌≤◌, ◌<◌, ◌+◌, ◌^◌, ℕ, [], Some, IfOk, length, option_map};
 ghost use Rattle.cu_interval.specs.Calls.{Adds, IfAt};
 ghost use Rattle.cu_interval.specs.Hierarchies.{IsHierarchy};
+ghost use Rattle.cu_interval.specs.LeastBounds.{far, least_bound};
 ghost use Rattle.cu_interval.specs.Unpacking.{relaxed};
 ghost use Rattle.cu_unpack.specs.Told.{told_after};
 
@@ -76,6 +77,14 @@ impl<R: Relaxer + Drop> Relaxer for Listed<R> {
             second: at,
         });
         answer
+    }
+
+    fn least(&self, edge: u32, dir: Dir) -> u64
+        requires edge { edge < length self.now.hierarchy.edges }
+        ensures bound { result ≡ least_bound self.now.hierarchy edge dir }
+        ensures most { result ≤ far }
+    {
+        self.inner.least(edge, dir)
     }
 }
 

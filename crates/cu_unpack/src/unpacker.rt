@@ -5,6 +5,7 @@ ghost use Rattle.cu_io.specs.Sinks.{Wrote};
 ghost use Rattle.cu_interval.specs.declared.relaxing.Relaxed.TheVariants.{At};
 ghost use Rattle.cu_interval.specs.Calls.{Adds, IfAt};
 ghost use Rattle.cu_interval.specs.Hierarchies.{IsHierarchy};
+ghost use Rattle.cu_interval.specs.LeastBounds.{far, least_bound};
 ghost use Rattle.cu_interval.specs.Unpacking.{relaxed};
 ghost use Rattle.cu_unpack.specs.Answers.{IsArriving, IsLowWhereBuilt, walk_over};
 ghost use Rattle.cu_unpack.specs.Texts.{walk_text};
@@ -12,11 +13,12 @@ ghost use Rattle.cu_unpack.specs.Texts.{walk_text};
 use crate::counted::Counted;
 use crate::unpacking::{relax_counted, write_walk};
 use crate::work::Work;
-use cu_interval::{Dir, Relaxed, Relaxer, Ways};
+use cu_interval::{BoundedWays, Dir, Relaxed, Relaxer, Ways};
 use cu_io::{Sink, SinkFailed};
 use std::marker::Model;
 
-/// Relaxes the shortcuts of borrowed ways, with room of its own. Contracts see the hierarchy. It doesn't tell its calls.
+/// Relaxes the shortcuts of borrowed ways, where these know the least bound of each list, with room of its own, and writes
+/// their walks. Contracts see the hierarchy. It doesn't tell its calls.
 #[derive(Drop)]
 pub struct Unpacker<'a, W: Ways> {
     ways: &'a W,
@@ -79,7 +81,7 @@ impl<'a, W: Ways> Unpacker<'a, W> {
     }
 }
 
-impl<'a, W: Ways> Relaxer for Unpacker<'a, W> {
+impl<'a, W: BoundedWays> Relaxer for Unpacker<'a, W> {
     ghost hierarchy = { λ unpacker. unpacker };
 
     ghost calls = { λ unpacker. None };
@@ -97,6 +99,14 @@ impl<'a, W: Ways> Relaxer for Unpacker<'a, W> {
         let ways = self.ways;
         let work = &mut self.work;
         relax_over(ways, work, edge, dir, at)
+    }
+
+    fn least(&self, edge: u32, dir: Dir) -> u64
+        requires edge { edge < length self.now.edges }
+        ensures bound { result ≡ least_bound self.now edge dir }
+        ensures most { result ≤ far }
+    {
+        self.ways.least(edge, dir)
     }
 }
 

@@ -1,7 +1,9 @@
-//! Tests of packed files: written, opened, asked as they lie, verified, and relaxed with what is remembered of them. What no clause
-//! says: that calls succeed, and files that were made by hand and hashed by another program.
+//! Tests of packed files: written, opened, migrated, asked as they lie, verified, and relaxed with what is remembered of them. What
+//! no clause says: that calls succeed, and files that were made by hand and hashed by another program.
 #![tactic(auto)]
 
+#[cfg(test)]
+mod migrating;
 #[cfg(test)]
 mod packing;
 #[cfg(test)]

@@ -5,7 +5,7 @@ ghost use Rattle.cu_interval.specs.Hierarchies.{IsHierarchyOf};
 ghost use Rattle.cu_recall.specs.Rooms.{Fits};
 
 use cu_chordal::Chordal;
-use cu_interval::{Dir, Relaxed, Relaxer, Ways};
+use cu_interval::{BoundedWays, Dir, Relaxed, Relaxer, Ways};
 use cu_io::MemorySink;
 use cu_model::Roads;
 use cu_pack::{PackedView, chordal_of};
@@ -31,6 +31,17 @@ fn ask<R: Relaxer>(relaxer: &mut R, edges: u32, edge: u32, dir: Dir, second: u32
 {
     if edge < edges {
         Some(relaxer.relax(edge, dir, u64::from(second)))
+    } else {
+        None
+    }
+}
+
+// The least bound of an edge, if there is one with this number.
+fn least<R: Relaxer>(relaxer: &R, edges: u32, edge: u32, dir: Dir) -> Option<u64>
+    requires { edges ≡ length (R.hierarchy relaxer.now).edges }
+{
+    if edge < edges {
+        Some(relaxer.least(edge, dir))
     } else {
         None
     }
@@ -77,6 +88,39 @@ fn remembers_what_is_so(rt: HostRuntime) -> Result<(), Fail> {
     Ok(())
 }
 
+// The lists from node 0 to 1, 2 to 0, 2 to 1, 1 to 3 and 2 to 3, and one without ways.
+#[test]
+fn knows_the_least_bounds(rt: HostRuntime) -> Result<(), Fail> {
+    let alloc = rt.alloc();
+    let bytes = packed(alloc, BESIDE)?;
+    let view = PackedView::open(alloc, &bytes)?;
+    let graph = chordal_of(alloc, &view)?;
+    let edges = view.edges();
+    let recall = Recall::new(&view, &graph, Room::new(alloc, view.nodes(), edges)?);
+    let unpacker = Unpacker::new(&view, Work::new(alloc, view.nodes())?);
+    let rows: [(u32, Dir, u64); 6] = [
+        (0, Dir::Up, 100),
+        (1, Dir::Down, 60),
+        (2, Dir::Down, 160),
+        (3, Dir::Up, 60),
+        (4, Dir::Up, 220),
+        (2, Dir::Up, 1 << 60),
+    ];
+    for (edge, dir, bound) in rows {
+        assert_eq!(rt;
+            least(&unpacker, edges, edge, dir),
+            Some(bound),
+            "edge {edge}"
+        );
+        assert_eq!(rt;
+            least(&recall, edges, edge, dir),
+            Some(bound),
+            "edge {edge}"
+        );
+    }
+    Ok(())
+}
+
 // Room in which the way upwards over edge 4 at this second was met.
 fn met(view: &PackedView<'_>, graph: &Chordal, room: Room, second: u32) -> Room
     requires graph { IsHierarchyOf graph.now view.now }
@@ -90,8 +134,8 @@ fn met(view: &PackedView<'_>, graph: &Chordal, room: Room, second: u32) -> Room
 }
 
 // Are these the roads that are written of the walk upwards over edge 4?
-fn is_walk<W: Ways>(alloc: Global, ways: &W, second: u32, roads: &[u8]) -> Result<bool, Fail>
-    requires edge { 4 < length (W.hierarchy ways.now).edges }
+fn is_walk<W: BoundedWays>(alloc: Global, ways: &W, second: u32, roads: &[u8]) -> Result<bool, Fail>
+    requires edge { 4 < length (W.Ways.hierarchy ways.now).edges }
 {
     let mut sink = MemorySink::new(alloc, 8, Vec::new(alloc))?;
     let mut unpacker = Unpacker::new(ways, Work::new(alloc, ways.nodes())?);

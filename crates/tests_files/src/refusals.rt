@@ -1,8 +1,8 @@
-//! Files made by hand that pass, and which check they fail with some of their bytes changed.
+//! Files made by hand that pass, in both versions, and which check they fail with some of their bytes changed.
 
 use cu_interval::Dir;
-use cu_pack::{Field, PackRefusal, PackedView};
-use cu_samples::{BUILT, NOTHING, forged};
+use cu_pack::{Field, PackRefusal, PackedView, migrate};
+use cu_samples::{BUILT, FIRST_VERSION, FORGED, NOTHING, forged};
 use std::alloc::Global;
 use std::test::Fail;
 
@@ -11,54 +11,149 @@ fn refusal(alloc: Global, file: &[u8]) -> Option<PackRefusal> {
     PackedView::open(alloc, file).err()
 }
 
+// Why a file of version 1 isn't migrated.
+fn migrate_refusal(alloc: Global, file: &[u8]) -> Option<PackRefusal> {
+    migrate(alloc, file).err()
+}
+
+// Why the built file isn't opened with one byte changed, and the digest that it had.
+fn changed_refusal(alloc: Global, place: usize, byte: u8) -> Option<PackRefusal> {
+    let mut file = BUILT;
+    if let Some(old) = file.get_mut(place) {
+        *old = byte;
+    }
+    refusal(alloc, &file)
+}
+
+// Why it isn't migrated in version 1, changed in the same way.
+fn first_changed_refusal(alloc: Global, place: usize, byte: u8) -> Option<PackRefusal> {
+    let mut file = FIRST_VERSION;
+    if let Some(old) = file.get_mut(place) {
+        *old = byte;
+    }
+    migrate_refusal(alloc, &file)
+}
+
 // Why the built file isn't opened with these bytes changed and the digest of what they then are.
 fn forged_refusal(alloc: Global, changes: &[(usize, u8)]) -> Result<Option<PackRefusal>, Fail> {
-    let file = forged(alloc, &BUILT, changes, 360)?;
+    let file = forged(alloc, &BUILT, changes, 408)?;
     Ok(refusal(alloc, &file))
 }
 
+// Why it isn't migrated in version 1, changed in the same way.
+fn first_refusal(alloc: Global, changes: &[(usize, u8)]) -> Result<Option<PackRefusal>, Fail> {
+    let file = forged(alloc, &FIRST_VERSION, changes, 360)?;
+    Ok(migrate_refusal(alloc, &file))
+}
+
+// The check that fails where one byte is changed.
+const HEADER: [(usize, u8, PackRefusal); 8] = [
+    (0, 0x44, PackRefusal::Magic),
+    (7, 0x49, PackRefusal::Magic),
+    (8, 3, PackRefusal::Version { found: 3 }),
+    (
+        44,
+        0xb9,
+        PackRefusal::Length {
+            said: 441,
+            found: 440,
+        },
+    ),
+    (12, 4, PackRefusal::Digest),
+    (359, 1, PackRefusal::Digest),
+    (392, 0xa1, PackRefusal::Digest),
+    (439, 0xa1, PackRefusal::Digest),
+];
+
 #[test]
 fn refuses_a_header_for_its_first_fault(rt: HostRuntime) -> Result<(), Fail> {
+    let alloc = rt.alloc();
+    let length = PackRefusal::Length {
+        said: 440,
+        found: 439,
+    };
+    let rows: [(&[u8], Option<PackRefusal>); 7] = [
+        (&BUILT, None),
+        (&NOTHING, None),
+        (&FORGED, None),
+        (&BUILT[..0], Some(PackRefusal::Short)),
+        (&BUILT[..83], Some(PackRefusal::Short)),
+        (&BUILT[..439], Some(length)),
+        (&FIRST_VERSION, Some(PackRefusal::Version { found: 1 })),
+    ];
+    for (file, wanted) in rows {
+        assert_eq!(rt; refusal(alloc, file), wanted, "{} bytes", file.len());
+    }
+    for (place, byte, wanted) in HEADER {
+        assert_eq!(rt;
+            changed_refusal(alloc, place, byte),
+            Some(wanted),
+            "at {place}"
+        );
+    }
+    Ok(())
+}
+
+// The same in version 1.
+const FIRST_HEADER: [(usize, u8, PackRefusal); 7] = [
+    (0, 0x44, PackRefusal::Magic),
+    (7, 0x49, PackRefusal::Magic),
+    (8, 3, PackRefusal::Version { found: 3 }),
+    (
+        44,
+        0x89,
+        PackRefusal::Length {
+            said: 393,
+            found: 392,
+        },
+    ),
+    (12, 4, PackRefusal::Digest),
+    (359, 1, PackRefusal::Digest),
+    (391, 0x3d, PackRefusal::Digest),
+];
+
+#[test]
+fn refuses_a_header_of_version_1_for_its_first_fault(rt: HostRuntime) -> Result<(), Fail> {
     let alloc = rt.alloc();
     let length = PackRefusal::Length {
         said: 392,
         found: 391,
     };
     let rows: [(&[u8], Option<PackRefusal>); 5] = [
-        (&BUILT, None),
-        (&NOTHING, None),
-        (&BUILT[..0], Some(PackRefusal::Short)),
-        (&BUILT[..83], Some(PackRefusal::Short)),
-        (&BUILT[..391], Some(length)),
+        (&FIRST_VERSION, None),
+        (&FIRST_VERSION[..0], Some(PackRefusal::Short)),
+        (&FIRST_VERSION[..83], Some(PackRefusal::Short)),
+        (&FIRST_VERSION[..391], Some(length)),
+        (&BUILT, Some(PackRefusal::Version { found: 2 })),
     ];
     for (file, wanted) in rows {
-        assert_eq!(rt; refusal(alloc, file), wanted, "{} bytes", file.len());
+        assert_eq!(rt;
+            migrate_refusal(alloc, file),
+            wanted,
+            "{} bytes",
+            file.len()
+        );
     }
-    let longer = PackRefusal::Length {
-        said: 393,
-        found: 392,
-    };
-    let changes = [
-        (0, 0x44, PackRefusal::Magic),
-        (7, 0x49, PackRefusal::Magic),
-        (8, 2, PackRefusal::Version { found: 2 }),
-        (44, 0x89, longer),
-        (12, 4, PackRefusal::Digest),
-        (359, 1, PackRefusal::Digest),
-        (391, 0x3d, PackRefusal::Digest),
-    ];
-    for (place, byte, wanted) in changes {
-        let mut file = BUILT;
-        if let Some(old) = file.get_mut(place) {
-            *old = byte;
-        }
-        assert_eq!(rt; refusal(alloc, &file), Some(wanted), "at {place}");
+    for (place, byte, wanted) in FIRST_HEADER {
+        assert_eq!(rt;
+            first_changed_refusal(alloc, place, byte),
+            Some(wanted),
+            "at {place}"
+        );
     }
     Ok(())
 }
 
+// The bytes that the counts ask for, of a file with so many bytes; none for another refusal.
+fn counted(refusal: Option<PackRefusal>, length: u64) -> Option<u64> {
+    match refusal {
+        Some(PackRefusal::Size { counted, found }) if found == length => Some(counted),
+        _ => None,
+    }
+}
+
 #[test]
-fn refuses_counts_past_their_limits_and_other_sizes(rt: HostRuntime) -> Result<(), Fail> {
+fn refuses_counts_past_their_limits(rt: HostRuntime) -> Result<(), Fail> {
     let alloc = rt.alloc();
     // Each count a one past its limit, and then at its limit, for which there aren't bytes enough.
     let cases = [
@@ -70,20 +165,35 @@ fn refuses_counts_past_their_limits_and_other_sizes(rt: HostRuntime) -> Result<(
         ([(36, 1), (40, 0xa3), (41, 2)], Field::Entries),
     ];
     for (changes, field) in cases {
-        let found = forged_refusal(alloc, &changes)?;
-        assert_eq!(rt; found, Some(PackRefusal::Limit { field }));
+        let wanted = Some(PackRefusal::Limit { field });
+        assert_eq!(rt; forged_refusal(alloc, &changes)?, wanted);
+        assert_eq!(rt; first_refusal(alloc, &changes)?, wanted);
         let [(place, _), second, third] = changes;
-        let found = forged_refusal(alloc, &[(place, 0), second, third])?;
-        assert!(rt;
-            matches!(found, Some(PackRefusal::Size { found: 392, .. })),
-            "at {place}"
-        );
+        let changes = [(place, 0), second, third];
+        let found = counted(forged_refusal(alloc, &changes)?, 440);
+        assert!(rt; found.is_some(), "at {place}");
+        let found = counted(first_refusal(alloc, &changes)?, 392);
+        assert!(rt; found.is_some(), "at {place} in version 1");
     }
-    let size = PackRefusal::Size {
-        counted: 404,
-        found: 392,
-    };
-    assert_eq!(rt; forged_refusal(alloc, &[(12, 4)])?, Some(size));
+    Ok(())
+}
+
+#[test]
+fn refuses_other_sizes(rt: HostRuntime) -> Result<(), Fail> {
+    let alloc = rt.alloc();
+    // One more node, and one more edge, which asks for least bounds in version 2 alone.
+    let rows = [((12, 4), 452, 404), ((24, 4), 476, 412)];
+    for (change, counts, first_counts) in rows {
+        let found = counted(forged_refusal(alloc, &[change])?, 440);
+        assert_eq!(rt; found, Some(counts));
+        let found = counted(first_refusal(alloc, &[change])?, 392);
+        assert_eq!(rt; found, Some(first_counts));
+    }
+    // Each version under the number of the other.
+    let file = forged(alloc, &FIRST_VERSION, &[(8, 2)], 360)?;
+    assert_eq!(rt; counted(refusal(alloc, &file), 392), Some(440));
+    let file = forged(alloc, &BUILT, &[(8, 1)], 408)?;
+    assert_eq!(rt; counted(migrate_refusal(alloc, &file), 440), Some(392));
     Ok(())
 }
 
@@ -218,7 +328,7 @@ const ONE_BYTE: [(usize, u8, PackRefusal); 39] = [
 ];
 
 // The same where more than one is.
-const MORE_BYTES: [(&[(usize, u8)], Option<PackRefusal>); 8] = [
+const MORE_BYTES: [(&[(usize, u8)], Option<PackRefusal>); 9] = [
     (&[], None),
     // Three profiles of a piece each leave three pieces behind.
     (
@@ -272,19 +382,63 @@ const MORE_BYTES: [(&[(usize, u8)], Option<PackRefusal>); 8] = [
             dir: Dir::Up,
         }),
     ),
-    // The earlier check is named.
+    // The earlier check is named, also where a least bound is wrong.
     (&[(60, 1), (104, 3)], Some(PackRefusal::Order { rank: 2 })),
+    (
+        &[(332, 1), (368, 61)],
+        Some(PackRefusal::Ways {
+            edge: 2,
+            dir: Dir::Up,
+        }),
+    ),
 ];
 
 #[test]
 fn finds_the_first_part_that_is_wrong(rt: HostRuntime) -> Result<(), Fail> {
     let alloc = rt.alloc();
     for (place, byte, wanted) in ONE_BYTE {
-        let found = forged_refusal(alloc, &[(place, byte)])?;
+        let changes = [(place, byte)];
+        let found = forged_refusal(alloc, &changes)?;
         assert_eq!(rt; found, Some(wanted), "at {place}");
+        let found = first_refusal(alloc, &changes)?;
+        assert_eq!(rt; found, Some(wanted), "at {place} in version 1");
     }
     for (changes, wanted) in MORE_BYTES {
         assert_eq!(rt; forged_refusal(alloc, changes)?, wanted);
+        assert_eq!(rt; first_refusal(alloc, changes)?, wanted);
+    }
+    Ok(())
+}
+
+// The first list whose least bound is another one. The bounds stand from 360 on, eight bytes each: those of the empty lists, of edge
+// 0 up and of edges 1 and 2 down, are 2^60.
+const BOUNDS: [(&[(usize, u8)], Option<(u32, Dir)>); 15] = [
+    // One too great and one too small, of each list.
+    (&[(360, 1)], Some((0, Dir::Up))),
+    (&[(367, 0x0f)], Some((0, Dir::Up))),
+    (&[(368, 61)], Some((0, Dir::Down))),
+    (&[(368, 59)], Some((0, Dir::Down))),
+    (&[(376, 101)], Some((1, Dir::Up))),
+    (&[(383, 0x10)], Some((1, Dir::Up))),
+    (&[(391, 0)], Some((1, Dir::Down))),
+    (&[(392, 161)], Some((2, Dir::Up))),
+    (&[(392, 159)], Some((2, Dir::Up))),
+    (&[(400, 160), (407, 0)], Some((2, Dir::Down))),
+    // The first of two.
+    (&[(392, 161), (368, 61)], Some((0, Dir::Down))),
+    // Another first piece leaves a least travel of 100 seconds by the last one; another last piece too makes it 101, of which
+    // the way over the middle takes part.
+    (&[(164, 101)], None),
+    (&[(164, 101), (200, 101)], Some((1, Dir::Up))),
+    (&[(164, 101), (200, 101), (376, 101)], Some((2, Dir::Up))),
+    (&[(164, 101), (200, 101), (376, 101), (392, 161)], None),
+];
+
+#[test]
+fn finds_the_first_bound_that_is_wrong(rt: HostRuntime) -> Result<(), Fail> {
+    for (changes, wanted) in BOUNDS {
+        let wanted = wanted.map(|(edge, dir)| PackRefusal::Bound { edge, dir });
+        assert_eq!(rt; forged_refusal(rt.alloc(), changes)?, wanted);
     }
     Ok(())
 }

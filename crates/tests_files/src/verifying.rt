@@ -1,15 +1,15 @@
-//! Where files differ that were forged by hand.
+//! Where files of version 1 that were forged by hand differ, migrated.
 
 use cu_interval::{Dir, Way};
-use cu_pack::PackedView;
-use cu_samples::{BUILT, forged};
+use cu_pack::{PackedView, migrate};
+use cu_samples::{FIRST_VERSION, forged};
 use cu_verify::{Verdict, verify};
 use std::alloc::Global;
 use std::test::Fail;
 
-// The verdict over the built file with these bytes changed, cut behind so many bytes.
+// The verdict over the built file in version 1 with these bytes changed, cut behind so many bytes, and migrated.
 fn verdict(alloc: Global, changes: &[(usize, u8)], length: usize) -> Result<Verdict, Fail> {
-    let bytes = forged(alloc, &BUILT, changes, length)?;
+    let bytes = migrate(alloc, &forged(alloc, &FIRST_VERSION, changes, length)?)?;
     let view = PackedView::open(alloc, &bytes)?;
     Ok(verify(alloc, &view)?)
 }

@@ -5,7 +5,7 @@ ghost use Rattle.cu_model.specs.Edits.{IsEditInRange};
 ghost use Rattle.cu_interval.specs.Replacing.{hierarchy_with};
 
 use cu_chordal::Ends;
-use cu_interval::{Dir, Entry, TouchedEdge, Way, Ways};
+use cu_interval::{BoundedWays, Dir, Entry, TouchedEdge, Way, Ways};
 use cu_model::{Edit, Order, Piece, Roads, Rule};
 use cu_pack::{PackedView, chordal_of, order_of, repack, repack_unsealed, seal};
 use cu_samples::{RUSH_HOUR, packed};
@@ -48,6 +48,13 @@ fn entry<W: Ways>(ways: &W, edge: u32, dir: Dir, index: u32) -> Option<Entry> {
         return None;
     }
     Some(ways.entry(edge, dir, index))
+}
+
+fn least<W: BoundedWays>(ways: &W, edge: u32, dir: Dir) -> Option<u64> {
+    if edge >= ways.edges() {
+        return None;
+    }
+    Some(ways.least(edge, dir))
 }
 
 fn node(order: &Order, rank: u32) -> Option<u32> {
@@ -126,6 +133,22 @@ fn answers_as_the_ways_do(rt: HostRuntime) -> Result<(), Fail> {
     };
     assert_eq!(rt; entry(&view, 2, Dir::Up, 2), Some(last));
     assert_eq!(rt; entry(&view, 2, Dir::Up, 3), None);
+    Ok(())
+}
+
+#[test]
+fn answers_as_the_least_bounds_do(rt: HostRuntime) -> Result<(), Fail> {
+    let alloc = rt.alloc();
+    let bytes = packed(alloc, RUSH_HOUR)?;
+    let view = PackedView::adopt(&bytes);
+    for (edge, up, down) in [(0, 1 << 60, 60), (1, 100, 1 << 60), (2, 160, 1 << 60)] {
+        assert_eq!(rt; least(&view, edge, Dir::Up), Some(up), "edge {edge} up");
+        assert_eq!(rt;
+            least(&view, edge, Dir::Down),
+            Some(down),
+            "edge {edge} down"
+        );
+    }
     Ok(())
 }
 

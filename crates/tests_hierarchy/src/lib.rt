@@ -1,13 +1,17 @@
 //! Tests of what stands between the tables of a network and its packed file: closed graphs, functions of a day, hierarchies, their
-//! sweeps and walks, and edits of them. What no clause says: that calls succeed, and values that were worked out by hand.
+//! sweeps, walks and least bounds, and edits of them. What no clause says: that calls succeed, and values that were worked out by hand.
 #![tactic(auto)]
 
 #[cfg(test)]
 mod arrivals;
 #[cfg(test)]
+mod bounds;
+#[cfg(test)]
 mod chordal;
 #[cfg(test)]
 mod customize;
+#[cfg(test)]
+mod days;
 #[cfg(test)]
 mod dissect;
 #[cfg(test)]

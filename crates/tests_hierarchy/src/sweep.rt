@@ -2,15 +2,14 @@
 
 ghost use Rattle.std.specs.Prelude.{◌≡◌, ◌<◌, false, IfOk, IfSome, OnOk};
 ghost use Rattle.cu_model.specs.declared.limits.TheConstants.{DAY};
-ghost use Rattle.cu_elimtree.specs.SweepArcs.{parents_in};
-ghost use Rattle.cu_interval.specs.Hierarchies.{graph_of};
 ghost use Rattle.cu_sweep.specs.Desks.{AreArriving, HoldsFound};
 
 use cu_elimtree::Tree;
-use cu_interval::{Call, Dir, Hierarchy, Ways};
+use cu_interval::{Call, Dir, Ways};
 use cu_io::MemorySink;
 use cu_model::{DAY, Roads};
-use cu_samples::{RUSH_HOUR, hierarchy};
+use cu_pack::{PackedView, chordal_of};
+use cu_samples::{RUSH_HOUR, packed};
 use cu_sweep::{Found, SweepDesk, query, route};
 use cu_unpack::{Listed, Unpacker, Work};
 use std::alloc::Global;
@@ -55,27 +54,26 @@ struct Asked {
 // What the query finds; none where it tells other calls than the row.
 fn ask(
     alloc: Global,
-    hierarchy: &Hierarchy,
-    tree: &Tree,
+    view: &PackedView<'_>,
     desk: &mut SweepDesk,
     asked: Asked,
     row: &Row<'_>,
 ) -> Result<Option<Found>, Fail>
     requires ranks { (asked.from < 3) × (asked.to < 3) }
     requires second { asked.second < DAY }
-    requires nodes { hierarchy.now.network.nodes ≡ 3 }
-    requires tree { tree.now ≡ parents_in (graph_of hierarchy.now) }
+    requires nodes { view.now.network.nodes ≡ 3 }
     requires desk { desk.old.nodes ≡ 3 }
     ensures desk { OnOk result (desk.new.nodes ≡ 3) }
     ensures holds { IfOk result (λ found. IfSome found
-        (λ some. HoldsFound hierarchy.now asked.from asked.to asked.second some desk.new)) }
+        (λ some. HoldsFound view.now asked.from asked.to asked.second some desk.new)) }
 {
-    let graph = hierarchy.graph();
-    let _edges = hierarchy.edges();
+    let _edges = view.edges();
+    let graph = chordal_of(alloc, view)?;
+    let tree = Tree::of(alloc, &graph)?;
     let work = Work::new(alloc, 3)?;
-    let mut listed = Listed::new(alloc, Unpacker::new(hierarchy, work), row.room)?;
+    let mut listed = Listed::new(alloc, Unpacker::new(view, work), row.room)?;
     let Asked { from, to, second } = asked;
-    let found = query(tree, graph, desk, &mut listed, from, to, second);
+    let found = query(&tree, &graph, desk, &mut listed, from, to, second);
     if are_told(listed.calls(), row.calls, row.room) {
         return Ok(Some(found));
     }
@@ -85,17 +83,17 @@ fn ask(
 // Does the route write these roads?
 fn writes(
     alloc: Global,
-    hierarchy: &Hierarchy,
+    view: &PackedView<'_>,
     desk: &mut SweepDesk,
     roads: &[u8],
 ) -> Result<bool, Fail>
-    requires nodes { hierarchy.now.network.nodes ≡ 3 }
+    requires nodes { view.now.network.nodes ≡ 3 }
     requires unturned { desk.old.turned ≡ false }
-    requires arriving { AreArriving hierarchy.now desk.old.calls }
+    requires arriving { AreArriving view.now desk.old.calls }
     ensures desk { OnOk result (desk.new.nodes ≡ desk.old.nodes) }
 {
     let work = Work::new(alloc, 3)?;
-    let mut unpacker = Unpacker::new(hierarchy, work);
+    let mut unpacker = Unpacker::new(view, work);
     let mut sink = MemorySink::new(alloc, 8, Vec::new(alloc))?;
     route(desk, &mut unpacker, &mut sink)?;
     Ok(sink.bytes() == roads)
@@ -104,13 +102,11 @@ fn writes(
 // Does the query find what the row says, tell its calls, and write its roads?
 fn is_right(
     alloc: Global,
-    hierarchy: &Hierarchy,
-    tree: &Tree,
+    view: &PackedView<'_>,
     desk: &mut SweepDesk,
     row: Row<'_>,
 ) -> Result<bool, Fail>
-    requires nodes { hierarchy.now.network.nodes ≡ 3 }
-    requires tree { tree.now ≡ parents_in (graph_of hierarchy.now) }
+    requires nodes { view.now.network.nodes ≡ 3 }
     requires desk { desk.old.nodes ≡ 3 }
     ensures desk { OnOk result (desk.new.nodes ≡ 3) }
 {
@@ -122,7 +118,7 @@ fn is_right(
         to: row.to,
         second: row.second,
     };
-    let asked = ask(alloc, hierarchy, tree, desk, query, &row)?;
+    let asked = ask(alloc, view, desk, query, &row)?;
     let Some(found) = asked else {
         return Ok(false);
     };
@@ -130,14 +126,15 @@ fn is_right(
         return Ok(false);
     }
     match found {
-        Found::Arrive(_) => writes(alloc, hierarchy, desk, row.roads),
+        Found::Arrive(_) => writes(alloc, view, desk, row.roads),
         _ => Ok(row.roads.is_empty()),
     }
 }
 
 // Node 0 has rank 1 and node 2 rank 2, so one call upwards is all there is between them; at 35,850 both ways arrive at 36,100,
 // and the road goes first. No road leads back. A query to its own start arrives at once, by no road. To node 1, at rank 0, the
-// calls downwards come from ranks 2 and 1; in room for three they aren't told.
+// one call downwards comes from rank 1: those from rank 2, over edges without ways, are left out where the other end is reached
+// before. In room for three they are told, and in room for one they aren't.
 const ROWS: [Row<'static>; 7] = [
     Row {
         from: 1,
@@ -180,7 +177,7 @@ const ROWS: [Row<'static>; 7] = [
         to: 1,
         second: 5,
         found: Found::Arrive(5),
-        calls: &[(2, Dir::Up, 5), (2, Dir::Down, 165)],
+        calls: &[(2, Dir::Up, 5)],
         room: 4,
         roads: b"",
     },
@@ -189,13 +186,8 @@ const ROWS: [Row<'static>; 7] = [
         to: 0,
         second: 0,
         found: Found::Arrive(60),
-        calls: &[
-            (2, Dir::Up, 0),
-            (2, Dir::Down, 160),
-            (0, Dir::Down, 0),
-            (1, Dir::Down, 160),
-        ],
-        room: 4,
+        calls: &[(2, Dir::Up, 0), (0, Dir::Down, 0)],
+        room: 3,
         roads: b"0",
     },
     Row {
@@ -203,13 +195,8 @@ const ROWS: [Row<'static>; 7] = [
         to: 0,
         second: 0,
         found: Found::Arrive(60),
-        calls: &[
-            (2, Dir::Up, 0),
-            (2, Dir::Down, 160),
-            (0, Dir::Down, 0),
-            (1, Dir::Down, 160),
-        ],
-        room: 3,
+        calls: &[(2, Dir::Up, 0), (0, Dir::Down, 0)],
+        room: 1,
         roads: b"0",
     },
 ];
@@ -217,12 +204,12 @@ const ROWS: [Row<'static>; 7] = [
 #[test]
 fn finds_tells_and_writes(rt: HostRuntime) -> Result<(), Fail> {
     let alloc = rt.alloc();
-    let hierarchy = hierarchy(alloc, RUSH_HOUR)?;
-    assert!(rt; hierarchy.nodes() == 3);
-    let tree = Tree::of(alloc, hierarchy.graph())?;
+    let bytes = packed(alloc, RUSH_HOUR)?;
+    let view = PackedView::open(alloc, &bytes)?;
+    assert!(rt; view.nodes() == 3);
     let mut desk = SweepDesk::new(alloc, 3)?;
     'rows: for row in &ROWS {
-        assert!(rt; is_right(alloc, &hierarchy, &tree, &mut desk, *row)?);
+        assert!(rt; is_right(alloc, &view, &mut desk, *row)?);
     }
     Ok(())
 }

@@ -4,8 +4,9 @@ ghost use Rattle.std.specs.Prelude.{◌≡◌, ◌≤◌, ◌<◌, ◌^◌, leng
 
 use cu_interval::{Call, Dir, Hierarchy, Ways};
 use cu_model::Roads;
+use cu_pack::PackedView;
 use cu_runs::Windows;
-use cu_samples::{RANKED, Tables, hierarchy};
+use cu_samples::{RANKED, Tables, hierarchy, packed};
 use cu_unpack::{
     Counted, CountedWays, Listed, PackedFunctions, Rebuilt, Relaxed, Relaxer, Unpacker, Work,
     relax_counted,
@@ -22,17 +23,19 @@ const CLOSED: Tables<'static> = Tables {
 #[test]
 fn asks_lists_without_ways(rt: HostRuntime) -> Result<(), Fail> {
     let alloc = rt.alloc();
-    let hierarchy = hierarchy(alloc, CLOSED)?;
-    assert!(rt; hierarchy.edges() == 3);
-    let mut work = Work::new(alloc, hierarchy.nodes())?;
-    let mut counted = Counted::of(&hierarchy);
+    let bytes = packed(alloc, CLOSED)?;
+    let view = PackedView::open(alloc, &bytes)?;
+    assert!(rt; view.edges() == 3);
+    let mut work = Work::new(alloc, view.nodes())?;
+    let mut counted = Counted::of(&view);
     assert_eq!(rt;
         relax_counted(&mut counted, &mut work, 0, Dir::Up, 0),
         Relaxed::NoWay
     );
     assert_eq!(rt; counted.steps(), 1);
-    let unpacker = Unpacker::new(&hierarchy, work);
+    let unpacker = Unpacker::new(&view, work);
     let mut listed = Listed::new(alloc, unpacker, 1)?;
+    assert_eq!(rt; listed.least(0, Dir::Up), 1 << 60);
     assert_eq!(rt; listed.relax(0, Dir::Up, 5), Relaxed::NoWay);
     let call = Call {
         edge: 0,

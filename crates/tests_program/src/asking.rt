@@ -1,19 +1,27 @@
-//! `ask` over packed files, whole and forged.
+//! `ask` over packed files of both versions, whole and forged.
 
 use crate::runs::{PLAIN, Run, says};
-use cu_samples::SCRIPTS;
+use cu_samples::{SCRIPTS, Script, first_version};
+use std::alloc::Global;
 use std::test::Fail;
+
+// Whether `ask` over a file answers the lines of a script by its replies.
+fn answers(alloc: Global, packed: &[u8], script: Script) -> bool {
+    let asked = Run {
+        words: "ask packed",
+        packed,
+        script: script.lines,
+        ..PLAIN
+    };
+    says(alloc, asked, 0, script.replies.as_bytes())
+}
 
 #[test]
 fn packed_files_are_asked(rt: HostRuntime) -> Result<(), Fail> {
-    for script in &SCRIPTS {
-        let asked = Run {
-            words: "ask packed",
-            packed: script.file,
-            script: script.lines,
-            ..PLAIN
-        };
-        assert!(rt; says(rt.alloc(), asked, 0, script.replies.as_bytes()));
+    for script in SCRIPTS {
+        assert!(rt; answers(rt.alloc(), script.file, script));
+        let first = first_version(rt.alloc(), script.file)?;
+        assert!(rt; answers(rt.alloc(), &first, script));
     }
     Ok(())
 }

@@ -99,8 +99,9 @@ fn deep_shortcuts_are_walked_and_rebuilt(rt: HostRuntime) -> Result<(), Fail> {
     )?;
     let said = format!(in alloc; "arrive={last} arcs={arcs}\ndone 2\n{both}")?;
     assert!(rt; answers(alloc, &path, left.as_str(), script.as_str(), said.as_str())?);
-    let script = format!(in alloc; "q,0,{last},0\ns,0,0,travel,2\nq,0,{last},0\n")?;
-    let said = format!(in alloc; "arrive={last} arcs={arcs}\n{both}")?;
+    // A day rebuilds it from nothing.
+    let script = format!(in alloc; "q,0,{last},0\nd,0,{last}\ns,0,0,travel,2\nq,0,{last},0\n")?;
+    let said = format!(in alloc; "arrive={last} arcs={arcs}\nday 0,travel,{last}\n{both}")?;
     assert!(rt; answers(alloc, &path, right.as_str(), script.as_str(), said.as_str())?);
     Ok(())
 }

@@ -1,8 +1,8 @@
-//! `edit` of a packed file.
+//! `edit` of packed files of both versions.
 
 use crate::runs::{PLAIN, Run, leaves, perform};
 use cu_model::NoMemory;
-use cu_samples::{BUILT, FORGED};
+use cu_samples::{BUILT, FIRST_VERSION, FORGED, first_version};
 use std::alloc::Global;
 use std::test::Fail;
 
@@ -18,8 +18,8 @@ const THERE_AND_BACK: &[u8] = b"s,0,0,travel,200\ns,0,0,travel,60\n";
 
 // The digest of the forged file where the shortcut from rank 2 to 3 takes its road, hashed by another program.
 const SETTLED_DIGEST: [u8; 32] = [
-    0xf8, 0xb4, 0xf7, 0x32, 0xa6, 0xf5, 0xbb, 0xc3, 0x25, 0xb6, 0x9c, 0xfe, 0x61, 0xd8, 0xbb, 0x5e,
-    0xaa, 0x8f, 0x08, 0xba, 0x31, 0x79, 0xcf, 0x2a, 0xce, 0x99, 0x27, 0xeb, 0xb5, 0x77, 0x9b, 0x4e,
+    0x93, 0xa0, 0x55, 0x08, 0x71, 0x60, 0xdb, 0xaa, 0xe6, 0x59, 0x73, 0x43, 0x2a, 0xa8, 0x21, 0x06,
+    0x53, 0x01, 0xe6, 0x79, 0x14, 0x17, 0x6d, 0xb3, 0x9a, 0x7e, 0xe6, 0x21, 0xc1, 0x9a, 0x3b, 0x2f,
 ];
 
 // Whether `edit` of this file by these lines, with the limit and the faults of this run, has this status, says this and stores these
@@ -56,37 +56,69 @@ fn built_slower(alloc: Global) -> Result<Vec<u8>, NoMemory> {
 fn edited_files_are_stored(rt: HostRuntime) -> Result<(), Fail> {
     let slower = built_slower(rt.alloc())?;
     let rows: [(&[u8], &[u8], &[u8]); 4] = [
-        (b"", b"stored 392\n", &BUILT),
-        (SLOW, b"done 2\nstored 368\n", slower.as_slice()),
-        (THERE_AND_BACK, b"done 2\ndone 2\nstored 392\n", &BUILT),
+        (b"", b"stored 440\n", &BUILT),
+        (SLOW, b"done 2\nstored 416\n", slower.as_slice()),
+        (THERE_AND_BACK, b"done 2\ndone 2\nstored 440\n", &BUILT),
         (
-            b"q,0,2,0\ns,9,0,fly,1\na,0,0",
-            b"refused: line\nrefused: profile\ndone 2\nstored 392\n",
+            b"q,0,2,0\nd,0,2\ns,9,0,fly,1\na,0,0",
+            b"refused: line\nrefused: line\nrefused: profile\ndone 2\nstored 440\n",
             &BUILT,
         ),
     ];
     for (lines, said, out) in rows {
         assert!(rt; edits(rt.alloc(), &BUILT, lines, PLAIN, 0, said, out));
+        assert!(rt; edits(rt.alloc(), &FIRST_VERSION, lines, PLAIN, 0, said, out));
     }
-    // The file before the edits is within the limit, and the one after them isn't.
-    let said = b"done 2\ndone 2\ntoo large 392\n";
-    let small = Run {
-        limit: 391,
-        ..PLAIN
-    };
-    let file = slower.as_slice();
-    assert!(rt; edits(rt.alloc(), file, THERE_AND_BACK, small, 13, said, b""));
     Ok(())
 }
 
-// An edit of the road from rank 2 to 3 settles that shortcut, and leaves the two other forged ways.
+// The file before the edits is within the limit, and the one after them isn't: by an edit, or in version 2 alone.
+#[test]
+fn larger_files_are_not_stored(rt: HostRuntime) -> Result<(), Fail> {
+    let slower = built_slower(rt.alloc())?;
+    let small = Run {
+        limit: 439,
+        ..PLAIN
+    };
+    let rows: [(&[u8], &[u8], &[u8]); 2] = [
+        (
+            slower.as_slice(),
+            THERE_AND_BACK,
+            b"done 2\ndone 2\ntoo large 440\n",
+        ),
+        (&FIRST_VERSION, b"", b"too large 440\n"),
+    ];
+    for (file, lines, said) in rows {
+        assert!(rt; edits(rt.alloc(), file, lines, small, 13, said, b""));
+    }
+    assert!(rt;
+        edits(
+            rt.alloc(),
+            &FIRST_VERSION,
+            SLOW,
+            small,
+            0,
+            b"done 2\nstored 416\n",
+            slower.as_slice()
+        )
+    );
+    Ok(())
+}
+
+// An edit of the road from rank 2 to 3 settles that shortcut, whose least bound is then the road's, and leaves the two other forged
+// ways.
 #[test]
 fn untouched_ways_are_stored_as_they_were(rt: HostRuntime) -> Result<(), Fail> {
     let mut after = FORGED;
     after[528] = 0;
     after[532] = 8;
-    after[548..].copy_from_slice(&SETTLED_DIGEST);
-    let said = b"done 1\nstored 580\n";
-    assert!(rt; edits(rt.alloc(), &FORGED, b"a,8,0\n", PLAIN, 0, said, &after));
+    after[628] = 10;
+    after[644..].copy_from_slice(&SETTLED_DIGEST);
+    let first = first_version(rt.alloc(), &FORGED)?;
+    let said = b"done 1\nstored 676\n";
+    let rows: [&[u8]; 2] = [&FORGED, first.as_slice()];
+    for file in rows {
+        assert!(rt; edits(rt.alloc(), file, b"a,8,0\n", PLAIN, 0, said, &after));
+    }
     Ok(())
 }

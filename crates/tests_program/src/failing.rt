@@ -3,7 +3,7 @@
 use crate::runs::{PLAIN, Run, leaves, perform, perform_over, says, shelf_of};
 use cu_io::{MemoryShelf, Shelf};
 use cu_model::NoMemory;
-use cu_samples::BUILT;
+use cu_samples::{BUILT, FIRST_VERSION};
 use std::alloc::Global;
 use std::test::Fail;
 
@@ -16,6 +16,8 @@ const BUILD: &str = "build nodes roads profiles identity out";
 const BUILD_BY_FILE: &str = "build nodes roads profiles ranks out";
 
 const EDIT: &str = "edit packed lines out";
+
+const MIGRATE: &str = "migrate packed out";
 
 const ORDER: &str = "order nodes roads profiles out";
 
@@ -48,7 +50,7 @@ fn stops(alloc: Global, asked: Run<'_>, said: &[u8]) -> Result<bool, NoMemory> {
 
 #[test]
 fn loads_and_stores_that_fail_end_the_run(rt: HostRuntime) -> Result<(), Fail> {
-    let rows: [(&str, u64, &[u8]); 17] = [
+    let rows: [(&str, u64, &[u8]); 20] = [
         (SERVE, 0, b"shelf: fault nodes\n"),
         (SERVE, 1, b"shelf: fault roads\n"),
         (SERVE, 2, b"shelf: fault profiles\n"),
@@ -60,6 +62,9 @@ fn loads_and_stores_that_fail_end_the_run(rt: HostRuntime) -> Result<(), Fail> {
         (EDIT, 0, b"shelf: fault hierarchy\n"),
         (EDIT, 1, b"shelf: fault edits\n"),
         (EDIT, 2, b"done 2\nshelf: fault out\n"),
+        (MIGRATE, 0, b"shelf: fault hierarchy\n"),
+        (MIGRATE, 1, b"shelf: fault out\n"),
+        ("verify packed", 0, b"shelf: fault hierarchy\n"),
         (ORDER, 1, b"shelf: fault roads\n"),
         (ORDER, 3, b"shelf: fault out\n"),
         ("make 7 1 1 out b c", 0, b"shelf: fault nodes\n"),
@@ -83,12 +88,14 @@ fn loads_and_stores_that_fail_end_the_run(rt: HostRuntime) -> Result<(), Fail> {
 
 #[test]
 fn files_past_the_limit_end_the_run(rt: HostRuntime) -> Result<(), Fail> {
-    let rows: [(&str, u64, &[u8]); 5] = [
+    let rows: [(&str, u64, &[u8]); 7] = [
         (SERVE, 30, b"shelf: long nodes\n"),
         (SERVE, 45, b"shelf: long roads\n"),
         (SERVE, 46, b"shelf: long profiles\n"),
-        ("ask packed", 391, b"shelf: long hierarchy\n"),
-        (EDIT, 391, b"shelf: long hierarchy\n"),
+        ("ask packed", 439, b"shelf: long hierarchy\n"),
+        (EDIT, 439, b"shelf: long hierarchy\n"),
+        (MIGRATE, 439, b"shelf: long hierarchy\n"),
+        ("verify packed", 439, b"shelf: long hierarchy\n"),
     ];
     for (words, limit, said) in rows {
         let asked = Run {
@@ -178,13 +185,23 @@ fn writes_that_fail_end_the_run(rt: HostRuntime) -> Result<(), Fail> {
     }
     let asked = Run { room: 64, ..STEADY };
     assert!(rt; says(rt.alloc(), asked, 0, REPLIES.as_slice()));
-    // What a command stores is stored before its line fails.
+    Ok(())
+}
+
+#[test]
+fn lines_behind_a_store_that_fail_end_the_run(rt: HostRuntime) -> Result<(), Fail> {
     let order = Run {
         words: ORDER,
         sink: &[0],
         ..PLAIN
     };
     assert!(rt; leaves(rt.alloc(), order, 8, b"", b"0\n1\n2\n"));
+    let migrate = Run {
+        words: MIGRATE,
+        packed: &FIRST_VERSION,
+        ..order
+    };
+    assert!(rt; leaves(rt.alloc(), migrate, 8, b"", &BUILT));
     // Where a reply to an edit fails, nothing is stored.
     let edit = Run {
         words: EDIT,

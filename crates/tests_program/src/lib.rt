@@ -9,6 +9,8 @@ mod commands;
 #[cfg(test)]
 mod damage;
 #[cfg(test)]
+mod days;
+#[cfg(test)]
 mod deep;
 #[cfg(test)]
 mod editing;
@@ -16,6 +18,8 @@ mod editing;
 mod edits;
 #[cfg(test)]
 mod failing;
+#[cfg(test)]
+mod migrating;
 #[cfg(test)]
 mod packed;
 #[cfg(test)]

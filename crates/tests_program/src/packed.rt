@@ -8,16 +8,16 @@ use std::test::Fail;
 fn hierarchies_are_stored(rt: HostRuntime) -> Result<(), Fail> {
     let asked = Run {
         words: "build nodes roads profiles ranks out",
-        limit: 392,
+        limit: 440,
         ..PLAIN
     };
     let small = Run {
-        limit: 391,
+        limit: 439,
         ..asked
     };
     let rows: [(Run<'_>, u8, &[u8], &[u8]); 2] = [
-        (asked, 0, b"built 3 3 3 392\n", &BUILT),
-        (small, 13, b"too large 392\n", b""),
+        (asked, 0, b"built 3 3 3 440\n", &BUILT),
+        (small, 13, b"too large 440\n", b""),
     ];
     for (asked, status, said, out) in rows {
         assert!(rt; leaves(rt.alloc(), asked, status, said, out));

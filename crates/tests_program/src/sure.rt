@@ -7,10 +7,10 @@ use cu_model::NoMemory;
 use std::alloc::Global;
 use std::test::Fail;
 
-// The status of a run over this shelf, with a script of one query.
+// The status of a run over this shelf, with a script of a query and a day.
 fn status_over(alloc: Global, words: &str, shelf: &mut SureShelf) -> Result<u8, NoMemory> {
     let words = words_of(alloc, words)?;
-    let mut source = SureSource::of(Vec::from_slice(alloc, b"q,0,3,0\n")?);
+    let mut source = SureSource::of(Vec::from_slice(alloc, b"q,0,3,0\nd,0,3\n")?);
     let mut sink = SureSink::new();
     Ok(run_surely(alloc, &words, shelf, &mut source, &mut sink))
 }
@@ -23,9 +23,12 @@ fn what_never_fails_ends_no_run(rt: HostRuntime) -> Result<(), Fail> {
         ("none", 2),
         ("serve nodes roads profiles identity", 4),
         ("ask packed", 6),
+        ("migrate packed out", 6),
         ("make 1 2 2 nodes roads profiles", 0),
         ("serve nodes roads profiles identity", 0),
         ("build nodes roads profiles dissect packed", 0),
+        ("ask packed", 0),
+        ("migrate packed packed", 0),
         ("ask packed", 0),
         ("verify packed", 0),
     ];

@@ -1,7 +1,7 @@
 //! `verify` of packed files, built and forged.
 
 use crate::runs::{PLAIN, Run, says};
-use cu_samples::{BUILT, FORGED, later};
+use cu_samples::{BUILT, FIRST_VERSION, FORGED, first_version, later};
 use std::test::Fail;
 
 #[test]
@@ -38,5 +38,31 @@ fn packed_files_are_compared(rt: HostRuntime) -> Result<(), Fail> {
         };
         assert!(rt; says(rt.alloc(), asked, status, said));
     }
+    Ok(())
+}
+
+#[test]
+fn files_of_version_1_are_compared(rt: HostRuntime) -> Result<(), Fail> {
+    let later = later();
+    let rows: [(&[u8], u8, &[u8]); 3] = [
+        (&BUILT, 0, b"same\n"),
+        (&later, 10, b"differs 2 up 28740 via 0 road 2\n"),
+        (&FORGED, 10, b"differs 3 down 0 via 0 road 7\n"),
+    ];
+    for (file, status, said) in rows {
+        let first = first_version(rt.alloc(), file)?;
+        let asked = Run {
+            words: "verify packed",
+            packed: first.as_slice(),
+            ..PLAIN
+        };
+        assert!(rt; says(rt.alloc(), asked, status, said));
+    }
+    let cut = Run {
+        words: "verify packed",
+        packed: &FIRST_VERSION[..391],
+        ..PLAIN
+    };
+    assert!(rt; says(rt.alloc(), cut, 6, b"file: length 392 391\n"));
     Ok(())
 }

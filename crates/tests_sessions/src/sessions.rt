@@ -41,11 +41,11 @@ fn sessions_are_answered(rt: HostRuntime) -> Result<(), Fail> {
 fn edits_are_made(rt: HostRuntime) -> Result<(), Fail> {
     let alloc = rt.alloc();
     let router = Router::new(alloc, packed(alloc, RUSH_HOUR)?)?;
-    let text = "s,0,0,travel,200\nq,0,2,0\r\ns,0,0,travel,60";
+    let text = "s,0,0,travel,200\nq,0,2,0\r\nd,0,2\ns,0,0,travel,60";
     let (said, bytes) = edited(alloc, router, text)?;
     assert_eq!(rt;
         said.as_slice(),
-        b"done 2\nrefused: line\ndone 2\n".as_slice()
+        b"done 2\nrefused: line\nrefused: line\ndone 2\n".as_slice()
     );
     assert_eq!(rt; bytes.as_slice(), BUILT.as_slice());
     Ok(())
@@ -65,6 +65,16 @@ fn edits_are_the_same_where_edges_are_known(rt: HostRuntime) -> Result<(), Fail>
     Ok(())
 }
 
+// Changes by which the least bound of both lists of an edge, which stand from a place on, is this one.
+fn push_bounds(changes: &mut Vec<(usize, u8)>, place: usize, bound: u64) -> Result<(), Fail> {
+    for (index, byte) in bound.to_le_bytes().iter().enumerate() {
+        let up = place.saturating_add(index);
+        changes.push((up, *byte))?;
+        changes.push((up.saturating_add(8), *byte))?;
+    }
+    Ok(())
+}
+
 // The packed file of a star of 29 leaves whose roads take a week, or a minute by the second profile. Each shortcut above the middle's
 // own edges is forged to lead by the rank before its lower end, so that its way is twice as long as that of the one below: from
 // the lower end 25 on it takes longer than is said in short.
@@ -73,8 +83,10 @@ fn far(alloc: Global) -> Result<Vec<u8>, Fail> {
     let profiles = b"profile,from,kind,value\n0,0,travel,604800\n1,0,travel,60\n";
     let file = packed(alloc, star.tables(profiles))?;
     let length = file.len().saturating_sub(32);
-    // 12 bytes for each of both lists of an edge, the last four of them the middle.
-    let mut place = length.saturating_sub(435 * 24);
+    // 12 bytes for each of both lists of an edge, the last four of them the middle; and 8 for the least bound of each.
+    let mut bounds = length.saturating_sub(435 * 16);
+    let mut place = bounds.saturating_sub(435 * 24);
+    let mut bound = 604_800u64;
     let mut changes = Vec::new(alloc);
     for low in 0..29u8 {
         for _high in low..29 {
@@ -82,21 +94,24 @@ fn far(alloc: Global) -> Result<Vec<u8>, Fail> {
                 changes.push((place.saturating_add(8), low - 1))?;
                 changes.push((place.saturating_add(20), low - 1))?;
             }
+            push_bounds(&mut changes, bounds, bound)?;
             place = place.saturating_add(24);
+            bounds = bounds.saturating_add(16);
         }
+        bound = bound.saturating_mul(2);
     }
     Ok(forged(alloc, &file, &changes, length)?)
 }
 
 // The road from the last leaf to the middle is given a minute: the middle's edge and the first leaves' are settled by packed runs, and
-// from leaf 26 on, where a forged half takes too long for them, the others by plain functions.
+// from leaf 26 on, where a forged half takes too long for them, the others by plain functions. A day knows no walk that is too long.
 #[test]
 fn edges_settled_plainly_after_words(rt: HostRuntime) -> Result<(), Fail> {
     let alloc = rt.alloc();
-    let lines = "q,29,28,0\na,57,1\nq,29,28,0\nq,28,29,0\n";
+    let lines = "q,29,28,0\nd,29,28\na,57,1\nq,29,28,0\nd,29,28\nq,28,29,0\n";
     let (status, said) = answer(alloc, &far(alloc)?, lines)?;
     let replies =
-        b"damaged 434 down 0\ndone 29\narrive=604860 arcs=57 54\narrive=1209600 arcs=55 56\n";
+        b"damaged 434 down 0\nday 0,travel,162349763788800\ndone 29\narrive=604860 arcs=57 54\nday 0,travel,604860\narrive=1209600 arcs=55 56\n";
     assert_eq!(rt; said.as_slice(), replies.as_slice());
     assert_eq!(rt; status, 0);
     Ok(())

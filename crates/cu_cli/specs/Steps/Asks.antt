@@ -7,6 +7,8 @@ use Rattle.cu_cli.specs.declared.commands.ask.AskWords.{AskWords}
 use Rattle.cu_cli.specs.declared.commands.build.BuildWords.{BuildWords}
 use Rattle.cu_cli.specs.declared.commands.edit.EditWords.{EditWords}
 use Rattle.cu_cli.specs.declared.commands.make.MakeWords.{MakeWords}
+use Rattle.cu_cli.specs.declared.commands.measure.MeasureWords.{MeasureWords}
+use Rattle.cu_cli.specs.declared.commands.migrate.MigrateWords.{MigrateWords}
 use Rattle.cu_cli.specs.declared.commands.order.OrderWords.{OrderWords}
 use Rattle.cu_cli.specs.declared.commands.serve.ServeWords.{ServeWords}
 use Rattle.cu_cli.specs.declared.commands.trial.turns.TrialWords.{TrialWords}
@@ -20,6 +22,8 @@ use Rattle.cu_cli.specs.Commands.Ask.{asking}
 use Rattle.cu_cli.specs.Commands.Build.{building}
 use Rattle.cu_cli.specs.Commands.Edit.{editing}
 use Rattle.cu_cli.specs.Commands.Make.{making}
+use Rattle.cu_cli.specs.Commands.Measure.{measuring}
+use Rattle.cu_cli.specs.Commands.Migrate.{migrating}
 use Rattle.cu_cli.specs.Commands.Order.{ordering}
 use Rattle.cu_cli.specs.Commands.Serve.{serving}
 use Rattle.cu_cli.specs.Commands.Trial.{trying}
@@ -61,6 +65,12 @@ edit_asked asked = editing asked.hierarchy.now asked.edits.now asked.out.now
 abbrev pub verify_asked : VerifyWords → Meaning
 verify_asked asked = verifying asked.hierarchy.now
 
+abbrev pub measure_asked : MeasureWords → Meaning
+measure_asked asked = measuring asked.measured.now asked.out.now
+
+abbrev pub migrate_asked : MigrateWords → Meaning
+migrate_asked asked = migrating asked.hierarchy.now asked.out.now
+
 abbrev pub trial_asked : TrialWords → Meaning
 trial_asked asked = trying (grid_asked asked.grid) asked.turns
 
@@ -73,6 +83,8 @@ command_asked (command.Build asked) = build_asked asked
 command_asked (command.Ask asked) = ask_asked asked
 command_asked (command.Edit asked) = edit_asked asked
 command_asked (command.Verify asked) = verify_asked asked
+command_asked (command.Measure asked) = measure_asked asked
+command_asked (command.Migrate asked) = migrate_asked asked
 command_asked (command.Trial asked) = trial_asked asked
 
 -- words mean what was asked

@@ -13,6 +13,8 @@ use Rattle.cu_pack.specs.declared.refusals.PackRefusal.{PackRefusal}
 use Rattle.cu_pack.specs.declared.refusals.PackRefusal.TheVariants as pack
 use Rattle.cu_roads.specs.declared.refusals.RoadRefusal.{RoadRefusal}
 use Rattle.cu_roads.specs.declared.refusals.RoadRefusal.TheVariants as road
+use Rattle.cu_wait.specs.declared.refusals.MeasuredRefusal.{MeasuredRefusal}
+use Rattle.cu_wait.specs.declared.refusals.MeasuredRefusal.TheVariants as measured
 use Rattle.cu_cli.specs.declared.stops.Stop.{Stop}
 use Rattle.cu_cli.specs.declared.stops.Stop.TheVariants as stop
 use Rattle.cu_session.specs.Sessions.{IsFlushed, Leaves}
@@ -26,6 +28,11 @@ use Rattle.cu_cli.specs.Stops.{said_of, status_at, status_of}
 abbrev pub stop_of_network : RoadRefusal → Stop
 stop_of_network road.NoMemory = stop.NoMemory
 stop_of_network other = stop.Network other
+
+-- the stop of a refused text of measured profiles
+abbrev pub stop_of_measured : MeasuredRefusal → Stop
+stop_of_measured measured.NoMemory = stop.NoMemory
+stop_of_measured other = stop.Measured other
 
 -- the stop of a refused order
 abbrev pub stop_of_order : OrderRefusal → Stop

@@ -59,8 +59,8 @@ entries_in_limit h f =
     few_in_all h.lists (2 * MAX_EDGES) DAY (omega (arith, edges, long)) (λ k d i. few_entries (get_or h.lists k d) (f.spelled k d i))
 
 -- a hierarchy has no more of each than there may be
-pub in_limits : (h : HierarchyValue) → IsHierarchy h → AreInLimits (counts_of h)
-in_limits h f = record {
+pub in_limits : (version : ℕ) (h : HierarchyValue) → IsHierarchy h → AreInLimits (counts_of version h)
+in_limits version h f = record {
   nodes = f.network.few_nodes;
   arcs = f.network.few_arcs;
   profiles = f.network.few_profiles;
@@ -70,10 +70,10 @@ in_limits h f = record {
 }
 
 -- counts that are the same one by one
-pub same_counts : (a b : Counts) → a.nodes ≡ b.nodes → a.arcs ≡ b.arcs → a.profiles ≡ b.profiles → a.edges ≡ b.edges → a.pieces ≡ b.pieces → a.entries ≡ b.entries → a ≡ b
-same_counts a b nodes arcs profiles edges pieces entries =
-    let of : ℕ → ℕ → ℕ → ℕ → ℕ → ℕ → Counts = λ n m p e k l. record { nodes = n; arcs = m; profiles = p; edges = e; pieces = k; entries = l } in
-    let whole : of a.nodes a.arcs a.profiles a.edges a.pieces a.entries ≡ of b.nodes b.arcs b.profiles b.edges b.pieces b.entries = cc in
+pub same_counts : (a b : Counts) → a.version ≡ b.version → a.nodes ≡ b.nodes → a.arcs ≡ b.arcs → a.profiles ≡ b.profiles → a.edges ≡ b.edges → a.pieces ≡ b.pieces → a.entries ≡ b.entries → a ≡ b
+same_counts a b version nodes arcs profiles edges pieces entries =
+    let of : ℕ → ℕ → ℕ → ℕ → ℕ → ℕ → ℕ → Counts = λ v n m p e k l. record { version = v; nodes = n; arcs = m; profiles = p; edges = e; pieces = k; entries = l } in
+    let whole : of a.version a.nodes a.arcs a.profiles a.edges a.pieces a.entries ≡ of b.version b.nodes b.arcs b.profiles b.edges b.pieces b.entries = cc in
     whole
 
 -- the profile with a number

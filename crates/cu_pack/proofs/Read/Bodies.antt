@@ -3,7 +3,7 @@ use Rattle.std.proofs.Common.{◌≡◌, ◌≤◌, ◌+◌, ◌-◌, ◌*◌, �
 use Rattle.std.specs.Prelude.{slice_range}
 use Rattle.std.specs.Int.{w32, w64, from_le_bytes}
 use Rattle.std.proofs.Math.Nat.{min-le_left, mul-le-mul_left}
-use Rattle.std.proofs.lemmas.List.{drop-append-le, length-drop, length-take, length-take-le, take-append-drop, take-append-le, take_at}
+use Rattle.std.proofs.lemmas.List.{drop-append-le, drop_at, length-drop, length-take, length-take-le, take-append-drop, take-append-le, take_at}
 use Rattle.sha2.specs.Sha256.{sha256}
 use Rattle.sha2.proofs.Facts256.{length-sha256}
 use Rattle.cu_interval.specs.declared.ways.Entry.{Entry}
@@ -11,9 +11,10 @@ use Rattle.cu_interval.specs.Hierarchies.{HierarchyValue}
 use Rattle.cu_pack.specs.Checks.{Spells, body_in, digest_in, sealed}
 use Rattle.cu_pack.specs.Places.{long_at, short_at}
 use Rattle.cu_pack.specs.Reading.{counts_in, entry_from, way_of}
-use Rattle.cu_pack.specs.Spelling.{body, spelling}
+use Rattle.cu_pack.specs.Spelling.{body, spelling_in}
+use Rattle.cu_pack.specs.Steps.Fronts.{SpellsSections}
 use Rattle.cu_pack.specs.Steps.Columns.{ColumnRises, IsCountUpTo}
-use Rattle.cu_pack.proofs.Spelled.Parts.{file_long}
+use Rattle.cu_pack.proofs.Spelled.Again.{spelled_sections}
 use Rattle.cu_pack.proofs.Numbering.Totals.{same_counts}
 
 -- whatever the last 32 bytes are, sealed ones are those before them and the digest of these
@@ -28,8 +29,16 @@ pub sealed_same : (bytes : List ℕ) → digest_in bytes ≡ sha256 (body_in byt
 sealed_same bytes right = ap (λ end. body_in bytes ++ end) (sym right) ∙ take-append-drop (length bytes - 32) bytes
 
 pub spelled_sealed : (bytes : List ℕ) (h : HierarchyValue) → Spells bytes h → sealed bytes ≡ bytes
-unfolding spelling
-spelled_sealed bytes h f = subst (λ bs. sealed bs ≡ bs) (sym f.spelled) (sealed_front (body h) (sha256 (body h)) (length-sha256 (body h)))
+unfolding spelling_in
+spelled_sealed bytes h f = subst (λ bs. sealed bs ≡ bs) (sym f.spelled) (sealed_front (body 2 h) (sha256 (body 2 h)) (length-sha256 (body 2 h)))
+
+-- and then the digest is right
+pub sealed_digest : (bytes : List ℕ) → digest_in (sealed bytes) ≡ sha256 (body_in (sealed bytes))
+sealed_digest bytes =
+    let body = body_in bytes in
+    let digest = sha256 body in
+    let place : length body ≡ length (sealed bytes) - 32 = omega (arith, length-append body digest, length-sha256 body) in
+    drop_at body digest (length (sealed bytes) - 32) place ∙ ap sha256 (sym (take_at body digest (length (sealed bytes) - 32) place))
 
 -- a part of what stands in front
 front_part : (front rest : List ℕ) (at count : ℕ) → at + count ≤ length front → take count (drop at (front ++ rest)) ≡ take count (drop at front)
@@ -98,19 +107,22 @@ module _ (bytes file : List ℕ) (long : 32 ≤ length bytes) (same : sealed byt
   pub counts_kept : 84 ≤ length bytes → counts_in bytes ≡ counts_in file
   unfolding counts_in
   counts_kept header =
-      same_counts (counts_in bytes) (counts_in file) (short_kept 12 (omega (arith, header, sealed_long))) (short_kept 16 (omega (arith, header, sealed_long)))
+      same_counts (counts_in bytes) (counts_in file) (short_kept 8 (omega (arith, header, sealed_long))) (short_kept 12 (omega (arith, header, sealed_long))) (short_kept 16 (omega (arith, header, sealed_long)))
       (short_kept 20 (omega (arith, header, sealed_long))) (short_kept 24 (omega (arith, header, sealed_long))) (long_kept 28 (omega (arith, header, sealed_long)))
       (long_kept 36 (omega (arith, header, sealed_long)))
 
--- bytes that are a packed file but for the last 32 have a header and these
-pub unsealed_long : (bytes : List ℕ) (h : HierarchyValue) → Spells (sealed bytes) h → 84 ≤ length bytes
-unsealed_long bytes h f =
+-- bytes that are a packed file but for the last 32, and perhaps the bounds, have a header and these
+pub unsealed_front : (bytes : List ℕ) (h : HierarchyValue) → SpellsSections (sealed bytes) h → 84 ≤ length bytes
+unsealed_front bytes h f =
     let front = length-take (length bytes - 32) bytes in
     let least = min-le_left (length bytes - 32) (length bytes) in
     let all = length-append (body_in bytes) (sha256 (body_in bytes)) in
     let digest = length-sha256 (body_in bytes) in
-    let whole = ap length f.spelled ∙ file_long h f.sound in
+    let whole = f.long in
     omega (arith, front, least, all, digest, whole)
+
+pub unsealed_long : (bytes : List ℕ) (h : HierarchyValue) → Spells (sealed bytes) h → 84 ≤ length bytes
+unsealed_long bytes h f = unsealed_front bytes h (spelled_sections (sealed bytes) h f)
 
 -- bytes in memory whose digest was written: the part that it was written through, and what it wrote
 pub sealed_in_place : (old part new rest : List ℕ) (count : ℕ) → 32 ≤ length old → part ≡ old → length part ≡ count → new ≡ sealed part → take count (new ++ rest) ≡ sealed old

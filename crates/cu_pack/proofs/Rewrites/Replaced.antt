@@ -1,18 +1,16 @@
 -- Lists of which some are replaced: those of edges, two for each, by rising edge.
-use Rattle.std.proofs.Common.{◌≡◌, ◌≢◌, ◌≤◌, ◌<◌, ◌+◌, ◌-◌, ◌*◌, ◌∙◌, ℕ, zero, suc, List, [], ◌∷◌, Some, length, take, drop, map, set, refl, ap, sym, subst, arith, inl, inr}
+use Rattle.std.proofs.Common.{◌≡◌, ◌≢◌, ◌≤◌, ◌<◌, ◌+◌, ◌-◌, ◌*◌, ◌∙◌, ℕ, zero, suc, List, [], ◌∷◌, Some, length, take, drop, set, refl, ap, sym, subst, arith, inl, inr}
 use Rattle.std.specs.Prelude.{All, slice_get, slice_range}
-use Rattle.std.specs.List.Sorted.{IsStrictlyIncreasing}
-use Rattle.std.specs.Option.{option_map}
 use Rattle.std.proofs.lemmas.Bool.{cases_lt}
 use Rattle.std.proofs.lemmas.List.{length-drop, length-set}
-use Rattle.std.proofs.lemmas.List.Kept.{AllPairs-from_increasing}
-use Rattle.std.proofs.lemmas.Option.{get_or_from_slice_get, same_Some, slice_get-map, slice_get_within}
+use Rattle.std.proofs.lemmas.Option.{same_Some, slice_get_within}
 use Rattle.cu_model.proofs.RoadLaws.{all_at}
 use Rattle.cu_model.proofs.ListLaws.{get_here, get_other}
 use Rattle.cu_interval.specs.declared.ways.Entry.{Entry}
 use Rattle.cu_interval.specs.declared.ways.TouchedEdge.{TouchedEdge}
 use Rattle.cu_interval.specs.Replacing.{replaced, replaced_by}
 use Rattle.cu_interval.proofs.Replacing.{replaced_by_long, replaced_long}
+use Rattle.cu_bounds.proofs.Renewed.{AreRising}
 
 -- stretches with the same items are the same
 take_same : {X : Type 0} (n : ℕ) (xs ys : List X) → length xs ≡ length ys → ((k : ℕ) → k < n → slice_get xs k ≡ slice_get ys k) → take n xs ≡ take n ys
@@ -36,19 +34,6 @@ stretch_same xs ys a b long same =
     let left_xs = length-drop a xs in
     let left_ys = length-drop a ys in
     take_same (b - a) (drop a xs) (drop a ys) (omega (arith, left_xs, left_ys, long)) (λ k lt. get_behind a k xs ∙ same (a + k) (omega arith) (omega (arith, lt)) ∙ sym (get_behind a k ys))
-
--- by rising edge
-abbrev pub AreRising : List TouchedEdge → Type 0
-AreRising touched = (i j : ℕ) (s t : TouchedEdge) → i < j → slice_get touched i ≡ Some s → slice_get touched j ≡ Some t → s.edge < t.edge
-
-pub edges_rise : (touched : List TouchedEdge) → IsStrictlyIncreasing (map (λ (t : TouchedEdge). t.edge) touched) → AreRising touched
-edges_rise touched rising i j s t less here there =
-    let edges = map (λ (u : TouchedEdge). u.edge) touched in
-    let edge : (k : ℕ) (u : TouchedEdge) → slice_get touched k ≡ Some u → slice_get edges k ≡ Some u.edge =
-    λ k u at. slice_get-map (λ (w : TouchedEdge). w.edge) touched k ∙ ap (option_map (λ (w : TouchedEdge). w.edge)) at in
-    let inside = slice_get_within edges j t.edge (edge j t there) in
-    let below = AllPairs-from_increasing edges rising i j 0 less inside in
-    omega (arith, below, get_or_from_slice_get edges i s.edge 0 (edge i s here), get_or_from_slice_get edges j t.edge 0 (edge j t there))
 
 -- a number that is none of an edge's lists
 abbrev pub IsApart : List TouchedEdge → ℕ → Type 0

@@ -11,7 +11,8 @@ use Rattle.cu_pack.specs.Spelling.{entry_bytes, long, starts_from, total}
 use Rattle.cu_pack.specs.Steps.Starts.{starts_between}
 use Rattle.cu_pack.proofs.Numbering.CountedStarts.{before_list, put_starts_on, starts_counted, starts_moved}
 use Rattle.cu_pack.proofs.Spelled.Putting.{put_more, put_next}
-use Rattle.cu_pack.proofs.Rewrites.Replaced.{AreRising, IsUpTo, gap_before, gap_last, own_there}
+use Rattle.cu_bounds.proofs.Renewed.{AreRising}
+use Rattle.cu_pack.proofs.Rewrites.Replaced.{IsUpTo, gap_before, gap_last, own_there}
 use Rattle.cu_pack.proofs.Numbering.Stretches.{put_stretch, total_on}
 use Rattle.cu_pack.proofs.Numbering.Totals.{total_more}
 

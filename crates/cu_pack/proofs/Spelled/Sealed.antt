@@ -1,23 +1,32 @@
 -- Bytes that pass every check are the packed file of the hierarchy that they say.
-use Rattle.std.proofs.Common.{◌≡◌, ◌≤◌, ◌+◌, ◌-◌, ◌*◌, ◌∙◌, ℕ, suc, List, ◌++◌, length, map, take, flat_map, refl, sym, ap, arith}
-use Rattle.std.specs.Prelude.{codes, slice_range}
+use Rattle.std.proofs.Common.{◌≡◌, ◌≤◌, ◌<◌, ◌+◌, ◌-◌, ◌*◌, ◌∙◌, ℕ, suc, List, Some, ◌++◌, length, map, take, flat_map, refl, sym, ap, arith}
+use Rattle.std.specs.Prelude.{codes, slice_get, slice_range}
 use Rattle.std.specs.List.{range_with_len}
 use Rattle.std.proofs.lemmas.List.FromFn.{length-map-range_with_len}
+use Rattle.std.proofs.lemmas.Option.{same_Some, slice_get_within}
 use Rattle.sha2.specs.Sha256.{sha256}
 use Rattle.cu_chordal.specs.declared.graph.Ends.{Ends}
 use Rattle.cu_chordal.specs.Graphs.{first_edge_of}
 use Rattle.cu_interval.specs.Hierarchies.{HierarchyValue}
+use Rattle.cu_interval.specs.LeastBounds.{least_bound}
+use Rattle.cu_bounds.specs.KeptBounds.{bounds_of}
 use Rattle.cu_pack.specs.declared.layout.Counts.{Counts}
-use Rattle.cu_pack.specs.Checks.{IsGraph, IsSized, IsWrongList, NoneWrong, Spells, body_in}
-use Rattle.cu_pack.specs.Layouts.{arcs_at, digest_at, edge_starts_at, entries_at, file_length, pieces_at, profile_starts_at, rank_of_at, uppers_at, way_starts_at}
+use Rattle.cu_pack.specs.Checks.{IsGraph, IsSized, IsWrongBound, IsWrongList, NoneWrong, Spells, SpellsIn, body_in}
+use Rattle.cu_pack.specs.Layouts.{arcs_at, bounds_at, digest_at, edge_starts_at, entries_at, file_length, pieces_at, profile_starts_at, rank_of_at, uppers_at, way_starts_at}
 use Rattle.cu_pack.specs.Places.{long_at, short_at}
-use Rattle.cu_pack.specs.Reading.{arc_in, counts_in, decoded, entry_from, entry_place, list_in, network_in, order_in, piece_from, piece_place, profile_in, profile_start, way_start, shorts_in}
-use Rattle.cu_pack.specs.Spelling.{arcs_section, body, counts_of, edge_starts, edges_section, entry_bytes, header, long, order_section, piece_bytes, profiles_section, spelling}
+use Rattle.cu_pack.specs.Reading.{arc_in, bound_in, counts_in, decoded, entry_from, entry_place, list_in, network_in, order_in, piece_from, piece_place, profile_in, profile_start, way_start, shorts_in}
+use Rattle.cu_pack.specs.Spelling.{arcs_section, body, bounds_section, counts_of, edge_starts, edges_section, entry_bytes, header, long, order_section, piece_bytes, profiles_section, spelling_in}
 use Rattle.cu_pack.specs.Spelling.{total, ways_section, short}
+use Rattle.cu_pack.specs.Steps.Fronts.{SpellsSections, front}
 use Rattle.cu_pack.proofs.Viewed.Adopted.{AreEdges}
 use Rattle.cu_pack.proofs.Read.Bodies.{sealed_same}
 use Rattle.cu_pack.proofs.Read.Laid.{first_list, first_profile, last_list, last_profile, list_kinds, list_rises, list_within, lists_lead, profile_kinds, profile_rises, profile_within, profiles_lead}
-use Rattle.cu_pack.proofs.Numbering.Slices.{part_then}
+use Rattle.cu_pack.proofs.Numbering.Items.{made_again}
+use Rattle.cu_pack.proofs.Numbering.ListNumbers.{list_parts}
+use Rattle.cu_pack.proofs.Numbering.PairedLists.{bound_there, bounds_count}
+use Rattle.cu_pack.proofs.Numbering.Slices.{no_part, part_then}
+use Rattle.cu_pack.proofs.Numbering.Unrefuted.{same_unrefuted}
+use Rattle.cu_pack.proofs.Spelled.Parts.{body_parts, bounds_kept, front_long, no_bounds_kept}
 use Rattle.cu_pack.proofs.Spelled.Passed.{edges_right, hierarchy_sound}
 use Rattle.cu_pack.proofs.Spelled.Respelled.{arcs_again, entry_again, lists_again, longs_again, piece_again, shorts_again, shorts_made_again}
 use Rattle.cu_pack.proofs.Numbering.Runs.{starts_again, total_again}
@@ -55,12 +64,12 @@ module _ (bytes : List ℕ) (small : AreBytes bytes) (f : IsSized bytes) where
       short_then 12 52 _ (omega arith) inside arcs_is
 
   header_again : header (counts_in bytes) ≡ slice_range bytes 0 52
-  unfolding header counts_written
+  unfolding header counts_written counts_in
   header_again =
       let whole = f.limited.sealed.whole in
       let inside : 52 ≤ length bytes = omega (arith, whole.version.ours.long) in
-      let version = ap (λ n. short n ++ counts_written) (sym whole.version.version) ∙ short_then 8 52 counts_written (omega arith) inside counts_in_place in
-      part_then bytes 0 8 52 (codes "CATCHUPH") (short 1 ++ counts_written) (omega arith) (omega arith) (sym whole.version.ours.magic) version
+      let version = short_then 8 52 counts_written (omega arith) inside counts_in_place in
+      part_then bytes 0 8 52 (codes "CATCHUPH") (short (short_at bytes 8) ++ counts_written) (omega arith) (omega arith) (sym whole.version.ours.magic) version
 
 module _ (bytes : List ℕ) (small : AreBytes bytes) (f : IsGraph bytes) (none : NoneWrong (IsWrongList bytes) (suc (2 * (counts_in bytes).edges))) where
   -- the sections, one by one
@@ -114,7 +123,7 @@ module _ (bytes : List ℕ) (small : AreBytes bytes) (f : IsGraph bytes) (none :
       let uppers = ap (flat_map short) known.highs ∙ shorts_again bytes small (uppers_at c) c.edges (omega (arith, size)) in
       part_then bytes (edge_starts_at c) (uppers_at c) (way_starts_at c) _ _ (omega arith) (omega arith) starts uppers
 
-  ways_again : ways_section (decoded bytes) ≡ slice_range bytes (way_starts_at (counts_in bytes)) (digest_at (counts_in bytes))
+  ways_again : ways_section (decoded bytes) ≡ slice_range bytes (way_starts_at (counts_in bytes)) (bounds_at (counts_in bytes))
   unfolding decoded
   ways_again =
       let c : Counts = counts_in bytes in
@@ -128,7 +137,7 @@ module _ (bytes : List ℕ) (small : AreBytes bytes) (f : IsGraph bytes) (none :
         list_rises bytes none k lt,
         λ j low high. entry_again bytes small (entries_at c + 12 * j) (omega (arith, high, within, size)) (list_kinds bytes none k lt j low high),
       )) in
-      part_then bytes (way_starts_at c) (entries_at c) (digest_at c) _ _ (omega arith) (omega arith) starts entries
+      part_then bytes (way_starts_at c) (entries_at c) (bounds_at c) _ _ (omega arith) (omega arith) starts entries
 
   -- how many there are of each is what the header says
   pieces_counted : total (decoded bytes).network.profiles ≡ (counts_in bytes).pieces
@@ -156,28 +165,90 @@ module _ (bytes : List ℕ) (small : AreBytes bytes) (f : IsGraph bytes) (none :
   unfolding decoded network_in
   profiles_counted = length-map-range_with_len (profile_in bytes) 0 (counts_in bytes).profiles
 
-  counts_again : counts_of (decoded bytes) ≡ counts_in bytes
-  counts_again = same_counts (counts_of (decoded bytes)) (counts_in bytes) nodes_same arcs_counted profiles_counted (edges_right bytes f none).count pieces_counted entries_counted
+  version_same : (counts_in bytes).version ≡ short_at bytes 8
+  unfolding counts_in
+  version_same = refl
 
-  body_again : body (decoded bytes) ≡ body_in bytes
-  unfolding body
-  body_again =
+  counts_again : counts_of (short_at bytes 8) (decoded bytes) ≡ counts_in bytes
+  counts_again =
+      same_counts (counts_of (short_at bytes 8) (decoded bytes)) (counts_in bytes) (sym version_same) nodes_same arcs_counted profiles_counted
+      (edges_right bytes f none).count pieces_counted entries_counted
+
+  -- all that is before the bounds
+  front_again : front (short_at bytes 8) (decoded bytes) ≡ slice_range bytes 0 (bounds_at (counts_in bytes))
+  unfolding front
+  front_again =
       let h : HierarchyValue = decoded bytes in
       let c : Counts = counts_in bytes in
       let heads = ap header counts_again ∙ header_again bytes small f.roads.joined.ordered.sized in
-      let edges_on = part_then bytes (edge_starts_at c) (way_starts_at c) (digest_at c) (edges_section h) (ways_section h) (omega arith) (omega arith) edges_again ways_again in
-      let profiles_on = part_then bytes (profile_starts_at c) (edge_starts_at c) (digest_at c) (profiles_section h) _ (omega arith) (omega arith) profiles_again edges_on in
-      let arcs_on = part_then bytes (arcs_at c) (profile_starts_at c) (digest_at c) (arcs_section h) _ (omega arith) (omega arith) roads_again profiles_on in
-      let order_on = part_then bytes 52 (arcs_at c) (digest_at c) (order_section h) _ (omega arith) (omega arith) order_again arcs_on in
-      let end : digest_at c - 0 ≡ length bytes - 32 = omega (arith, size) in
-      part_then bytes 0 52 (digest_at c) (header (counts_of h)) _ (omega arith) (omega arith) heads order_on ∙ ap (λ n. take n bytes) end
+      let edges_on = part_then bytes (edge_starts_at c) (way_starts_at c) (bounds_at c) (edges_section h) (ways_section h) (omega arith) (omega arith) edges_again ways_again in
+      let profiles_on = part_then bytes (profile_starts_at c) (edge_starts_at c) (bounds_at c) (profiles_section h) _ (omega arith) (omega arith) profiles_again edges_on in
+      let arcs_on = part_then bytes (arcs_at c) (profile_starts_at c) (bounds_at c) (arcs_section h) _ (omega arith) (omega arith) roads_again profiles_on in
+      let order_on = part_then bytes 52 (arcs_at c) (bounds_at c) (order_section h) _ (omega arith) (omega arith) order_again arcs_on in
+      part_then bytes 0 52 (bounds_at c) (header (counts_of (short_at bytes 8) h)) _ (omega arith) (omega arith) heads order_on
 
-  -- the bytes are those that the hierarchy is packed as
-  pub all_pass : Spells bytes (decoded bytes)
-  unfolding spelling
-  all_pass = record {
-    sound = hierarchy_sound bytes f none;
-    spelled =
-        let digest = f.roads.joined.ordered.sized.limited.sealed.digest in
-        sym (sealed_same bytes digest) ∙ ap (λ front. front ++ sha256 front) (sym body_again);
-  }
+  -- the bytes have the header, the sections, the length and the digest of what they say
+  pub sections_pass : SpellsSections bytes (decoded bytes)
+  sections_pass =
+      let h : HierarchyValue = decoded bytes in
+      let sound = hierarchy_sound bytes f none in
+      let version : ℕ = short_at bytes 8 in
+      let sized = f.roads.joined.ordered.sized in
+      let many : length (front version h) ≡ bounds_at (counts_in bytes) - 0 = omega (arith, front_long version h sound, ap bounds_at counts_again) in
+      record {
+        version = version;
+        known = sized.limited.sealed.whole.version.version;
+        sound = sound;
+        begins = ap (λ n. take n bytes) many ∙ sym front_again;
+        long = sym (ap file_length counts_again ∙ size);
+        digest = sized.limited.sealed.digest;
+      }
+
+  -- where the bounds of a version stand behind it, the bytes are those that the hierarchy is packed as
+  bounds_pass : (version : ℕ) → short_at bytes 8 ≡ version → bounds_section version (decoded bytes) ≡ slice_range bytes (bounds_at (counts_in bytes)) (digest_at (counts_in bytes))
+      → SpellsIn version bytes (decoded bytes)
+  unfolding spelling_in
+  bounds_pass version is there =
+      let h : HierarchyValue = decoded bytes in
+      let c : Counts = counts_in bytes in
+      let begins : front version h ≡ slice_range bytes 0 (bounds_at c) = ap (λ v. front v h) (sym is) ∙ front_again in
+      let end : digest_at c - 0 ≡ length bytes - 32 = omega (arith, size) in
+      let body_again : body version h ≡ body_in bytes =
+      body_parts version h ∙ part_then bytes 0 (bounds_at c) (digest_at c) (front version h) (bounds_section version h) (omega arith) (omega arith) begins there ∙ ap (λ n. take n bytes) end in
+      record {
+        sound = hierarchy_sound bytes f none;
+        spelled =
+            let digest = f.roads.joined.ordered.sized.limited.sealed.digest in
+            sym (sealed_same bytes digest) ∙ ap (λ front. front ++ sha256 front) (sym body_again);
+      }
+
+  -- the first version keeps no bounds
+  pub first_pass : short_at bytes 8 ≡ 1 → SpellsIn 1 bytes (decoded bytes)
+  first_pass is =
+      let c : Counts = counts_in bytes in
+      bounds_pass 1 is (no_part bytes (bounds_at c) (digest_at c) (omega (arith, no_bounds_kept bytes is)))
+
+  -- the second keeps those of all lists
+  module _ (is : short_at bytes 8 ≡ 2) (right : NoneWrong (IsWrongBound bytes) (2 * (counts_in bytes).edges)) where
+    bound_right : (list bound : ℕ) → slice_get (bounds_of (decoded bytes)) list ≡ Some bound → bound_in bytes list ≡ bound
+    bound_right list bound there =
+        let h : HierarchyValue = decoded bytes in
+        let many = (edges_right bytes f none).count in
+        let inside : list < 2 * (counts_in bytes).edges = omega (arith, slice_get_within (bounds_of h) list bound there, bounds_count h, many) in
+        let (edge, dir, within, number) = list_parts list (counts_in bytes).edges inside in
+        let own = bound_there h edge dir (omega (arith, within, many)) in
+        let same : least_bound h edge dir ≡ bound = same_Some (least_bound h edge dir) bound (sym own ∙ ap (slice_get (bounds_of h)) (sym number) ∙ there) in
+        same_unrefuted (bound_in bytes list) (least_bound h edge dir) (λ other. right list inside (edge, dir, within, number, other)) ∙ same
+
+    bounds_again : bounds_section 2 (decoded bytes) ≡ slice_range bytes (bounds_at (counts_in bytes)) (digest_at (counts_in bytes))
+    bounds_again =
+        let h : HierarchyValue = decoded bytes in
+        let c : Counts = counts_in bytes in
+        let all_kept = bounds_kept bytes is in
+        let many : length (bounds_of h) ≡ 2 * c.edges = bounds_count h ∙ ap (λ n. 2 * n) (edges_right bytes f none).count in
+        let made = made_again (bound_in bytes) (2 * c.edges) (bounds_of h) many bound_right in
+        let end : bounds_at c + 8 * (2 * c.edges) ≡ digest_at c = omega (arith, all_kept) in
+        ap (flat_map long) (sym made) ∙ longs_again bytes small (bounds_at c) (2 * c.edges) (omega (arith, size, all_kept)) ∙ ap (slice_range bytes (bounds_at c)) end
+
+    pub all_pass : Spells bytes (decoded bytes)
+    all_pass = bounds_pass 2 is bounds_again

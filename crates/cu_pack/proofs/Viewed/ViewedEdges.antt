@@ -12,7 +12,7 @@ use Rattle.cu_chordal.specs.Graphs.{ComesBefore, IsRising, first_edge_of, one_if
 use Rattle.cu_chordal.proofs.Members.{pairs_tail}
 use Rattle.cu_chordal.proofs.Tables.{after_first, first_none}
 use Rattle.cu_interval.specs.Hierarchies.{HierarchyValue}
-use Rattle.cu_pack.specs.Checks.{Spells}
+use Rattle.cu_pack.specs.Steps.Fronts.{SpellsSections}
 use Rattle.cu_pack.specs.Reading.{edge_start, node_at_in, rank_of_in, upper_in}
 use Rattle.cu_pack.specs.Steps.Parts.{IsLowOf, StartsRise}
 use Rattle.cu_pack.proofs.Read.ReadBack.{nowhere}
@@ -65,7 +65,7 @@ low_counted (x ∷ es) rising (suc k) r e there =
       (λ less. let many = rest.1 less in let here = one_before x r (first_edge_of es r) (omega (arith, less, order)) in omega (arith, many, here)),
     )
 
-module _ (bytes : List ℕ) (h : HierarchyValue) (f : Spells bytes h) where
+module _ (bytes : List ℕ) (h : HierarchyValue) (f : SpellsSections bytes h) where
   -- ranks and nodes are within their number
   pub rank_inside : (node : ℕ) → node < h.network.nodes → rank_of_in bytes node < h.network.nodes
   rank_inside node inside =

@@ -2,9 +2,10 @@
 
 ghost use Rattle.std.specs.Prelude.{◌≡◌, ◌≤◌, ◌<◌, ◌↔◌, IfErr, IfOk, IfSome, IsTrue, OnOk, codes, length, take};
 ghost use Rattle.sha2.specs.Sha256.{sha256};
-ghost use Rattle.cu_pack.specs.Checks.{AreBeforeInLimits, IsPastLimit, IsRefused, IsLimited, IsSealed, IsSized, IsWhole, body_in, digest_in};
+ghost use Rattle.cu_pack.specs.Checks.{AreBeforeInLimits, IsIn, IsPastLimit, IsRefusedIn, IsSealed, IsSized, IsWhole, body_in, digest_in};
 ghost use Rattle.cu_pack.specs.Layouts.{AreInLimits};
 ghost use Rattle.cu_pack.specs.Reading.{counts_in};
+ghost use Rattle.cu_pack.specs.Spelling.{IsVersion};
 
 use crate::body::Body;
 use crate::bytes::{long, short};
@@ -15,35 +16,45 @@ use cu_chordal::MAX_EDGES;
 use cu_model::{DAY, MAX_ARCS, MAX_NODES, MAX_PROFILES};
 use sha2::{Digest, Sha256};
 
-/// The sections of a file whose header, digest and size pass; or the first of these checks that fails.
-pub fn check_header<'a>(bytes: &'a [u8]) -> Result<Sections<'a>, PackRefusal>
-    ensures ok { IfOk result (λ sections. IsSized bytes.now × (sections ≡ bytes.now)) }
-    ensures err { IfErr result (IsRefused bytes.now) }
+/// The sections of a file whose header, version, digest and size pass; or the first of these checks that fails.
+pub fn check_header<'a>(bytes: &'a [u8], version: u32) -> Result<Sections<'a>, PackRefusal>
+    requires version { IsVersion version }
+    ensures ok { IfOk result
+        (λ sections. IsSized bytes.now × IsIn version bytes.now × (sections ≡ bytes.now)) }
+    ensures err { IfErr result (IsRefusedIn version bytes.now) }
 {
-    check_sealed(bytes)?;
+    check_sealed(bytes, version)?;
     if let Some(field) = past_limit(bytes) {
         return Err(PackRefusal::Limit { field });
     }
-    cut(bytes)
+    let counts = header_counts(bytes);
+    let counted = Layout::of(&counts).length;
+    let found = bytes.len() as u64;
+    if counted != found {
+        return Err(PackRefusal::Size { counted, found });
+    }
+    Ok(Sections::of(Body::of(bytes), counts))
 }
 
-// The bytes have a header of ours that knows their number, and the digest is that of the bytes before it; or the first of
-// these checks that fails.
-fn check_sealed(bytes: &[u8]) -> Result<(), PackRefusal>
-    ensures ok { OnOk result (IsSealed bytes.now) }
-    ensures err { IfErr result (IsRefused bytes.now) }
+// The bytes have a header of ours, of this version, that knows their number, and the digest is that of the bytes before
+// it; or the first of these checks that fails.
+fn check_sealed(bytes: &[u8], version: u32) -> Result<(), PackRefusal>
+    requires version { IsVersion version }
+    ensures ok { OnOk result (IsSealed bytes.now × IsIn version bytes.now) }
+    ensures err { IfErr result (IsRefusedIn version bytes.now) }
 {
-    check_head(bytes)?;
+    check_head(bytes, version)?;
     if !is_sealed(bytes) {
         return Err(PackRefusal::Digest);
     }
     Ok(())
 }
 
-// The bytes have a header of ours that knows their number; or the first of these checks that fails.
-fn check_head(bytes: &[u8]) -> Result<(), PackRefusal>
-    ensures ok { OnOk result (IsWhole bytes.now) }
-    ensures err { IfErr result (IsRefused bytes.now) }
+// The bytes have a header of ours, of this version, that knows their number; or the first of these checks that fails.
+fn check_head(bytes: &[u8], version: u32) -> Result<(), PackRefusal>
+    requires version { IsVersion version }
+    ensures ok { OnOk result (IsWhole bytes.now × IsIn version bytes.now) }
+    ensures err { IfErr result (IsRefusedIn version bytes.now) }
 {
     if bytes.len() < 84 {
         return Err(PackRefusal::Short);
@@ -52,7 +63,7 @@ fn check_head(bytes: &[u8]) -> Result<(), PackRefusal>
         return Err(PackRefusal::Magic);
     }
     let found = short(bytes, 8);
-    if found != 1 {
+    if found != version {
         return Err(PackRefusal::Version { found });
     }
     let said = long(bytes, 44);
@@ -79,13 +90,14 @@ fn is_sealed(bytes: &[u8]) -> bool
     digest == Sha256::digest(body).as_slice()
 }
 
-// The counts of a header.
+// The version and the counts of a header.
 #[tactic(auto, unfolding(crate::specs::Reading::counts_in))]
 pub fn header_counts(bytes: &[u8]) -> Counts
     requires long { 84 ≤ length bytes.now }
     ensures { result ≡ counts_in bytes.now }
 {
     Counts {
+        version: short(bytes, 8),
         nodes: short(bytes, 12),
         arcs: short(bytes, 16),
         profiles: short(bytes, 20),
@@ -122,19 +134,4 @@ fn past_limit(bytes: &[u8]) -> Option<Field>
         return Some(Field::Entries);
     }
     None
-}
-
-// The sections, where the counts ask for as many bytes as there are.
-fn cut<'a>(bytes: &'a [u8]) -> Result<Sections<'a>, PackRefusal>
-    requires limited { IsLimited bytes.now }
-    ensures ok { IfOk result (λ sections. IsSized bytes.now × (sections ≡ bytes.now)) }
-    ensures err { IfErr result (IsRefused bytes.now) }
-{
-    let counts = header_counts(bytes);
-    let counted = Layout::of(&counts).length;
-    let found = bytes.len() as u64;
-    if counted != found {
-        return Err(PackRefusal::Size { counted, found });
-    }
-    Ok(Sections::of(Body::of(bytes), counts))
 }

@@ -7,7 +7,7 @@ use crate::joining::list_number;
 use crate::view::PackedView;
 use crate::way_slices::WaySlice;
 use cu_chordal::Ends;
-use cu_interval::{Dir, Entry, Way, Ways};
+use cu_interval::{BoundedWays, Dir, Entry, Way, Ways};
 
 impl<'a> PackedView<'a> {
     /// The way list of an edge in a direction, in the file's bytes. The edge's number is below the number of edges.
@@ -17,7 +17,7 @@ impl<'a> PackedView<'a> {
         ensures list { result ≡ list_of self.now edge dir }
         ensures sound { IsHierarchy self.now }
     {
-        self.sections.way_list(list_number(edge, dir))
+        self.ways_in_file().list(edge, dir)
     }
 }
 
@@ -27,41 +27,44 @@ impl<'a> Ways for PackedView<'a> {
     ghost same_network = { λ h i. h.network };
 
     fn rank(&self, node: u32) -> u32 {
-        self.sections.rank_of(node)
+        self.ways_in_file().rank(node)
     }
 
     fn node(&self, rank: u32) -> u32 {
-        self.sections.node_at(rank)
+        self.ways_in_file().node(rank)
     }
 
     fn ranks(&self) -> u32 {
-        self.sections.counts().nodes
+        self.ways_in_file().ranks()
     }
 
     fn edges(&self) -> u32 {
-        self.sections.counts().edges
+        self.ways_in_file().edges()
     }
 
     fn ends(&self, edge: u32) -> Ends {
-        Ends {
-            low: self.sections.low_of(edge),
-            high: self.sections.upper(edge),
-        }
+        self.ways_in_file().ends(edge)
     }
 
     fn edge(&self, low: u32, high: u32) -> Option<u32> {
-        self.sections.edge(low, high)
+        self.ways_in_file().edge(low, high)
     }
 
     fn way(&self, edge: u32, dir: Dir, second: u64) -> Option<Way> {
-        self.ways(edge, dir).at(second)
+        self.ways_in_file().way(edge, dir, second)
     }
 
     fn entries(&self, edge: u32, dir: Dir) -> u32 {
-        self.ways(edge, dir).len()
+        self.ways_in_file().entries(edge, dir)
     }
 
     fn entry(&self, edge: u32, dir: Dir, index: u32) -> Entry {
-        self.ways(edge, dir).entry(index)
+        self.ways_in_file().entry(edge, dir, index)
+    }
+}
+
+impl<'a> BoundedWays for PackedView<'a> {
+    fn least(&self, edge: u32, dir: Dir) -> u64 {
+        self.sections.bound(list_number(edge, dir))
     }
 }

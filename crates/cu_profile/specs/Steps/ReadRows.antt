@@ -5,20 +5,11 @@ use Rattle.std.specs.Option.{option_or}
 use Rattle.cu_model.specs.declared.limits.TheConstants.{MAX_PROFILES}
 use Rattle.cu_model.specs.declared.profiles.Piece.{Piece}
 use Rattle.cu_tables.specs.Checks.{unless}
-use Rattle.cu_tables.specs.Tables.{field_of, kept_number}
 use Rattle.cu_profile.specs.declared.refusals.ProfileRefusal.{ProfileRefusal}
 use Rattle.cu_profile.specs.declared.rows.PieceRow.{PieceRow}
-use Rattle.cu_profile.specs.declared.rows.RowNumbers.{RowNumbers}
 use Rattle.cu_profile.specs.declared.progress.ProfileRows.{ProfileRows}
-use Rattle.cu_profile.specs.ProfileTexts.{begin_with, by_profile, has_numbers, may_follow, missing, onto, piece_of_row, piece_row_fault, profile_checked, profile_number}
+use Rattle.cu_profile.specs.ProfileTexts.{begin_with, by_profile, may_follow, missing, onto, piece_of_row, piece_row_fault, profile_checked, profile_number}
 use Rattle.cu_profile.specs.ProfileTexts.{profiles_of_groups, rows_fault, then_more, wrong_kind}
-
--- the numbers of a row, where its number fields are number words
-abbrev pub numbers_of : List (List ℕ) → Option RowNumbers
-numbers_of row =
-    if has_numbers row
-    then Some (record { profile = kept_number (field_of row 0); from = kept_number (field_of row 1); value = kept_number (field_of row 3) })
-    else None
 
 -- a row that passes its checks, or the check that it fails
 abbrev pub RowChecked : ℕ → Option ℕ → List (List ℕ) → Result PieceRow ProfileRefusal → Type 0

@@ -1,6 +1,7 @@
 -- What the sweeps leave in the places of the ranks that they pass, call by call.
-use Rattle.std.specs.Prelude.{ℕ, Bool, List, [], ◌∷◌, ◌++◌, Option, Some, None, ◌≡◌, ◌+◌, nat_lt, if◌then◌else◌, true, map, flat_map, slice_set}
+use Rattle.std.specs.Prelude.{ℕ, Bool, List, [], ◌∷◌, ◌++◌, Option, Some, None, ◌≡◌, ◌+◌, nat_lt, if◌then◌else◌, true, flat_map, slice_set}
 use Rattle.std.specs.List.{Contains}
+use Rattle.cu_chordal.specs.Graphs.{up_of}
 use Rattle.cu_interval.specs.declared.ways.Dir.{Dir}
 use Rattle.cu_interval.specs.declared.ways.Dir.TheVariants.{Up, Down}
 use Rattle.cu_interval.specs.declared.relaxing.Call.{Call}
@@ -10,8 +11,8 @@ use Rattle.cu_interval.specs.Hierarchies.{HierarchyValue, number_from}
 use Rattle.cu_interval.specs.Unpacking.{relaxed}
 use Rattle.cu_sweep.specs.declared.finding.Found.{Found}
 use Rattle.cu_sweep.specs.declared.finding.Found.TheVariants.{Arrive, NoWalk}
-use Rattle.cu_sweep.specs.Labels.{Label, down_label, earliest, label_over, start_label, up_label}
-use Rattle.cu_sweep.specs.Sweeps.{AddsAll, calls_down, calls_up, first_long, second_of, until_long}
+use Rattle.cu_sweep.specs.Labels.{Label, down_label, label_over, up_label}
+use Rattle.cu_sweep.specs.Sweeps.{AddsAll, below, call_at, call_unless, down_calls_to, down_label_from, first_long, second_of, until_long, up_calls_from, up_label_from}
 use Rattle.cu_sweep.specs.Places.{second_at}
 use Rattle.cu_sweep.specs.Swept.{Holds, IsPassed, Sweep}
 
@@ -40,6 +41,10 @@ long_by (At arrival) call = None
 long_by NoWay call = None
 long_by Long call = call
 
+-- the call over an edge from one place to another, unless it can't make the other's label earlier
+abbrev pub call_into : HierarchyValue → List (Option ℕ) → Option ℕ → Dir → ℕ → ℕ → Option Call
+call_into h labels edge dir from into = call_unless h (second_at labels into) (call_at edge dir (second_at labels from))
+
 abbrev pub IfSecond : Option ℕ → (ℕ → Type 0) → Type 0
 IfSecond None Fact = Unit {0}
 IfSecond (Some second) Fact = Fact second
@@ -50,7 +55,7 @@ up_into h q y x = label_over h (number_from 0 h.edges x y) Up (up_label h q.from
 
 -- the upward label of a rank after the calls from these ranks
 abbrev pub up_after : HierarchyValue → Sweep → List ℕ → ℕ → Option Label
-up_after h q done y = earliest (start_label q.from q.second y ∷ map (up_into h q y) done)
+up_after h q done y = up_label_from h q.from q.second done y
 
 -- each rank that the query passes has its upward label after the calls from these ranks
 abbrev pub IsUpSwept : HierarchyValue → Sweep → List ℕ → List (Option ℕ) → List (Option (ℕ × ℕ)) → Type 0
@@ -62,7 +67,11 @@ down_into h q x y = label_over h (number_from 0 h.edges x y) Down (down_label h 
 
 -- the downward label of a rank after the calls from these ranks
 abbrev pub down_after : HierarchyValue → Sweep → List ℕ → ℕ → Option Label
-down_after h q part x = earliest (up_label h q.from q.second x ∷ map (down_into h q x) part)
+down_after h q part x = down_label_from h q.from q.second part x
+
+-- the call to a rank from a higher neighbour over an edge, after those from the neighbours below that one
+abbrev pub down_call : HierarchyValue → Sweep → ℕ → ℕ → Option ℕ → Option Call
+down_call h q x y edge = call_unless h (second_of (down_after h q (below y (up_of h.edges x)) x)) (call_at edge Down (second_of (down_label h q.from q.second y)))
 
 -- the upward labels are final, and so are the downward labels of these ranks
 pub record IsDownSwept (h : HierarchyValue) (q : Sweep) (done : List ℕ) (labels : List (Option ℕ)) (links : List (Option (ℕ × ℕ))) : Type 0 where
@@ -76,11 +85,18 @@ begun_links links from into (Some second) = slice_set links into (Some (from, 0)
 
 -- the calls upwards from these ranks
 abbrev pub up_calls_of : HierarchyValue → Sweep → List ℕ → List Call
-up_calls_of h q ranks = flat_map (λ x. calls_up h x (second_of (up_label h q.from q.second x))) ranks
+up_calls_of h q ranks = flat_map (up_calls_from h q.from q.second) ranks
 
 -- the calls downwards to these ranks
 abbrev pub down_calls_of : HierarchyValue → Sweep → List ℕ → List Call
-down_calls_of h q ranks = flat_map (λ x. calls_down h x (λ y. second_of (down_label h q.from q.second y))) ranks
+down_calls_of h q ranks = flat_map (down_calls_to h q.from q.second) ranks
+
+-- the calls to a rank are made, or ended with one whose walk is too long
+pub record IsRankDown (h : HierarchyValue) (q : Sweep) (x : ℕ) (done : List ℕ) (before now : Option (List Call)) (labels : List (Option ℕ))
+    (links : List (Option (ℕ × ℕ))) (long : Option Call) : Type 0 where
+  pub ended : long ≡ first_long h (down_calls_to h q.from q.second x)
+  pub told : AddsAll before now (until_long h (down_calls_to h q.from q.second x))
+  pub swept : long ≡ None → IsDownSwept h q (done ++ (x ∷ [])) labels links
 
 -- the upward sweep over these ranks is done, or ended with a call whose walk is too long
 pub record IsUpOver (h : HierarchyValue) (q : Sweep) (done : List ℕ) (before now : Option (List Call)) (labels : List (Option ℕ)) (links : List (Option (ℕ × ℕ))) (long : Option Call) : Type 0 where

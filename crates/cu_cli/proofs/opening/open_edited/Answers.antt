@@ -18,16 +18,22 @@ returns-in_err-edits-clause-loads g c =
     rw (err_is c.from_residual-in_err-edits.result c.in_err-edits.field-0.0 c.from_residual-in_err-edits.ensures.1)
     (only_then (Some c.in_err-edits.field-0.0) c.in_ok-hierarchy.ensures.loads c.in_err-edits.ensures.loads)
 
-pub returns-in_err-check_file-clause-err : goal.returns-in_err-check_file-clause-err
-returns-in_err-check_file-clause-err g c =
+pub returns-in_err-hierarchy-2-clause-err : goal.returns-in_err-hierarchy-2-clause-err
+returns-in_err-hierarchy-2-clause-err g c =
     let file : FileAsked = record { role = role.Edits; name = c.args.edits.now } in
     let edits = loaded_behind file c.in_ok-edits.edits.items c.in_ok-hierarchy.ensures.loads c.in_ok-edits.ensures.ok in
-    let checks = rw c.deref.ensures.value at c.in_err-check_file.ensures.refused in
-    rw (err_is c.from_residual-in_err-check_file.result c.in_err-check_file.field-0.0 c.from_residual-in_err-check_file.ensures.1)
-    (inr (c.in_ok-hierarchy.hierarchy.items, c.in_ok-edits.edits.items ∷ [], (c.in_ok-hierarchy.ensures.ok, (edits, tt)), checks))
+    rw (err_is c.from_residual-in_err-hierarchy-2.result c.in_err-hierarchy-2.field-0.0 c.from_residual-in_err-hierarchy-2.ensures.1)
+    (inr (c.in_ok-hierarchy.hierarchy.items, c.in_ok-edits.edits.items ∷ [], (c.in_ok-hierarchy.ensures.ok, (edits, tt)), c.in_err-hierarchy-2.ensures.refused))
 
-pub returns-in_err-check_file-clause-loads : goal.returns-in_err-check_file-clause-loads
-returns-in_err-check_file-clause-loads g c =
+pub returns-in_err-hierarchy-2-clause-loads : goal.returns-in_err-hierarchy-2-clause-loads
+returns-in_err-hierarchy-2-clause-loads g c =
     let both = only_then None c.in_ok-hierarchy.ensures.loads c.in_ok-edits.ensures.loads in
-    rw (err_is c.from_residual-in_err-check_file.result c.in_err-check_file.field-0.0 c.from_residual-in_err-check_file.ensures.1)
-    (only_refused c.in_err-check_file.field-0.0 c.in_err-check_file.ensures.before both)
+    rw (err_is c.from_residual-in_err-hierarchy-2.result c.in_err-hierarchy-2.field-0.0 c.from_residual-in_err-hierarchy-2.ensures.1)
+    (only_refused c.in_err-hierarchy-2.field-0.0 c.in_err-hierarchy-2.ensures.before both)
+
+pub returns-clause-ok : goal.returns-clause-ok
+returns-clause-ok g c =
+    let file : FileAsked = record { role = role.Edits; name = c.args.edits.now } in
+    let edits = loaded_behind file c.in_ok-edits.edits.items c.in_ok-hierarchy.ensures.loads c.in_ok-edits.ensures.ok in
+    let (h, whose, spells) = c.in_ok-hierarchy-2.ensures.spelled in
+    (h, (c.in_ok-hierarchy.hierarchy.items, (c.in_ok-hierarchy.ensures.ok, (edits, tt)), whose), spells)

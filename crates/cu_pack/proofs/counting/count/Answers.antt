@@ -10,4 +10,4 @@ returns-clause-limits c = simp (
   c.count_pieces.ensures,
   c.count_entries.ensures,
   c.network.ensures,
-) (in_limits c.args.hierarchy.now c.edges.ensures.sound)
+) (in_limits 2 c.args.hierarchy.now c.edges.ensures.sound)

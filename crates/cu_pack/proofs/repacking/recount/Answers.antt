@@ -1,4 +1,4 @@
-use Rattle.std.proofs.Common.{◌∙◌, subst, sym}
+use Rattle.std.proofs.Common.{◌∙◌, refl, subst, sym}
 use Rattle.cu_model.proofs.EditLaws.{arcs_edited, nodes_edited, profiles_edited}
 use Rattle.cu_interval.specs.Replacing.{hierarchy_with}
 use Rattle.cu_pack.specs.Layouts.{AreInLimits}
@@ -15,13 +15,14 @@ returns c =
     let g = c.args.view.now.network in
     let edit = c.args.edit.now in
     let same = same_counts (record {
+      version = 2;
       nodes = c.nodes.result;
       arcs = c.arcs.result;
       profiles = c.profiles.result;
       edges = c.edges.result;
       pieces = c.count_edited.result;
       entries = c.count_replaced.result;
-    }) (counts_of h) (c.nodes.ensures.count ∙ sym (nodes_edited g edit)) (c.arcs.ensures.count ∙ sym (arcs_edited g edit))
+    }) (counts_of 2 h) refl (c.nodes.ensures.count ∙ sym (nodes_edited g edit)) (c.arcs.ensures.count ∙ sym (arcs_edited g edit))
     (c.profiles.ensures.count ∙ sym (profiles_edited g edit)) c.edges.ensures.count c.count_edited.ensures
     c.count_replaced.ensures in
-    record { counts = same; limits = subst AreInLimits (sym same) (in_limits h c.requires.sound) }
+    record { counts = same; limits = subst AreInLimits (sym same) (in_limits 2 h c.requires.sound) }

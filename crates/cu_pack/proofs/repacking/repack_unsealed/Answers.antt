@@ -1,9 +1,17 @@
-use Rattle.std.proofs.Common.{refl}
+use Rattle.std.proofs.Common.{◌∙◌}
 use Rattle.cu_interval.specs.Replacing.{hierarchy_with}
-use Rattle.cu_pack.proofs.Spelled.Whole.{spelled}
+use Rattle.cu_pack.specs.Steps.Fronts.{IsFrontOf}
 use Rattle.cu_pack.proofs.repacking.repack_unsealed.Goals as goal
+
+pub bounds_behind-requires : goal.bounds_behind-requires
+bounds_behind-requires c =
+    let h = hierarchy_with c.args.view.now c.args.edit.now c.args.lists.now in
+    record { front = (h, record { sound = c.requires.sound; begins = c.in_ok-bytes.ensures; count = c.edges.ensures.count }) }
 
 pub returns-clause-spelled : goal.returns-clause-spelled
 returns-clause-spelled c =
-    spelled (hierarchy_with c.args.view.now c.args.edit.now c.args.lists.now) c.recount-counts.result c.in_ok-bytes.bytes.items c.put_header.new.bytes.items c.put_edited.new.bytes.items _
-    c.extend_from_slice.new.self.items c.recount-counts.ensures.counts c.in_ok-bytes.ensures.items c.in_ok-put_header.ensures c.in_ok-put_edited.ensures refl c.in_ok-extend_from_slice.ensures.items
+    let h = hierarchy_with c.args.view.now c.args.edit.now c.args.lists.now in
+    let begins : IsFrontOf c.in_ok-bytes.bytes.items c.edges.result h =
+    record { sound = c.requires.sound; begins = c.in_ok-bytes.ensures; count = c.edges.ensures.count } in
+    c.with_bounds.ensures.spelled h (c.in_ok-bounds.ensures.same ∙ c.in_ok-bytes.ensures)
+    (c.deref.ensures.value ∙ c.in_ok-bounds.ensures.bounds h begins)

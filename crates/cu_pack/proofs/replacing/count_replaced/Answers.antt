@@ -2,7 +2,8 @@ use Rattle.std.proofs.Common.{◌≡◌, ◌≤◌, ◌∙◌, ◌*◌, ℕ, len
 use Rattle.std.specs.Prelude.{slice_range}
 use Rattle.std.proofs.lemmas.Option.{slice_get_read}
 use Rattle.cu_pack.specs.Spelling.{total}
-use Rattle.cu_pack.proofs.Rewrites.Replaced.{edges_rise, up_to_more}
+use Rattle.cu_bounds.proofs.Renewed.{edges_rise}
+use Rattle.cu_pack.proofs.Rewrites.Replaced.{up_to_more}
 use Rattle.cu_pack.proofs.Rewrites.Rewritten.{total_behind, total_whole}
 use Rattle.cu_pack.proofs.replacing.count_replaced.Goals as goal
 

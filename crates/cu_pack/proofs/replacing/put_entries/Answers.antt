@@ -2,7 +2,8 @@ use Rattle.std.proofs.Common.{◌≡◌, ◌≤◌, ◌*◌, ◌++◌, ◌∙◌
 use Rattle.std.specs.Prelude.{slice_range}
 use Rattle.cu_pack.specs.Spelling.{entry_bytes}
 use Rattle.std.proofs.lemmas.Option.{slice_get_read}
-use Rattle.cu_pack.proofs.Rewrites.Replaced.{edges_rise, up_to_more}
+use Rattle.cu_bounds.proofs.Renewed.{edges_rise}
+use Rattle.cu_pack.proofs.Rewrites.Replaced.{up_to_more}
 use Rattle.cu_pack.proofs.Rewrites.Rewritten.{entries_more, entries_whole}
 use Rattle.cu_pack.proofs.replacing.put_entries.Goals as goal
 

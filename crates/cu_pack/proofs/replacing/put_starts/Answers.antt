@@ -6,7 +6,8 @@ use Rattle.cu_interval.specs.Replacing.{replaced}
 use Rattle.cu_pack.specs.Spelling.{long, total}
 use Rattle.cu_pack.specs.Steps.Starts.{starts_between}
 use Rattle.std.proofs.lemmas.Option.{slice_get_read}
-use Rattle.cu_pack.proofs.Rewrites.Replaced.{edges_rise, up_to_more}
+use Rattle.cu_bounds.proofs.Renewed.{edges_rise}
+use Rattle.cu_pack.proofs.Rewrites.Replaced.{up_to_more}
 use Rattle.cu_pack.proofs.Rewrites.Rewritten.{starts_more, starts_whole, total_before, total_behind}
 use Rattle.cu_pack.proofs.replacing.put_starts.Goals as goal
 

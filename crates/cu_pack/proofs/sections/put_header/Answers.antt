@@ -27,11 +27,11 @@ returns c =
     let from4 = short k.profiles ++ from5 in
     let from3 = short k.arcs ++ from4 in
     let from2 = short k.nodes ++ from3 in
-    let from1 = short 1 ++ from2 in
+    let from1 = short k.version ++ from2 in
     on_ok_weaker c.put_long-3.result
     (λ e.
     put_then b0 b1 b9 (codes "CATCHUPH") from1 c.in_ok-extend_from_slice.ensures.items
-    (put_then b1 b2 b9 (short 1) from2 c.in_ok-put_short.ensures
+    (put_then b1 b2 b9 (short k.version) from2 c.in_ok-put_short.ensures
     (put_then b2 b3 b9 (short k.nodes) from3 c.in_ok-put_short-2.ensures
     (put_then b3 b4 b9 (short k.arcs) from4 c.in_ok-put_short-3.ensures
     (put_then b4 b5 b9 (short k.profiles) from5 c.in_ok-put_short-4.ensures

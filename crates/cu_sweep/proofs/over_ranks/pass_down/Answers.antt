@@ -1,18 +1,13 @@
-use Rattle.std.proofs.Common.{◌≡◌, ◌<◌, ◌+◌, ◌-◌, ◌∙◌, ◌++◌, ◌∷◌, [], ℕ, suc, List, None, refl, sym, ap, subst, arith, rules, inr, length, get_or, drop, reverse}
+use Rattle.std.proofs.Common.{◌≡◌, ◌<◌, ◌-◌, ◌∙◌, ◌++◌, ◌∷◌, [], ℕ, suc, List, None, refl, sym, ap, subst, arith, rules, inr, length, get_or, drop, reverse}
 use Rattle.std.specs.List.{Contains}
 use Rattle.cu_chordal.specs.declared.graph.Ends.{Ends}
-use Rattle.cu_chordal.specs.Graphs.{ChordalValue, HasEdge, up_of}
-use Rattle.cu_chordal.proofs.Tables.{edge_from_up_of}
-use Rattle.cu_interval.specs.declared.ways.Dir.TheVariants.{Down}
-use Rattle.cu_interval.specs.declared.relaxing.Call.{Call}
-use Rattle.cu_interval.specs.Hierarchies.{HierarchyValue, number_from}
+use Rattle.cu_chordal.specs.Graphs.{ChordalValue, HasEdge}
+use Rattle.cu_interval.specs.Hierarchies.{HierarchyValue}
 use Rattle.cu_unpack.proofs.Edges.{edge_range}
-use Rattle.cu_sweep.specs.Labels.{down_label}
-use Rattle.cu_sweep.specs.Sweeps.{AddsAll, call_at, calls_down, first_long, second_of, until_long}
-use Rattle.cu_sweep.specs.Places.{second_at}
+use Rattle.cu_sweep.specs.Sweeps.{AddsAll, down_calls_to, first_long}
 use Rattle.cu_sweep.specs.Swept.{IsPassed, Sweep}
-use Rattle.cu_sweep.specs.Steps.Sweeping.{IsDownOver, IsDownSwept, down_calls_of}
-use Rattle.cu_sweep.proofs.Behind.{drop_all, filter_same, member_behind, member_here, turned_at, turned_cut, turned_member}
+use Rattle.cu_sweep.specs.Steps.Sweeping.{IsDownOver, IsDownSwept, IsRankDown, down_calls_of}
+use Rattle.cu_sweep.proofs.Behind.{drop_all, member_behind, member_here, turned_at, turned_cut, turned_member}
 use Rattle.cu_sweep.proofs.Passes.{sweep_ends, sweep_more}
 use Rattle.cu_sweep.proofs.Rows.{no_call, some_call}
 use Rattle.cu_sweep.proofs.Telling.{adds_none, until_none}
@@ -53,11 +48,6 @@ ranks-preserved g c =
     let b = g.R.Relaxer.calls c.ranks.relaxer in
     let d = g.R.Relaxer.calls row.new.relaxer in
     let labels = c.ranks.labels in
-    let here_calls = calls_down h x (λ y. second_at labels (c.args.graph.now.ranks + y)) in
-    let long_eq : row.result ≡ first_long h here_calls =
-    subst (λ (v : HierarchyValue). row.result ≡ first_long v (calls_down v x (λ y. second_at labels (c.args.graph.now.ranks + y)))) i.stays row.ensures.long in
-    let told : AddsAll b d (until_long h here_calls) =
-    subst (λ (v : HierarchyValue). AddsAll b d (until_long v (calls_down v x (λ y. second_at labels (c.args.graph.now.ranks + y))))) i.stays row.ensures.told in
     let higher : (y : ℕ) → HasEdge c.args.graph.now.edges x y → Contains done y = λ y e.
     let less = (edge_range h c.requires.graph.1 x y (subst (λ (es : List Ends). HasEdge es x y) edges e)).0 in
     turned_member (drop (suc k) path) y (member_behind path k y c.requires.rising lt (c.requires.upwards x y (member_here path k lt) e) less) in
@@ -75,18 +65,13 @@ ranks-preserved g c =
           let before_told : AddsAll a b (down_calls_of h q done) = subst (λ (n : ℕ). AddsAll a b (down_calls_of h q (reverse (drop n path)))) next told0 in
           let passed : IsPassed h q x =
           (within, inr (subst (λ (xs : List ℕ). Contains xs x) same (member_here path k lt))) in
-          let f = λ (z : ℕ). calls_down h z (λ y. second_of (down_label h q.from q.second y)) in
-          let same_row : here_calls ≡ f x =
-          filter_same (λ y. call_at (number_from 0 h.edges x y) Down (second_at labels (c.args.graph.now.ranks + y)))
-          (λ y. call_at (number_from 0 h.edges x y) Down (second_of (down_label h q.from q.second y))) (up_of h.edges x)
-          (λ y e. ap (call_at (number_from 0 h.edges x y) Down)
-          (ap (λ (n : ℕ). second_at labels (n + y)) ranks ∙ (swept.down y (higher y (subst (λ (es : List Ends). HasEdge es x y) (sym edges) (edge_from_up_of h.edges x y e)))).second)) in
-          let told_row = subst (λ (cs : List Call). AddsAll b d (until_long h cs)) same_row told in
-          let more = sweep_more h f done x a b d quiet before_told (sym none ∙ long_eq ∙ ap (first_long h) same_row) told_row in
-          let kept = subst (λ (v : HierarchyValue). (p : Sweep) (ds : List ℕ) → IsDownSwept v p ds labels c.ranks.chain.links → IsPassed v p x
-          → ((y : ℕ) → HasEdge c.args.graph.now.edges x y → Contains ds y) → row.result ≡ None → IsDownSwept v p (ds ++ (x ∷ [])) row.new.labels row.new.chain.links) i.stays row.ensures.swept in
+          let f = down_calls_to h q.from q.second in
+          let over = subst (λ (v : HierarchyValue). (p : Sweep) (ds : List ℕ) → IsDownSwept v p ds labels c.ranks.chain.links → IsPassed v p x
+          → ((y : ℕ) → HasEdge c.args.graph.now.edges x y → Contains ds y) → IsRankDown v p x ds b d row.new.labels row.new.chain.links row.result) i.stays row.ensures.over in
+          let rank_done = over q done swept passed higher in
+          let more = sweep_more h f done x a b d quiet before_told (sym none ∙ rank_done.ended) rank_done.told in
           subst (λ (xs : List ℕ). IsDownSwept h q xs row.new.labels row.new.chain.links × (first_long h (down_calls_of h q xs) ≡ None) × AddsAll a d (down_calls_of h q xs)) (sym turned)
-          (kept q done swept passed higher none, more.0, more.1);
+          (rank_done.swept none, more.0, more.1);
     }
 
 pub returns-then-is_some-clause-over : goal.returns-then-is_some-clause-over
@@ -108,11 +93,6 @@ returns-then-is_some-clause-over g c =
     let b = g.R.Relaxer.calls c.ranks.relaxer in
     let d = g.R.Relaxer.calls row.new.relaxer in
     let labels = c.ranks.labels in
-    let here_calls = calls_down h x (λ y. second_at labels (c.args.graph.now.ranks + y)) in
-    let long_eq : row.result ≡ first_long h here_calls =
-    subst (λ (v : HierarchyValue). row.result ≡ first_long v (calls_down v x (λ y. second_at labels (c.args.graph.now.ranks + y)))) i.stays row.ensures.long in
-    let told : AddsAll b d (until_long h here_calls) =
-    subst (λ (v : HierarchyValue). AddsAll b d (until_long v (calls_down v x (λ y. second_at labels (c.args.graph.now.ranks + y))))) i.stays row.ensures.told in
     let higher : (y : ℕ) → HasEdge c.args.graph.now.edges x y → Contains done y = λ y e.
     let less = (edge_range h c.requires.graph.1 x y (subst (λ (es : List Ends). HasEdge es x y) edges e)).0 in
     turned_member (drop (suc k) path) y (member_behind path k y c.requires.rising lt (c.requires.upwards x y (member_here path k lt) e) less) in
@@ -125,14 +105,11 @@ returns-then-is_some-clause-over g c =
     let before_told : AddsAll a b (down_calls_of h q done) = subst (λ (n : ℕ). AddsAll a b (down_calls_of h q (reverse (drop n path)))) next told0 in
     let passed : IsPassed h q x =
     (within, inr (subst (λ (xs : List ℕ). Contains xs x) same (member_here path k lt))) in
-    let f = λ (z : ℕ). calls_down h z (λ y. second_of (down_label h q.from q.second y)) in
-    let same_row : here_calls ≡ f x =
-    filter_same (λ y. call_at (number_from 0 h.edges x y) Down (second_at labels (c.args.graph.now.ranks + y)))
-    (λ y. call_at (number_from 0 h.edges x y) Down (second_of (down_label h q.from q.second y))) (up_of h.edges x)
-    (λ y e. ap (call_at (number_from 0 h.edges x y) Down) (ap (λ (n : ℕ). second_at labels (n + y)) ranks
-    ∙ (swept.down y (higher y (subst (λ (es : List Ends). HasEdge es x y) (sym edges) (edge_from_up_of h.edges x y e)))).second)) in
-    let told_row = subst (λ (cs : List Call). AddsAll b d (until_long h cs)) same_row told in
-    let ends = sweep_ends h f done x rest (reverse path) call a b d cut quiet before_told (ap (first_long h) (sym same_row) ∙ sym long_eq ∙ is) told_row in
+    let f = down_calls_to h q.from q.second in
+    let over = subst (λ (v : HierarchyValue). (p : Sweep) (ds : List ℕ) → IsDownSwept v p ds labels c.ranks.chain.links → IsPassed v p x
+    → ((y : ℕ) → HasEdge c.args.graph.now.edges x y → Contains ds y) → IsRankDown v p x ds b d row.new.labels row.new.chain.links row.result) i.stays row.ensures.over in
+    let rank_done = over q done swept passed higher in
+    let ends = sweep_ends h f done x rest (reverse path) call a b d cut quiet before_told (sym rank_done.ended ∙ is) rank_done.told in
     record { ended = is ∙ sym ends.0; told = ends.1; swept = λ none. absurd (cc (none, is)) }
 
 pub returns-clause-over : goal.returns-clause-over

@@ -11,13 +11,13 @@ use Rattle.cu_elimtree.proofs.Climbing.{yielded_first}
 use Rattle.cu_interval.specs.declared.relaxing.Call.{Call}
 use Rattle.cu_interval.specs.Hierarchies.{HierarchyValue, IsHierarchyOf, graph_of}
 use Rattle.cu_sweep.specs.Labels.{up_label}
-use Rattle.cu_sweep.specs.Sweeps.{AddsAll, calls_up, first_long, second_of, until_long}
+use Rattle.cu_sweep.specs.Sweeps.{AddsAll, calls_up, first_long, second_of, until_long, up_calls_from}
 use Rattle.cu_sweep.specs.Places.{second_at}
 use Rattle.cu_sweep.specs.Swept.{IsPassed, Sweep}
 use Rattle.cu_sweep.specs.Steps.Sweeping.{IsUpOver, IsUpSwept, up_after, up_calls_of}
 use Rattle.cu_sweep.proofs.Passing.{tree_long}
 use Rattle.cu_sweep.proofs.Rows.{no_call, some_call}
-use Rattle.cu_sweep.proofs.Passes.{all_parts, member_inside, sweep_ends, sweep_more, up_final}
+use Rattle.cu_sweep.proofs.Passes.{all_parts, member_inside, row_up_same, sweep_ends, sweep_more, up_final}
 use Rattle.cu_sweep.proofs.Telling.{adds_none, until_none}
 use Rattle.cu_sweep.proofs.over_ranks.pass_up.Goals as goal
 
@@ -44,9 +44,10 @@ relax_up-long-requires-clause-rank g c =
     yielded_first (λ (left : List ℕ). left) c.ancestors-rank-items.result before c.ranks.rank-iterator
     (subst (λ s. Yields (YieldsFirst (λ (left : List ℕ). left)) s before c.ranks.rank-iterator) c.into_iter-rank-iterator.ensures.into_iter_gives c.ranks.yielded_by) in
     let all : ancestors_of c.args.tree.now c.args.from ≡ before ++ (x ∷ behind) = sym c.ancestors-rank-items.ensures.left ∙ whole ∙ ap (λ (xs : List ℕ). before ++ xs) left in
-    let below : x < length c.args.tree.now = all_parts (λ a. a < length c.args.tree.now) before x behind (subst (All (λ a. a < length c.args.tree.now)) all c.ancestors-rank-items.ensures.below) in
+    let in_tree : x < length c.args.tree.now =
+    all_parts (λ a. a < length c.args.tree.now) before x behind (subst (All (λ a. a < length c.args.tree.now)) all c.ancestors-rank-items.ensures.below) in
     let long_tree = tree_long c.args.graph.now c.args.tree.now c.requires.tree in
-    let rank : x < c.args.graph.now.ranks = subst (λ (n : ℕ). x < n) long_tree below in
+    let rank : x < c.args.graph.now.ranks = subst (λ (n : ℕ). x < n) long_tree in_tree in
     rank
 
 pub relax_up-long-requires-clause-graph : goal.relax_up-long-requires-clause-graph
@@ -64,19 +65,20 @@ ranks-preserved g c =
     yielded_first (λ (left : List ℕ). left) c.ancestors-rank-items.result before c.ranks.rank-iterator
     (subst (λ s. Yields (YieldsFirst (λ (left : List ℕ). left)) s before c.ranks.rank-iterator) c.into_iter-rank-iterator.ensures.into_iter_gives c.ranks.yielded_by) in
     let all : ancestors_of c.args.tree.now c.args.from ≡ before ++ (x ∷ behind) = sym c.ancestors-rank-items.ensures.left ∙ whole ∙ ap (λ (xs : List ℕ). before ++ xs) left in
-    let below : x < length c.args.tree.now = all_parts (λ a. a < length c.args.tree.now) before x behind (subst (All (λ a. a < length c.args.tree.now)) all c.ancestors-rank-items.ensures.below) in
+    let in_tree : x < length c.args.tree.now =
+    all_parts (λ a. a < length c.args.tree.now) before x behind (subst (All (λ a. a < length c.args.tree.now)) all c.ancestors-rank-items.ensures.below) in
     let long_tree = tree_long c.args.graph.now c.args.tree.now c.requires.tree in
-    let rank : x < c.args.graph.now.ranks = subst (λ (n : ℕ). x < n) long_tree below in
+    let rank : x < c.args.graph.now.ranks = subst (λ (n : ℕ). x < n) long_tree in_tree in
     let row = c.relax_up-long in
     let within : x < h.network.nodes = subst (λ (v : ChordalValue). x < v.ranks) c.requires.graph.0 rank in
     let rising : AllPairs (λ a b. a < b) (before ++ (x ∷ behind)) =
     subst (AllPairs (λ a b. a < b)) all (AllPairs-from_increasing (ancestors_of c.args.tree.now c.args.from) c.ancestors-rank-items.ensures.rising) in
     let named : c.args.tree.now ≡ parents_in (graph_of h) = c.requires.tree ∙ ap parents_in c.requires.graph.0 in
-    let long_eq : row.result ≡ first_long h (calls_up h x (second_at c.ranks.labels x)) =
-    subst (λ (v : HierarchyValue). row.result ≡ first_long v (calls_up v x (second_at c.ranks.labels x))) i.stays row.ensures.long in
-    let told : AddsAll (g.R.Relaxer.calls c.ranks.relaxer) (g.R.Relaxer.calls row.new.relaxer) (until_long h (calls_up h x (second_at c.ranks.labels x))) =
+    let long_eq : row.result ≡ first_long h (calls_up h x (second_at c.ranks.labels x) (second_at c.ranks.labels)) =
+    subst (λ (v : HierarchyValue). row.result ≡ first_long v (calls_up v x (second_at c.ranks.labels x) (second_at c.ranks.labels))) i.stays row.ensures.long in
+    let told : AddsAll (g.R.Relaxer.calls c.ranks.relaxer) (g.R.Relaxer.calls row.new.relaxer) (until_long h (calls_up h x (second_at c.ranks.labels x) (second_at c.ranks.labels))) =
     subst (λ (v : HierarchyValue). AddsAll (g.R.Relaxer.calls c.ranks.relaxer) (g.R.Relaxer.calls row.new.relaxer)
-    (until_long v (calls_up v x (second_at c.ranks.labels x)))) i.stays row.ensures.told in
+    (until_long v (calls_up v x (second_at c.ranks.labels x) (second_at c.ranks.labels)))) i.stays row.ensures.told in
     let none : row.result ≡ None = no_call row.result (search rules) in
     record {
       ready = row.ensures.ready;
@@ -89,8 +91,9 @@ ranks-preserved g c =
           let passed : IsPassed h q x = (within, inl (subst (λ (xs : List ℕ). Contains xs x) (sym anc) (member_inside before x behind))) in
           let final = up_final h c.requires.graph.1 q before x behind anc rising in
           let second : second_at c.ranks.labels x ≡ second_of (up_label h q.from q.second x) = (swept x passed).second ∙ ap second_of final in
-          let f = λ (z : ℕ). calls_up h z (second_of (up_label h q.from q.second z)) in
-          let same_row : calls_up h x (second_at c.ranks.labels x) ≡ f x = ap (calls_up h x) second in
+          let f = up_calls_from h q.from q.second in
+          let same_row : calls_up h x (second_at c.ranks.labels x) (second_at c.ranks.labels) ≡ f x =
+          row_up_same h c.requires.graph.1 q before x behind c.ranks.labels c.ranks.chain.links anc rising swept second in
           let told_row = subst (λ (cs : List Call). AddsAll (g.R.Relaxer.calls c.ranks.relaxer) (g.R.Relaxer.calls row.new.relaxer) (until_long h cs)) same_row told in
           let more = sweep_more h f before x (g.R.Relaxer.calls c.args.relaxer.now) (g.R.Relaxer.calls c.ranks.relaxer) (g.R.Relaxer.calls row.new.relaxer) quiet before_told
           (sym none ∙ long_eq ∙ ap (first_long h) same_row) told_row in
@@ -111,19 +114,20 @@ returns-then-is_some-clause-over g c =
     yielded_first (λ (left : List ℕ). left) c.ancestors-rank-items.result before c.ranks.rank-iterator
     (subst (λ s. Yields (YieldsFirst (λ (left : List ℕ). left)) s before c.ranks.rank-iterator) c.into_iter-rank-iterator.ensures.into_iter_gives c.ranks.yielded_by) in
     let all : ancestors_of c.args.tree.now c.args.from ≡ before ++ (x ∷ behind) = sym c.ancestors-rank-items.ensures.left ∙ whole ∙ ap (λ (xs : List ℕ). before ++ xs) left in
-    let below : x < length c.args.tree.now = all_parts (λ a. a < length c.args.tree.now) before x behind (subst (All (λ a. a < length c.args.tree.now)) all c.ancestors-rank-items.ensures.below) in
+    let in_tree : x < length c.args.tree.now =
+    all_parts (λ a. a < length c.args.tree.now) before x behind (subst (All (λ a. a < length c.args.tree.now)) all c.ancestors-rank-items.ensures.below) in
     let long_tree = tree_long c.args.graph.now c.args.tree.now c.requires.tree in
-    let rank : x < c.args.graph.now.ranks = subst (λ (n : ℕ). x < n) long_tree below in
+    let rank : x < c.args.graph.now.ranks = subst (λ (n : ℕ). x < n) long_tree in_tree in
     let row = c.relax_up-long in
     let within : x < h.network.nodes = subst (λ (v : ChordalValue). x < v.ranks) c.requires.graph.0 rank in
     let rising : AllPairs (λ a b. a < b) (before ++ (x ∷ behind)) =
     subst (AllPairs (λ a b. a < b)) all (AllPairs-from_increasing (ancestors_of c.args.tree.now c.args.from) c.ancestors-rank-items.ensures.rising) in
     let named : c.args.tree.now ≡ parents_in (graph_of h) = c.requires.tree ∙ ap parents_in c.requires.graph.0 in
-    let long_eq : row.result ≡ first_long h (calls_up h x (second_at c.ranks.labels x)) =
-    subst (λ (v : HierarchyValue). row.result ≡ first_long v (calls_up v x (second_at c.ranks.labels x))) i.stays row.ensures.long in
-    let told : AddsAll (g.R.Relaxer.calls c.ranks.relaxer) (g.R.Relaxer.calls row.new.relaxer) (until_long h (calls_up h x (second_at c.ranks.labels x))) =
+    let long_eq : row.result ≡ first_long h (calls_up h x (second_at c.ranks.labels x) (second_at c.ranks.labels)) =
+    subst (λ (v : HierarchyValue). row.result ≡ first_long v (calls_up v x (second_at c.ranks.labels x) (second_at c.ranks.labels))) i.stays row.ensures.long in
+    let told : AddsAll (g.R.Relaxer.calls c.ranks.relaxer) (g.R.Relaxer.calls row.new.relaxer) (until_long h (calls_up h x (second_at c.ranks.labels x) (second_at c.ranks.labels))) =
     subst (λ (v : HierarchyValue). AddsAll (g.R.Relaxer.calls c.ranks.relaxer) (g.R.Relaxer.calls row.new.relaxer)
-    (until_long v (calls_up v x (second_at c.ranks.labels x)))) i.stays row.ensures.told in
+    (until_long v (calls_up v x (second_at c.ranks.labels x) (second_at c.ranks.labels)))) i.stays row.ensures.told in
     let (call, is) = some_call row.result (search rules) in
     λ q same sw.
     let (swept, quiet, before_told) = i.swept q same sw in
@@ -132,8 +136,9 @@ returns-then-is_some-clause-over g c =
     let passed : IsPassed h q x = (within, inl (subst (λ (xs : List ℕ). Contains xs x) (sym anc) (member_inside before x behind))) in
     let final = up_final h c.requires.graph.1 q before x behind anc rising in
     let second : second_at c.ranks.labels x ≡ second_of (up_label h q.from q.second x) = (swept x passed).second ∙ ap second_of final in
-    let f = λ (z : ℕ). calls_up h z (second_of (up_label h q.from q.second z)) in
-    let same_row : calls_up h x (second_at c.ranks.labels x) ≡ f x = ap (calls_up h x) second in
+    let f = up_calls_from h q.from q.second in
+    let same_row : calls_up h x (second_at c.ranks.labels x) (second_at c.ranks.labels) ≡ f x =
+    row_up_same h c.requires.graph.1 q before x behind c.ranks.labels c.ranks.chain.links anc rising swept second in
     let told_row = subst (λ (cs : List Call). AddsAll (g.R.Relaxer.calls c.ranks.relaxer) (g.R.Relaxer.calls row.new.relaxer) (until_long h cs)) same_row told in
     let named_all : ancestors_in c.args.graph.now c.args.from ≡ before ++ (x ∷ behind) = ap (λ (ps : List (Option ℕ)). ancestors_of ps c.args.from) (sym c.requires.tree) ∙ all in
     let ends = sweep_ends h f before x behind (ancestors_in c.args.graph.now c.args.from) call (g.R.Relaxer.calls c.args.relaxer.now) (g.R.Relaxer.calls c.ranks.relaxer)

@@ -1,4 +1,4 @@
-use Rattle.std.proofs.Common.{◌≡◌, ◌<◌, ◌+◌, ◌∙◌, ℕ, List, Option, Some, None, refl, sym, ap, subst, arith, length}
+use Rattle.std.proofs.Common.{◌≡◌, ◌<◌, ◌∙◌, ℕ, List, Option, Some, None, refl, sym, ap, subst, arith}
 use Rattle.std.specs.Prelude.{All}
 use Rattle.std.specs.List.{AllPairs, Contains}
 use Rattle.cu_chordal.specs.Graphs.{ChordalValue, HasEdge, IsChordal}
@@ -7,7 +7,7 @@ use Rattle.cu_interval.specs.declared.relaxing.Call.{Call}
 use Rattle.cu_interval.specs.Hierarchies.{HierarchyValue, graph_of}
 use Rattle.cu_sweep.specs.Labels.{down_label}
 use Rattle.cu_sweep.specs.Sweeps.{down_calls, second_of, up_calls}
-use Rattle.cu_sweep.specs.Swept.{IsBegun, IsReachedAs, IsSweptDown, IsSweptUp, Makes, Sweep, path_calls}
+use Rattle.cu_sweep.specs.Swept.{IsSweptDown, IsSweptUp, Makes, Sweep, path_calls}
 use Rattle.cu_sweep.specs.Steps.Sweeping.{answer_by}
 use Rattle.cu_sweep.proofs.Ancestry.{ancestors_ranks, ancestors_rising, ancestors_upwards, own_ancestor}
 use Rattle.cu_sweep.proofs.Ending.{down_made, ends_down, ends_found, ends_up, holds_found}

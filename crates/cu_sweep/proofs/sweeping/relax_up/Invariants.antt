@@ -1,13 +1,13 @@
 -- The calls to so many higher neighbours were made.
 use Rattle.std.proofs.Common.{◌≡◌, ◌+◌, ℕ, List, take, false}
+use Rattle.std.specs.List.{Contains}
 use Rattle.cu_chordal.specs.Graphs.{first_edge_of, up_of}
 use Rattle.cu_interval.specs.declared.ways.Dir.TheVariants.{Up}
 use Rattle.cu_interval.specs.Hierarchies.{number_from}
-use Rattle.cu_sweep.specs.Sweeps.{call_at}
 use Rattle.cu_sweep.specs.Places.{second_at}
 use Rattle.cu_sweep.specs.Swept.{IsPassed, Sweep}
 use Rattle.cu_sweep.specs.Steps.Ready.{IsReady}
-use Rattle.cu_sweep.specs.Steps.Sweeping.{IsUpSwept, up_after}
+use Rattle.cu_sweep.specs.Steps.Sweeping.{IsUpSwept, call_into, up_after}
 use Rattle.cu_sweep.specs.Labels.{up_label}
 use Rattle.cu_sweep.proofs.UpRows.{IsUpPart}
 use Rattle.cu_sweep.proofs.Rows.{IsRow}
@@ -23,8 +23,9 @@ invariant-edges g l =
       highers : l.highers ≡ up_of h.edges l.fn.rank;
       edge : l.edge ≡ first_edge_of h.edges l.fn.rank + l.higher-index;
       source : second_at l.labels l.fn.rank ≡ second_at l.fn.labels l.fn.rank;
-      row : IsRow h (λ y. call_at (number_from 0 h.edges l.fn.rank y) Up (second_at l.fn.labels l.fn.rank)) (take l.higher-index l.highers) (g.R.Relaxer.calls l.fn.relaxer)
-          (g.R.Relaxer.calls l.relaxer);
+      rest : (z : ℕ) → (Contains (take l.higher-index l.highers) z → ⊥) → second_at l.labels z ≡ second_at l.fn.labels z;
+      row : IsRow h (λ y. call_into h l.fn.labels (number_from 0 h.edges l.fn.rank y) Up l.fn.rank y) (take l.higher-index l.highers)
+          (g.R.Relaxer.calls l.fn.relaxer) (g.R.Relaxer.calls l.relaxer);
       swept : (q : Sweep) (done : List ℕ) → IsUpSwept h q done l.fn.labels l.fn.chain.links → IsPassed h q l.fn.rank → up_after h q done l.fn.rank ≡ up_label h q.from q.second l.fn.rank
           → IsUpPart h q done l.fn.rank (take l.higher-index l.highers) l.labels l.chain.links;
     }

@@ -35,29 +35,29 @@ returns-in_err-bytes g c =
 
 pub answer_script-requires : goal.answer_script-requires
 answer_script-requires g c =
-    let (loaded, spells) = c.in_ok-bytes.ensures.ok in
-    record { spelled = spells }
+    let (h, opens, spells) = c.in_ok-bytes.ensures.ok in
+    record { spelled = (h, spells) }
 
 pub returns-in_err-answer_script : goal.returns-in_err-answer_script
 returns-in_err-answer_script g c =
     let name = c.args.asked.hierarchy.now in
-    let (loaded, (h, spells)) = c.in_ok-bytes.ensures.ok in
+    let (h, opens, spells) = c.in_ok-bytes.ensures.ok in
     let end = Some c.in_err-answer_script.field-0.0 in
     let done = c.in_err-answer_script.ensures.ended h spells in
     rw (stop_is c.from_residual-in_err-answer_script.result _ c.from_residual-in_err-answer_script.ensures.1)
     (record {
       works = ask_works name
           (answered _ _ _ _ _ _ end h (EndsAsk name) c.in_ok-bytes.ensures.loads done
-          (inl (h, (c.in_ok-bytes.bytes.items, loaded, spells), (end, refl, done.held, refl), (λ built. (end, refl, done.legal built, refl)))));
+          (inl (h, opens, (end, refl, done.held, refl), (λ built. (end, refl, done.legal built, refl)))));
     })
 
 pub returns : goal.returns
 returns g c =
     let name = c.args.asked.hierarchy.now in
-    let (loaded, (h, spells)) = c.in_ok-bytes.ensures.ok in
+    let (h, opens, spells) = c.in_ok-bytes.ensures.ok in
     let done = c.in_ok-answer_script.ensures.ended h spells in
     record {
       works = ask_works name
           (answered _ _ _ _ _ _ None h (EndsAsk name) c.in_ok-bytes.ensures.loads done
-          (inl (h, (c.in_ok-bytes.bytes.items, loaded, spells), (None, refl, done.held, refl), (λ built. (None, refl, done.legal built, refl)))));
+          (inl (h, opens, (None, refl, done.held, refl), (λ built. (None, refl, done.legal built, refl)))));
     }

@@ -12,6 +12,7 @@ use Rattle.cu_cli.specs.Steps.Outcomes.{Did, Works, World}
 use Rattle.cu_cli.specs.Words.{editing_files}
 use Rattle.cu_cli.proofs.Completeness.{works}
 use Rattle.cu_cli.proofs.LoadLaws.{only_refused}
+use Rattle.cu_cli.proofs.OpeningLaws.{opens_held}
 use Rattle.cu_cli.proofs.EditedLaws.{behind_edits, edit_law, edit_stopped, edits_large, edits_stopped, edits_stored}
 use Rattle.cu_session.proofs.SessionLaws.{err_is}
 use Rattle.cu_cli.proofs.StopLaws.{stop_is}
@@ -41,11 +42,11 @@ returns-in_err-router g c =
 
 pub returns-in_err-answer_edits : goal.returns-in_err-answer_edits
 returns-in_err-answer_edits g c =
-    let (loaded, spells) = c.in_ok-file.ensures.ok in
+    let (first, opened, spells) = c.in_ok-file.ensures.ok in
     let h = c.in_ok-router.router in
     let text = c.in_ok-file.file.edits.items in
     let opens : Opens (g.H.Shelf.state c.args.shelf.now) (editing_files c.args.asked.hierarchy.now c.args.asked.edits.now) h (text ∷ []) =
-    (c.in_ok-file.file.hierarchy.items, loaded, c.in_ok-router.ensures.held) in
+    opens_held (g.H.Shelf.state c.args.shelf.now) (editing_files c.args.asked.hierarchy.now c.args.asked.edits.now) (text ∷ []) opened spells c.in_ok-router.ensures.held in
     let done = rw c.deref.ensures.value at c.in_err-answer_edits.ensures.ended in
     rw (stop_is c.from_residual-in_err-answer_edits.result _ c.from_residual-in_err-answer_edits.ensures.1)
     (record {
@@ -55,12 +56,12 @@ returns-in_err-answer_edits g c =
 
 pub returns-then-length-limit : goal.returns-then-length-limit
 returns-then-length-limit g c =
-    let (loaded, spells) = c.in_ok-file.ensures.ok in
+    let (first, opened, spells) = c.in_ok-file.ensures.ok in
     let h = c.in_ok-router.router in
     let after = c.answer_edits.new.router in
     let text = c.in_ok-file.file.edits.items in
     let opens : Opens (g.H.Shelf.state c.args.shelf.now) (editing_files c.args.asked.hierarchy.now c.args.asked.edits.now) h (text ∷ []) =
-    (c.in_ok-file.file.hierarchy.items, loaded, c.in_ok-router.ensures.held) in
+    opens_held (g.H.Shelf.state c.args.shelf.now) (editing_files c.args.asked.hierarchy.now c.args.asked.edits.now) (text ∷ []) opened spells c.in_ok-router.ensures.held in
     let done = rw c.deref.ensures.value at c.in_ok-answer_edits.ensures.ended in
     let file : c.as_slice-bytes.result.now ≡ spelling after = c.as_slice-bytes.ensures.value ∙ c.into_file-packed.ensures.spelled.spelled in
     let same : length c.as_slice-bytes.result.now ≡ length (spelling after) = ap (λ (bytes : List ℕ). length bytes) file in
@@ -72,12 +73,12 @@ returns-then-length-limit g c =
 
 pub returns-in_err-store_file : goal.returns-in_err-store_file
 returns-in_err-store_file g c =
-    let (loaded, spells) = c.in_ok-file.ensures.ok in
+    let (first, opened, spells) = c.in_ok-file.ensures.ok in
     let h = c.in_ok-router.router in
     let after = c.answer_edits.new.router in
     let text = c.in_ok-file.file.edits.items in
     let opens : Opens (g.H.Shelf.state c.args.shelf.now) (editing_files c.args.asked.hierarchy.now c.args.asked.edits.now) h (text ∷ []) =
-    (c.in_ok-file.file.hierarchy.items, loaded, c.in_ok-router.ensures.held) in
+    opens_held (g.H.Shelf.state c.args.shelf.now) (editing_files c.args.asked.hierarchy.now c.args.asked.edits.now) (text ∷ []) opened spells c.in_ok-router.ensures.held in
     let done = rw c.deref.ensures.value at c.in_ok-answer_edits.ensures.ended in
     let file : c.as_slice-bytes.result.now ≡ spelling after = c.as_slice-bytes.ensures.value ∙ c.into_file-packed.ensures.spelled.spelled in
     let same : length c.as_slice-bytes.result.now ≡ length (spelling after) = ap (λ (bytes : List ℕ). length bytes) file in
@@ -93,12 +94,12 @@ returns-in_err-store_file g c =
 
 pub returns-in_err-put_numbers_line : goal.returns-in_err-put_numbers_line
 returns-in_err-put_numbers_line g c =
-    let (loaded, spells) = c.in_ok-file.ensures.ok in
+    let (first, opened, spells) = c.in_ok-file.ensures.ok in
     let h = c.in_ok-router.router in
     let after = c.answer_edits.new.router in
     let text = c.in_ok-file.file.edits.items in
     let opens : Opens (g.H.Shelf.state c.args.shelf.now) (editing_files c.args.asked.hierarchy.now c.args.asked.edits.now) h (text ∷ []) =
-    (c.in_ok-file.file.hierarchy.items, loaded, c.in_ok-router.ensures.held) in
+    opens_held (g.H.Shelf.state c.args.shelf.now) (editing_files c.args.asked.hierarchy.now c.args.asked.edits.now) (text ∷ []) opened spells c.in_ok-router.ensures.held in
     let done = rw c.deref.ensures.value at c.in_ok-answer_edits.ensures.ended in
     let file : c.as_slice-bytes.result.now ≡ spelling after = c.as_slice-bytes.ensures.value ∙ c.into_file-packed.ensures.spelled.spelled in
     let same : length c.as_slice-bytes.result.now ≡ length (spelling after) = ap (λ (bytes : List ℕ). length bytes) file in
@@ -115,12 +116,12 @@ returns-in_err-put_numbers_line g c =
 
 pub returns : goal.returns
 returns g c =
-    let (loaded, spells) = c.in_ok-file.ensures.ok in
+    let (first, opened, spells) = c.in_ok-file.ensures.ok in
     let h = c.in_ok-router.router in
     let after = c.answer_edits.new.router in
     let text = c.in_ok-file.file.edits.items in
     let opens : Opens (g.H.Shelf.state c.args.shelf.now) (editing_files c.args.asked.hierarchy.now c.args.asked.edits.now) h (text ∷ []) =
-    (c.in_ok-file.file.hierarchy.items, loaded, c.in_ok-router.ensures.held) in
+    opens_held (g.H.Shelf.state c.args.shelf.now) (editing_files c.args.asked.hierarchy.now c.args.asked.edits.now) (text ∷ []) opened spells c.in_ok-router.ensures.held in
     let done = rw c.deref.ensures.value at c.in_ok-answer_edits.ensures.ended in
     let file : c.as_slice-bytes.result.now ≡ spelling after = c.as_slice-bytes.ensures.value ∙ c.into_file-packed.ensures.spelled.spelled in
     let same : length c.as_slice-bytes.result.now ≡ length (spelling after) = ap (λ (bytes : List ℕ). length bytes) file in

@@ -1,11 +1,13 @@
-use Rattle.std.proofs.Common.{ℕ, List, false}
+use Rattle.std.proofs.Common.{ℕ, List, [], ◌∷◌, false}
 use Rattle.std.specs.Prelude.{Option}
 use Rattle.cu_cli.specs.declared.stops.Stop.{Stop}
 use Rattle.cu_cli.specs.declared.stops.Stop.TheVariants as stop
 use Rattle.cu_cli.specs.Steps.Outcomes.{Did, Works, World}
 use Rattle.cu_cli.specs.Commands.Verify.{EndsVerify, verifying}
+use Rattle.cu_cli.specs.Words.{hierarchy_file}
 use Rattle.cu_session.proofs.SessionLaws.{err_is}
 use Rattle.cu_cli.proofs.Completeness.{works}
+use Rattle.cu_cli.proofs.OpeningLaws.{opens_held}
 use Rattle.cu_cli.proofs.VerifyLaws.{comparing_stopped, differs, same_said, same_unsaid, verdict_stopped, verify_law}
 use Rattle.cu_cli.proofs.commands.verify.verify.Goals as goal
 
@@ -28,7 +30,7 @@ returns-in_err-found g c =
     rw (err_is c.from_residual-in_err-found.result stop.NoMemory c.from_residual-in_err-found.ensures.1)
     (record {
       works = λ source. verify_works name
-          (verdict_stopped _ _ source _ name c.adopt-view.result opened.loads (c.in_ok-bytes.bytes.items, opened.ok.0, spells));
+          (verdict_stopped _ _ source _ name c.adopt-view.result opened.loads (opens_held (g.H.Shelf.state c.args.shelf.now) (hierarchy_file name ∷ []) [] opened.ok.1 opened.ok.2 spells));
     })
 
 pub returns-in-Some : goal.returns-in-Some
@@ -38,7 +40,7 @@ returns-in-Some g c =
     let spells = rw c.deref.ensures.value at c.adopt-view.ensures.spells in
     record {
       works = λ source. verify_works name
-          (differs _ _ source _ name c.adopt-view.result opened.loads (c.in_ok-bytes.bytes.items, opened.ok.0, spells) c.in-Some.found (rw c.in-Some.is at c.in_ok-found.ensures.found));
+          (differs _ _ source _ name c.adopt-view.result opened.loads (opens_held (g.H.Shelf.state c.args.shelf.now) (hierarchy_file name ∷ []) [] opened.ok.1 opened.ok.2 spells) c.in-Some.found (rw c.in-Some.is at c.in_ok-found.ensures.found));
     }
 
 pub returns-in_err-put_line : goal.returns-in_err-put_line
@@ -50,7 +52,7 @@ returns-in_err-put_line g c =
     rw (err_is c.from_residual-in_err-put_line.result stop.Sink c.from_residual-in_err-put_line.ensures.1)
     (record {
       works = λ source. verify_works name
-          (same_unsaid _ _ source _ name c.adopt-view.result opened.loads (c.in_ok-bytes.bytes.items, opened.ok.0, spells) _ built c.in_err-put_line.ensures.wrote);
+          (same_unsaid _ _ source _ name c.adopt-view.result opened.loads (opens_held (g.H.Shelf.state c.args.shelf.now) (hierarchy_file name ∷ []) [] opened.ok.1 opened.ok.2 spells) _ built c.in_err-put_line.ensures.wrote);
     })
 
 pub returns : goal.returns
@@ -61,5 +63,5 @@ returns g c =
     let built = rw c.in_default.is at c.in_ok-found.ensures.found in
     record {
       works = λ source. verify_works name
-          (same_said _ _ source _ name c.adopt-view.result opened.loads (c.in_ok-bytes.bytes.items, opened.ok.0, spells) _ built c.in_ok-put_line.ensures.wrote);
+          (same_said _ _ source _ name c.adopt-view.result opened.loads (opens_held (g.H.Shelf.state c.args.shelf.now) (hierarchy_file name ∷ []) [] opened.ok.1 opened.ok.2 spells) _ built c.in_ok-put_line.ensures.wrote);
     }

@@ -5,6 +5,7 @@ use Rattle.cu_pack.specs.declared.layout.Layout.{Layout}
 use Rattle.cu_pack.specs.Checks.{Spells}
 use Rattle.cu_pack.specs.Layouts.{entries_at}
 use Rattle.cu_pack.specs.Reading.{counts_in}
+use Rattle.cu_pack.proofs.Spelled.Again.{spelled_sections}
 use Rattle.cu_pack.proofs.Numbering.Stretches.{total_on}
 use Rattle.cu_pack.proofs.Viewed.ViewedParts.{entries_part, same_part}
 use Rattle.cu_pack.proofs.Viewed.Views.{counts_known, limits_known, size_known}
@@ -13,7 +14,7 @@ use Rattle.cu_pack.proofs.view.PackedView.entries_part.Goals as goal
 pub overflow_mul-first : goal.overflow_mul-first
 overflow_mul-first c =
     let bytes = c.self.inside.sections in
-    let spells = subst (Spells bytes) c.self.view_is c.self.invariant in
+    let spells = spelled_sections bytes c.args.self.now (subst (Spells bytes) c.self.view_is c.self.invariant) in
     let size = size_known bytes c.args.self.now spells in
     let limits = limits_known bytes c.args.self.now spells in
     let count = ap (λ (k : Counts). k.entries) (counts_known bytes c.args.self.now spells) in
@@ -25,7 +26,7 @@ overflow_mul-first c =
 pub overflow_add-first : goal.overflow_add-first
 overflow_add-first c =
     let bytes = c.self.inside.sections in
-    let spells = subst (Spells bytes) c.self.view_is c.self.invariant in
+    let spells = spelled_sections bytes c.args.self.now (subst (Spells bytes) c.self.view_is c.self.invariant) in
     let size = size_known bytes c.args.self.now spells in
     let limits = limits_known bytes c.args.self.now spells in
     let count = ap (λ (k : Counts). k.entries) (counts_known bytes c.args.self.now spells) in
@@ -37,7 +38,7 @@ overflow_add-first c =
 pub overflow_mul-way_start : goal.overflow_mul-way_start
 overflow_mul-way_start c =
     let bytes = c.self.inside.sections in
-    let spells = subst (Spells bytes) c.self.view_is c.self.invariant in
+    let spells = spelled_sections bytes c.args.self.now (subst (Spells bytes) c.self.view_is c.self.invariant) in
     let size = size_known bytes c.args.self.now spells in
     let limits = limits_known bytes c.args.self.now spells in
     let count = ap (λ (k : Counts). k.entries) (counts_known bytes c.args.self.now spells) in
@@ -49,7 +50,7 @@ overflow_mul-way_start c =
 pub overflow_add-entries : goal.overflow_add-entries
 overflow_add-entries c =
     let bytes = c.self.inside.sections in
-    let spells = subst (Spells bytes) c.self.view_is c.self.invariant in
+    let spells = spelled_sections bytes c.args.self.now (subst (Spells bytes) c.self.view_is c.self.invariant) in
     let size = size_known bytes c.args.self.now spells in
     let limits = limits_known bytes c.args.self.now spells in
     let count = ap (λ (k : Counts). k.entries) (counts_known bytes c.args.self.now spells) in
@@ -66,7 +67,7 @@ between-requires-clause-order c =
 pub between-requires-clause-room : goal.between-requires-clause-room
 between-requires-clause-room c =
     let bytes = c.self.inside.sections in
-    let spells = subst (Spells bytes) c.self.view_is c.self.invariant in
+    let spells = spelled_sections bytes c.args.self.now (subst (Spells bytes) c.self.view_is c.self.invariant) in
     let size = size_known bytes c.args.self.now spells in
     let limits = limits_known bytes c.args.self.now spells in
     let count = ap (λ (k : Counts). k.entries) (counts_known bytes c.args.self.now spells) in
@@ -84,6 +85,6 @@ returns c =
     record {
       part =
           c.between.ensures.part ∙ same_part bytes (entries_at (counts_in bytes) + 12 * first) (entries_at (counts_in bytes) + 12 * end) _ _ (omega (arith, at)) (omega (arith, at))
-          ∙ entries_part bytes c.args.self.now (subst (Spells bytes) c.self.view_is c.self.invariant) c.args.start c.args.end c.requires.order first end
+          ∙ entries_part bytes c.args.self.now (spelled_sections bytes c.args.self.now (subst (Spells bytes) c.self.view_is c.self.invariant)) c.args.start c.args.end c.requires.order first end
           c.way_start.ensures.start c.way_start-2.ensures.start;
     }

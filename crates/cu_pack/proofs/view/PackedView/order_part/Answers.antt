@@ -3,6 +3,7 @@ use Rattle.cu_pack.specs.declared.layout.Layout.{Layout}
 use Rattle.cu_pack.specs.Checks.{Spells}
 use Rattle.cu_pack.specs.Layouts.{arcs_at}
 use Rattle.cu_pack.specs.Reading.{counts_in}
+use Rattle.cu_pack.proofs.Spelled.Again.{spelled_sections}
 use Rattle.cu_pack.proofs.Viewed.ViewedParts.{order_part, same_part}
 use Rattle.cu_pack.proofs.Viewed.Views.{size_known}
 use Rattle.cu_pack.proofs.view.PackedView.order_part.Goals as goal
@@ -10,7 +11,7 @@ use Rattle.cu_pack.proofs.view.PackedView.order_part.Goals as goal
 pub between-requires-clause-room : goal.between-requires-clause-room
 between-requires-clause-room c =
     let bytes = c.self.inside.sections in
-    let size = size_known bytes c.args.self.now (subst (Spells bytes) c.self.view_is c.self.invariant) in
+    let size = size_known bytes c.args.self.now (spelled_sections bytes c.args.self.now (subst (Spells bytes) c.self.view_is c.self.invariant)) in
     let end : c.layout-layout.result.arcs ≡ arcs_at (counts_in bytes) = ap (λ (l : Layout). l.arcs) c.layout-layout.ensures.layout in
     omega (arith, size, end)
 
@@ -22,5 +23,5 @@ returns c =
     record {
       part =
           c.between.ensures.part ∙ same_part bytes 52 (arcs_at (counts_in bytes)) c.layout-layout.result.node_at c.layout-layout.result.arcs start end
-          ∙ order_part bytes c.args.self.now (subst (Spells bytes) c.self.view_is c.self.invariant);
+          ∙ order_part bytes c.args.self.now (spelled_sections bytes c.args.self.now (subst (Spells bytes) c.self.view_is c.self.invariant));
     }

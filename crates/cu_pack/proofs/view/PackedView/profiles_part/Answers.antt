@@ -3,6 +3,7 @@ use Rattle.cu_pack.specs.declared.layout.Layout.{Layout}
 use Rattle.cu_pack.specs.Checks.{Spells}
 use Rattle.cu_pack.specs.Layouts.{edge_starts_at, profile_starts_at}
 use Rattle.cu_pack.specs.Reading.{counts_in}
+use Rattle.cu_pack.proofs.Spelled.Again.{spelled_sections}
 use Rattle.cu_pack.proofs.Viewed.ViewedParts.{profiles_part, same_part}
 use Rattle.cu_pack.proofs.Viewed.Views.{size_known}
 use Rattle.cu_pack.proofs.view.PackedView.profiles_part.Goals as goal
@@ -10,7 +11,7 @@ use Rattle.cu_pack.proofs.view.PackedView.profiles_part.Goals as goal
 pub between-requires-clause-room : goal.between-requires-clause-room
 between-requires-clause-room c =
     let bytes = c.self.inside.sections in
-    let size = size_known bytes c.args.self.now (subst (Spells bytes) c.self.view_is c.self.invariant) in
+    let size = size_known bytes c.args.self.now (spelled_sections bytes c.args.self.now (subst (Spells bytes) c.self.view_is c.self.invariant)) in
     let end : c.layout-layout.result.edge_starts ≡ edge_starts_at (counts_in bytes) = ap (λ (l : Layout). l.edge_starts) c.layout-layout.ensures.layout in
     omega (arith, size, end)
 
@@ -23,5 +24,5 @@ returns c =
       part =
           c.between.ensures.part ∙ same_part bytes (profile_starts_at (counts_in bytes)) (edge_starts_at (counts_in bytes))
           c.layout-layout.result.profile_starts c.layout-layout.result.edge_starts start end
-          ∙ profiles_part bytes c.args.self.now (subst (Spells bytes) c.self.view_is c.self.invariant);
+          ∙ profiles_part bytes c.args.self.now (spelled_sections bytes c.args.self.now (subst (Spells bytes) c.self.view_is c.self.invariant));
     }

@@ -3,6 +3,7 @@ use Rattle.cu_pack.specs.declared.layout.Layout.{Layout}
 use Rattle.cu_pack.specs.Checks.{Spells}
 use Rattle.cu_pack.specs.Layouts.{way_starts_at}
 use Rattle.cu_pack.specs.Reading.{counts_in}
+use Rattle.cu_pack.proofs.Spelled.Again.{spelled_sections}
 use Rattle.cu_pack.proofs.Viewed.ViewedParts.{way_starts_part, same_part}
 use Rattle.cu_pack.proofs.Viewed.Views.{edges_known, limits_known, size_known}
 use Rattle.cu_pack.proofs.view.PackedView.way_starts_part.Goals as goal
@@ -10,7 +11,7 @@ use Rattle.cu_pack.proofs.view.PackedView.way_starts_part.Goals as goal
 pub overflow_add-starts : goal.overflow_add-starts
 overflow_add-starts c =
     let bytes = c.self.inside.sections in
-    let spells = subst (Spells bytes) c.self.view_is c.self.invariant in
+    let spells = spelled_sections bytes c.args.self.now (subst (Spells bytes) c.self.view_is c.self.invariant) in
     let size = size_known bytes c.args.self.now spells in
     let many = edges_known bytes c.args.self.now spells in
     let lists = spells.sound.lists in
@@ -21,7 +22,7 @@ overflow_add-starts c =
 pub overflow_add-starts-2 : goal.overflow_add-starts-2
 overflow_add-starts-2 c =
     let bytes = c.self.inside.sections in
-    let spells = subst (Spells bytes) c.self.view_is c.self.invariant in
+    let spells = spelled_sections bytes c.args.self.now (subst (Spells bytes) c.self.view_is c.self.invariant) in
     let size = size_known bytes c.args.self.now spells in
     let many = edges_known bytes c.args.self.now spells in
     let lists = spells.sound.lists in
@@ -32,7 +33,7 @@ overflow_add-starts-2 c =
 pub between-requires-clause-room : goal.between-requires-clause-room
 between-requires-clause-room c =
     let bytes = c.self.inside.sections in
-    let spells = subst (Spells bytes) c.self.view_is c.self.invariant in
+    let spells = spelled_sections bytes c.args.self.now (subst (Spells bytes) c.self.view_is c.self.invariant) in
     let size = size_known bytes c.args.self.now spells in
     let many = edges_known bytes c.args.self.now spells in
     let lists = spells.sound.lists in
@@ -49,5 +50,5 @@ returns c =
     record {
       part =
           c.between.ensures.part ∙ same_part bytes start end _ _ (omega (arith, at, c.from.ensures)) (omega (arith, at, c.from-2.ensures))
-          ∙ way_starts_part bytes c.args.self.now (subst (Spells bytes) c.self.view_is c.self.invariant) c.args.start c.args.end c.requires.order c.requires.inside;
+          ∙ way_starts_part bytes c.args.self.now (spelled_sections bytes c.args.self.now (subst (Spells bytes) c.self.view_is c.self.invariant)) c.args.start c.args.end c.requires.order c.requires.inside;
     }

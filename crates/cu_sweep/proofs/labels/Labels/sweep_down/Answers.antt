@@ -1,10 +1,10 @@
-use Rattle.std.proofs.Common.{◌≡◌, ◌≤◌, ◌<◌, ◌++◌, ◌∙◌, ℕ, List, Option, None, ap, drop, length, rules, subst, sym, take}
+use Rattle.std.proofs.Common.{◌≡◌, ◌<◌, ◌++◌, ◌∙◌, ℕ, List, Option, ap, drop, length, rules, subst, sym, take}
 use Rattle.std.specs.Prelude.{All}
 use Rattle.std.specs.List.{Contains}
 use Rattle.cu_links.proofs.Setting.{whole_back}
 use Rattle.cu_chordal.specs.declared.graph.Ends.{Ends}
 use Rattle.cu_chordal.specs.Graphs.{ChordalValue, HasEdge}
-use Rattle.cu_sweep.specs.Swept.{IsBegun, IsClosed, IsSweptDown, IsSweptUp, LabelsValue, Sweep}
+use Rattle.cu_sweep.specs.Swept.{IsClosed, IsSweptDown, IsSweptUp, LabelsValue}
 use Rattle.cu_sweep.specs.Steps.Ready.{Rises}
 use Rattle.cu_sweep.proofs.Held.{down_over, swept_down}
 use Rattle.cu_sweep.proofs.labels.Labels.sweep_down.Goals as goal

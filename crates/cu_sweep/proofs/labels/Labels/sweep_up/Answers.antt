@@ -1,11 +1,6 @@
-use Rattle.std.proofs.Common.{◌≡◌, ◌≤◌, ◌<◌, ◌++◌, ◌∙◌, ℕ, List, Option, None, ap, drop, length, rules, subst, sym, take}
-use Rattle.std.specs.Prelude.{All}
-use Rattle.std.specs.List.{Contains}
+use Rattle.std.proofs.Common.{◌≡◌, ◌++◌, ℕ, List, Option, drop, length, rules, subst, sym, take}
 use Rattle.cu_links.proofs.Setting.{whole_back}
-use Rattle.cu_chordal.specs.declared.graph.Ends.{Ends}
-use Rattle.cu_chordal.specs.Graphs.{ChordalValue, HasEdge}
-use Rattle.cu_sweep.specs.Swept.{IsBegun, IsClosed, IsSweptDown, IsSweptUp, LabelsValue, Sweep}
-use Rattle.cu_sweep.specs.Steps.Ready.{Rises}
+use Rattle.cu_sweep.specs.Swept.{IsBegun, IsSweptUp, LabelsValue}
 use Rattle.cu_sweep.proofs.Held.{swept_up, up_over}
 use Rattle.cu_sweep.proofs.labels.Labels.sweep_up.Goals as goal
 

@@ -1,0 +1,5 @@
+pub mod HalfBounds
+pub mod ListLeast
+pub mod ProfileTravels
+pub mod Renewed
+pub mod Turns

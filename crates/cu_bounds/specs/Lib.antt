@@ -1,0 +1,2 @@
+pub mod KeptBounds
+pub mod Steps

@@ -1,0 +1,65 @@
+//! The least bound of one list, by those of the lists before it.
+
+ghost use Rattle.std.specs.Prelude.{◌≡◌, ◌≤◌, ◌<◌, Some, length, slice_get};
+ghost use Rattle.cu_chordal.specs.declared.graph.Ends.{Ends};
+ghost use Rattle.cu_interval.specs.Hierarchies.{IsHierarchy, end_of, start_of};
+ghost use Rattle.cu_interval.specs.LeastBounds.{bound_from, least_bound, way_bound};
+ghost use Rattle.cu_interval.specs.LeastPieces.{road_pieces};
+ghost use Rattle.cu_interval.specs.Shortcuts.{number_of};
+ghost use Rattle.cu_bounds.specs.KeptBounds.{AreRightBelow};
+ghost use Rattle.cu_bounds.specs.Steps.InTurn.{IsWayOf, TellsTravels};
+
+use crate::kept::KeptBounds;
+use crate::travels::{FAR, Travels};
+use cu_interval::{Shortcut, Way, Ways, halves};
+
+/// The least bound of a list: the least over its entries, by the least travel of each profile and by what is kept of
+/// the lists before it.
+pub fn list_bound<W: Ways, T: Travels, K: KeptBounds>(
+    ways: &W,
+    travels: &T,
+    kept: &K,
+    shortcut: Shortcut,
+) -> u64
+    requires edge { shortcut.edge < length (W.hierarchy ways.now).edges }
+    requires travels { TellsTravels (W.hierarchy ways.now).network (T.profiles travels.now)
+        (T.least travels.now) }
+    requires lists { number_of shortcut ≤ K.lists kept.now }
+    requires right { AreRightBelow (W.hierarchy ways.now) (K.kept kept.now) (number_of shortcut) }
+    ensures { result ≡ least_bound (W.hierarchy ways.now) shortcut.edge shortcut.dir }
+{
+    let mut least = FAR;
+    for index in 0..ways.entries(shortcut.edge, shortcut.dir) {
+        let entry = ways.entry(shortcut.edge, shortcut.dir, index);
+        least = least.min(bound_of_way(ways, travels, kept, shortcut, entry.way));
+    }
+    least
+}
+
+// The bound of a way: the least travel of its road, or both bounds of its halves together, up to `FAR`.
+fn bound_of_way<W: Ways, T: Travels, K: KeptBounds>(
+    ways: &W,
+    travels: &T,
+    kept: &K,
+    shortcut: Shortcut,
+    way: Way,
+) -> u64
+    requires sound { IsHierarchy (W.hierarchy ways.now) }
+    requires travels { TellsTravels (W.hierarchy ways.now).network (T.profiles travels.now)
+        (T.least travels.now) }
+    requires lists { number_of shortcut ≤ K.lists kept.now }
+    requires right { AreRightBelow (W.hierarchy ways.now) (K.kept kept.now) (number_of shortcut) }
+    requires way { IsWayOf (W.hierarchy ways.now) shortcut way }
+    ensures { (ends : Ends) → slice_get (W.hierarchy ways.now).edges shortcut.edge ≡ Some ends
+        → result ≡ way_bound (road_pieces (W.hierarchy ways.now).network)
+        (bound_from (W.hierarchy ways.now)) (start_of ends shortcut.dir) (end_of ends shortcut.dir) way }
+{
+    match way {
+        Way::Road(arc) => u64::from(travels.least(ways.arc(arc).profile)),
+        Way::Via(middle) => {
+            let (first, second) = halves(ways, shortcut, middle);
+            let sum = kept.kept(first.list() as u32) + kept.kept(second.list() as u32);
+            sum.min(FAR)
+        }
+    }
+}

@@ -1,0 +1,12 @@
+pub mod Places
+pub mod Swept
+pub mod LeastChains
+pub mod Arcs
+pub mod Taking
+pub mod TakingLists
+pub mod Spreading
+pub mod Ranked
+pub mod BuiltDays
+pub mod Whole
+pub mod Calls
+pub mod LineFields

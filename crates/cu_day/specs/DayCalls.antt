@@ -1,0 +1,42 @@
+-- The calls by which a day function is found, each by the shortcut that is asked.
+use Rattle.std.specs.Prelude.{ℕ, List, ◌≡◌, ◌≢◌, ◌++◌, Some, All, length, map, flat_map, slice_get}
+use Rattle.std.specs.List.{AllPairs, range_with_len}
+use Rattle.cu_chordal.specs.declared.graph.Ends.{Ends}
+use Rattle.cu_chordal.specs.Graphs.{ChordalValue, first_edge_of, up_of}
+use Rattle.cu_elimtree.specs.SweepArcs.{IsSweepArc}
+use Rattle.cu_interval.specs.declared.ways.Dir.{Dir}
+use Rattle.cu_interval.specs.declared.ways.Dir.TheVariants.{Up, Down}
+use Rattle.cu_interval.specs.declared.shortcuts.Shortcut.{Shortcut}
+use Rattle.cu_interval.specs.Hierarchies.{HierarchyValue}
+
+-- the hierarchy whose functions are rebuilt, and the calls so far
+pub record DayRebuiltValue : Type 0 where
+  pub hierarchy : HierarchyValue
+  pub calls : List Shortcut
+
+-- a sweep arc of a rank, taken in a direction
+abbrev pub IsArcCall : ChordalValue → ℕ → Dir → Shortcut → Type 0
+IsArcCall graph rank dir call = (call.dir ≡ dir) × (ends : Ends) × (slice_get graph.edges call.edge ≡ Some ends)
+    × IsSweepArc graph rank ends.low ends.high
+
+-- the edges of a rank to its higher neighbours, in a direction
+abbrev pub calls_of_rank : HierarchyValue → Dir → ℕ → List Shortcut
+calls_of_rank h dir x = map (λ e. record { edge = e; dir = dir }) (range_with_len (first_edge_of h.edges x) (length (up_of h.edges x)))
+
+-- those of one rank after the other
+abbrev pub calls_of_ranks : HierarchyValue → Dir → List ℕ → List Shortcut
+calls_of_ranks h dir ranks = flat_map (calls_of_rank h dir) ranks
+
+-- no two of these are over one edge
+abbrev pub AreOnce : List Shortcut → Type 0
+AreOnce calls = AllPairs (λ (call later : Shortcut). call.edge ≢ later.edge) calls
+
+-- some calls were added: over sweep arcs of the start upwards, and then over those of the end downwards, each at most once per sweep
+pub record AddsSweepArcs (graph : ChordalValue) (from to : ℕ) (before now : List Shortcut) : Type 0 where
+  pub ups : List Shortcut
+  pub downs : List Shortcut
+  pub added : now ≡ before ++ (ups ++ downs)
+  pub up : All (IsArcCall graph from Up) ups
+  pub down : All (IsArcCall graph to Down) downs
+  pub once_up : AreOnce ups
+  pub once_down : AreOnce downs

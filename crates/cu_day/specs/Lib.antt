@@ -1,0 +1,5 @@
+pub mod DayChains
+pub mod DayAnswers
+pub mod DayCalls
+pub mod DayLines
+pub mod Steps

@@ -1,0 +1,4 @@
+pub mod Said
+pub mod Near
+pub mod DayTexts
+pub mod Steps

@@ -1,0 +1,27 @@
+-- The bounds of lists that an edit leaves.
+use Rattle.std.proofs.Common.{◌≡◌, ◌<◌, ◌*◌, ◌∙◌, ℕ, List, ap, length, map, All}
+use Rattle.std.specs.Prelude.{slice_index}
+use Rattle.std.specs.List.Sorted.{IsStrictlyIncreasing}
+use Rattle.std.proofs.lemmas.Option.{get_or_from_slice_get}
+use Rattle.cu_model.specs.declared.roads.Edit.{Edit}
+use Rattle.cu_interval.specs.declared.ways.TouchedEdge.{TouchedEdge}
+use Rattle.cu_interval.specs.Hierarchies.{HierarchyValue, list_number}
+use Rattle.cu_interval.specs.LeastBounds.{least_bound}
+use Rattle.cu_interval.specs.Replacing.{hierarchy_with}
+use Rattle.cu_bounds.specs.KeptBounds.{bounds_of}
+use Rattle.cu_pack.specs.Repacking.{KeepsOtherBounds}
+use Rattle.cu_pack.specs.Steps.Renewing.{AreOthersRight}
+use Rattle.cu_pack.proofs.Numbering.PairedLists.{bound_there, bounds_count}
+
+-- the bounds of the hierarchy before the edit are right for all other edges
+pub others_right : (h : HierarchyValue) (edit : Edit) (lists : List TouchedEdge) (bounds : List ℕ) → bounds ≡ bounds_of h
+    → IsStrictlyIncreasing (map (λ (touched : TouchedEdge). touched.edge) lists) → All (λ (touched : TouchedEdge). touched.edge < length h.edges) lists
+    → KeepsOtherBounds h edit lists → AreOthersRight (hierarchy_with h edit lists) bounds lists
+others_right h edit lists bounds all rising edges stays = record {
+  rising = rising;
+  edges = edges;
+  long = ap length all ∙ bounds_count h;
+  right = λ edge dir inside other.
+      let there = get_or_from_slice_get (bounds_of h) (list_number edge dir) (least_bound h edge dir) 0 (bound_there h edge dir inside) in
+      ap (λ (xs : List ℕ). slice_index xs (list_number edge dir)) all ∙ there ∙ stays edge dir inside other;
+}

@@ -1,0 +1,12 @@
+pub mod WaitingLaws
+pub mod LineLaws
+pub mod LegLaws
+pub mod HullLaws
+pub mod AnswerLaws
+pub mod WorkedRows
+pub mod PointLaws
+pub mod BoundLaws
+pub mod GroupLaws
+pub mod CheckLaws
+pub mod ConvertedLaws
+pub mod ReadLaws

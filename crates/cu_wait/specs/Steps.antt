@@ -1,0 +1,3 @@
+pub mod HullLegs
+pub mod BoundLegs
+pub mod ReadRows

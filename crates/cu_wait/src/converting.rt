@@ -1,0 +1,26 @@
+//! Measured profiles in pieces.
+
+ghost use Rattle.std.specs.Prelude.{◌≡◌, IfOk};
+ghost use Rattle.cu_model.specs.Profiles.{IsProfile};
+ghost use Rattle.cu_wait.specs.Converted.{IsConvertedProfile};
+ghost use Rattle.cu_wait.specs.Measured.{IsMeasured};
+
+use crate::hull::Hull;
+use crate::points::Point;
+use cu_forms::day_pieces;
+use cu_model::{NoMemory, Profile};
+use std::alloc::Global;
+
+// The profile in pieces that stands for a measured one.
+pub(crate) fn converted(alloc: Global, points: &[Point]) -> Result<Profile, NoMemory>
+    requires { IsMeasured points.now }
+    ensures converted { IfOk result (λ profile. IsConvertedProfile points.now profile) }
+    ensures valid { IfOk result (λ profile. IsProfile profile) }
+{
+    let hull = Hull::of(alloc, points)?;
+    let pieces = day_pieces(alloc, &hull)?;
+    match Profile::of(pieces) {
+        Ok(profile) => Ok(profile),
+        Err(_) => unreachable!(),
+    }
+}

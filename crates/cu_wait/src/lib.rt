@@ -1,0 +1,26 @@
+//! Measured profiles: points of a day with a travel time each, which say when a road arrives and need not keep order; and
+//! waiting, by which whoever meets such a road arrives earliest.
+//!
+//! Its promise to the crates above: [`read_measured`] gives exactly the measured profiles that a text names, each in the
+//! pieces that stand for it, or the first check that the text fails (`measured_of_text` in `specs/MeasuredTexts.antt`); and a
+//! network in such pieces answers as the measured one does over all walks and all waits ([`waiting_is_converted`]). It
+//! stands on `cu_model`, `cu_tables`, `cu_profile` and `cu_forms`. How the least arrivals of a day are found, leg by leg, is
+//! its own; what only its functions cite of that is in `specs/Steps`.
+#![tactic(auto)]
+
+mod checks;
+mod converting;
+mod hull;
+mod laws;
+mod legs;
+mod points;
+mod progress;
+mod reader;
+mod refusals;
+mod rows;
+
+pub use laws::waiting_is_converted;
+pub use points::{Mode, Point};
+pub use reader::read_measured;
+pub use refusals::MeasuredRefusal;
+pub use rows::MAX_MEASURED;
