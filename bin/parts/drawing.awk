@@ -1,4 +1,4 @@
-# What both drawings share: times in words, colours, and pieces of SVG.
+# What drawings share: times in words, colours, and pieces of SVG.
 
 function plural(count, word) {
   return count " " word (count == 1 ? "" : "s")

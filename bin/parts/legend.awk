@@ -1,23 +1,11 @@
 # What stands below the map and beside it: what the marks mean, and an entry for each reply, or sums where these are many.
 
 # Below the map: how long a stretch of the tables' plane is, and what the marks mean.
-function print_key(    line, stretch) {
-  line = map_y + map_height + 22
-  stretch = round_stretch(map_width / 3 / scale)
+function print_key() {
   print "<g id=\"key\" fill=\"#555555\">"
-  print "<path fill=\"none\" stroke=\"#555555\" stroke-width=\"1.5\" d=\"M" place(map_x) " " \
-    place(line - 8) "v8h" place(stretch * scale) "v-8\"/>"
-  print_text(map_x + stretch * scale + 8, line, "", \
-    (stretch < 1 ? stretch : sprintf("%.0f", stretch)) " units of x and y")
-  print_signs(line + 24)
+  print_stretch(map_y + map_height + 22)
+  print_signs(map_y + map_height + 46)
   print "</g>"
-}
-
-# The greatest 1, 2 or 5 with noughts that is no more than this.
-function round_stretch(most,    stretch) {
-  for (stretch = 1; stretch * 10 <= most; stretch *= 10) continue
-  while (stretch > most) stretch /= 10
-  return 5 * stretch <= most ? 5 * stretch : 2 * stretch <= most ? 2 * stretch : stretch
 }
 
 function print_signs(line,    at) {

@@ -10,3 +10,9 @@ function refuse(why) {
   refused = 1
   exit 1
 }
+
+# What may be shown of input that is refused.
+function printable(text) {
+  gsub(/[^ -~]/, "?", text)
+  return substr(text, 1, 60)
+}

@@ -1,15 +1,10 @@
 # Draws the roads around routes, and the routes, from the tables NODES, ROADS and maybe PROFILES, maybe the script of the
-# queries, and the program's replies. The map is a part of the tables' plane: left, right, low and high are its sides
-# there, and `scale` is how many units of the picture one of the plane's has.
+# queries, and the program's replies.
 #
 # Up to `most_routes` routes have a colour and a number each. More are drawn together (`together`), without names, as
 # roads which are the darker the more routes take them.
 
 BEGIN {
-  map_x = 20
-  map_y = 66
-  most_width = 600
-  most_height = 500
   most_routes = 20
   most_replies = 10000
   most_entries = 60
@@ -38,7 +33,7 @@ END {
   together = routes > most_routes || replies > most_entries
   if (routes) bound_routes()
   else bound_all()
-  set_frame()
+  set_frame(0.14)
   find_near_roads()
   collect_roads(0)
   collect_roads(1)
@@ -54,22 +49,25 @@ END {
   print "</svg>"
 }
 
-function read_reply(line,    pieces) {
+function read_reply(line,    words) {
   sub(/\r$/, "", line)
   if (++replies > most_replies) refuse("more than " most_replies " replies can't be drawn: take some of them")
-  if (line ~ /^arrive=[0-9]+ arcs=([0-9]+( [0-9]+)*)?$/) {
-    arrives[replies] = substr(line, 8) + 0
+  if (line ~ /^(depart=[0-9]+ )?arrive=[0-9]+ arcs=([0-9]+( [0-9]+)*)?$/) {
+    if (sub(/^depart=/, "", line)) leaves[replies] = line + 0
+    arrives[replies] = substr(line, index(line, "arrive=") + 7) + 0
     read_query()
     read_route(substr(line, index(line, "arcs=") + 5))
-  } else if (line ~ /^(unreachable|no memory|done [0-9]+|damaged [0-9]+ (up|down) [0-9]+|refused: [a-z]+( [0-9]+)*)$/) {
+  } else if (line ~ /^(unreachable|too late|no memory|done [0-9]+|damaged [0-9]+ (up|down) [0-9]+|refused: [a-z]+( [0-9]+)*)$/) {
     text[replies] = line
     add_kind(line)
   } else if (line ~ /^day [0-9]+,(travel|until),[0-9]+/) {
-    text[replies] = "a day of " plural(split(line, pieces, " ") - 1, "piece")
+    text[replies] = "a day of " plural(split(line, words, " ") - 1, "piece")
     add_kind("whole day")
+  } else if (line ~ /^(reach|table)( ([0-9]|-|damaged)|$)/) {
+    text[replies] = substr(line, 1, 5) ", entries: " gsub(/ /, " ", line)
+    add_kind(substr(line, 1, 5))
   } else {
-    gsub(/[^ -~]/, "?", line)
-    refuse_reply("this is no reply: " substr(line, 1, 60))
+    refuse_reply("this is no reply: " printable(line))
   }
 }
 
@@ -84,13 +82,20 @@ function refuse_reply(why) {
   refuse("line " replies " of the replies: " why)
 }
 
-# Takes nodes and departure from the line of the script that has this reply, where there is a script.
+# Takes nodes and departure from the line of the script that has this reply, where there is a script. A reply that says
+# its departure is one to a line that asks for the latest.
 function read_query(    word) {
   if (!with_script) return
-  if (asked[replies] !~ /^q,[0-9]+,[0-9]+,[0-9]+$/) refuse_reply("its line of the script is no query")
+  if (asked[replies] !~ "^" (replies in leaves ? "l" : "q") ",[0-9]+,[0-9]+,[0-9]+$") {
+    refuse_reply("its line of the script is no query")
+  }
   split(asked[replies], word, ",")
   starts[replies] = word[2] + 0
   ends[replies] = word[3] + 0
+  if (replies in leaves) {
+    if (arrives[replies] > word[4] + 0) refuse_reply("its line of the script asks for an earlier arrival")
+    return
+  }
   leaves[replies] = word[4] + 0
   if (arrives[replies] < leaves[replies]) refuse_reply("its line of the script leaves later")
 }
@@ -117,48 +122,11 @@ function read_route(list,    word, i, count, road_at, at) {
   if (routes <= most_routes) roads_of[routes] = list
 }
 
-function widen(node) {
-  if (!bounded || x[node] < left) left = x[node]
-  if (!bounded || x[node] > right) right = x[node]
-  if (!bounded || y[node] < low) low = y[node]
-  if (!bounded || y[node] > high) high = y[node]
-  bounded = 1
-}
-
 function bound_routes(    road_at) {
   for (road_at in users) {
     widen(tail[road_at])
     widen(head[road_at])
   }
-}
-
-function bound_all(    node) {
-  for (node = 0; node < rows["nodes"]; node++) widen(node)
-}
-
-# The map's sides with a margin, and its size in the picture, which is never narrow.
-function set_frame(    margin, width, height) {
-  margin = (right - left > high - low ? right - left : high - low) * 0.14
-  if (margin == 0) margin = 1
-  width = right - left + 2 * margin
-  height = high - low + 2 * margin
-  scale = most_width / width < most_height / height ? most_width / width : most_height / height
-  map_width = width * scale < 320 ? 320 : width * scale
-  map_height = height * scale < 240 ? 240 : height * scale
-  left = (left + right - map_width / scale) / 2
-  right = left + map_width / scale
-  low = (low + high - map_height / scale) / 2
-  high = low + map_height / scale
-  map_right = map_x + map_width
-  map_low = map_y + map_height + 44
-}
-
-function over(node) {
-  return map_x + (x[node] - left) * scale
-}
-
-function up(node) {
-  return map_y + (high - y[node]) * scale
 }
 
 function title() {
@@ -201,15 +169,11 @@ function print_head(    words) {
 }
 
 function print_map() {
-  print "<clipPath id=\"map\"><rect x=\"" place(map_x) "\" y=\"" place(map_y) "\" width=\"" \
-    place(map_width) "\" height=\"" place(map_height) "\"/></clipPath>"
-  print "<g clip-path=\"url(#map)\">"
+  begin_map()
   print_roads()
   if (together) print_used_roads()
   else print_routes()
-  print "</g>"
-  print "<rect x=\"" place(map_x) "\" y=\"" place(map_y) "\" width=\"" place(map_width) \
-    "\" height=\"" place(map_height) "\" fill=\"none\" stroke=\"#c9ccd1\"/>"
+  end_map()
   if (together) return
   print_ends()
   print_numbers()

@@ -1,6 +1,6 @@
 # Roads as trails: pieces of a path whose units are `grain` of the picture's. A trail goes along roads as far as there
-# are new ones, so that a road takes few bytes. There is a list of trails of each kind: 0 open roads, 1 closed ones, and
-# where routes are many from 2 on the roads that they take, by how many take them.
+# are new ones, so that a road takes few bytes. There is a list of trails of each kind. Of a map with routes: 0 open roads,
+# 1 closed ones, and where routes are many from 2 on the roads that they take, by how many take them.
 
 # Whether a road may be seen on the map: it isn't all to one side of it.
 function is_near(road_at,    a, b) {
@@ -15,7 +15,11 @@ function find_near_roads(    road_at) {
   for (road_at = 0; road_at < rows["roads"]; road_at++) {
     if (is_near(road_at)) near[near_count++] = road_at
   }
-  grain = near_count > 100000 ? 2 : near_count > 12000 ? 0.5 : 0.1
+  set_grain(near_count)
+}
+
+function set_grain(roads) {
+  grain = roads > 100000 ? 2 : roads > 12000 ? 0.5 : 0.1
 }
 
 function collect_roads(shut,    i) {
@@ -92,16 +96,20 @@ function begin_trails() {
   split("", gone)
 }
 
-function point(node,    across, down) {
+function point(node) {
   if (node in point_of) return point_of[node]
-  across = round(over(node) / grain)
-  down = round(up(node) / grain)
+  return point_of[node] = point_near(over(node), up(node))
+}
+
+function point_near(at_x, at_y,    across, down) {
+  across = round(at_x / grain)
+  down = round(at_y / grain)
   if (!((across, down) in point_at)) {
     point_at[across, down] = ++points
     point_x[points] = across
     point_y[points] = down
   }
-  return point_of[node] = point_at[across, down]
+  return point_at[across, down]
 }
 
 function round(value) {

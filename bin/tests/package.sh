@@ -27,7 +27,10 @@ check_package() {
   check "a package: answers" "built 3 3 3 416|arrive=160 arcs=0 1|arrive=29050 arcs=2" "$(run_installed | in_a_row)"
   check "a package: the manual's example" "built 3 3 3 416|arrive=160 arcs=0 1|arrive=29050 arcs=2" "$(run_manual | in_a_row)"
   check "a package: asks nobody to build" "0" "$(CATCHUP_BUILD=1 PATH="$plain" "$installed/catchup" ask "$room/town.cu" </dev/null 2>&1; echo $?)"
-  check "a package: draws" "0 0" "$(draw_installed)"
+  check "a package: draws, and makes a CSV" "0 0 0 0" "$(draw_installed)"
+  if python3 -c 'import sys; sys.exit(sys.version_info < (3, 11))' 2>/dev/null; then
+    check "a package: has the service" "usage: catchup-http" "$(PATH="$plain" "$installed/catchup-http" --help | head -n 1 | cut -d ' ' -f 1,2)"
+  fi
   check "a package: orders" "0|1|2|3|4" "$(PATH="$plain" "$installed/order-by-metis" nodes loops | in_a_row)"
 }
 
@@ -47,6 +50,12 @@ run_manual() {
 
 draw_installed() {
   (cd "$examples/town" && PATH="$plain" "$installed/draw-route" --script script.txt nodes.csv roads.csv <replies.txt >"$room/out"
+    echo $?
+    awk 'NR == 1 { printf "reach" } NR > 1 { printf " %d", 60 * NR } END { print "" }' nodes.csv >"$room/reply"
+    PATH="$plain" "$installed/draw-reach" nodes.csv roads.csv <"$room/reply" >"$room/out"
+    echo $?
+    echo t,0,1,0,1 >"$room/line"
+    echo table 60 | PATH="$plain" "$installed/table-csv" "$room/line" >"$room/out"
     echo $?
     PATH="$plain" "$installed/draw-day" --every 600 "$room/town.cu" 0 2 >"$room/out"
     echo $?) | tr '\n' ' ' | sed 's/ $//'

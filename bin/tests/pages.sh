@@ -57,7 +57,7 @@ check_page() {
 
 # Each picture of the pages is what a command of theirs has drawn.
 check_pictures() {
-  for each in routes day; do
+  for each in routes reach day; do
     check "the picture $each.svg is what the pages' commands draw" "same" \
       "$(find "$clone" "$room/rests" -name "$each.svg" ! -path '*/docs/pictures/*' | while read -r file; do
         cmp "$file" "$clone/docs/pictures/$each.svg" 2>&1 && echo same

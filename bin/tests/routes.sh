@@ -29,6 +29,9 @@ check_routes() {
     "$(printf 'day 0,travel,60 28800,until,28900 28841,travel,60\n' | route nodes roads | cut -c 1-8) $(count '>a day of 3 pieces<')"
   check "routes: a damaged shortcut is told" "status 0 1" \
     "$(printf 'damaged 5 up 0\n' | route nodes roads | cut -c 1-8) $(count '>damaged 5 up 0<')"
+  check "routes: reaches and tables are told by their entries" "status 0 1 1 1" \
+    "$(printf 'reach 0 - 7\ntable 5 damaged 5 up 0\ntable\n' | route nodes roads | cut -c 1-8) $(count '>reach, entries: 3<') $(
+      count '>table, entries: 5<') $(count '>table, entries: 0<')"
   check "routes: no reply" "0 0" \
     "$(route nodes roads </dev/null | cut -c 8) $(count 'class="route"')"
 }
@@ -68,6 +71,18 @@ check_departures() {
   check "departures: stand beside the arrivals" "1 1 1" "$(count '>leaves 00:01:40, arrives 00:02:40<') $(
     count '>leaves 23:59:59, arrives 00:00:50 +2 days<') $(count '>leaves 00:00:07, arrives 00:00:07<')"
   check "departures: and how long it takes" "1 1" "$(count '>1 min, 2 roads, node 0 to 3<') $(count '>0 s, no road<')"
+  printf '%s\n' l,0,3,200 l,0,3,7 l,2,2,7 >latest
+  printf '%s\n' 'depart=100 arrive=160 arcs=0 3' 'too late' 'depart=7 arrive=7 arcs=' >found
+  check "departures: the latest are drawn" "status 0 1 1 1" "$(route --script latest nodes roads <found | cut -c 1-8) $(
+    count '>leaves 00:01:40, arrives 00:02:40<') $(count '>too late<') $(count '>leaves 00:00:07, arrives 00:00:07<')"
+  check "departures: the latest say when, without their script too" "status 0 1" "$(route nodes roads <found | cut -c 1-8) $(
+    count '>leaves 00:01:40, arrives 00:02:40<')"
+  check_refusal "departures: a latest one that arrives later than it was asked" \
+    "draw-route: line 1 of the replies: its line of the script asks for an earlier arrival" \
+    "$(sed 's/200/159/' latest >other; route --script other nodes roads <found)"
+  check_refusal "departures: a latest one where a query was asked" \
+    "draw-route: line 1 of the replies: its line of the script is no query" \
+    "$(route --script asked nodes roads <found)"
   check_refusal "departures: replies to another script" \
     "draw-route: line 1 of the replies: its line of the script asks for other nodes" \
     "$(sed 's/0,3/0,2/' asked >other; route --script other nodes roads <answered)"

@@ -10,13 +10,11 @@ use Rattle.std.proofs.lemmas.Option.{get_or_from_slice_get, slice_get-map, slice
 use Rattle.cu_model.proofs.ListLaws.{item_there}
 use Rattle.cu_model.proofs.OptionLaws.{same_value}
 use Rattle.cu_chordal.proofs.Members.{place_of}
-use Rattle.cu_interval.specs.declared.shortcuts.Shortcut.{Shortcut}
 use Rattle.cu_interval.specs.declared.ways.Dir.{Dir}
 use Rattle.cu_interval.specs.declared.ways.Dir.TheVariants.{Up, Down}
 use Rattle.cu_interval.specs.declared.ways.TouchedEdge.{TouchedEdge}
 use Rattle.cu_interval.specs.Hierarchies.{HierarchyValue, list_number}
 use Rattle.cu_interval.specs.LeastBounds.{least_bound}
-use Rattle.cu_interval.specs.Shortcuts.{number_of}
 use Rattle.cu_interval.proofs.EndsLaws.{number_parts, number_within}
 use Rattle.cu_bounds.specs.KeptBounds.{AreRightBelow, AreRightBut, bounds_of}
 use Rattle.cu_bounds.proofs.Turns.{first_all, right_more}

@@ -6,8 +6,9 @@ ghost use Rattle.cu_interval.specs.LeastBounds.{least_bound};
 ghost use Rattle.cu_interval.specs.LeastPieces.{pieces_least};
 ghost use Rattle.cu_interval.specs.Shortcuts.{number_of};
 ghost use Rattle.cu_bounds.specs.KeptBounds.{AreRightBelow, FindsFirstWrong, bounds_of};
-ghost use Rattle.cu_bounds.specs.Steps.InTurn.{AreFirstBounds, FindsWrongBelow};
+ghost use Rattle.cu_bounds.specs.Steps.InTurn.{AreFirstBounds, FindsWrongBelow, IsFinderUpTo};
 
+use crate::halving::{Halving, Searching};
 use crate::kept::{BoundsSoFar, KeptBounds};
 use crate::list_bounds::list_bound;
 use crate::travels::{TravelTable, least_travels};
@@ -49,7 +50,8 @@ fn push_bound<W: Ways>(
     let so_far = BoundsSoFar {
         bounds: bounds.as_slice(),
     };
-    let bound = list_bound(ways, &TravelTable { travels }, &so_far, shortcut);
+    let finder = &mut Searching { ways };
+    let bound = list_bound(ways, &TravelTable { travels }, &so_far, finder, shortcut);
     bounds.push(bound)?;
     Ok(())
 }
@@ -65,18 +67,41 @@ pub fn first_wrong_bound<W: Ways, K: KeptBounds>(
     ensures first { IfOk result
         (λ found. FindsFirstWrong (W.hierarchy ways.now) (K.kept kept.now) found) }
 {
+    first_wrong_bound_by(alloc, ways, kept, &mut Searching { ways })
+}
+
+/// The same, by a finder of this hierarchy's halves that has come to no edge yet.
+pub fn first_wrong_bound_by<W: Ways, K: KeptBounds, F: Halving>(
+    alloc: Global,
+    ways: &W,
+    kept: &K,
+    finder: &mut F,
+) -> Result<Option<Shortcut>, NoMemory>
+    requires lists { K.lists kept.now ≡ 2 * length (W.hierarchy ways.now).edges }
+    requires same { F.hierarchy finder.old ≡ W.hierarchy ways.now }
+    requires begins { F.reached finder.old ≡ 0 }
+    ensures first { IfOk result
+        (λ found. FindsFirstWrong (W.hierarchy ways.now) (K.kept kept.now) found) }
+{
     let travels = least_travels(alloc, ways)?;
-    Ok(first_wrong(ways, &travels, kept))
+    Ok(first_wrong(ways, &travels, kept, finder))
 }
 
 // The same, by the least travel of each profile.
-fn first_wrong<W: Ways, K: KeptBounds>(ways: &W, travels: &[u32], kept: &K) -> Option<Shortcut>
+fn first_wrong<W: Ways, K: KeptBounds, F: Halving>(
+    ways: &W,
+    travels: &[u32],
+    kept: &K,
+    finder: &mut F,
+) -> Option<Shortcut>
     requires lists { K.lists kept.now ≡ 2 * length (W.hierarchy ways.now).edges }
     requires travels { travels.now ≡ map pieces_least (W.hierarchy ways.now).network.profiles }
+    requires finder { IsFinderUpTo (W.hierarchy ways.now) 0 (F.hierarchy finder.old)
+        (F.reached finder.old) }
     ensures { FindsFirstWrong (W.hierarchy ways.now) (K.kept kept.now) result }
 {
     for edge in 0..ways.edges() {
-        let wrong = wrong_list(ways, travels, kept, edge);
+        let wrong = wrong_list(ways, travels, kept, finder, edge);
         if wrong.is_some() {
             return wrong;
         }
@@ -85,10 +110,11 @@ fn first_wrong<W: Ways, K: KeptBounds>(ways: &W, travels: &[u32], kept: &K) -> O
 }
 
 // The first list of an edge whose kept number isn't its least bound. All lists of the edges before it are right.
-fn wrong_list<W: Ways, K: KeptBounds>(
+fn wrong_list<W: Ways, K: KeptBounds, F: Halving>(
     ways: &W,
     travels: &[u32],
     kept: &K,
+    finder: &mut F,
     edge: u32,
 ) -> Option<Shortcut>
     requires sound { IsHierarchy (W.hierarchy ways.now) }
@@ -96,32 +122,46 @@ fn wrong_list<W: Ways, K: KeptBounds>(
     requires lists { K.lists kept.now ≡ 2 * length (W.hierarchy ways.now).edges }
     requires travels { travels.now ≡ map pieces_least (W.hierarchy ways.now).network.profiles }
     requires right { AreRightBelow (W.hierarchy ways.now) (K.kept kept.now) (2 * edge) }
-    ensures { FindsWrongBelow (W.hierarchy ways.now) (K.kept kept.now) (2 * edge + 2) result }
+    requires finder { IsFinderUpTo (W.hierarchy ways.now) edge (F.hierarchy finder.old)
+        (F.reached finder.old) }
+    ensures wrong { FindsWrongBelow (W.hierarchy ways.now) (K.kept kept.now) (2 * edge + 2) result }
+    ensures finder { IsFinderUpTo (W.hierarchy ways.now) edge (F.hierarchy finder.new)
+        (F.reached finder.new) }
 {
     let up = Shortcut { edge, dir: Dir::Up };
-    if !is_right(ways, travels, kept, up) {
+    if !is_right(ways, travels, kept, finder, up) {
         return Some(up);
     }
     let down = Shortcut {
         edge,
         dir: Dir::Down,
     };
-    if !is_right(ways, travels, kept, down) {
+    if !is_right(ways, travels, kept, finder, down) {
         return Some(down);
     }
     None
 }
 
 // Whether the least bound of a list is kept for it. So it is for all lists before it.
-fn is_right<W: Ways, K: KeptBounds>(ways: &W, travels: &[u32], kept: &K, shortcut: Shortcut) -> bool
+fn is_right<W: Ways, K: KeptBounds, F: Halving>(
+    ways: &W,
+    travels: &[u32],
+    kept: &K,
+    finder: &mut F,
+    shortcut: Shortcut,
+) -> bool
     requires sound { IsHierarchy (W.hierarchy ways.now) }
     requires edge { shortcut.edge < length (W.hierarchy ways.now).edges }
     requires lists { K.lists kept.now ≡ 2 * length (W.hierarchy ways.now).edges }
     requires travels { travels.now ≡ map pieces_least (W.hierarchy ways.now).network.profiles }
     requires right { AreRightBelow (W.hierarchy ways.now) (K.kept kept.now) (number_of shortcut) }
-    ensures { IsTrue result ↔ (K.kept kept.now (number_of shortcut)
+    requires finder { IsFinderUpTo (W.hierarchy ways.now) shortcut.edge (F.hierarchy finder.old)
+        (F.reached finder.old) }
+    ensures right { IsTrue result ↔ (K.kept kept.now (number_of shortcut)
         ≡ least_bound (W.hierarchy ways.now) shortcut.edge shortcut.dir) }
+    ensures finder { IsFinderUpTo (W.hierarchy ways.now) shortcut.edge (F.hierarchy finder.new)
+        (F.reached finder.new) }
 {
-    let bound = list_bound(ways, &TravelTable { travels }, kept, shortcut);
+    let bound = list_bound(ways, &TravelTable { travels }, kept, finder, shortcut);
     kept.kept(shortcut.list() as u32) == bound
 }

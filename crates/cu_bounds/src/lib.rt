@@ -4,6 +4,7 @@
 //! [`first_wrong_bound`] the first list for which something else is kept (`FindsFirstWrong`). What keeps them is any
 //! [`KeptBounds`]. Both go over all entries once, by rising number of list: the halves of a middle are lists of lower
 //! numbers, so their bounds are kept already, and a road's bound is the least travel of its profile by its pieces.
+//! [`first_wrong_bound_by`] asks any [`Halving`] for the halves, which may use that the edges rise.
 //! [`renew_bounds`] goes over the entries of replaced lists alone, where all others have their bounds already, which
 //! [`copy_bounds`] reads from ways that know them.
 //!
@@ -12,11 +13,13 @@
 #![tactic(auto)]
 
 mod finding;
+mod halving;
 mod kept;
 mod list_bounds;
 mod renewing;
 mod travels;
 
-pub use finding::{first_wrong_bound, least_bounds};
+pub use finding::{first_wrong_bound, first_wrong_bound_by, least_bounds};
+pub use halving::{Halving, Searching};
 pub use kept::KeptBounds;
 pub use renewing::{copy_bounds, renew_bounds};

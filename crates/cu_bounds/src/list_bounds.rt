@@ -7,18 +7,20 @@ ghost use Rattle.cu_interval.specs.LeastBounds.{bound_from, least_bound, way_bou
 ghost use Rattle.cu_interval.specs.LeastPieces.{road_pieces};
 ghost use Rattle.cu_interval.specs.Shortcuts.{number_of};
 ghost use Rattle.cu_bounds.specs.KeptBounds.{AreRightBelow};
-ghost use Rattle.cu_bounds.specs.Steps.InTurn.{IsWayOf, TellsTravels};
+ghost use Rattle.cu_bounds.specs.Steps.InTurn.{IsFinderUpTo, IsWayOf, TellsTravels};
 
+use crate::halving::Halving;
 use crate::kept::KeptBounds;
 use crate::travels::{FAR, Travels};
-use cu_interval::{Shortcut, Way, Ways, halves};
+use cu_interval::{Shortcut, Way, Ways};
 
 /// The least bound of a list: the least over its entries, by the least travel of each profile and by what is kept of
-/// the lists before it.
-pub fn list_bound<W: Ways, T: Travels, K: KeptBounds>(
+/// the lists before it. The finder of halves has come no further than to its edge, and comes no further.
+pub fn list_bound<W: Ways, T: Travels, K: KeptBounds, F: Halving>(
     ways: &W,
     travels: &T,
     kept: &K,
+    finder: &mut F,
     shortcut: Shortcut,
 ) -> u64
     requires edge { shortcut.edge < length (W.hierarchy ways.now).edges }
@@ -26,21 +28,26 @@ pub fn list_bound<W: Ways, T: Travels, K: KeptBounds>(
         (T.least travels.now) }
     requires lists { number_of shortcut ≤ K.lists kept.now }
     requires right { AreRightBelow (W.hierarchy ways.now) (K.kept kept.now) (number_of shortcut) }
-    ensures { result ≡ least_bound (W.hierarchy ways.now) shortcut.edge shortcut.dir }
+    requires finder { IsFinderUpTo (W.hierarchy ways.now) shortcut.edge
+        (F.hierarchy finder.old) (F.reached finder.old) }
+    ensures bound { result ≡ least_bound (W.hierarchy ways.now) shortcut.edge shortcut.dir }
+    ensures finder { IsFinderUpTo (W.hierarchy ways.now) shortcut.edge
+        (F.hierarchy finder.new) (F.reached finder.new) }
 {
     let mut least = FAR;
     for index in 0..ways.entries(shortcut.edge, shortcut.dir) {
         let entry = ways.entry(shortcut.edge, shortcut.dir, index);
-        least = least.min(bound_of_way(ways, travels, kept, shortcut, entry.way));
+        least = least.min(bound_of_way(ways, travels, kept, finder, shortcut, entry.way));
     }
     least
 }
 
 // The bound of a way: the least travel of its road, or both bounds of its halves together, up to `FAR`.
-fn bound_of_way<W: Ways, T: Travels, K: KeptBounds>(
+fn bound_of_way<W: Ways, T: Travels, K: KeptBounds, F: Halving>(
     ways: &W,
     travels: &T,
     kept: &K,
+    finder: &mut F,
     shortcut: Shortcut,
     way: Way,
 ) -> u64
@@ -49,15 +56,19 @@ fn bound_of_way<W: Ways, T: Travels, K: KeptBounds>(
         (T.least travels.now) }
     requires lists { number_of shortcut ≤ K.lists kept.now }
     requires right { AreRightBelow (W.hierarchy ways.now) (K.kept kept.now) (number_of shortcut) }
+    requires finder { IsFinderUpTo (W.hierarchy ways.now) shortcut.edge
+        (F.hierarchy finder.old) (F.reached finder.old) }
     requires way { IsWayOf (W.hierarchy ways.now) shortcut way }
-    ensures { (ends : Ends) → slice_get (W.hierarchy ways.now).edges shortcut.edge ≡ Some ends
+    ensures bound { (ends : Ends) → slice_get (W.hierarchy ways.now).edges shortcut.edge ≡ Some ends
         → result ≡ way_bound (road_pieces (W.hierarchy ways.now).network)
         (bound_from (W.hierarchy ways.now)) (start_of ends shortcut.dir) (end_of ends shortcut.dir) way }
+    ensures finder { IsFinderUpTo (W.hierarchy ways.now) shortcut.edge
+        (F.hierarchy finder.new) (F.reached finder.new) }
 {
     match way {
         Way::Road(arc) => u64::from(travels.least(ways.arc(arc).profile)),
         Way::Via(middle) => {
-            let (first, second) = halves(ways, shortcut, middle);
+            let (first, second) = finder.halves(shortcut, middle);
             let sum = kept.kept(first.list() as u32) + kept.kept(second.list() as u32);
             sum.min(FAR)
         }

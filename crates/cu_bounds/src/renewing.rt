@@ -7,6 +7,7 @@ ghost use Rattle.cu_interval.specs.LeastBounds.{least_bound};
 ghost use Rattle.cu_interval.specs.Shortcuts.{number_of};
 ghost use Rattle.cu_bounds.specs.KeptBounds.{AreRightBelow, AreRightBut, bounds_of};
 
+use crate::halving::Searching;
 use crate::kept::BoundsSoFar;
 use crate::list_bounds::list_bound;
 use crate::travels::TravelsOf;
@@ -63,6 +64,6 @@ fn renew_bound<W: Ways>(ways: &W, bounds: &mut [u64], shortcut: Shortcut)
 {
     let travels = TravelsOf { roads: ways };
     let so_far = BoundsSoFar { bounds: &*bounds };
-    let bound = list_bound(ways, &travels, &so_far, shortcut);
+    let bound = list_bound(ways, &travels, &so_far, &mut Searching { ways }, shortcut);
     bounds[shortcut.list()] = bound;
 }

@@ -164,20 +164,20 @@ loads_stop a b files (file ∷ asked) (text ∷ texts) why told h fine (inl stop
 loads_stop a b files (file ∷ asked) (text ∷ texts) why told h fine (inr (other, loaded, more)) = loads_stop a b files asked texts why told h.1 fine more
 
 -- the reading of texts that pass their checks is stopped for want of memory alone
-order_stops : (asked : OrderAsked) (read : NetworkRead) (given : List (List ℕ)) (why : Stop) → ((other : OrderRefusal) → IsOrderRefused asked read given other → ⊥)
+pub order_stops : (asked : OrderAsked) (read : NetworkRead) (given : List (List ℕ)) (why : Stop) → ((other : OrderRefusal) → IsOrderRefused asked read given other → ⊥)
     → ((order : OrderValue) → IsOrderOf asked read given order → HasTooManyEdges read.network order → ⊥) → StopsOrder asked read given why → why ≡ stop.NoMemory
 order_stops asked read given (stop.Order refusal) ordered few k = absurd (ordered refusal k)
 order_stops asked read given stop.TooManyEdges ordered few (order, is, many) = absurd (few order is many)
 order_stops asked read given stop.NoMemory ordered few k = refl
 order_stops asked read given _ ordered few k = absurd k
 
-network_stops : (named : Result NetworkRead RoadRefusal) (read : NetworkRead) (why : Stop) → named ≡ Ok read → StopsNetwork named why → why ≡ stop.NoMemory
+pub network_stops : {Read : Type 0} (named : Result Read RoadRefusal) (read : Read) (why : Stop) → named ≡ Ok read → StopsNetwork named why → why ≡ stop.NoMemory
 network_stops named read (stop.Network refusal) is k = absurd (cc (is, k))
 network_stops named read stop.NoMemory is k = refl
 network_stops named read _ is k = absurd k
 
 -- what is said of three tables and the texts behind them
-abbrev OnTables : (List ℕ → List ℕ → List ℕ → List (List ℕ) → Type 0) → List (List ℕ) → Type 0
+abbrev pub OnTables : (List ℕ → List ℕ → List ℕ → List (List ℕ) → Type 0) → List (List ℕ) → Type 0
 OnTables P (nodes ∷ roads ∷ profiles ∷ given) = P nodes roads profiles given
 OnTables P _ = ⊥
 

@@ -8,7 +8,10 @@ mod FileLaws
 mod Completeness
 mod OpeningLaws
 mod EditedLaws
+mod DeskLaws
 mod TrialLaws
 mod Faultless
 mod VerifyLaws
 mod MeasureLaws
+mod ConvertedTexts
+mod WaitLaws

@@ -28,7 +28,7 @@ stops_measured named (measured.Rising row) h = (h (λ e. cc e), tt)
 stops_measured named measured.NoMemory h = (tt, tt)
 
 -- the reading of a text that names measured profiles is stopped for want of memory alone
-read_stops : (named : Result (List (List Point)) MeasuredRefusal) (points : List (List Point)) (why : Stop) → named ≡ Ok points → StopsMeasured named why → why ≡ stop.NoMemory
+pub read_stops : (named : Result (List (List Point)) MeasuredRefusal) (points : List (List Point)) (why : Stop) → named ≡ Ok points → StopsMeasured named why → why ≡ stop.NoMemory
 read_stops named points (stop.Measured refusal) is k = absurd (cc (is, k))
 read_stops named points stop.NoMemory is k = refl
 read_stops named points _ is k = absurd k

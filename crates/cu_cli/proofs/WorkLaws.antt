@@ -102,7 +102,7 @@ pub has_built : {a : ShelfState} (tables : TablesAsked) (asked : OrderAsked) {h 
 has_built tables asked prepared (places, prepares) built network order = record { built = built; places = places; prepares = rw (network, order) prepares }
 
 -- the status of a script is that of the run
-status_same : (end : Option SessionStop) → session_status end ≡ status_at (ending_of end)
+pub status_same : (end : Option SessionStop) → session_status end ≡ status_at (ending_of end)
 status_same None = refl
 status_same (Some session.Source) = refl
 status_same (Some session.Sink) = refl
@@ -110,7 +110,7 @@ status_same (Some session.NoMemory) = refl
 status_same (Some session.TakeLimit) = refl
 
 -- no file's fault ends a script
-counts_script : (a b : ShelfState) (end : Option SessionStop) → CountsFaults None a b → CountsFaults (ending_of end) a b
+pub counts_script : (a b : ShelfState) (end : Option SessionStop) → CountsFaults None a b → CountsFaults (ending_of end) a b
 counts_script a b None k = k
 counts_script a b (Some session.Source) k = k
 counts_script a b (Some session.Sink) k = k

@@ -1,6 +1,7 @@
 pub mod Words
 pub mod Stops
 pub mod Preparing
+pub mod PreparingWaiting
 pub mod Opening
 pub mod Storing
 pub mod Endings

@@ -49,7 +49,7 @@ ReadsTables before files read given =
     × (network_of nodes roads profiles ≡ Ok read)
 
 -- the first check that the tables fail, or memory ran out
-abbrev pub StopsNetwork : Result NetworkRead RoadRefusal → Stop → Type 0
+abbrev pub StopsNetwork : {Read : Type 0} → Result Read RoadRefusal → Stop → Type 0
 StopsNetwork named (stop.Network refusal) = named ≡ Err refusal
 StopsNetwork named stop.NoMemory = Unit {0}
 StopsNetwork named _ = ⊥

@@ -7,6 +7,7 @@ ghost use Rattle.cu_cli.specs.Steps.Outcomes.{Works, stop_of, world_of};
 
 mod ask;
 mod build;
+mod desk;
 mod edit;
 mod make;
 mod measure;
@@ -15,11 +16,13 @@ mod order;
 mod serve;
 mod trial;
 mod verify;
+mod wait;
 
 use crate::stops::Stop;
 use ask::AskWords;
 use build::BuildWords;
 use cu_io::{Shelf, Sink, Source};
+use desk::DeskWords;
 use edit::EditWords;
 use make::MakeWords;
 use measure::MeasureWords;
@@ -29,12 +32,15 @@ use serve::ServeWords;
 use std::alloc::Global;
 use trial::TrialWords;
 use verify::VerifyWords;
+use wait::WaitWords;
 
 /// What the words ask for.
 #[derive(Clone, Copy)]
 pub enum Command<'a> {
     /// `serve NODES ROADS PROFILES ORDER`
     Serve(ServeWords<'a>),
+    /// `wait NODES ROADS MEASURED ORDER`
+    Wait(WaitWords<'a>),
     /// `order NODES ROADS PROFILES OUT`
     Order(OrderWords<'a>),
     /// `make START WIDTH HEIGHT NODES ROADS PROFILES`
@@ -43,6 +49,8 @@ pub enum Command<'a> {
     Build(BuildWords<'a>),
     /// `ask HIERARCHY`
     Ask(AskWords<'a>),
+    /// `desk HIERARCHY OUT`
+    Desk(DeskWords<'a>),
     /// `edit HIERARCHY EDITS OUT`
     Edit(EditWords<'a>),
     /// `verify HIERARCHY`
@@ -62,10 +70,12 @@ pub fn parse_words(words: &Vec<String>) -> Option<Command<'_>>
     let (command, words) = words.as_slice().split_first()?;
     match command.as_str() {
         "serve" => Some(Command::Serve(serve::parse(words)?)),
+        "wait" => Some(Command::Wait(wait::parse(words)?)),
         "order" => Some(Command::Order(order::parse(words)?)),
         "make" => Some(Command::Make(make::parse(words)?)),
         "build" => Some(Command::Build(build::parse(words)?)),
         "ask" => Some(Command::Ask(ask::parse(words)?)),
+        "desk" => Some(Command::Desk(desk::parse(words)?)),
         "edit" => Some(Command::Edit(edit::parse(words)?)),
         "verify" => Some(Command::Verify(verify::parse(words)?)),
         "measure" => Some(Command::Measure(measure::parse(words)?)),
@@ -89,10 +99,12 @@ pub fn perform<H: Shelf, S: Source, K: Sink>(
 {
     match command {
         Command::Serve(asked) => serve::serve(alloc, asked, shelf, source, sink),
+        Command::Wait(asked) => wait::wait(alloc, asked, shelf, source, sink),
         Command::Order(asked) => order::order(alloc, asked, shelf, sink),
         Command::Make(asked) => make::make(alloc, asked, shelf, sink),
         Command::Build(asked) => build::build(alloc, asked, shelf, sink),
         Command::Ask(asked) => ask::ask(alloc, asked, shelf, source, sink),
+        Command::Desk(asked) => desk::desk(alloc, asked, shelf, source, sink),
         Command::Edit(asked) => edit::edit(alloc, asked, shelf, sink),
         Command::Verify(asked) => verify::verify(alloc, asked, shelf, sink),
         Command::Measure(asked) => measure::measure(alloc, asked, shelf, sink),

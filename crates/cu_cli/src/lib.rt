@@ -16,6 +16,7 @@
 
 mod commands;
 mod faults;
+mod measuring;
 mod opening;
 mod preparing;
 mod program;

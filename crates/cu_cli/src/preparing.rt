@@ -94,8 +94,8 @@ pub fn load_tables<H: Shelf>(
     })
 }
 
-// What gives the order, with the bytes of its file where a file has it.
-fn load_order<H: Shelf>(
+/// What gives the order, with the bytes of its file where a file has it.
+pub fn load_order<H: Shelf>(
     alloc: Global,
     order: OrderWord<'_>,
     shelf: &mut H,
@@ -153,8 +153,12 @@ pub fn read_tables(alloc: Global, texts: &TableTexts) -> Result<(Network, Places
     Ok(read_network(alloc, &texts.nodes, &texts.roads, &texts.profiles)?)
 }
 
-// The network of the tables, its order, and the graph closed under it.
-fn read_prepared(alloc: Global, texts: &TableTexts, given: &OrderGiven) -> Result<Prepared, Stop>
+/// The network of the tables, its order, and the graph closed under it.
+pub fn read_prepared(
+    alloc: Global,
+    texts: &TableTexts,
+    given: &OrderGiven,
+) -> Result<Prepared, Stop>
     ensures ok { IfOk result (IsReadFrom texts.now given.now) }
     ensures closed { IfOk result
         (λ prepared. IsClosureOf prepared.network prepared.order prepared.graph) }

@@ -9,6 +9,7 @@ pub mod Frames
 pub mod StandingChoices
 pub mod TurnedPlain
 pub mod Halves
+pub mod KnownLists
 pub mod LearntSides
 pub mod LearntPacked
 pub mod MovedPlaces
@@ -35,3 +36,5 @@ pub mod EditCustomized
 pub mod AtHand
 pub mod TakenLists
 pub mod EditedNetworks
+pub mod InWorkLaws
+pub mod PausedLaws

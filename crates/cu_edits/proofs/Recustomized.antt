@@ -17,6 +17,7 @@ use Rattle.cu_edits.specs.Settling.{IsResettledEdge, IsSettled, SettlingValue, n
 use Rattle.cu_edits.specs.Steps.Holding.{IsNext, settling_of}
 use Rattle.cu_edits.specs.Steps.Known.{IsEditSound}
 use Rattle.cu_edits.specs.Steps.Settled.{AreSettled}
+use Rattle.cu_edits.proofs.EditedNetworks.{edited_network}
 use Rattle.cu_edits.proofs.RisingEdges.{next_of_rising, split_at, whole_front}
 use Rattle.cu_edits.proofs.SettledAll.{AllSettled, all_resettled, all_sound}
 use Rattle.cu_edits.proofs.SettledFrames.{settled_more, settled_none}
@@ -41,7 +42,7 @@ first_none h sound edit edges s state = record {
 module _ (h : HierarchyValue) (edit : Edit) (edges : List ℕ) (touched : NumbersTouched h edit edges) (index : ℕ) (lists : List TouchedEdge) (s : SettlingValue)
     (first : AreFirstSettled h edit edges index lists s) where
   -- the edges in their parts, before the next one is settled
-  front_here : index < length edges → (more : List ℕ) × (numbers_of lists ++ (get_or edges index 0 ∷ more) ≡ edges)
+  pub front_here : index < length edges → (more : List ℕ) × (numbers_of lists ++ (get_or edges index 0 ∷ more) ≡ edges)
   front_here lt =
       let edge = get_or edges index 0 in
       let long = length-map lists (λ (t : TouchedEdge). t.edge) in
@@ -117,7 +118,7 @@ recustomized_all h edit edges touched index lists s first done range sets =
       touched = subst (NumbersTouched h edit) (sym whole) touched;
       settled = subst (λ (x : SettlingValue). IsPermutation x.settled lists) (sym first.state) (IsPermutation-refl lists);
       resettled = all_resettled settled first.are all;
-      sound = all_sound settled first.are all range sets;
+      sound = all_sound settled first.are all (edited_network h.network edit first.are.sound.network range sets);
       same = ap settled_so_far first.state;
     }
 

@@ -11,12 +11,14 @@ use Rattle.cu_interval.proofs.EndsLaws.{number_below}
 use Rattle.cu_edits.specs.Settling.{IsLowerSide, SettlingValue, numbers_of}
 use Rattle.cu_edits.specs.Steps.Holding.{IsNext}
 
-tail_increasing : (x : ℕ) (xs : List ℕ) → IsStrictlyIncreasing (x ∷ xs) → IsStrictlyIncreasing xs
+-- behind the first of rising numbers they still rise
+pub tail_increasing : (x : ℕ) (xs : List ℕ) → IsStrictlyIncreasing (x ∷ xs) → IsStrictlyIncreasing xs
 tail_increasing x xs rising = λ k lt.
     let e : suc k + 1 ≡ suc (k + 1) = omega arith in
     subst (λ (i : ℕ). slice_index (x ∷ xs) (suc k) < slice_index (x ∷ xs) i) e (rising (suc k) (omega (arith, lt)))
 
-head_less : (x : ℕ) (xs : List ℕ) (y : ℕ) → IsStrictlyIncreasing (x ∷ xs) → Contains xs y → x < y
+-- the first of them is less than all others
+pub head_less : (x : ℕ) (xs : List ℕ) (y : ℕ) → IsStrictlyIncreasing (x ∷ xs) → Contains xs y → x < y
 head_less x [] y rising c = absurd (none_in_nil y c)
 head_less x (z ∷ xs) y rising c =
     let first : x < z = rising 0 (omega arith) in

@@ -5,7 +5,8 @@ use Rattle.std.specs.List.Sorted.{IsStrictlyIncreasing}
 use Rattle.std.proofs.lemmas.List.{get_or-map, length-map}
 use Rattle.std.proofs.lemmas.List.Kept.{AllPairs-from_increasing}
 use Rattle.std.proofs.lemmas.Option.{slice_get-get_or}
-use Rattle.cu_model.specs.Edits.{IsEditInRange}
+use Rattle.cu_model.specs.Edits.{edited}
+use Rattle.cu_model.specs.Networks.{IsNetwork}
 use Rattle.cu_model.proofs.RoadLaws.{all_at}
 use Rattle.cu_model.proofs.EditLaws.{nodes_edited}
 use Rattle.cu_chordal.specs.declared.graph.Ends.{Ends}
@@ -23,14 +24,12 @@ use Rattle.cu_interval.specs.WayLists.{IsWayList}
 use Rattle.cu_interval.proofs.EndsLaws.{each_number}
 use Rattle.cu_interval.proofs.Replacing.{replaced_long}
 use Rattle.cu_edits.specs.Settling.{IsSettled, SettlingValue, list_in, numbers_of, settled_so_far}
-use Rattle.cu_edits.specs.Steps.Known.{IsEditSound}
 use Rattle.cu_edits.specs.Steps.Settled.{AreSettled}
 use Rattle.cu_edits.specs.Steps.Frames.{LeadsOver}
 use Rattle.cu_edits.proofs.Frames.{candidates_alone}
 use Rattle.cu_edits.proofs.Replaced.{AreApart, number_of_one, replaced_other}
 use Rattle.cu_edits.proofs.SettledFrames.{all_so, leads_touched, settled_list, untouched_frame, untouched_list, untouched_sides}
 use Rattle.cu_edits.proofs.Sides.{edge_down, edge_up, halves_good, over}
-use Rattle.cu_edits.proofs.EditedNetworks.{edited_network}
 use Rattle.cu_resettled.proofs.Unchanged.{leads_joins, leads_still}
 use Rattle.cu_resettled.proofs.Unmoved.{closure_edited}
 
@@ -113,13 +112,13 @@ formed_at s are all edge dir ends at =
           (λ entry. untouched_formed s are edge dir u v entry.way (over s.before.edges edge dir ends at) untouched) (are.sound.formed edge dir ends at))
     ]
 
-pub all_sound : (s : SettlingValue) → AreSettled s → AllSettled s → IsEditInRange s.before.network s.edit → IsEditSound s.edit → IsHierarchy (settled_so_far s)
-all_sound s are all range sets =
+pub all_sound : (s : SettlingValue) → AreSettled s → AllSettled s → IsNetwork (edited s.before.network s.edit) → IsHierarchy (settled_so_far s)
+all_sound s are all network =
     let g = s.before.network in
     let nodes = nodes_edited g s.edit in
     let sound = are.sound in
     record {
-      network = edited_network g s.edit sound.network range sets;
+      network = network;
       order = sound.order;
       same = sound.same ∙ sym nodes;
       graph = subst (λ (n : ℕ). IsChordal (record { ranks = n; edges = s.before.edges })) (sym nodes) sound.graph;

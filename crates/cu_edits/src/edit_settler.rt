@@ -8,6 +8,7 @@ ghost use Rattle.cu_interval.specs.Hierarchies.{HierarchyValue, IsHierarchyOf};
 ghost use Rattle.cu_interval.specs.Touching.{IsTouchedEdge};
 ghost use Rattle.cu_edits.specs.Customized.{AreCustomized};
 ghost use Rattle.cu_edits.specs.Learned.{ArePackedOf};
+ghost use Rattle.cu_edits.specs.Paused.{FitsPaused};
 ghost use Rattle.cu_edits.specs.Settling.{IsLowerSide, IsResettledEdge, IsSettled, settled_so_far};
 ghost use Rattle.cu_edits.specs.Steps.SettlerStates.{HoldsOver, HoldsPacked, IsBegun, IsPlain};
 ghost use Rattle.cu_edits.specs.Steps.Holding.{IsNext, IsSettledEdge, IsSettling};
@@ -20,6 +21,7 @@ use crate::edit_parts::EditParts;
 use crate::learned::Learned;
 use crate::learning::learn_sides;
 use crate::moved_lists::MovedLists;
+use crate::paused::PausedSettler;
 use crate::plain_functions::plain_of_packed;
 use crate::settler::Settler;
 use crate::settler_state::{PackedState, SettlerState};
@@ -104,6 +106,53 @@ impl<'a, W: Ways> EditSettler<'a, W> {
             settled,
             state: SettlerState::Nothing(learned),
         })
+    }
+
+    /// Makes the room that it takes for all edges of the hierarchy together, so that settling an edge takes none but for what it
+    /// learns.
+    pub fn make_room(&mut self, alloc: Global) -> Result<(), NoMemory>
+        ensures same { self.new ≡ self.old }
+    {
+        hold_packed(alloc, &self.parts, &mut self.state)
+    }
+
+    /// Goes on from where a settler of this edit of this hierarchy was put aside. Takes no memory.
+    pub fn resume(
+        ways: &'a W,
+        edit: &'a Edit,
+        graph: &'a Chordal,
+        arcs: &'a EdgeArcs,
+        customized: &'a [bool],
+        paused: PausedSettler,
+    ) -> EditSettler<'a, W>
+        requires edit { IsEditInRange (W.hierarchy ways.now).network edit.now }
+        requires graph { IsHierarchyOf graph.now (W.hierarchy ways.now) }
+        requires arcs { AreEdgeArcs (W.hierarchy ways.now).network (W.hierarchy ways.now).order
+            graph.now.edges arcs.now }
+        requires customized { AreCustomized (W.hierarchy ways.now) customized.now }
+        requires fits { FitsPaused (W.hierarchy ways.now) edit.now paused }
+        ensures { result ≡ record {
+          before = W.hierarchy ways.now;
+          edit = edit.now;
+          settled = paused.settled;
+        } }
+    {
+        let parts = EditParts::of(ways, edit, graph, arcs, customized);
+        let PausedSettler { settled, state } = paused;
+        EditSettler {
+            parts,
+            settled,
+            state,
+        }
+    }
+
+    /// Puts it aside, for a later step. Takes no memory.
+    pub fn pause(self) -> PausedSettler
+        ensures settled { result.settled ≡ self.entry.settled }
+        ensures fits { FitsPaused self.entry.before self.entry.edit result }
+    {
+        let EditSettler { settled, state, .. } = self;
+        PausedSettler { settled, state }
     }
 
     /// What is known of lists once all touched edges are settled. None where nothing is, since a way takes longer than packed runs

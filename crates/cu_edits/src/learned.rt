@@ -1,17 +1,19 @@
 //! What was learned of lists, kept from one edit to the next.
 
-ghost use Rattle.std.specs.Prelude.{◌≡◌, ◌≤◌, ◌<◌, ◌*◌, ℕ, IfOk, OnOk, length};
+ghost use Rattle.std.specs.Prelude.{◌≡◌, ◌≤◌, ◌<◌, ◌*◌, ℕ, IfOk, OnOk, length, true};
 ghost use Rattle.cu_chordal.specs.declared.graph.TheConstants.{MAX_EDGES};
 ghost use Rattle.cu_interval.specs.Hierarchies.{HierarchyValue, list_number};
-ghost use Rattle.cu_unpack.specs.RebuiltRuns.{IsSized};
+ghost use Rattle.cu_unpack.specs.Rebuilds.{IsRebuiltFunction};
+ghost use Rattle.cu_unpack.specs.RebuiltRuns.{IsKnownList, IsSized};
 ghost use Rattle.cu_edits.specs.Learned.{ArePackedOf};
 ghost use Rattle.cu_edits.specs.Steps.Taking.{HasTaken, TakesList};
 
 use crate::moved_lists::MovedLists;
 use crate::settler_state::PackedState;
+use cu_arrival::Arrival;
 use cu_chordal::MAX_EDGES;
 use cu_customize::PackedSettling;
-use cu_interval::{Dir, Ways};
+use cu_interval::{Dir, Shortcut, Ways};
 use cu_model::NoMemory;
 use cu_runs::DayFunction;
 use cu_unpack::PackedFunctions;
@@ -35,6 +37,45 @@ impl Model for Learned {
 }
 
 impl Learned {
+    /// Nothing is known of the lists of the hierarchy of these ways.
+    pub fn of<W: Ways>(alloc: Global, ways: &W) -> Result<Learned, NoMemory>
+        ensures { IfOk result (ArePackedOf (W.hierarchy ways.now)) }
+    {
+        Learned::nothing(alloc, ways, ways.edges())
+    }
+
+    /// Makes sure that the function of the list of an edge in a direction is known: it is rebuilt from these ways where it isn't,
+    /// and with it those that it needs. The edge's number is below the number of edges. False where a way takes longer than packed
+    /// runs can say. Refused only for want of memory; what was learned stays then too.
+    pub fn learn<W: Ways>(
+        &mut self,
+        alloc: Global,
+        ways: &W,
+        edge: u32,
+        dir: Dir,
+    ) -> Result<bool, NoMemory>
+        requires edge { edge < length (W.hierarchy ways.now).edges }
+        requires packed { ArePackedOf (W.hierarchy ways.now) self.old }
+        ensures known { IfOk result
+            (λ is_near. is_near ≡ true → IsKnownList self.new (list_number edge dir)) }
+        ensures packed { ArePackedOf (W.hierarchy ways.now) self.new }
+    {
+        self.functions.learn(alloc, ways, edge, dir)
+    }
+
+    /// A copy of the function of the list of an edge in a direction, which is known; none where the list is empty.
+    pub fn function(&self, alloc: Global, edge: u32, dir: Dir) -> Result<Option<Arrival>, NoMemory>
+        requires known { IsKnownList self.now (list_number edge dir) }
+        requires place { list_number edge dir < length self.now.functions }
+        ensures { IfOk result (λ function. (h : HierarchyValue) → ArePackedOf h self.now
+            → IsRebuiltFunction h edge dir function) }
+    {
+        match &self.functions.functions()[Shortcut { edge, dir }.list()] {
+            Some(function) => Ok(Some(function.to_arrival(alloc)?)),
+            None => Ok(None),
+        }
+    }
+
     /// Nothing is known of the lists of so many edges, at most [`MAX_EDGES`]. Functions are bounded in the windows of the day
     /// that suit the roads of these ways.
     pub(crate) fn nothing<W: Ways>(alloc: Global, ways: &W, edges: u32) -> Result<Learned, NoMemory>
@@ -59,6 +100,21 @@ impl Learned {
             functions: self.functions,
             moved,
             settling: self.settling,
+        }
+    }
+
+    /// What was known before an edit that isn't made: the functions of lists before it, without those of lists that were moved.
+    pub(crate) fn before(state: PackedState) -> Learned
+        ensures { result ≡ state.functions }
+    {
+        let PackedState {
+            functions,
+            settling,
+            ..
+        } = state;
+        Learned {
+            functions,
+            settling,
         }
     }
 

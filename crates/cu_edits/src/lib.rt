@@ -1,6 +1,6 @@
 //! Edits of travel times: the edges that one touches, and the hierarchy after it.
 //!
-//! [`touched_edges`] answers exactly the edges whose lists an edit may change (`NumbersTouched` in `specs/Touching.antt` of
+//! [`plan`] answers exactly the edges whose lists an edit may change (`NumbersTouched` in `specs/Touching.antt` of
 //! `cu_interval`): those of the changed roads, and those over a lower triangle with a touched side.
 //!
 //! [`touch`] makes an edit of any hierarchy by its touched edges alone (`IsResettled` in `specs/Resettling.antt` of
@@ -14,6 +14,11 @@
 //! and an edit keeps those that are and adds those that it settles; [`Learned`] has functions of lists (`specs/Learned.antt`),
 //! and an edit puts the new ones in the place of those of lists that it moved.
 //!
+//! [`InWork`] makes an edit one touched edge a step (`specs/InWork.antt`), so that others may read the hierarchy in between:
+//! [`plan`] gives it its edges. A settler borrows what it settles over; [`EditSettler::pause`] lets go of that between two steps
+//! and [`EditSettler::resume`] takes it again (`specs/Paused.antt`), while [`WorkPapers`] keep the rest.
+//! [`PausedSettler::into_earlier`] gives back what was learned of the hierarchy before an edit that isn't made.
+//!
 //! It stands on `cu_model`, `cu_links`, `cu_arrival`, `cu_runs`, `cu_chordal`, `cu_interval`, `cu_customize`, `cu_unpack`, and on
 //! `cu_resettled` for its laws. Private are how touched edges spread, what an edit is settled over, and what a settler holds;
 //! `specs/Steps` is cited by private functions alone.
@@ -25,11 +30,13 @@ mod edge_functions;
 mod edit_parts;
 mod edit_settler;
 mod edited_roads;
+mod in_work;
 mod learned;
 mod learning;
 mod learning_packed;
 mod moved_lists;
 mod new_list;
+mod paused;
 mod plain_functions;
 mod reading;
 mod recustomizing;
@@ -39,10 +46,14 @@ mod settler_state;
 mod settling_packed;
 mod touching;
 mod unchanged_lists;
+mod work_papers;
 
 pub use customized::CustomizedEdges;
 pub use edit_settler::EditSettler;
+pub use in_work::InWork;
 pub use learned::Learned;
+pub use paused::PausedSettler;
 pub use recustomizing::{Touched, recustomize, touch, touch_over};
 pub use settler::Settler;
-pub use touching::touched_edges;
+pub use touching::plan;
+pub use work_papers::WorkPapers;

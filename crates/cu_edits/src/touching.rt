@@ -15,7 +15,7 @@ use std::alloc::Global;
 /// The edges that an edit touches, by rising number: those of the changed roads, and those over a lower triangle with a
 /// touched side. The edit's numbers are in range, the graph is that of the hierarchy, and the buckets were made for its
 /// ranks and edges. The buckets are cleared first. Where memory runs out the hierarchy is as before.
-pub fn touched_edges<W: Ways>(
+pub fn plan<W: Ways>(
     alloc: Global,
     ways: &W,
     edit: &Edit,

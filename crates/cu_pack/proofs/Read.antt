@@ -14,3 +14,4 @@ pub mod Parted
 pub mod Bodies
 pub mod InForce
 pub mod FirstBound
+pub mod HalfEdges

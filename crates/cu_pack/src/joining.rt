@@ -1,12 +1,12 @@
 //! The edges of a file whose graph passed its check, found by their ends, and the numbers of their lists.
 
-ghost use Rattle.std.specs.Prelude.{◌≡◌, ◌<◌};
+ghost use Rattle.std.specs.Prelude.{◌≡◌, ◌≤◌, ◌<◌};
 ghost use Rattle.cu_chordal.specs.declared.graph.TheConstants.{MAX_EDGES};
 ghost use Rattle.cu_chordal.specs.Graphs.{FindsEdge};
 ghost use Rattle.cu_interval.specs.Hierarchies.{list_number};
 ghost use Rattle.cu_pack.specs.Checks.{IsGraph};
-ghost use Rattle.cu_pack.specs.Reading.{counts_in, decoded};
-ghost use Rattle.cu_pack.specs.Steps.Cursors.{AreCursors};
+ghost use Rattle.cu_pack.specs.Reading.{counts_in, decoded, edge_start};
+ghost use Rattle.cu_pack.specs.Steps.Cursors.{AreCursors, LeadsUp};
 
 use crate::cutting::Sections;
 use cu_chordal::MAX_EDGES;
@@ -41,6 +41,23 @@ impl<'a> Sections<'a> {
         ensures places { AreCursors self.now high places.new }
     {
         places[low as usize] = self.edge_reaching(low, places[low as usize], high);
+    }
+
+    /// The lower rank of an edge, sought by rising rank from one on whose edges begin no later.
+    pub fn low_from(&self, first: u32, edge: u32) -> u32
+        requires graph { IsGraph self.now }
+        requires edge { edge < (counts_in self.now).edges }
+        requires first { first ≤ (counts_in self.now).nodes }
+        requires begun { edge_start self.now first ≤ edge }
+        ensures low { LeadsUp self.now edge result }
+        ensures order { first ≤ result }
+    {
+        for low in first..self.counts().nodes {
+            if edge < self.edge_start(low + 1) {
+                return low;
+            }
+        }
+        unreachable!()
     }
 }
 

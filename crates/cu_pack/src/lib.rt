@@ -23,7 +23,8 @@
 //! both before a digest that needn't be there, `cutting` looks up whatever a section holds, and `copying` reads whole
 //! columns into memory. `driving` and `joining` answer for roads and edges as soon as the checks of their sections have
 //! passed; the later checks (`checks`) and the view call the same ones. `ways_in_file` stands for the hierarchy of sections
-//! whose bounds nobody has looked at, `bounds_in_file` for the numbers in their place. `sections` puts the sections of a
+//! whose bounds nobody has looked at, `bounds_in_file` for the numbers in their place, and `halving` finds the halves of
+//! its shortcuts by rising edge, for the check of the bounds. `sections` puts the sections of a
 //! hierarchy, `editing` and `replacing` those of a view's after an edit, `bounding` the bounds. What only private functions
 //! cite is in `specs/Steps`.
 //!
@@ -42,6 +43,7 @@ mod counting;
 mod cutting;
 mod driving;
 mod editing;
+mod halving;
 mod joining;
 mod laws;
 mod layout;

@@ -14,7 +14,7 @@ use Rattle.cu_edits.specs.Customized.{AreCustomized, marked}
 use Rattle.cu_edits.specs.Settling.{numbers_of}
 use Rattle.cu_edits.proofs.EditCustomized.{edit_customized}
 use Rattle.cu_interval.specs.declared.ways.TouchedEdge.{TouchedEdge}
-use Rattle.cu_interval.specs.Hierarchies.{HierarchyValue, IsHierarchy, graph_of}
+use Rattle.cu_interval.specs.Hierarchies.{HierarchyValue, IsBuilt, IsHierarchy, graph_of}
 use Rattle.cu_interval.specs.Replacing.{hierarchy_with}
 use Rattle.cu_interval.specs.Resettling.{IsResettled}
 use Rattle.cu_interval.specs.Touching.{NumbersTouched}
@@ -25,7 +25,10 @@ use Rattle.cu_pack.proofs.Spelled.Again.{read_again, same_hierarchy}
 use Rattle.cu_pack.proofs.Read.Bodies.{spelled_sealed}
 use Rattle.cu_pack.proofs.Viewed.Views.{said_again}
 use Rattle.cu_router.specs.Changes.{IsChange, KnowsCustomized}
-use Rattle.cu_router.specs.Steps.Holding.{HoldsFile}
+use Rattle.cu_router.specs.declared.held_file.Known.{Known}
+use Rattle.cu_router.specs.declared.held_file.Known.TheVariants.{Built, Short, Nothing}
+use Rattle.cu_router.specs.Steps.Holding.{HoldsFile, IsKnown, known_after}
+use Rattle.cu_resettled.proofs.ResettledBuilt.{resettled_built}
 
 -- bytes say the hierarchy that they spell
 pub decoded_is : (bytes : List ℕ) (h : HierarchyValue) → Spells bytes h → decoded bytes ≡ h
@@ -111,3 +114,16 @@ changed_over old before bytes had graph parents marks lists holds change =
       tree = holds.tree ∙ ap parents_in same;
       knows = knows_after old change.edit lists marks holds.spelled.sound change.resettled change.touched holds.knows;
     })
+
+known_built : (known : Known) (old new : HierarchyValue) → (IsBuilt old → IsBuilt new) → IsKnown old known → IsKnown new (known_after known)
+known_built Built old new again is = again is
+known_built Short old new again is = tt
+known_built Nothing old new again is = tt
+
+-- what is known of the walks after a change: a built hierarchy is built again
+pub known_over : (old : HierarchyValue) (bytes : List ℕ) (lists : List TouchedEdge) (known : Known) → IsChange old bytes lists → IsKnown old known
+    → IsKnown (decoded (sealed bytes)) (known_after known)
+known_over old bytes lists known change is =
+    let new = hierarchy_with old change.edit lists in
+    subst (λ (h : HierarchyValue). IsKnown h (known_after known)) (sym (decoded_is (sealed bytes) new change.spelled))
+    (known_built known old new (λ built. resettled_built old new change.edit built change.range change.spelled.sound change.resettled) is)

@@ -1,4 +1,8 @@
+mod DayLaws
 mod HeldLaws
+mod WorkingLaws
 mod RoomLaws
 mod RouteLaws
 mod ArrivalLaws
+mod DepartureLaws
+mod TableLaws

@@ -1,6 +1,7 @@
 -- Bytes that may take the place of those that are held, and which edges are known to be customized.
 use Rattle.std.specs.Prelude.{ℕ, Bool, List, ◌≡◌, length}
 use Rattle.cu_model.specs.declared.roads.Edit.{Edit}
+use Rattle.cu_model.specs.Edits.{IsEditInRange}
 use Rattle.cu_edits.specs.Customized.{AreCustomized}
 use Rattle.cu_edits.specs.Settling.{numbers_of}
 use Rattle.cu_interval.specs.declared.ways.TouchedEdge.{TouchedEdge}
@@ -10,9 +11,10 @@ use Rattle.cu_interval.specs.Resettling.{IsResettled}
 use Rattle.cu_interval.specs.Touching.{NumbersTouched}
 use Rattle.cu_pack.specs.Checks.{Spells, sealed}
 
--- these bytes are, but for their digest, the packed file of the hierarchy after some edit, which resettles the lists of these edges
+-- these bytes are, but for their digest, the packed file of the hierarchy after some edit in range, which resettles the lists of these edges
 pub record IsChange (h : HierarchyValue) (bytes : List ℕ) (lists : List TouchedEdge) : Type 0 where
   pub edit : Edit
+  pub range : IsEditInRange h.network edit
   pub spelled : Spells (sealed bytes) (hierarchy_with h edit lists)
   pub resettled : IsResettled h edit (hierarchy_with h edit lists)
   pub touched : NumbersTouched h edit (numbers_of lists)

@@ -1,12 +1,12 @@
 -- The swept reply: what a hierarchy answers to a query, with the walk that its two sweeps choose among equal ones.
-use Rattle.std.specs.Prelude.{ℕ, List, [], ◌++◌, ◌≡◌, Option, Some, None, codes, decimal, slice_get}
+use Rattle.std.specs.Prelude.{ℕ, List, [], ◌≡◌, Option, Some, None, codes, slice_get}
 use Rattle.cu_model.specs.declared.queries.Query.{Query}
 use Rattle.cu_model.specs.Answers.{arrive_text}
 use Rattle.cu_model.specs.Networks.{NetworkValue}
 use Rattle.cu_model.specs.Orders.{OrderValue}
 use Rattle.cu_interval.specs.declared.ways.Dir.{Dir}
-use Rattle.cu_interval.specs.declared.ways.Dir.TheVariants.{Up, Down}
 use Rattle.cu_interval.specs.Hierarchies.{HierarchyValue, IsBuilt}
+use Rattle.cu_reach.specs.ReachTexts.{damage_text, dir_text}
 use Rattle.cu_sweep.specs.declared.finding.Found.{Found}
 use Rattle.cu_sweep.specs.declared.finding.Found.TheVariants.{Arrive, NoWalk, Long}
 use Rattle.cu_sweep.specs.Desks.{roads_of}
@@ -14,8 +14,7 @@ use Rattle.cu_sweep.specs.Labels.{Label, down_label}
 use Rattle.cu_sweep.specs.Sweeps.{found}
 
 abbrev pub dir_word : Dir → List ℕ
-dir_word Up = codes "up"
-dir_word Down = codes "down"
+dir_word dir = dir_text dir
 
 -- the roads of a label's walk
 abbrev pub label_roads : HierarchyValue → Option Label → List ℕ
@@ -24,7 +23,7 @@ label_roads h (Some label) = roads_of h label.calls
 
 -- what is said where the walk of this relaxation has as many roads as there are nodes
 abbrev pub damaged_text : ℕ → Dir → ℕ → List ℕ
-damaged_text edge dir second = codes "damaged " ++ decimal edge ++ codes " " ++ dir_word dir ++ codes " " ++ decimal second
+damaged_text edge dir second = damage_text edge dir second
 
 -- an answer of the sweeps, where the end has this label
 abbrev pub found_text : HierarchyValue → Found → Option Label → List ℕ

@@ -1,6 +1,6 @@
 //! The packed bytes of a hierarchy, and what is kept of it beside them.
 
-ghost use Rattle.std.specs.Prelude.{◌≡◌, IfOk, length};
+ghost use Rattle.std.specs.Prelude.{◌≡◌, IfOk, IsTrue, length};
 ghost use Rattle.cu_model.specs.Edits.{IsEditInRange};
 ghost use Rattle.cu_edits.specs.Settling.{numbers_of};
 ghost use Rattle.cu_elimtree.specs.SweepArcs.{parents_in};
@@ -10,6 +10,8 @@ ghost use Rattle.cu_interval.specs.Touching.{NumbersTouched};
 ghost use Rattle.cu_pack.specs.Checks.{Spells, sealed};
 ghost use Rattle.cu_pack.specs.Reading.{decoded};
 ghost use Rattle.cu_router.specs.Changes.{IsChange, KnowsCustomized};
+ghost use Rattle.cu_router.specs.Steps.Holding.{IsKnown, known_after};
+ghost use Rattle.cu_short.specs.Shortness.{NeverLong};
 
 use cu_chordal::Chordal;
 use cu_edits::CustomizedEdges;
@@ -17,6 +19,7 @@ use cu_elimtree::Tree;
 use cu_interval::{TouchedEdge, Ways};
 use cu_model::{Edit, NoMemory};
 use cu_pack::{PackedView, chordal_of, repack_touched, seal};
+use cu_short::is_short;
 use std::alloc::Global;
 use std::marker::Model;
 
@@ -30,34 +33,45 @@ pub struct HeldFile {
     graph: Chordal,
     tree: Tree,
     customized: CustomizedEdges,
+    known: Known,
+}
+
+// What is known of a hierarchy's walks: that it is built, that none is too long, or nothing.
+#[derive(Clone, Copy, Debug, PartialEq, Eq)]
+pub(crate) enum Known {
+    Built,
+    Short,
+    Nothing,
 }
 
 impl Model for HeldFile {
     ghost use Rattle.cu_interval.specs.Hierarchies.{HierarchyValue};
     ghost use Rattle.cu_pack.specs.Checks.{sealed};
     ghost use Rattle.cu_pack.specs.Reading.{decoded};
-    ghost use Rattle.cu_router.specs.Steps.Holding.{HoldsFile};
+    ghost use Rattle.cu_router.specs.Steps.Holding.{HoldsFile, IsKnown};
 
     ghost Value = { HierarchyValue };
 
     ghost view = { λ file. decoded (sealed file.bytes.items) };
 
     ghost invariant = { λ file. HoldsFile (decoded (sealed file.bytes.items)) file.bytes.items
-        file.has_digest file.graph file.tree file.customized };
+        file.has_digest file.graph file.tree file.customized
+        × IsKnown (decoded (sealed file.bytes.items)) file.known };
 }
 
 impl HeldFile {
-    /// Holds the packed file of a hierarchy.
+    /// Holds the packed file of a hierarchy, after asking it whether any of its walks may be too long.
     pub fn new(alloc: Global, bytes: Vec<u8>) -> Result<HeldFile, NoMemory>
         requires spelled { (h : HierarchyValue) × Spells bytes.items h }
         ensures held { IfOk result (λ file. Spells bytes.items file) }
     {
         let edges = PackedView::adopt(&bytes).edges();
         let customized = CustomizedEdges::none(alloc, edges)?;
-        HeldFile::knowing(alloc, bytes, customized)
+        let known = known_of(alloc, &bytes)?;
+        HeldFile::knowing(alloc, bytes, customized, known)
     }
 
-    /// Holds the packed file of a built hierarchy: all its edges are known to be customized.
+    /// Holds the packed file of a built hierarchy: all its edges are known to be customized, and no walk is too long.
     pub fn built(alloc: Global, bytes: Vec<u8>) -> Result<HeldFile, NoMemory>
         requires spelled { (h : HierarchyValue) × Spells bytes.items h }
         requires built { (h : HierarchyValue) → Spells bytes.items h → IsBuilt h }
@@ -65,18 +79,20 @@ impl HeldFile {
     {
         let edges = PackedView::adopt(&bytes).edges();
         let customized = CustomizedEdges::all(alloc, edges)?;
-        HeldFile::knowing(alloc, bytes, customized)
+        HeldFile::knowing(alloc, bytes, customized, Known::Built)
     }
 
-    // Holds the packed file of a hierarchy, where these of its edges are known to be customized.
+    // Holds the packed file of a hierarchy, where these of its edges are known to be customized, and so much of its walks.
     fn knowing(
         alloc: Global,
         bytes: Vec<u8>,
         customized: CustomizedEdges,
+        known: Known,
     ) -> Result<HeldFile, NoMemory>
         requires spelled { (h : HierarchyValue) × Spells bytes.items h }
         requires known { (h : HierarchyValue) → Spells bytes.items h
             → KnowsCustomized h customized }
+        requires walks { (h : HierarchyValue) → Spells bytes.items h → IsKnown h known }
         ensures held { IfOk result (λ file. Spells bytes.items file) }
     {
         let graph = chordal_of(alloc, &PackedView::adopt(&bytes))?;
@@ -87,6 +103,7 @@ impl HeldFile {
             graph,
             tree,
             customized,
+            known,
         })
     }
 
@@ -119,6 +136,17 @@ impl HeldFile {
         &self.customized
     }
 
+    /// Whether it is known that no walk is too long, so that queries may be led to their end. Takes no memory.
+    pub fn is_led(&self) -> bool
+        ensures { IsTrue result → NeverLong self.now }
+    {
+        match self.known {
+            Known::Built => true,
+            Known::Short => true,
+            Known::Nothing => false,
+        }
+    }
+
     /// The packed bytes, but for their digest, of the hierarchy after an edit that resettles the lists of these edges. Nothing is
     /// changed over to them yet.
     pub fn repacked(
@@ -145,6 +173,7 @@ impl HeldFile {
         self.bytes = bytes;
         self.has_digest = false;
         self.customized.mark(lists);
+        self.known = self.known.after_edit();
     }
 
     /// The packed file of the hierarchy as it is now. Takes no memory.
@@ -158,6 +187,31 @@ impl HeldFile {
         seal(bytes.as_mut_slice());
         bytes
     }
+}
+
+impl Known {
+    // What is known after an edit: a built hierarchy is built again, and of any other nothing.
+    fn after_edit(self) -> Known
+        ensures { result ≡ known_after self }
+    {
+        match self {
+            Known::Built => Known::Built,
+            Known::Short => Known::Nothing,
+            Known::Nothing => Known::Nothing,
+        }
+    }
+}
+
+// What is known of the walks of the hierarchy that these bytes are the packed file of, once it is asked.
+fn known_of(alloc: Global, bytes: &[u8]) -> Result<Known, NoMemory>
+    requires spelled { (h : HierarchyValue) × Spells bytes.now h }
+    ensures { IfOk result
+        (λ known. (h : HierarchyValue) → Spells bytes.now h → IsKnown h known) }
+{
+    if is_short(alloc, &PackedView::adopt(bytes))? {
+        return Ok(Known::Short);
+    }
+    Ok(Known::Nothing)
 }
 
 // The view of bytes that are a packed file but for its digest: no two hierarchies have the same.

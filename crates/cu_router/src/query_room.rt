@@ -5,8 +5,7 @@ ghost use Rattle.cu_io.specs.Sinks.{Wrote};
 ghost use Rattle.cu_chordal.specs.declared.graph.TheConstants.{MAX_EDGES};
 ghost use Rattle.cu_model.specs.declared.limits.TheConstants.{DAY, MAX_NODES};
 ghost use Rattle.cu_model.specs.Answers.{arrive_text};
-ghost use Rattle.cu_elimtree.specs.SweepArcs.{parents_in};
-ghost use Rattle.cu_interval.specs.Hierarchies.{HierarchyValue, IsBuilt, IsHierarchy, IsHierarchyOf};
+ghost use Rattle.cu_interval.specs.Hierarchies.{HierarchyValue, IsBuilt, IsHierarchy};
 ghost use Rattle.cu_recall.specs.Rooms.{Fits};
 ghost use Rattle.cu_recall.specs.Spans.{Knows};
 ghost use Rattle.cu_sweep.specs.Answers.{IsLeastWhereBuilt, IsReal};
@@ -16,14 +15,12 @@ ghost use Rattle.cu_router.specs.Answers.{FindsArrival, IsHeldAnswer};
 ghost use Rattle.cu_router.specs.Swept.{swept_reply};
 
 use crate::held_file::HeldFile;
-use crate::writing::put_damage;
-use cu_chordal::Chordal;
-use cu_elimtree::Tree;
 use cu_interval::Ways;
 use cu_io::{Sink, SinkFailed, put_all, put_number};
 use cu_model::{NoMemory, Query};
+use cu_reach::put_damage;
 use cu_recall::{Recall, RecalledWays, Room, Row};
-use cu_sweep::{Found, SweepDesk, route};
+use cu_sweep::{Found, Outlook, Question, SweepDesk, led_query, query, route};
 use cu_unpack::{Unpacker, Work};
 use std::alloc::Global;
 use std::marker::Model;
@@ -32,10 +29,11 @@ use std::marker::Model;
 /// and what is kept of each list.
 #[derive(Drop)]
 pub struct QueryRoom {
-    desk: SweepDesk,
+    pub(crate) desk: SweepDesk,
+    outlook: Outlook,
     // Both are there but while a query is answered: what relaxes for it and what writes its walk own them.
-    room: Option<Room>,
-    work: Option<Work>,
+    pub(crate) room: Option<Room>,
+    pub(crate) work: Option<Work>,
 }
 
 impl Model for QueryRoom {
@@ -46,7 +44,7 @@ impl Model for QueryRoom {
 
     ghost view = { λ queries. kept_in queries.room };
 
-    ghost invariant = { λ queries. IsWholeRoom queries.desk queries.room queries.work };
+    ghost invariant = { λ queries. IsWholeRoom queries.desk queries.outlook queries.room queries.work };
 }
 
 impl QueryRoom {
@@ -60,6 +58,7 @@ impl QueryRoom {
     {
         Ok(QueryRoom {
             desk: SweepDesk::new(alloc, nodes)?,
+            outlook: Outlook::new(alloc, nodes)?,
             room: Some(Room::new(alloc, nodes, edges)?),
             work: Some(Work::new(alloc, nodes)?),
         })
@@ -113,11 +112,12 @@ impl QueryRoom {
         let view = held.view();
         let from = view.rank(query.from);
         let to = view.rank(query.to);
-        let tree = held.tree();
         let graph = held.graph();
         let desk = &mut self.desk;
+        let second = query.second;
         let mut recall = Recall::new(&view, graph, room);
-        let found = cu_sweep::query(tree, graph, desk, &mut recall, from, to, query.second);
+        let question = Question { from, to, second };
+        let found = find_walk(held, desk, &mut self.outlook, &mut recall, question);
         let room = recall.into_room();
         let ways = RecalledWays::new(&view, graph, room.rows());
         let mut unpacker = Unpacker::new(&ways, work);
@@ -145,48 +145,82 @@ impl QueryRoom {
         let view = held.view();
         let from = view.rank(query.from);
         let to = view.rank(query.to);
-        let tree = held.tree();
-        let graph = held.graph();
-        let mut recall = Recall::new(&view, graph, room);
+        let second = query.second;
+        let mut recall = Recall::new(&view, held.graph(), room);
+        let question = Question { from, to, second };
         let desk = &mut self.desk;
-        let arrival = find_swept(tree, graph, desk, &mut recall, from, to, query);
+        let arrival = find_swept(held, desk, &mut self.outlook, &mut recall, question, query);
         self.room = Some(recall.into_room());
         arrival
     }
 }
 
+// What a query's sweeps over a held file find. Where no walk is known to be too long, the query is led to its end.
+fn find_walk(
+    held: &HeldFile,
+    desk: &mut SweepDesk,
+    outlook: &mut Outlook,
+    recall: &mut Recall<'_>,
+    question: Question,
+) -> Found
+    requires held { recall.old ≡ held.now }
+    requires sound { IsHierarchy held.now }
+    requires desk { desk.old.nodes ≡ held.now.network.nodes }
+    requires outlook { outlook.old.nodes ≡ held.now.network.nodes }
+    requires from { question.from < held.now.network.nodes }
+    requires to { question.to < held.now.network.nodes }
+    requires second { question.second < DAY }
+    ensures found { result ≡ found recall.old question.from question.to question.second }
+    ensures stays { recall.new ≡ recall.old }
+    ensures desk { desk.new.nodes ≡ desk.old.nodes }
+    ensures outlook { outlook.new.nodes ≡ outlook.old.nodes }
+    ensures holds { HoldsFound recall.old question.from question.to question.second result desk.new }
+    ensures least { IsLeastWhereBuilt recall.old question.from question.to question.second result }
+    ensures real { IsReal recall.old question.from question.to question.second desk.new.calls result }
+{
+    let tree = held.tree();
+    let graph = held.graph();
+    if held.is_led() {
+        return led_query(tree, graph, desk, outlook, recall, question);
+    }
+    let Question { from, to, second } = question;
+    query(tree, graph, desk, recall, from, to, second)
+}
+
 // Sweeps for the least arrival of a query between the ranks of its nodes, in a built hierarchy.
 fn find_swept(
-    tree: &Tree,
-    graph: &Chordal,
+    held: &HeldFile,
     desk: &mut SweepDesk,
+    outlook: &mut Outlook,
     recall: &mut Recall<'_>,
-    from: u32,
-    to: u32,
+    question: Question,
     query: Query,
 ) -> Option<u64>
     requires built { IsBuilt recall.old }
-    requires graph { IsHierarchyOf graph.now recall.old }
-    requires tree { tree.now ≡ parents_in graph.now }
-    requires desk { desk.old.nodes ≡ graph.now.ranks }
-    requires start { slice_get recall.old.order.rank_of query.from ≡ Some from }
-    requires stop { slice_get recall.old.order.rank_of query.to ≡ Some to }
-    requires ranks { (from < graph.now.ranks) × (to < graph.now.ranks) }
+    requires held { recall.old ≡ held.now }
+    requires desk { desk.old.nodes ≡ held.now.network.nodes }
+    requires outlook { outlook.old.nodes ≡ held.now.network.nodes }
+    requires start { slice_get recall.old.order.rank_of query.from ≡ Some question.from }
+    requires stop { slice_get recall.old.order.rank_of query.to ≡ Some question.to }
+    requires from { question.from < held.now.network.nodes }
+    requires to { question.to < held.now.network.nodes }
+    requires same { question.second ≡ query.second }
     requires second { query.second < DAY }
     ensures found { FindsArrival recall.old.network query result }
     ensures near { IfSome result (λ arrival. arrival ≤ 2 ^ 39) }
     ensures desk { desk.new.nodes ≡ desk.old.nodes }
+    ensures outlook { outlook.new.nodes ≡ outlook.old.nodes }
     ensures stays { recall.new ≡ recall.old }
 {
-    match cu_sweep::query(tree, graph, desk, recall, from, to, query.second) {
+    match find_walk(held, desk, outlook, recall, question) {
         Found::Arrive(arrival) => Some(arrival),
         Found::NoWalk => None,
         Found::Long { .. } => unreachable!(),
     }
 }
 
-// Writes what the sweeps of a query between the ranks of its nodes found.
-fn put_found<K: Sink>(
+/// Writes what the sweeps of a query between the ranks of its nodes found.
+pub(crate) fn put_found<K: Sink>(
     swept: Found,
     desk: &mut SweepDesk,
     unpacker: &mut Unpacker<'_, RecalledWays<'_>>,

@@ -1,26 +1,35 @@
 //! What a script is answered from: the packed bytes of a hierarchy, and the room that queries and edits need beside them.
 
-ghost use Rattle.std.specs.Prelude.{◌≡◌, ◌≤◌, ◌<◌, ◌^◌, IfOk, IfSome, OnErr};
+ghost use Rattle.std.specs.Prelude.{◌≡◌, ◌≤◌, ◌<◌, ◌-◌, ◌^◌, ℕ, [], All, IfErr, IfOk, IfSome, List, OnErr, OnOk, length};
 ghost use Rattle.cu_io.specs.Sinks.{Wrote};
 ghost use Rattle.cu_model.specs.declared.limits.TheConstants.{DAY};
 ghost use Rattle.cu_model.specs.Edits.{IsEditInRange};
+ghost use Rattle.cu_chordal.specs.declared.graph.TheConstants.{MAX_EDGES};
 ghost use Rattle.cu_interval.specs.Hierarchies.{HierarchyValue, IsBuilt, IsHierarchy};
+ghost use Rattle.cu_interval.specs.Touching.{NumbersTouched};
 ghost use Rattle.cu_pack.specs.Checks.{Spells};
+ghost use Rattle.cu_reach.specs.Departures.{latest_by};
+ghost use Rattle.cu_reach.specs.ReachTexts.{reach_reply, table_reply};
 ghost use Rattle.cu_router.specs.Answers.{FindsArrival, IsHeldAnswer};
 ghost use Rattle.cu_router.specs.Days.{IsHeldDay};
 ghost use Rattle.cu_router.specs.Edited.{IsEdited};
+ghost use Rattle.cu_router.specs.Reaches.{IsHeldLatestReply};
 ghost use Rattle.cu_router.specs.Swept.{swept_reply};
+ghost use Rattle.cu_router.specs.Working.{FitsBusy, edges_left};
 
+use crate::busy::Busy;
 use crate::days::find_day;
 use crate::edit_room::{EditRoom, make_edit_room, touch_held};
 use crate::held_file::HeldFile;
 use crate::query_room::QueryRoom;
+use crate::working::{begin_held, finish, give_back, plan_held, settle_next};
 use cu_arrival::Arrival;
 use cu_day::DayAsked;
 use cu_interval::Ways;
 use cu_io::{Sink, SinkFailed};
 use cu_model::{Edit, NoMemory, Query, Roads};
 use cu_pack::PackedView;
+use cu_reach::{LatestAsked, ReachAsked, ReachDesk, TableAsked};
 use std::alloc::Global;
 use std::marker::Model;
 
@@ -29,11 +38,13 @@ use std::marker::Model;
 pub struct Router {
     held: HeldFile,
     queries: QueryRoom,
-    // Made by the first edit, so that a session without edits pays nothing for it.
+    reaches: ReachDesk,
+    // Made by the first edit or whole day, so that a session of queries pays nothing for it.
     editing: Option<EditRoom>,
 }
 
 impl Model for Router {
+    ghost use Rattle.std.specs.Prelude.{◌≡◌, length};
     ghost use Rattle.cu_interval.specs.Hierarchies.{HierarchyValue};
     ghost use Rattle.cu_recall.specs.Rooms.{Fits};
     ghost use Rattle.cu_router.specs.Steps.Rooms.{FitsEdits};
@@ -43,7 +54,8 @@ impl Model for Router {
     ghost view = { λ router. router.held };
 
     ghost invariant = { λ router. Fits router.held router.queries
-        × FitsEdits router.held router.editing };
+        × FitsEdits router.held router.editing
+        × (length router.reaches ≡ router.held.network.nodes) };
 }
 
 impl Router {
@@ -75,9 +87,11 @@ impl Router {
         let nodes = view.nodes();
         let edges = view.edges();
         let queries = QueryRoom::new(alloc, nodes, edges)?;
+        let reaches = ReachDesk::new(alloc, nodes)?;
         Ok(Router {
             held,
             queries,
+            reaches,
             editing: None,
         })
     }
@@ -124,14 +138,63 @@ impl Router {
         self.queries.find(&self.held, query)
     }
 
+    /// Writes the reply to a question for all nodes, from one below the number of nodes, leaving at a second of the day. Takes no
+    /// memory.
+    pub fn put_reach<K: Sink>(&mut self, asked: ReachAsked, sink: &mut K) -> Result<(), SinkFailed>
+        requires from { asked.from < self.old.network.nodes }
+        requires second { asked.second < DAY }
+        ensures wrote { Wrote (K.state sink.old) (K.state sink.new) result
+            (reach_reply self.old asked) }
+        ensures stays { self.new ≡ self.old }
+    {
+        self.queries
+            .put_reach(&self.held, &mut self.reaches, asked, sink)
+    }
+
+    /// Writes the reply to a question for a table of nodes below the number of nodes, leaving at a second of the day. Takes no
+    /// memory.
+    pub fn put_table<K: Sink>(
+        &mut self,
+        asked: &TableAsked<'_>,
+        sink: &mut K,
+    ) -> Result<(), SinkFailed>
+        requires sources { All (λ node. node < self.old.network.nodes) asked.now.sources }
+        requires targets { All (λ node. node < self.old.network.nodes) asked.now.targets }
+        requires second { asked.now.second < DAY }
+        ensures wrote { Wrote (K.state sink.old) (K.state sink.new) result
+            (table_reply self.old asked.now) }
+        ensures stays { self.new ≡ self.old }
+    {
+        self.queries
+            .put_table(&self.held, &mut self.reaches, asked, sink)
+    }
+
+    /// Writes the reply to a question for the latest departure between nodes below the number of nodes. Takes no memory.
+    pub fn put_latest<K: Sink>(
+        &mut self,
+        asked: LatestAsked,
+        sink: &mut K,
+    ) -> Result<(), SinkFailed>
+        requires from { asked.from < self.old.network.nodes }
+        requires to { asked.to < self.old.network.nodes }
+        requires by { asked.by ≤ latest_by }
+        ensures reply { (reply : List ℕ) × IsHeldLatestReply self.old asked reply
+            × Wrote (K.state sink.old) (K.state sink.new) result reply }
+        ensures stays { self.new ≡ self.old }
+    {
+        self.queries.put_latest(&self.held, asked, sink)
+    }
+
     /// The arrivals over a whole day between nodes below the number of nodes, each the least over all walks where the hierarchy is
     /// built. None exactly where no chain of lists leads from the one to the other; in a built hierarchy, where there is no walk.
-    pub fn find_day(&self, alloc: Global, query: DayAsked) -> Result<Option<Arrival>, NoMemory>
-        requires from { query.from < self.now.network.nodes }
-        requires to { query.to < self.now.network.nodes }
-        ensures found { IfOk result (IsHeldDay self.now query) }
+    /// What it learns of lists is kept for days and edits to come.
+    pub fn find_day(&mut self, alloc: Global, query: DayAsked) -> Result<Option<Arrival>, NoMemory>
+        requires from { query.from < self.old.network.nodes }
+        requires to { query.to < self.old.network.nodes }
+        ensures found { IfOk result (IsHeldDay self.old query) }
+        ensures stays { self.new ≡ self.old }
     {
-        find_day(alloc, &self.held, query)
+        find_day(alloc, &self.held, &mut self.editing, query)
     }
 
     /// Makes an edit, whose numbers are in range, and answers how many edges it touches. Where memory runs out nothing has
@@ -149,5 +212,95 @@ impl Router {
         self.queries.forget();
         self.editing = Some(room);
         Ok(lists.len())
+    }
+
+    /// The edges that an edit touches, whose numbers are in range, by rising number. Nothing changes of what is held.
+    pub fn plan(&mut self, alloc: Global, edit: &Edit) -> Result<Vec<u32>, NoMemory>
+        requires range { IsEditInRange self.old.network edit.now }
+        ensures touched { IfOk result (λ edges. NumbersTouched self.old edit.now edges.items) }
+        ensures few { IfOk result (λ edges. length edges.items ≤ MAX_EDGES) }
+        ensures stays { self.new ≡ self.old }
+    {
+        let mut room = make_edit_room(alloc, &self.held, self.editing.take())?;
+        let edges = plan_held(alloc, &self.held, edit, &mut room);
+        self.editing = Some(room);
+        edges
+    }
+
+    /// Begins an edit of a client, whose numbers are in range and which touches these edges. None of them is settled yet, and nothing
+    /// changes of what is held.
+    pub fn begin(
+        &mut self,
+        alloc: Global,
+        client: u32,
+        edges: Vec<u32>,
+        edit: Edit,
+    ) -> Result<Busy, NoMemory>
+        requires range { IsEditInRange self.old.network edit }
+        requires touched { NumbersTouched self.old edit edges.items }
+        ensures fits { IfOk result (FitsBusy self.old) }
+        ensures edit { IfOk result (λ busy. busy.edit ≡ edit) }
+        ensures papers { IfOk result (λ busy. busy.papers
+            ≡ record { client = client; edges = edges.items; lists = [] }) }
+        ensures stays { self.new ≡ self.old }
+    {
+        let mut room = make_edit_room(alloc, &self.held, self.editing.take())?;
+        let busy = begin_held(alloc, &self.held, &mut room, client, edges, edit);
+        self.editing = Some(room);
+        busy
+    }
+
+    /// Settles the next edge of an edit in work, if one is left, and answers how many are left then. Where memory runs out none is
+    /// settled. Nothing changes of what is held.
+    pub fn go_on(&mut self, alloc: Global, busy: Busy) -> (Busy, Result<u32, NoMemory>)
+        requires fits { FitsBusy self.old busy }
+        ensures fits { FitsBusy self.old result.0 }
+        ensures edit { result.0.edit ≡ busy.edit }
+        ensures client { result.0.papers.client ≡ busy.papers.client }
+        ensures edges { result.0.papers.edges ≡ busy.papers.edges }
+        ensures left { IfOk result.1 (λ left. (left ≡ edges_left result.0)
+            × (left ≡ edges_left busy - 1)) }
+        ensures kept { OnErr result.1 (result.0.papers.lists ≡ busy.papers.lists) }
+        ensures stays { self.new ≡ self.old }
+    {
+        let Ok(room) = make_edit_room(alloc, &self.held, self.editing.take()) else {
+            return (busy, Err(NoMemory));
+        };
+        let stepped = settle_next(alloc, &self.held, self.queries.rows(), &room, busy);
+        self.editing = Some(room);
+        stepped
+    }
+
+    /// Makes an edit in work, none of whose edges is left. Where memory runs out it is handed back as it was, and nothing has
+    /// changed.
+    pub fn publish(&mut self, alloc: Global, busy: Busy) -> Result<(), Busy>
+        requires fits { FitsBusy self.old busy }
+        requires none { edges_left busy ≡ 0 }
+        ensures published { OnOk result
+            (IsEdited self.old busy.edit self.new (length busy.papers.edges)) }
+        ensures kept { OnErr result (self.new ≡ self.old) }
+        ensures same { IfErr result (λ back. back ≡ busy) }
+    {
+        let Ok(room) = make_edit_room(alloc, &self.held, self.editing.take()) else {
+            return Err(busy);
+        };
+        let Ok(bytes) = self.held.repacked(alloc, &busy.edit, busy.papers.lists()) else {
+            self.editing = Some(room);
+            return Err(busy);
+        };
+        let (papers, room) = finish(alloc, &self.held, self.queries.rows(), room, busy);
+        self.held.change_over(bytes, papers.lists());
+        self.queries.forget();
+        self.editing = Some(room);
+        Ok(())
+    }
+
+    /// Lets go of an edit in work, which isn't made. What it learned of the hierarchy is kept for edits to come. Takes no memory.
+    pub fn cancel(&mut self, busy: Busy)
+        requires fits { FitsBusy self.old busy }
+        ensures stays { self.new ≡ self.old }
+    {
+        let Busy { settler, .. } = busy;
+        give_back(&mut self.editing, settler);
     }
 }

@@ -14,7 +14,7 @@ pub struct Script {
 }
 
 /// Scripts whose replies were worked out by hand.
-pub const SCRIPTS: [Script; 7] = [
+pub const SCRIPTS: [Script; 11] = [
     Script {
         file: &BUILT,
         lines: "q,0,2,0\nq,0,2,28739\nq,0,2,28740\nq,0,2,35851\nq,1,1,5\nq,2,0,0\r\nq,3,0,0\nq,0,2,86400\n\nx",
@@ -55,5 +55,29 @@ pub const SCRIPTS: [Script; 7] = [
         file: &FORGED,
         lines: "d,2,3\nq,2,3,0\nd,2,1\nd,1,3\nd,1,2\na,8,0\nd,2,3\nq,2,3,0\nd,2,1\n",
         replies: "day 0,travel,40\ndamaged 5 up 0\nday 0,travel,20\nday 0,travel,20\nday 0,travel,10\ndone 1\nday 0,travel,10\narrive=10 arcs=8\nday 0,travel,20\n",
+    },
+    // All nodes from one, tables, and latest departures: over the morning's rush, at the day's end, and where no road leads.
+    Script {
+        file: &BUILT,
+        lines: "r,0,0\nr,2,5\nr,0,28740\nt,0,1,0,0,1,2\nt,0,2,0,2,2\nt,28740,3,2,1,0,2,0\nt,0,0\nt,0,0,1,2\nt,0,2,0,1\nl,0,2,160\nl,0,2,159\nl,0,2,36100\nl,0,2,86559\nl,0,2,1099511627776\nl,1,1,5\nl,2,0,50\n",
+        replies: "reach 0 60 160\nreach - - 5\nreach 28740 28800 28990\ntable 0 60 160\ntable 160 0\ntable 28740 - 28840 - 28990 28740\ntable\ntable\ntable\ndepart=0 arrive=160 arcs=0 1\ntoo late\ndepart=35940 arrive=36100 arcs=0 1\ndepart=86399 arrive=86559 arcs=0 1\ndepart=86399 arrive=86559 arcs=0 1\ndepart=5 arrive=5 arcs=\nunreachable\n",
+    },
+    // Lines of these kinds that are refused, each by the first check that it fails.
+    Script {
+        file: &BUILT,
+        lines: "r\nr,0\nr,0,0,0\nr,0,x\nR,0,0\nr,3,86400\nr,2,86400\nr,99999999999999999999,0\nr,0,99999999999999999999\nt\nt,0\nt,0,5,0\nt,0,1,0,x\nt,0,99999999999999999999,0\nt,86400,1,3\nt,86400,1,0,3\nt,86400,1,0,2\nt,86400,0\nl,0,2\nl,0,2,0,0\nl,0,2,x\nl,3,0,1099511627777\nl,0,3,0\nl,0,2,1099511627777\nl,0,2,99999999999999999999\n",
+        replies: "refused: line\nrefused: line\nrefused: line\nrefused: line\nrefused: line\nrefused: node\nrefused: second\nrefused: node\nrefused: second\nrefused: line\nrefused: line\nrefused: line\nrefused: line\nrefused: line\nrefused: node\nrefused: node\nrefused: second\nrefused: second\nrefused: line\nrefused: line\nrefused: line\nrefused: node\nrefused: node\nrefused: second\nrefused: second\n",
+    },
+    // The same lines between edits: a slower first road, by which the one beside both is the better way, and roads that are closed.
+    Script {
+        file: &BUILT,
+        lines: "s,0,0,travel,200\nr,0,0\nt,0,2,1,0,2,1\nl,0,2,36100\ns,2,0,closed,0\ns,0,0,closed,0\nr,0,0\nt,7,2,0,1,2,0\nl,0,2,5\n",
+        replies: "done 2\nreach 0 200 250\ntable 100 0 250 200\ndepart=35850 arrive=36100 arcs=2\ndone 1\ndone 2\nreach 0 - -\ntable - 7 107 -\nunreachable\n",
+    },
+    // Forged ways are taken as they stand. A walk that is too long ends a reach, a table behind the rows before it, and a search.
+    Script {
+        file: &FORGED,
+        lines: "r,2,0\nr,3,0\nt,0,2,3,2,3,0\nt,0,1,2,0\nt,0,1,2\nl,2,3,100\nl,3,2,100\nl,3,2,9\na,8,0\nr,2,0\nl,2,1,20\n",
+        replies: "damaged 5 up 0\nreach 10 10 10 0\ntable 0 10 damaged 5 up 0\ntable damaged 5 up 0\ntable\ndamaged 5 up 0\ndepart=90 arrive=100 arcs=11\ntoo late\ndone 1\nreach 10 20 0 10\ndepart=0 arrive=20 arcs=6 0\n",
     },
 ];

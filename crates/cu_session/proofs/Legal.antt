@@ -19,7 +19,7 @@ same_network : (h after : HierarchyValue) → after ≡ h → after.network ≡ 
 same_network h after same = ap (λ (v : HierarchyValue). v.network) same
 
 -- a built hierarchy under an order
-abbrev IsBuiltUnder : OrderValue → HierarchyValue → Type 0
+abbrev pub IsBuiltUnder : OrderValue → HierarchyValue → Type 0
 IsBuiltUnder order h = IsBuilt h × (h.order ≡ order)
 
 stays_built : (h after : HierarchyValue) → IsBuilt h → after ≡ h → IsBuiltUnder h.order after
@@ -55,7 +55,7 @@ built_match : (long : Bool) (h after : HierarchyValue) (asked : Asked) (reply : 
 built_match true h after asked reply built (is, same) = stays_built h after built same
 built_match false h after asked reply built is = built_behind h after asked reply built is
 
-legal_line : (order : OrderValue) (h after : HierarchyValue) (line reply : List ℕ) → IsBuiltUnder order h → IsHeldReply h line reply after
+pub legal_line : (order : OrderValue) (h after : HierarchyValue) (line reply : List ℕ) → IsBuiltUnder order h → IsHeldReply h line reply after
     → IsReply h.network order line reply after.network × IsBuiltUnder order after
 legal_line order h after line reply (built, under) is =
     let asked = asked_of h.network (without_return line) in
@@ -73,23 +73,29 @@ legal_replies h now lines output built replies =
 legal_output : (h : HierarchyValue) (lines : List (List ℕ)) (output : List ℕ) → IsBuilt h → IsHeldOutput h lines output → IsOutput h.network h.order lines output
 legal_output h lines output built (now, replies) = (now.network, legal_replies h now lines output built replies)
 
--- a session that begins with a built hierarchy
-pub legal_where_built : (h : HierarchyValue) → IsBuilt h → (why : Option SessionStop) (taken output : List ℕ) → AnswersBy (IsHeldOutput h) why taken output
-    → AnswersBy (IsOutput h.network h.order) why taken output
-legal_where_built h built None taken output (few, held) = (few, legal_output h _ output built held)
-legal_where_built h built (Some stop.Source) taken output (few, held) = (few, legal_output h _ output built held)
-legal_where_built h built (Some stop.TakeLimit) taken output (all, held) = (all, legal_output h _ output built held)
-legal_where_built h built (Some stop.Sink) taken output broken = record {
+-- a script that is answered in one way is answered in another
+pub answers_so : (Output Others : List (List ℕ) → List ℕ → Type 0) → ((lines : List (List ℕ)) (output : List ℕ) → Output lines output → Others lines output)
+    → (why : Option SessionStop) (taken output : List ℕ) → AnswersBy Output why taken output → AnswersBy Others why taken output
+answers_so Output Others so None taken output (few, is) = (few, so _ output is)
+answers_so Output Others so (Some stop.Source) taken output (few, is) = (few, so _ output is)
+answers_so Output Others so (Some stop.TakeLimit) taken output (all, is) = (all, so _ output is)
+answers_so Output Others so (Some stop.Sink) taken output broken = record {
   count = broken.count;
   replies = broken.replies;
-  answered = legal_output h _ _ built broken.answered;
+  answered = so _ _ broken.answered;
   reply = broken.reply;
-  broken = legal_output h _ _ built broken.broken;
+  broken = so _ _ broken.broken;
   written = broken.written;
   within = broken.within;
   ahead = broken.ahead;
 }
-legal_where_built h built (Some stop.NoMemory) taken output none = none
+answers_so Output Others so (Some stop.NoMemory) taken output none = none
+
+-- a session that begins with a built hierarchy
+pub legal_where_built : (h : HierarchyValue) → IsBuilt h → (why : Option SessionStop) (taken output : List ℕ) → AnswersBy (IsHeldOutput h) why taken output
+    → AnswersBy (IsOutput h.network h.order) why taken output
+legal_where_built h built why taken output is =
+    answers_so (IsHeldOutput h) (IsOutput h.network h.order) (λ lines text held. legal_output h lines text built held) why taken output is
 
 edits_behind : (h after : HierarchyValue) (asked : Asked) (reply : List ℕ) → IsBuilt h → IsDoneReplyTo h asked reply after → IsBuilt after
 edits_behind h after (Asks question) reply built is = absurd is

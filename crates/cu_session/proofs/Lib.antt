@@ -1,6 +1,8 @@
-mod Outputs
+pub mod Outputs
 pub mod Legal
 pub mod SessionLaws
 mod EditingLaws
 mod EditLaws
 mod QuestionLaws
+pub mod RoadsAlone
+pub mod WaitingReplies

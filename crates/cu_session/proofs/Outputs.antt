@@ -26,14 +26,30 @@ kept_through Replies Holds step state now [] output (none, same) holds = subst H
 kept_through Replies Holds step state now (line ∷ lines) output (reply, after, rest, is, more, parts) holds =
     kept_through Replies Holds step after now lines rest more (step state after line reply holds is)
 
+-- replies by one state are replies by another that it stands for
+pub related : {S T : Type 0} (Replies : S → List ℕ → List ℕ → S → Type 0) (Others : T → List ℕ → List ℕ → T → Type 0) (StandsFor : S → T → Type 0)
+    → ((state after : S) (other : T) (line reply : List ℕ) → StandsFor state other → Replies state line reply after → (next : T) × Others other line reply next × StandsFor after next)
+    → (state now : S) (other : T) (lines : List (List ℕ)) (output : List ℕ) → StandsFor state other → AreReplied Replies state lines output now
+    → (end : T) × AreReplied Others other lines output end × StandsFor now end
+related {S = S} Replies Others StandsFor step state now other [] output stands (none, same) =
+    (other, (none, refl), subst (λ (s : S). StandsFor s other) (sym same) stands)
+related Replies Others StandsFor step state now other (line ∷ lines) output stands (reply, after, rest, is, more, parts) =
+    let (next, right, still) = step state after other line reply stands is in
+    let (end, others, last) = related Replies Others StandsFor step after now next lines rest still more in
+    (end, (reply, next, rest, right, others, parts), last)
+
 -- replies by one state are replies by another that is made of it
 pub followed : {S T : Type 0} (Replies : S → List ℕ → List ℕ → S → Type 0) (Others : T → List ℕ → List ℕ → T → Type 0) (of : S → T) (Holds : S → Type 0)
     → ((state after : S) (line reply : List ℕ) → Holds state → Replies state line reply after → Others (of state) line reply (of after) × Holds after)
     → (state now : S) (lines : List (List ℕ)) (output : List ℕ) → Holds state → AreReplied Replies state lines output now → AreReplied Others (of state) lines output (of now)
-followed Replies Others of Holds step state now [] output holds (none, same) = (none, ap of same)
-followed Replies Others of Holds step state now (line ∷ lines) output holds (reply, after, rest, is, more, parts) =
-    let (right, still) = step state after line reply holds is in
-    (reply, of after, rest, right, followed Replies Others of Holds step after now lines rest still more, parts)
+followed {T = T} Replies Others of Holds step state now lines output holds replied =
+    let (end, others, (same, still)) =
+    related Replies Others (λ s t. (t ≡ of s) × Holds s)
+    (λ s after t line reply (same, holds) is.
+    let (right, still) = step s after line reply holds is in
+    (of after, subst (λ (x : T). Others x line reply (of after)) (sym same) right, (refl, still)))
+    state now (of state) lines output (refl, holds) replied in
+    subst (λ (x : T). AreReplied Others (of state) lines output x) same others
 
 -- as many lines from the front
 pub front_lines : (lines behind : List (List ℕ)) → take (length lines) (lines ++ behind) ≡ lines

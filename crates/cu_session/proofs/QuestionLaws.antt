@@ -12,8 +12,20 @@ use Rattle.cu_router.specs.Answers.{IsHeldAnswer}
 use Rattle.cu_router.specs.Days.{IsHeldDay}
 use Rattle.cu_day.specs.declared.lines.DayAsked.{DayAsked}
 use Rattle.cu_day.specs.declared.lines.DayRefusal.{DayRefusal}
+use Rattle.cu_reach.specs.declared.departures.Departure.{Departure}
+use Rattle.cu_reach.specs.declared.lines.LatestAsked.{LatestAsked}
+use Rattle.cu_reach.specs.declared.lines.ManyRefusal.{ManyRefusal}
+use Rattle.cu_reach.specs.declared.lines.ReachAsked.{ReachAsked}
+use Rattle.cu_reach.specs.Departures.{IsLatest}
+use Rattle.cu_reach.specs.NodeFields.{TableValue}
+use Rattle.cu_reach.specs.ReachAnswers.{IsHeldLatest}
+use Rattle.cu_reach.specs.ReachTexts.{reach_reply, table_reply}
+use Rattle.cu_reach.proofs.BuiltLaws.{reach_right, table_right}
+use Rattle.cu_reach.proofs.RangeLaws.{IsReachWithin, IsTableWithin}
+use Rattle.cu_reach.proofs.SayingLaws.{says_latest}
+use Rattle.cu_router.specs.Reaches.{IsHeldLatestReply}
 use Rattle.cu_session.specs.Held.{IsHeldAnswerTo, IsHeldReplyTo}
-use Rattle.cu_session.specs.Questions.{MayLack, asked_by_day, asked_by_query, day_question}
+use Rattle.cu_session.specs.Questions.{MayLack, asked_by_day, asked_by_latest, asked_by_query, asked_by_reach, asked_by_table, day_question, query_question}
 
 -- the answer of the held hierarchy is the reply to a query
 pub query_answered : (h : HierarchyValue) (query : Query) (reply : List ℕ) (asked : Result Query QueryRefusal) → asked ≡ Ok query → IsHeldAnswer h query reply
@@ -35,3 +47,28 @@ day_told h query function reply day text =
 pub day_answered : (h : HierarchyValue) (query : DayAsked) (reply : List ℕ) (asked : Result DayAsked DayRefusal) → asked ≡ Ok query
     → MayLack true reply (IsHeldAnswerTo h (day_question query) reply) → IsHeldReplyTo h (asked_by_day asked) reply h
 day_answered h query reply asked is answer = rw is (answer, refl)
+
+-- the times of the held hierarchy's reach are the reply to a line that asks for all nodes
+pub reach_answered : (h : HierarchyValue) (asked : ReachAsked) (found : Result ReachAsked ManyRefusal) → found ≡ Ok asked → IsReachWithin h.network.nodes asked
+    → IsHeldReplyTo h (asked_by_reach found) (reach_reply h asked) h
+reach_answered h asked found is within = rw is ((refl, λ built. reach_right h built asked within.from within.second), refl)
+
+-- those of the reaches from its sources to a line that asks for a table
+pub table_answered : (h : HierarchyValue) (asked : TableValue) (found : Result TableValue ManyRefusal) → found ≡ Ok asked → IsTableWithin h.network.nodes asked
+    → IsHeldReplyTo h (asked_by_table found) (table_reply h asked) h
+table_answered h asked found is within = rw is ((refl, λ built. table_right h built asked within.sources within.targets within.second), refl)
+
+-- and its latest departure to a line that asks for one
+pub latest_answered : (h : HierarchyValue) (asked : LatestAsked) (reply : List ℕ) (found : Result LatestAsked ManyRefusal) → found ≡ Ok asked
+    → IsHeldLatestReply h asked reply → IsHeldReplyTo h (asked_by_latest found) reply h
+latest_answered h asked reply found is told =
+    rw is (
+      (
+        told,
+        λ built.
+            says_latest (IsHeldLatest h asked) (IsLatest h.network asked.from asked.to asked.by) (λ query text. IsHeldAnswer h query text)
+            (λ query text. (query_question query).right h.network h.order text) (λ departure is. is.latest built)
+            (λ query text answer. (answer.least built, (h, refl, refl, built, answer.swept))) asked reply told,
+      ),
+      refl,
+    )

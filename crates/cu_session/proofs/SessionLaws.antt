@@ -16,10 +16,9 @@ use Rattle.cu_io.proofs.Taking.{takes_more, takes_nothing}
 use Rattle.cu_interval.specs.Hierarchies.{HierarchyValue}
 use Rattle.cu_session.specs.declared.stops.SessionStop.{SessionStop}
 use Rattle.cu_session.specs.declared.stops.SessionStop.TheVariants as stop
-use Rattle.cu_session.specs.Held.{IsHeldOutput, IsHeldReply, IsHeldReplyTo}
-use Rattle.cu_session.specs.Questions.{asked_of}
-use Rattle.cu_session.specs.Scripts.{line_limit}
-use Rattle.cu_session.specs.Sessions.{AnswersBy, EndsSession, Leaves, line_bytes, session_status, take_limit}
+use Rattle.cu_session.specs.Held.{IsTextReply}
+use Rattle.cu_session.specs.Scripts.{AreReplied, IsLineReply, line_limit}
+use Rattle.cu_session.specs.Sessions.{AnswersBy, EndsLines, EndsSession, Leaves, line_bytes, session_status, take_limit}
 use Rattle.cu_session.specs.Steps.Turns.{Session, left_to_read}
 use Rattle.cu_session.proofs.Legal.{legal_where_built}
 use Rattle.cu_session.proofs.Outputs.{replied_more, front_lines}
@@ -30,18 +29,19 @@ err_is {T = T} {E = E} (Ok x) e h = absurd h
 err_is {T = T} {E = E} (Err d) e h = let f : E → Result T E = λ t. Err t in ap f h
 
 -- the reply to the text of a line within the limit
-pub text_reply : (h after : HierarchyValue) (line text reply : List ℕ) → length line ≤ line_limit → text ≡ without_return line → IsHeldReplyTo h (asked_of h.network text) reply after
-    → IsHeldReply h line reply after
-text_reply h after line text reply short is right =
-    let same = subst (λ (t : List ℕ). IsHeldReplyTo h (asked_of h.network t) reply after) is right in
+pub text_reply : {State : Type 0} (Replies : State → List ℕ → List ℕ → State → Type 0) (state after : State) (line text reply : List ℕ) → length line ≤ line_limit
+    → text ≡ without_return line → Replies state text reply after → IsLineReply Replies state line reply after
+text_reply Replies state after line text reply short is right =
+    let same = subst (λ (t : List ℕ). Replies state t reply after) is right in
     elim (cases_Bool (nat_lt line_limit (length line))) [
       | inl long ↦ absurd (omega (arith, short, ltb-true line_limit (length line) long))
       | inr not_long ↦ rw not_long same
     ]
 
 -- the reply to a longer line
-pub long_reply : (h : HierarchyValue) (line : List ℕ) → line_limit < length line → IsHeldReply h line (codes "refused: long") h
-long_reply h line long = rw (lt-ltb line_limit (length line) long) (refl, refl)
+pub long_reply : {State : Type 0} (Replies : State → List ℕ → List ℕ → State → Type 0) (state : State) (line : List ℕ) → line_limit < length line
+    → IsLineReply Replies state line (codes "refused: long") state
+long_reply Replies state line long = rw (lt-ltb line_limit (length line) long) (refl, refl)
 
 -- a line that is handed out leaves fewer bytes
 pub falls_by : {r after : ReaderState} {s t : SourceState} {chunk : List ℕ} (line : List ℕ) → TakesLine r after s t chunk → IsFirstLine (r.held ++ chunk) after.shown line after.held
@@ -77,30 +77,40 @@ leaves_all script status source sink some read wrote = record {
   rises = omega arith;
 }
 
--- how the answering ended; where the first hierarchy is built the replies are right by the network alone
-ends : (h : HierarchyValue) (why : Option SessionStop) (source_before source_now : SourceState) (sink_before sink_now : SinkState) (taken output : List ℕ)
-    → Takes source_before.left source_now.left taken → Appends sink_before.written sink_now.written output → AnswersBy (IsHeldOutput h) why taken output
-    → Leaves true (session_status why) source_before source_now sink_before sink_now → EndsSession h why source_before source_now sink_before sink_now
-ends h why source_before source_now sink_before sink_now taken output takes appends held leaves = record {
-  taken = taken;
-  output = output;
-  takes = takes;
-  appends = appends;
-  held = held;
-  legal = λ built. legal_where_built h built why taken output held;
-  leaves = leaves;
+-- a script was answered by the hierarchy of packed bytes; where the first is built the replies are right by the network alone
+pub session_ends : (h last : HierarchyValue) (why : Option SessionStop) (source_before source_now : SourceState) (sink_before sink_now : SinkState)
+    → EndsLines IsTextReply h last why source_before source_now sink_before sink_now → EndsSession h why source_before source_now sink_before sink_now
+session_ends h last why source_before source_now sink_before sink_now done = record {
+  taken = done.taken;
+  output = done.output;
+  takes = done.takes;
+  appends = done.appends;
+  held = done.answered;
+  legal = λ built. legal_where_built h built why done.taken done.output done.answered;
+  leaves = done.leaves;
 }
 
+-- how the answering ended
+ends : {State : Type 0} (Replies : State → List ℕ → List ℕ → State → Type 0) (first last : State) (why : Option SessionStop) (source_before source_now : SourceState)
+    (sink_before sink_now : SinkState) (taken output : List ℕ) → Takes source_before.left source_now.left taken → Appends sink_before.written sink_now.written output
+    → AnswersBy (λ lines text. (now : State) × AreReplied (IsLineReply Replies) first lines text now) why taken output
+    → (why ≡ None → AreReplied (IsLineReply Replies) first (lines_of taken) output last)
+    → Leaves true (session_status why) source_before source_now sink_before sink_now → EndsLines Replies first last why source_before source_now sink_before sink_now
+ends Replies first last why source_before source_now sink_before sink_now taken output takes appends answered whole leaves =
+    record { taken = taken; output = output; takes = takes; appends = appends; answered = answered; whole = whole; leaves = leaves }
+
 -- memory ran out before the script was read
-pub nothing_done : (h : HierarchyValue) (source : SourceState) (sink : SinkState) → EndsSession h (Some stop.NoMemory) source source sink sink
-nothing_done h source sink =
-    ends h (Some stop.NoMemory) source source sink sink [] [] (takes_nothing source.left) (appends_nothing sink.written) (refl, refl)
+pub nothing_done : {State : Type 0} (Replies : State → List ℕ → List ℕ → State → Type 0) (state : State) (source : SourceState) (sink : SinkState)
+    → EndsLines Replies state state (Some stop.NoMemory) source source sink sink
+nothing_done Replies state source sink =
+    ends Replies state state (Some stop.NoMemory) source source sink sink [] [] (takes_nothing source.left) (appends_nothing sink.written) (refl, refl) (λ e. absurd (cc e))
     (leaves_all true 9 source sink (λ e. cc e) (λ e. cc e) (λ e. cc e))
 
 -- nothing was read yet
-pub session_begins : (h : HierarchyValue) (reader : ReaderState) (source : SourceState) (sink : SinkState)
-    → reader ≡ (record { held = []; line = []; taken = 0; shown = false; over = false; line_limit = line_limit; take_limit = take_limit }) → Session h h source sink reader source sink
-session_begins h reader source sink is = rw is (record {
+pub session_begins : {State : Type 0} (Replies : State → List ℕ → List ℕ → State → Type 0) (state : State) (reader : ReaderState) (source : SourceState) (sink : SinkState)
+    → reader ≡ (record { held = []; line = []; taken = 0; shown = false; over = false; line_limit = line_limit; take_limit = take_limit })
+    → Session Replies state state source sink reader source sink
+session_begins Replies state reader source sink is = rw is (record {
   taken = [];
   lines = [];
   output = [];
@@ -125,9 +135,13 @@ session_begins h reader source sink is = rw is (record {
 appends_more_some : (a b c : Option (List ℕ)) (xs ys : List ℕ) → Appends a b xs → AppendsSome b c ys → (n : ℕ) × (n ≤ length ys) × Appends a c (xs ++ take n ys)
 appends_more_some a b c xs ys h (n, within, some) = (n, within, appends_more a b c xs (take n ys) h some)
 
-module _ (first held : HierarchyValue) (source_before : SourceState) (sink_before : SinkState) (r after : ReaderState) (s t : SourceState) (k : SinkState)
-    (h : Session first held source_before sink_before r s k) (chunk : List ℕ)
+module _ {State : Type 0} (Replies : State → List ℕ → List ℕ → State → Type 0) (first held : State) (source_before : SourceState) (sink_before : SinkState)
+    (r after : ReaderState) (s t : SourceState) (k : SinkState) (h : Session Replies first held source_before sink_before r s k) (chunk : List ℕ)
     (took : TakesLine r after s t chunk) where
+  -- the replies to these lines
+  abbrev Output : List (List ℕ) → List ℕ → Type 0
+  Output lines text = (now : State) × AreReplied (IsLineReply Replies) first lines text now
+
   taken_now : List ℕ
   taken_now = h.taken ++ chunk
 
@@ -158,8 +172,8 @@ module _ (first held : HierarchyValue) (source_before : SourceState) (sink_befor
       omega (arith, h.parted, length-append h.taken chunk, parts_of line took cut_off, sum_by_push (λ (l : List ℕ). length l + 1) h.lines line)
 
   -- a line was answered
-  pub answered : {T E : Type 0} {x : T} {now : SinkState} (next : HierarchyValue) (line reply : List ℕ) → IsFirstLine (r.held ++ chunk) after.shown line after.held → t.faults ≡ s.faults
-      → IsHeldReply held line reply next → WroteLine {T = T} {E = E} k now (Ok x) reply → Session first next source_before sink_before after t now
+  pub answered : {T E : Type 0} {x : T} {now : SinkState} (next : State) (line reply : List ℕ) → IsFirstLine (r.held ++ chunk) after.shown line after.held → t.faults ≡ s.faults
+      → IsLineReply Replies held line reply next → WroteLine {T = T} {E = E} k now (Ok x) reply → Session Replies first next source_before sink_before after t now
   answered {now = now} next line reply cut_off quiet is wrote = record {
     taken = h.taken ++ chunk;
     lines = h.lines ++ line ∷ [];
@@ -173,7 +187,7 @@ module _ (first held : HierarchyValue) (source_before : SourceState) (sink_befor
     within = within_now;
     line_limit = took.line_limit ∙ h.line_limit;
     take_limit = took.take_limit ∙ h.take_limit;
-    replies = replied_more IsHeldReply first held next h.lines line h.output reply h.replies is;
+    replies = replied_more (IsLineReply Replies) first held next h.lines line h.output reply h.replies is;
     appends = appends_more sink_before.written k.written now.written h.output (reply ++ 10 ∷ []) h.appends wrote.wrote.ok;
     flushed = inr wrote.flushed;
     source_quiet = quiet ∙ h.source_quiet;
@@ -182,22 +196,23 @@ module _ (first held : HierarchyValue) (source_before : SourceState) (sink_befor
   }
 
   -- a reply broke off
-  pub broke : {T E : Type 0} {e : E} {now : SinkState} (next : HierarchyValue) (line reply : List ℕ) → IsFirstLine (r.held ++ chunk) after.shown line after.held → t.faults ≡ s.faults
-      → length after.held ≤ after.line_limit + 1 → IsHeldReply held line reply next → WroteLine {T = T} {E = E} k now (Err e) reply → EndsSession first (Some stop.Sink) source_before t sink_before now
+  pub broke : {T E : Type 0} {e : E} {now : SinkState} (next : State) (line reply : List ℕ) → IsFirstLine (r.held ++ chunk) after.shown line after.held → t.faults ≡ s.faults
+      → length after.held ≤ after.line_limit + 1 → IsLineReply Replies held line reply next → WroteLine {T = T} {E = E} k now (Err e) reply → EndsLines Replies first next (Some stop.Sink) source_before t sink_before now
   broke {now = now} next line reply cut_off quiet room is wrote =
       let (count, within, app) = appends_more_some sink_before.written k.written now.written h.output (reply ++ 10 ∷ []) h.appends wrote.wrote.err in
-      ends first (Some stop.Sink) source_before t sink_before now (h.taken ++ chunk) (h.output ++ take count (reply ++ 10 ∷ [])) takes_now app
+      ends Replies first next (Some stop.Sink) source_before t sink_before now (h.taken ++ chunk) (h.output ++ take count (reply ++ 10 ∷ [])) takes_now app
       (record {
         count = length h.lines;
         replies = h.output;
-        answered = subst (λ (t : List (List ℕ)). IsHeldOutput first t h.output) (sym before) (held, h.replies);
+        answered = subst (λ (t : List (List ℕ)). Output t h.output) (sym before) (held, h.replies);
         reply = reply ++ 10 ∷ [];
-        broken = subst (λ (t : List (List ℕ)). IsHeldOutput first t (h.output ++ (reply ++ 10 ∷ []))) (sym through)
-            (next, replied_more IsHeldReply first held next h.lines line h.output reply h.replies is);
+        broken = subst (λ (t : List (List ℕ)). Output t (h.output ++ (reply ++ 10 ∷ []))) (sym through)
+            (next, replied_more (IsLineReply Replies) first held next h.lines line h.output reply h.replies is);
         written = (count, refl);
         within = omega (arith, within_now, count_now);
         ahead = omega (arith, parted_now line cut_off, room, took.line_limit, h.line_limit, ap (λ (t : List (List ℕ)). line_bytes t) through);
       })
+      (λ e. absurd (cc e))
       (record {
         whole = λ _ zero. absurd (cc zero);
         flushed = λ broken. absurd (broken refl);
@@ -226,11 +241,12 @@ module _ (first held : HierarchyValue) (source_before : SourceState) (sink_befor
           ∙ ap (λ (t : List (List ℕ)). take (length (h.lines ++ line ∷ [])) t) cut ∙ front_lines (h.lines ++ line ∷ []) (lines_of after.held)
 
   -- the end of input was shown
-  pub finished : Finds r after s t chunk found.End → EndsSession first None source_before t sink_before k
+  pub finished : Finds r after s t chunk found.End → EndsLines Replies first held None source_before t sink_before k
   finished (none, nil, shown, quiet) =
       let lines = cut_end {a = r} {b = after} {s = s} {t = t} h.taken h.lines h.cut took (none, nil, shown, quiet) in
-      ends first None source_before t sink_before k (h.taken ++ chunk) h.output takes_now h.appends
-      (omega (arith, unspent_now shown, count_now), subst (λ (t : List (List ℕ)). IsHeldOutput first t h.output) (sym lines) (held, h.replies))
+      ends Replies first held None source_before t sink_before k (h.taken ++ chunk) h.output takes_now h.appends
+      (omega (arith, unspent_now shown, count_now), subst (λ (t : List (List ℕ)). Output t h.output) (sym lines) (held, h.replies))
+      (λ e. subst (λ (t : List (List ℕ)). AreReplied (IsLineReply Replies) first t h.output held) (sym lines) h.replies)
       (record {
         whole = λ _ zero. whole_left source_before.left t.left (h.taken ++ chunk) takes_now (whole_now shown);
         flushed = λ other. h.flushed;
@@ -248,11 +264,12 @@ module _ (first held : HierarchyValue) (source_before : SourceState) (sink_befor
       whole_left (Some bytes) (Some rest) taken h k = ap (λ (t : List ℕ). Some t) k
 
   -- the source failed
-  pub failed : Finds r after s t chunk found.Fault → EndsSession first (Some stop.Source) source_before t sink_before k
+  pub failed : Finds r after s t chunk found.Fault → EndsLines Replies first held (Some stop.Source) source_before t sink_before k
   failed (none, hidden, below, rose) =
       let lines = cut_open {a = r} {b = after} {s = s} {t = t} h.taken h.lines h.cut took none hidden in
-      ends first (Some stop.Source) source_before t sink_before k (h.taken ++ chunk) h.output takes_now h.appends
-      (omega (arith, below, count_now, h.take_limit), subst (λ (t : List (List ℕ)). IsHeldOutput first t h.output) (sym lines) (held, h.replies))
+      ends Replies first held (Some stop.Source) source_before t sink_before k (h.taken ++ chunk) h.output takes_now h.appends
+      (omega (arith, below, count_now, h.take_limit), subst (λ (t : List (List ℕ)). Output t h.output) (sym lines) (held, h.replies))
+      (λ e. absurd (cc e))
       (record {
         whole = λ _ zero. absurd (cc zero);
         flushed = λ other. h.flushed;
@@ -265,11 +282,12 @@ module _ (first held : HierarchyValue) (source_before : SourceState) (sink_befor
       })
 
   -- as many bytes were taken as may be
-  pub spent : Finds r after s t chunk found.Spent → EndsSession first (Some stop.TakeLimit) source_before t sink_before k
+  pub spent : Finds r after s t chunk found.Spent → EndsLines Replies first held (Some stop.TakeLimit) source_before t sink_before k
   spent (none, hidden, all, quiet) =
       let lines = cut_open {a = r} {b = after} {s = s} {t = t} h.taken h.lines h.cut took none hidden in
-      ends first (Some stop.TakeLimit) source_before t sink_before k (h.taken ++ chunk) h.output takes_now h.appends
-      (omega (arith, all, count_now, h.take_limit), subst (λ (t : List (List ℕ)). IsHeldOutput first t h.output) (sym lines) (held, h.replies))
+      ends Replies first held (Some stop.TakeLimit) source_before t sink_before k (h.taken ++ chunk) h.output takes_now h.appends
+      (omega (arith, all, count_now, h.take_limit), subst (λ (t : List (List ℕ)). Output t h.output) (sym lines) (held, h.replies))
+      (λ e. absurd (cc e))
       (record {
         whole = λ _ zero. absurd (cc zero);
         flushed = λ other. h.flushed;

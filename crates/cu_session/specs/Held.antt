@@ -31,9 +31,13 @@ IsHeldReplyTo h (Asks question) reply after = MayLack question.may_lack reply (I
 IsHeldReplyTo h (AsksEdit edit) reply after = IsHeldEditReply h edit reply after
 IsHeldReplyTo h (Fails words) reply after = (reply ≡ codes "refused: " ++ words) × (after ≡ h)
 
+-- the reply to the text of a line, and the hierarchy after it
+abbrev pub IsTextReply : HierarchyValue → List ℕ → List ℕ → HierarchyValue → Type 0
+IsTextReply h text reply after = IsHeldReplyTo h (asked_of h.network text) reply after
+
 -- the reply to a line of the script, without the line feed that ends it, and the hierarchy after it
 abbrev pub IsHeldReply : HierarchyValue → List ℕ → List ℕ → HierarchyValue → Type 0
-IsHeldReply h line reply after = IsLineReply (λ held text. IsHeldReplyTo held (asked_of held.network text)) h line reply after
+IsHeldReply h line reply after = IsLineReply IsTextReply h line reply after
 
 -- one reply to each line, in order, each ended by a line feed, by the hierarchy as it is at that line; and the one after them all
 abbrev pub AreHeldReplies : HierarchyValue → List (List ℕ) → List ℕ → HierarchyValue → Type 0

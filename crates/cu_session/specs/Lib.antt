@@ -1,7 +1,10 @@
 pub mod Refusals
 pub mod Scripts
+pub mod WaitingDays
+pub mod WaitingReaches
 pub mod Questions
 pub mod Replies
+pub mod Waiting
 pub mod Held
 pub mod Sessions
 pub mod Steps

@@ -8,6 +8,8 @@ use Rattle.cu_model.specs.declared.queries.QueryRefusal.{QueryRefusal}
 use Rattle.cu_model.specs.declared.queries.QueryRefusal.TheVariants as query
 use Rattle.cu_day.specs.declared.lines.DayRefusal.{DayRefusal}
 use Rattle.cu_day.specs.declared.lines.DayRefusal.TheVariants as day
+use Rattle.cu_reach.specs.declared.lines.ManyRefusal.{ManyRefusal}
+use Rattle.cu_reach.specs.declared.lines.ManyRefusal.TheVariants as many
 use Rattle.cu_script.specs.declared.lines.EditRefusal.{EditRefusal}
 use Rattle.cu_script.specs.declared.lines.EditRefusal.TheVariants as edit
 
@@ -33,6 +35,13 @@ check_word query.Second = codes "second"
 abbrev pub day_check_word : DayRefusal → List ℕ
 day_check_word day.Line = codes "line"
 day_check_word day.Node = codes "node"
+
+-- the word of a check that a line which asks for a reach, a table or a latest departure fails
+abbrev pub many_check_word : ManyRefusal → List ℕ
+many_check_word many.Line = codes "line"
+many_check_word many.Node = codes "node"
+many_check_word many.Second = codes "second"
+many_check_word many.Limit = codes "limit"
 
 -- the words of a check that an edit line fails
 abbrev pub edit_check_words : EditRefusal → List ℕ

@@ -13,7 +13,7 @@ use Rattle.cu_session.specs.declared.stops.SessionStop.{SessionStop}
 use Rattle.cu_session.specs.declared.stops.SessionStop.TheVariants as stop
 use Rattle.cu_session.specs.Held.{AreDone, IsHeldOutput}
 use Rattle.cu_session.specs.Replies.{IsOutput}
-use Rattle.cu_session.specs.Scripts.{line_limit}
+use Rattle.cu_session.specs.Scripts.{AreReplied, IsLineReply, line_limit}
 
 -- why the answering stopped, if it did
 abbrev pub stop_of : {T : Type 0} → Result T SessionStop → Option SessionStop
@@ -76,6 +76,18 @@ pub record Leaves (script : Bool) (status : ℕ) (source_before source_now : Sou
   pub sink_quiet : status ≢ 8 → sink_now.faults ≡ sink_before.faults
   pub later : sink_before.faults ≤ sink_now.faults
   pub rises : sink_before.flushed ≤ sink_now.flushed
+
+-- The lines of a source were answered by something that they may change, of which such replies are said to the text of a line: what was
+-- taken and written; what that is behind all lines, where the source was read to its end; and what is left.
+pub record EndsLines {State : Type 0} (Replies : State → List ℕ → List ℕ → State → Type 0) (first last : State) (why : Option SessionStop)
+    (source_before source_now : SourceState) (sink_before sink_now : SinkState) : Type 0 where
+  pub taken : List ℕ
+  pub output : List ℕ
+  pub takes : Takes source_before.left source_now.left taken
+  pub appends : Appends sink_before.written sink_now.written output
+  pub answered : AnswersBy (λ lines text. (now : State) × AreReplied (IsLineReply Replies) first lines text now) why taken output
+  pub whole : why ≡ None → AreReplied (IsLineReply Replies) first (lines_of taken) output last
+  pub leaves : Leaves true (session_status why) source_before source_now sink_before sink_now
 
 -- A script was answered by the hierarchy of packed bytes: what was taken and written, by the sweeps over the hierarchy that is held at
 -- each line, and where the first one is built, by the network alone; and what is left.

@@ -8,9 +8,10 @@ ghost use Rattle.cu_session.specs.Held.{IsHeldReplyTo};
 ghost use Rattle.cu_session.specs.Questions.{asked_of};
 ghost use Rattle.cu_session.specs.Scripts.{line_limit};
 ghost use Rattle.cu_session.specs.declared.stops.SessionStop.{SessionStop};
-ghost use Rattle.cu_session.specs.Sessions.{EndsSession, session_status, stop_of};
+ghost use Rattle.cu_session.specs.Sessions.{EndsLines, EndsSession, session_status, stop_of};
 ghost use Rattle.cu_session.specs.Steps.Turns.{TakesTurn, left_to_read};
 
+use crate::answerer::LineAnswerer;
 use crate::questions::put_reply;
 use crate::stops::SessionStop;
 use cu_io::{Line, LineReader, Sink, SinkFailed, Source, end_line, put_line};
@@ -69,8 +70,22 @@ fn answer_by<S: Source, K: Sink>(
         (S.state source.new) (K.state sink.old) (K.state sink.new) }
 {
     let mut router = router;
+    answer_lines(alloc, &mut router, source, sink)
+}
+
+/// Answers the lines of the source, each before the next is read, by whatever answers one. Its room for lines is made before the
+/// first reply; where there is none nothing was taken or written.
+pub fn answer_lines<A: LineAnswerer, S: Source, K: Sink>(
+    alloc: Global,
+    answerer: &mut A,
+    source: &mut S,
+    sink: &mut K,
+) -> Result<(), SessionStop>
+    ensures ended { EndsLines A.replies answerer.old answerer.new (stop_of result)
+        (S.state source.old) (S.state source.new) (K.state sink.old) (K.state sink.new) }
+{
     let mut reader = LineReader::open(alloc, LINE_LIMIT, TAKE_LIMIT)?;
-    'lines: while answer_next(alloc, &mut router, &mut reader, source, sink)? {}
+    'lines: while answer_next(alloc, answerer, &mut reader, source, sink)? {}
     Ok(())
 }
 
@@ -96,22 +111,22 @@ pub fn session<S: Source, K: Sink>(
 }
 
 // Answers the next line of the source; false at the end of input.
-fn answer_next<S: Source, K: Sink>(
+fn answer_next<A: LineAnswerer, S: Source, K: Sink>(
     alloc: Global,
-    router: &mut Router,
+    answerer: &mut A,
     reader: &mut LineReader,
     source: &mut S,
     sink: &mut K,
 ) -> Result<bool, SessionStop>
     requires more { reader.old.over ≡ false }
     requires limit { reader.old.line_limit ≡ line_limit }
-    ensures turn { TakesTurn router.old router.new result reader.old reader.new
+    ensures turn { TakesTurn A.replies answerer.old answerer.new result reader.old reader.new
         (S.state source.old) (S.state source.new) (K.state sink.old) (K.state sink.new) }
     ensures limit { reader.new.line_limit ≡ line_limit }
     ensures falls { result ≡ Ok true → left_to_read reader.new < left_to_read reader.old }
 {
     match reader.next_line(source) {
-        Line::Text(line) => answer_line(alloc, router, line, sink)?,
+        Line::Text(line) => answerer.answer_line(alloc, line, sink)?,
         Line::Long => put_line(sink, b"refused: long")?,
         Line::End => return Ok(false),
         Line::Fault => return Err(SessionStop::Source),
@@ -120,9 +135,25 @@ fn answer_next<S: Source, K: Sink>(
     Ok(true)
 }
 
+impl LineAnswerer for Router {
+    ghost use Rattle.cu_session.specs.Held.{IsTextReply};
+
+    ghost replies = { IsTextReply };
+
+    fn answer_line<K: Sink>(
+        &mut self,
+        alloc: Global,
+        line: &[u8],
+        sink: &mut K,
+    ) -> Result<(), SinkFailed> {
+        answer_text(alloc, self, line, sink)
+    }
+}
+
 // Writes the reply to the text of a line, ends it by a line feed and flushes the sink; an edit is made before. The line
-// has at most 4,194,304 bytes. An edit alone takes memory, and where there is none it is answered so and not made.
-fn answer_line<K: Sink>(
+// has at most 4,194,304 bytes. Edits and days alone take memory; where there is none they are answered so, and nothing
+// has changed.
+fn answer_text<K: Sink>(
     alloc: Global,
     router: &mut Router,
     line: &[u8],

@@ -15,9 +15,11 @@
 //! It stands on `cu_model` and `cu_io` for lines, queries and sinks, on `cu_script` for lines of edits, on `cu_day` for lines
 //! that ask for a day and how it is written, on `cu_chordal`,
 //! `cu_interval` and `cu_pack` for the hierarchies that bytes spell, and on `cu_router` for what answers them.
-//! Private is the turn over one line. `specs/Steps` is cited by private functions alone.
+//! [`answer_lines`] answers the lines of a source by whatever answers one ([`LineAnswerer`], `EndsLines` in `specs/Sessions.antt`);
+//! a router is one such, and what else keeps a state from line to line can be another. Private is the turn over one line. `specs/Steps` is cited by private functions alone.
 #![tactic(auto)]
 
+mod answerer;
 mod answering;
 mod edit_lines;
 mod editing;
@@ -25,7 +27,8 @@ mod questions;
 mod refusals;
 mod stops;
 
-pub use answering::{answer_built, answer_script, session};
+pub use answerer::LineAnswerer;
+pub use answering::{answer_built, answer_lines, answer_script, session};
 pub use cu_router::{Router, put_dir, put_word_and_long, put_word_and_number};
 pub use editing::answer_edits;
 pub use refusals::put_piece_refusal;

@@ -1,10 +1,12 @@
 //! The words of a refusal.
 
+ghost use Rattle.std.specs.Prelude.{◌++◌, codes};
 ghost use Rattle.cu_io.specs.Sinks.{Wrote};
-ghost use Rattle.cu_session.specs.Refusals.{piece_refusal_words};
+ghost use Rattle.cu_session.specs.Refusals.{many_check_word, piece_refusal_words};
 
 use cu_io::{Sink, SinkFailed, put_all};
 use cu_model::{PieceFault, PieceRefusal};
+use cu_reach::ManyRefusal;
 use cu_router::put_word_and_number;
 
 /// Writes why the pieces of a profile are refused.
@@ -24,5 +26,21 @@ pub fn put_piece_refusal<K: Sink>(sink: &mut K, refusal: PieceRefusal) -> Result
         PieceRefusal::Fault(PieceFault::Fifo { second }) => put_word_and_number(
             sink, b"fifo ", second,
         ),
+    }
+}
+
+// Writes the reply to a line that fails a check for reaches, tables and latest departures.
+pub(crate) fn put_many_refusal<K: Sink>(
+    refusal: ManyRefusal,
+    sink: &mut K,
+) -> Result<(), SinkFailed>
+    ensures wrote { Wrote (K.state sink.old) (K.state sink.new) result
+        (codes "refused: " ++ many_check_word refusal) }
+{
+    match refusal {
+        ManyRefusal::Line => put_all(sink, b"refused: line"),
+        ManyRefusal::Node => put_all(sink, b"refused: node"),
+        ManyRefusal::Second => put_all(sink, b"refused: second"),
+        ManyRefusal::Limit => put_all(sink, b"refused: limit"),
     }
 }

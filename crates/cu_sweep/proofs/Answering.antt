@@ -3,6 +3,7 @@ use Rattle.std.proofs.Common.{◌≡◌, ◌<◌, ◌∙◌, ℕ, List, [], ◌�
 use Rattle.std.specs.Prelude.{slice_get}
 use Rattle.std.proofs.lemmas.Option.{none-some, same_Some}
 use Rattle.cu_model.specs.Days.{day}
+use Rattle.cu_model.specs.Networks.{NetworkValue}
 use Rattle.cu_model.specs.Roads.{IsWalk, drive}
 use Rattle.cu_chordal.specs.declared.graph.Ends.{Ends}
 use Rattle.cu_interval.specs.declared.ways.Dir.{Dir}
@@ -11,6 +12,7 @@ use Rattle.cu_interval.specs.declared.relaxing.Relaxed.{Relaxed}
 use Rattle.cu_interval.specs.declared.relaxing.Relaxed.TheVariants as relaxed_to
 use Rattle.cu_interval.specs.Hierarchies.{HierarchyValue, IsBuilt, IsHierarchy, start_of, end_of, graph_of}
 use Rattle.cu_interval.specs.Unpacking.{relaxed, relaxed_ends}
+use Rattle.cu_short.specs.Shortness.{NeverLong}
 use Rattle.cu_unpack.specs.Answers.{IsLowAnswer}
 use Rattle.cu_unpack.proofs.Built.{relaxed_built}
 use Rattle.cu_sweep.specs.declared.finding.Found.TheVariants.{Arrive}
@@ -19,6 +21,7 @@ use Rattle.cu_sweep.specs.Sweeps.{answered, first_long, found, found_by, long_or
 use Rattle.cu_sweep.specs.Desks.{roads_of}
 use Rattle.cu_sweep.specs.Answers.{IsAnswer, IsLeastWhereBuilt, IsReal}
 use Rattle.cu_sweep.specs.Swept.{Sweep}
+use Rattle.cu_sweep.specs.ToAll.{IsTime, reach_calls}
 use Rattle.cu_sweep.proofs.Ancestry.{own_ancestor}
 use Rattle.cu_sweep.proofs.RankWalks.{ranks_of_walk, walk_of_ranks}
 use Rattle.cu_sweep.proofs.Reaching.{IsReachedBy, sweeps_reach}
@@ -43,18 +46,21 @@ not_long h f edge dir t (Some ends) at e =
     subst (IsLowAnswer h.network h.order (start_of ends dir) (end_of ends dir) t) e
     (relaxed_built h edge dir t (relaxed h edge dir t) refl f ends at)
 
+-- in a built hierarchy no walk is too long
+pub built_never_long : (h : HierarchyValue) → IsBuilt h → NeverLong h
+built_never_long h f edge dir t = not_long h f edge dir t (slice_get h.edges edge) refl
+
 none_long_by : (r : Relaxed) (call : Call) (rest : Option Call)
     → (r ≡ relaxed_to.Long → ⊥) → rest ≡ None → long_or r call rest ≡ None
 none_long_by (relaxed_to.At s) call rest short none = none
 none_long_by relaxed_to.NoWay call rest short none = none
 none_long_by relaxed_to.Long call rest short none = absurd (short refl)
 
--- in a built hierarchy no call is answered by a walk that is too long
-none_long : (h : HierarchyValue) → IsBuilt h → (calls : List Call) → first_long h calls ≡ None
-none_long h f [] = refl
-none_long h f (call ∷ calls) =
-    let short = not_long h f call.edge call.dir call.second (slice_get h.edges call.edge) refl in
-    none_long_by (answered h call) call (first_long h calls) short (none_long h f calls)
+-- where no walk is too long, no call is answered by one
+pub none_long : (h : HierarchyValue) → NeverLong h → (calls : List Call) → first_long h calls ≡ None
+none_long h short [] = refl
+none_long h short (call ∷ calls) =
+    none_long_by (answered h call) call (first_long h calls) (short call.edge call.dir call.second) (none_long h short calls)
 
 -- the start is reached at once
 start_reached : (h : HierarchyValue) (from second : ℕ) → IsReachedBy (second_of (up_label h from second from)) second
@@ -103,11 +109,26 @@ pub label_is_least : (h : HierarchyValue) → IsBuilt h → (from to second : �
 label_is_least h built from to second a b c u v start stop =
     answer_by_label h built from to second u v (record { begins = a; ends = b; start = start; stop = stop }) c (down_label h from second to) refl
 
+time_of_answer : (g : NetworkValue) (u v t : ℕ) (o : Option Label) → IsAnswer g u v t (found_by None o) → IsTime g u v t (second_of o)
+time_of_answer g u v t None answer = answer
+time_of_answer g u v t (Some label) answer = answer
+
+-- over a built hierarchy the second of a rank's downward label is the least arrival at its node, and there is none exactly where there is no walk
+pub label_time : (h : HierarchyValue) → IsBuilt h → (from rank second : ℕ) → from < h.network.nodes → rank < h.network.nodes → second < day
+    → (u v : ℕ) → slice_get h.order.node_at from ≡ Some u → slice_get h.order.node_at rank ≡ Some v
+    → IsTime h.network u v second (second_of (down_label h from second rank))
+label_time h built from rank second a b c u v start stop =
+    time_of_answer h.network u v second (down_label h from second rank) (label_is_least h built from rank second a b c u v start stop)
+
+-- and no walk of a reach call is too long
+pub reach_short : (h : HierarchyValue) → IsBuilt h → (from second : ℕ) → first_long h (reach_calls h from second) ≡ None
+reach_short h built from second = none_long h (built_never_long h built) (reach_calls h from second)
+
 -- so a query finds the least arrival, or that there is no walk
 pub found_least : (h : HierarchyValue) → IsHierarchy h → (from to second : ℕ)
     → from < h.network.nodes → to < h.network.nodes → second < day
     → IsLeastWhereBuilt h from to second (found h from to second)
 found_least h f from to second a b c built u v start stop =
     let label = down_label h from second to in
-    subst (λ (o : Option Call). IsAnswer h.network u v second (found_by o label)) (sym (none_long h built (sweep_calls h from to second)))
+    subst (λ (o : Option Call). IsAnswer h.network u v second (found_by o label)) (sym (none_long h (built_never_long h built) (sweep_calls h from to second)))
     (label_is_least h built from to second a b c u v start stop)

@@ -1,9 +1,9 @@
 -- Each call of a sweep is over a sweep arc of its own.
 use Rattle.std.proofs.Common.{◌≡◌, ◌≢◌, ◌<◌, ◌+◌, ◌∙◌, ℕ, Bool, true, false, if◌then◌else◌, List, [], ◌∷◌, Option, Some, None, refl, sym, ap, subst, arith, inl, inr, reverse}
 use Rattle.std.specs.Prelude.{All, slice_get}
-use Rattle.std.specs.List.{AllPairs, Contains, filter_map, flat_map}
+use Rattle.std.specs.List.{AllPairs, Contains, filter_map, flat_map, range_with_len}
 use Rattle.std.proofs.lemmas.List.Elements.{All-append, All-cons, All-contains, All-nil}
-use Rattle.std.proofs.lemmas.Option.{same_Some}
+use Rattle.std.proofs.lemmas.Option.{same_Some, slice_get_within}
 use Rattle.std.proofs.lemmas.List.Kept.{AllPairs-cons}
 use Rattle.cu_chordal.specs.declared.graph.Ends.{Ends}
 use Rattle.cu_chordal.specs.Graphs.{up_of}
@@ -16,9 +16,11 @@ use Rattle.cu_interval.specs.declared.relaxing.Call.{Call}
 use Rattle.cu_interval.specs.Hierarchies.{HierarchyValue, IsHierarchy, graph_of, number_from}
 use Rattle.cu_interval.specs.LeastBounds.{least_bound}
 use Rattle.cu_interval.proofs.Lookups.{number_found}
-use Rattle.cu_sweep.specs.ArcsOnce.{IsArcCall, TakesArcsOnce}
+use Rattle.cu_sweep.specs.ArcsOnce.{IsArcCall, IsEdgeCall, IsOnceEach, TakesArcsOnce, TakesEdgesOnce}
 use Rattle.cu_sweep.specs.Labels.{call_from, down_label, up_label}
 use Rattle.cu_sweep.specs.Sweeps.{below, call_at, call_unless, down_calls, down_label_from, is_by, second_of, up_calls, up_label_from}
+use Rattle.cu_sweep.specs.ToAll.{down_calls_to_all}
+use Rattle.cu_sweep.proofs.AllRanks.{all_rise}
 use Rattle.cu_sweep.proofs.Ancestry.{ancestors_rising}
 use Rattle.cu_sweep.proofs.Behind.{reverse_first, turned_back}
 
@@ -117,7 +119,25 @@ module _ (h : HierarchyValue) (f : IsHierarchy h) (dir : Dir) where
         (over_edge x z (number_from 0 h.edges x z) (seconds x z) (reached x z) b refl is)
         (λ _ same. absurd (omega (arith, lt, same))))
 
-    -- the calls of ranks that differ, all of them ancestors of one
+    -- no two calls of ranks that differ are over the same edge
+    rows_apart : (xs : List ℕ) → AllPairs (λ x y. x ≢ y) xs → IsOnceEach (flat_map row xs)
+    rows_apart xs apart =
+        joined_pairs (λ (a b : Call). a.edge ≢ b.edge) row xs apart row_once
+        (λ x z a b ne first later.
+        let (y, up, over) = All-contains (λ (call : Call). (y : ℕ) × Contains (up_of h.edges x) y × IsOver h dir x y call) (row x) a (row_over x) first in
+        let (v, down, under) = All-contains (λ (call : Call). (y : ℕ) × Contains (up_of h.edges z) y × IsOver h dir z y call) (row z) b (row_over z) later in
+        edges_apart x y z v a b over under (λ same _. ne same))
+
+    -- and all of them are over edges that are there
+    rows_edges : (xs : List ℕ) → AllPairs (λ x y. x ≢ y) xs → TakesEdgesOnce h dir (flat_map row xs)
+    rows_edges xs apart = record {
+      edges = joined_all (IsEdgeCall h dir) row xs (λ x c. all_from_members (IsEdgeCall h dir) (row x) (λ call there_.
+          let (y, up, over) = All-contains (λ (call : Call). (y : ℕ) × Contains (up_of h.edges x) y × IsOver h dir x y call) (row x) call (row_over x) there_ in
+          (slice_get_within h.edges call.edge (record { low = x; high = y }) over.at, over.along)));
+      once = rows_apart xs apart;
+    }
+
+    -- and over sweep arcs, where all ranks are ancestors of one
     rows_once : (rank : ℕ) (xs : List ℕ) → AllPairs (λ x y. x ≢ y) xs → ((x : ℕ) → Contains xs x → Contains (ancestors_in (graph_of h) rank) x)
         → TakesArcsOnce h rank dir (flat_map row xs)
     rows_once rank xs apart above = record {
@@ -129,10 +149,7 @@ module _ (h : HierarchyValue) (f : IsHierarchy h) (dir : Dir) where
             along = over.along;
             arc = (above x c, edge_from_up_of h.edges x y up);
           }));
-      once = joined_pairs (λ (a b : Call). a.edge ≢ b.edge) row xs apart row_once (λ x z a b ne first later.
-          let (y, up, over) = All-contains (λ (call : Call). (y : ℕ) × Contains (up_of h.edges x) y × IsOver h dir x y call) (row x) a (row_over x) first in
-          let (v, down, under) = All-contains (λ (call : Call). (y : ℕ) × Contains (up_of h.edges z) y × IsOver h dir z y call) (row z) b (row_over z) later in
-          edges_apart x y z v a b over under (λ same _. ne same));
+      once = rows_apart xs apart;
     }
 
 rise_apart : (xs : List ℕ) → AllPairs (λ x y. x < y) xs → AllPairs (λ x y. x ≢ y) xs
@@ -167,3 +184,9 @@ down_once h from to second f =
     rows_once h f Down (λ x y. second_of (down_label h from second y)) (λ x y. second_of (down_label_from h from second (below y (up_of h.edges x)) x)) to
     (reverse ancestors) (turned_apart ancestors (ancestors_apart h f to))
     (λ x c. turned_back ancestors x c)
+
+pub all_once : (h : HierarchyValue) (from second : ℕ) → IsHierarchy h → TakesEdgesOnce h Down (down_calls_to_all h from second)
+all_once h from second f =
+    let ranks = range_with_len 0 h.network.nodes in
+    rows_edges h f Down (λ x y. second_of (down_label h from second y)) (λ x y. second_of (down_label_from h from second (below y (up_of h.edges x)) x))
+    (reverse ranks) (turned_apart ranks (rise_apart ranks (all_rise h.network.nodes)))

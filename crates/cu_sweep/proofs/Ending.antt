@@ -11,7 +11,7 @@ use Rattle.cu_sweep.specs.Labels.{Label, down_label}
 use Rattle.cu_sweep.specs.Sweeps.{AddsAll, down_calls, first_long, found, found_by, second_of, sweep_calls, until_long, up_calls}
 use Rattle.cu_sweep.specs.Swept.{IsReachedAs, LabelsValue, Makes, Sweep, desk_of, path_calls}
 use Rattle.cu_sweep.specs.Steps.Sweeping.{answer_by}
-use Rattle.cu_sweep.proofs.Telling.{adds_then, first_before, long_ends, until_before, until_none}
+use Rattle.cu_sweep.proofs.Telling.{makes_ends, makes_then}
 
 -- what a query has found and told
 pub record IsOver (h : HierarchyValue) (from to second : ℕ) (before now : Option (List Call)) (result : Found) : Type 0 where
@@ -29,29 +29,15 @@ module _ (h : HierarchyValue) (from to second : ℕ) (a b : Option (List Call)) 
   pub ends_up : (call : Call) (result : Found) → Makes h (up_calls h from second) a b (Some call) → result ≡ Long call.edge call.dir call.second
       → IsOver h from to second a b result
   ends_up call result up e =
-      let ends = long_ends h (up_calls h from second) (down_calls h from to second) call (sym up.ended) in
-      record {
-        found = e ∙ sym (ap (λ (o : Option Call). found_by o (down_label h from second to)) ends.0);
-        told = subst (AddsAll a b) (sym ends.1) up.told;
-      }
-
-  -- after the upward sweep's calls come those of the downward one
-  after_up : (c : Option (List Call)) (long : Option Call) → Makes h (up_calls h from second) a b None → Makes h (down_calls h from to second) b c long
-      → (first_long h (sweep_calls h from to second) ≡ long) × AddsAll a c (until_long h (sweep_calls h from to second))
-  after_up c long up down =
-      let first = up_calls h from second in
-      let last = down_calls h from to second in (
-        first_before h first last (sym up.ended) ∙ sym down.ended,
-        subst (AddsAll a c) (sym (until_before h first last (sym up.ended)))
-            (adds_then a b c first (until_long h last) (subst (AddsAll a b) (until_none h first (sym up.ended)) up.told) down.told),
-      )
+      let all = makes_ends h a b (up_calls h from second) (down_calls h from to second) call up in
+      record { found = e ∙ ap (λ (o : Option Call). found_by o (down_label h from second to)) all.ended; told = all.told }
 
   -- the downward sweep ended with such a call
   pub ends_down : (c : Option (List Call)) (call : Call) (result : Found) → Makes h (up_calls h from second) a b None
       → Makes h (down_calls h from to second) b c (Some call) → result ≡ Long call.edge call.dir call.second → IsOver h from to second a c result
   ends_down c call result up down e =
-      let (long, told) = after_up c (Some call) up down in
-      record { found = e ∙ sym (ap (λ (o : Option Call). found_by o (down_label h from second to)) long); told = told }
+      let all = makes_then h a b (up_calls h from second) (down_calls h from to second) c (Some call) up down in
+      record { found = e ∙ ap (λ (o : Option Call). found_by o (down_label h from second to)) all.ended; told = all.told }
 
   answer_label : (o : Option Label) → answer_by (second_of o) ≡ found_by None o
   answer_label None = refl
@@ -61,9 +47,9 @@ module _ (h : HierarchyValue) (from to second : ℕ) (a b : Option (List Call)) 
   pub ends_found : (c : Option (List Call)) (result : Found) → Makes h (up_calls h from second) a b None → Makes h (down_calls h from to second) b c None
       → result ≡ answer_by (second_of (down_label h from second to)) → IsOver h from to second a c result
   ends_found c result up down e =
-      let (long, told) = after_up c None up down in
+      let all = makes_then h a b (up_calls h from second) (down_calls h from to second) c None up down in
       let label = down_label h from second to in
-      record { found = e ∙ answer_label label ∙ sym (ap (λ (o : Option Call). found_by o label) long); told = told }
+      record { found = e ∙ answer_label label ∙ ap (λ (o : Option Call). found_by o label) all.ended; told = all.told }
 
 arrives_by : (long : Option Call) (o : Option Label) (label : Label) (arrival : ℕ) → Arrive arrival ≡ found_by long o → o ≡ Some label → arrival ≡ label.second
 arrives_by (Some call) o label arrival e is = absurd (cc e)

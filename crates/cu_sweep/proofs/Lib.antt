@@ -19,5 +19,14 @@ pub mod RankWalks
 pub mod Ancestry
 pub mod RealLabels
 pub mod SweptLabels
+pub mod AllRanks
 pub mod ArcsOnce
 pub mod LeftOut
+pub mod MadeLaws
+pub mod AllMade
+pub mod Chosen
+pub mod GoalLaws
+pub mod Placed
+pub mod Neighbours
+pub mod Lowering
+pub mod Ascending

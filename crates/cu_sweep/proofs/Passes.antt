@@ -9,11 +9,11 @@ use Rattle.cu_chordal.proofs.Members.{here, there, member_cases, pairs_head, pai
 use Rattle.cu_elimtree.specs.SweepArcs.{ancestors_in}
 use Rattle.cu_interval.specs.declared.relaxing.Call.{Call}
 use Rattle.cu_interval.specs.Hierarchies.{HierarchyValue, IsHierarchy, graph_of, number_from}
-use Rattle.cu_sweep.specs.Labels.{up_label}
 use Rattle.cu_sweep.specs.Places.{second_at}
-use Rattle.cu_sweep.specs.Sweeps.{AddsAll, below, call_at, call_unless, calls_up, first_long, second_of, until_long, up_calls_from}
-use Rattle.cu_sweep.specs.Swept.{IsPassed, Sweep}
-use Rattle.cu_sweep.specs.Steps.Sweeping.{IsUpSwept, up_after}
+use Rattle.cu_sweep.specs.Sweeps.{AddsAll, below, call_at, call_unless, first_long, second_of, until_long}
+use Rattle.cu_sweep.specs.Swept.{IsPassed}
+use Rattle.cu_sweep.specs.Steps.Made.{Led, call_if, made_up_after, rows_up, sweep_of, up_made, up_made_from}
+use Rattle.cu_sweep.specs.Steps.Sweeping.{IsUpSwept}
 use Rattle.cu_chordal.specs.Graphs.{up_of}
 use Rattle.cu_chordal.proofs.Tables.{edge_from_up_of}
 use Rattle.cu_interval.specs.declared.ways.Dir.TheVariants.{Up}
@@ -21,7 +21,8 @@ use Rattle.cu_sweep.proofs.Ancestry.{ancestors_upwards}
 use Rattle.cu_sweep.proofs.Behind.{filter_same}
 use Rattle.cu_unpack.proofs.Edges.{edge_range}
 use Rattle.cu_sweep.proofs.Passing.{below_before}
-use Rattle.cu_sweep.proofs.LabelLaws.{number_below, up_label-whole}
+use Rattle.cu_sweep.proofs.LabelLaws.{number_below}
+use Rattle.cu_sweep.proofs.MadeLaws.{up_made-whole}
 use Rattle.cu_sweep.proofs.Telling.{adds_then, first_before, long_ends, until_before, until_none}
 use Rattle.cu_sweep.proofs.UpRows.{up_after_none}
 
@@ -42,45 +43,44 @@ rising_behind [] x rest f z c =
 rising_behind (y ∷ before) x rest f z c = rising_behind before x rest (pairs_tail (λ a b. a < b) y (before ++ (x ∷ rest)) f) z c
 
 -- the calls from ranks that aren't below change nothing
-up_after_rest : (h : HierarchyValue) → IsHierarchy h → (q : Sweep) (before : List ℕ) (x : ℕ) (rest : List ℕ) → ((z : ℕ) → Contains rest z → x ≤ z)
-    → up_after h q (before ++ rest) x ≡ up_after h q before x
-up_after_rest h f q before x [] late = ap (λ (xs : List ℕ). up_after h q xs x) (append-nil before)
+up_after_rest : (h : HierarchyValue) → IsHierarchy h → (q : Led) (before : List ℕ) (x : ℕ) (rest : List ℕ) → ((z : ℕ) → Contains rest z → x ≤ z)
+    → made_up_after h q (before ++ rest) x ≡ made_up_after h q before x
+up_after_rest h f q before x [] late = ap (λ (xs : List ℕ). made_up_after h q xs x) (append-nil before)
 up_after_rest h f q before x (z ∷ rest) late =
     let le = late z (here z rest) in
     let none : number_from 0 h.edges z x ≡ None = elim (some_cases (number_from 0 h.edges z x)) [
       | inl e ↦ e
       | inr k ↦ let lt = number_below h f z x k.0 k.1 in absurd (omega (arith, lt, le))
     ] in
-    ap (λ (xs : List ℕ). up_after h q xs x) (sym (append_assoc before (z ∷ []) rest))
+    ap (λ (xs : List ℕ). made_up_after h q xs x) (sym (append_assoc before (z ∷ []) rest))
     ∙ up_after_rest h f q (before ++ (z ∷ [])) x rest (λ w c. late w (there z rest w c)) ∙ up_after_none h q before z x none
 
 -- a label is final after the calls from the ancestors before it
-pub up_final : (h : HierarchyValue) → IsHierarchy h → (q : Sweep) (before : List ℕ) (x : ℕ) (rest : List ℕ) → ancestors_in (graph_of h) q.from ≡ before ++ (x ∷ rest)
+pub up_final : (h : HierarchyValue) → IsHierarchy h → (q : Led) (before : List ℕ) (x : ℕ) (rest : List ℕ) → ancestors_in (graph_of h) q.from ≡ before ++ (x ∷ rest)
     → AllPairs (λ a b. a < b) (before ++ (x ∷ rest))
-    → up_after h q before x ≡ up_label h q.from q.second x
+    → made_up_after h q before x ≡ up_made h q x
 up_final h f q before x rest e rising =
-    sym (up_label-whole h f q x ∙ ap (λ (xs : List ℕ). up_after h q xs x) e ∙ up_after_rest h f q before x (x ∷ rest) (rising_behind before x rest rising))
+    sym (up_made-whole h f q x ∙ ap (λ (xs : List ℕ). made_up_after h q xs x) e ∙ up_after_rest h f q before x (x ∷ rest) (rising_behind before x rest rising))
 
 -- the calls from an ancestor, as the places of labels say them
-pub row_up_same : (h : HierarchyValue) → IsHierarchy h → (q : Sweep) (before : List ℕ) (x : ℕ) (behind : List ℕ)
+pub row_up_same : (h : HierarchyValue) → IsHierarchy h → (q : Led) (before : List ℕ) (x : ℕ) (behind : List ℕ)
     (labels : List (Option ℕ)) (links : List (Option (ℕ × ℕ))) → ancestors_in (graph_of h) q.from ≡ before ++ (x ∷ behind) → AllPairs (λ a b. a < b) (before ++ (x ∷ behind)) → IsUpSwept h q before labels links
-    → second_at labels x ≡ second_of (up_label h q.from q.second x)
-    → calls_up h x (second_at labels x) (second_at labels)
-    ≡ up_calls_from h q.from q.second x
+    → second_at labels x ≡ second_of (up_made h q x)
+    → rows_up h q.allows x (second_at labels x) (second_at labels) ≡ up_made_from h q x
 row_up_same h f q before x behind labels links e rising swept second =
-    let s = second_of (up_label h q.from q.second x) in
+    let s = second_of (up_made h q x) in
     let ancestors = ancestors_in (graph_of h) q.from in
     let lower : before ≡ below x ancestors = sym (ap (below x) e ∙ below_before before x behind rising) in
     let member : Contains ancestors x = subst (λ (xs : List ℕ). Contains xs x) (sym e) (member_inside before x behind) in
-    ap (λ (t : Option ℕ). calls_up h x t (second_at labels)) second
-    ∙ filter_same (λ y. call_unless h (second_at labels y) (call_at (number_from 0 h.edges x y) Up s))
-    (λ y. call_unless h (second_of (up_after h q (below x ancestors) y)) (call_at (number_from 0 h.edges x y) Up s)) (up_of h.edges x)
+    ap (λ (t : Option ℕ). rows_up h q.allows x t (second_at labels)) second
+    ∙ filter_same (λ y. call_unless h (second_at labels y) (call_if h (q.allows y) (call_at (number_from 0 h.edges x y) Up s)))
+    (λ y. call_unless h (second_of (made_up_after h q (below x ancestors) y)) (call_if h (q.allows y) (call_at (number_from 0 h.edges x y) Up s))) (up_of h.edges x)
     (λ y c.
     let edge = edge_from_up_of h.edges x y c in
-    let passed : IsPassed h q y = ((edge_range h f x y edge).1, inl (ancestors_upwards (graph_of h) f.graph q.from x y member edge)) in
-    let is : second_at labels y ≡ second_of (up_after h q (below x ancestors) y) =
-    (swept y passed).second ∙ ap (λ (ranks : List ℕ). second_of (up_after h q ranks y)) lower in
-    ap (λ (t : Option ℕ). call_unless h t (call_at (number_from 0 h.edges x y) Up s)) is)
+    let passed : IsPassed h (sweep_of q) y = ((edge_range h f x y edge).1, inl (ancestors_upwards (graph_of h) f.graph q.from x y member edge)) in
+    let is : second_at labels y ≡ second_of (made_up_after h q (below x ancestors) y) =
+    (swept y passed).second ∙ ap (λ (ranks : List ℕ). second_of (made_up_after h q ranks y)) lower in
+    ap (λ (t : Option ℕ). call_unless h t (call_if h (q.allows y) (call_at (number_from 0 h.edges x y) Up s))) is)
 
 -- the calls of a sweep over ranks, one rank more
 pub calls_more : (f : ℕ → List Call) (before : List ℕ) (x : ℕ) → flat_map f (before ++ (x ∷ [])) ≡ flat_map f before ++ f x

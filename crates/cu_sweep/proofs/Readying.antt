@@ -15,10 +15,9 @@ use Rattle.cu_interval.specs.declared.relaxing.Relaxed.{Relaxed}
 use Rattle.cu_interval.specs.declared.relaxing.Relaxed.TheVariants.{At, NoWay, Long}
 use Rattle.cu_interval.specs.Calls.{IfAt}
 use Rattle.cu_interval.specs.Hierarchies.{HierarchyValue}
-use Rattle.cu_interval.specs.Unpacking.{relaxed}
 use Rattle.cu_sweep.specs.Places.{second_at}
 use Rattle.cu_sweep.specs.Steps.Ready.{AreNear, IsReady, Rises, turn_of}
-use Rattle.cu_sweep.specs.Steps.Sweeping.{IfSecond, answer_at, begun_links, is_earlier, links_after, seconds_after}
+use Rattle.cu_sweep.specs.Steps.Sweeping.{IfSecond, answer_in, begun_links, is_earlier, links_after, seconds_after}
 
 -- a chain has no more steps than turns lie between its ends
 pub chain_steps : (n : ℕ) (links : List (Option (ℕ × ℕ))) → Rises n links → (first : ℕ) (steps : List (ℕ × ℕ)) (last : ℕ) → IsChain links first steps last
@@ -193,7 +192,7 @@ if_at (At arrival) at h = (at, refl, h)
 if_at NoWay at h = tt
 if_at Long at h = tt
 
-pub near_at : (h : HierarchyValue) (edge : ℕ) (dir : Dir) (o : Option ℕ) → IfSecond o (λ at. IfAt (answer_at h edge dir (Some at)) (λ (arrival : ℕ). arrival ≤ at + 2 ^ 38))
-    → IfAt (answer_at h edge dir o) (λ (arrival : ℕ). (t : ℕ) × (o ≡ Some t) × (arrival ≤ t + 2 ^ 38))
-near_at h edge dir None f = tt
-near_at h edge dir (Some at) f = if_at (relaxed h edge dir at) at f
+pub near_at : (h : HierarchyValue) (allowed : ℕ → Bool) (edge : ℕ) (dir : Dir) (o : Option ℕ) → IfSecond o (λ at. IfAt (answer_in h allowed edge dir (Some at)) (λ (arrival : ℕ). arrival ≤ at + 2 ^ 38))
+    → IfAt (answer_in h allowed edge dir o) (λ (arrival : ℕ). (t : ℕ) × (o ≡ Some t) × (arrival ≤ t + 2 ^ 38))
+near_at h allowed edge dir None f = tt
+near_at h allowed edge dir (Some at) f = if_at (answer_in h allowed edge dir (Some at)) at f

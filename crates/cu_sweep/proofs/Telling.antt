@@ -1,5 +1,5 @@
 -- Calls that are told one after another, and the first of them whose walk is too long.
-use Rattle.std.proofs.Common.{◌≡◌, ◌≤◌, ◌+◌, ◌^◌, ◌∙◌, ℕ, List, [], ◌∷◌, ◌++◌, Option, Some, None, refl, sym, ap, append_assoc}
+use Rattle.std.proofs.Common.{◌≡◌, ◌≤◌, ◌+◌, ◌^◌, ◌∙◌, ℕ, List, [], ◌∷◌, ◌++◌, Option, Some, None, refl, sym, ap, subst, append_assoc}
 use Rattle.std.proofs.lemmas.List.{append-nil}
 use Rattle.cu_interval.specs.declared.relaxing.Call.{Call}
 use Rattle.cu_interval.specs.declared.relaxing.Relaxed.{Relaxed}
@@ -7,6 +7,7 @@ use Rattle.cu_interval.specs.declared.relaxing.Relaxed.TheVariants.{At, NoWay, L
 use Rattle.cu_interval.specs.Calls.{Adds, IfAt}
 use Rattle.cu_interval.specs.Hierarchies.{HierarchyValue}
 use Rattle.cu_sweep.specs.Sweeps.{AddsAll, answered, ended_by, first_long, long_or, until_long}
+use Rattle.cu_sweep.specs.Swept.{Makes}
 
 pub adds_none : (a : Option (List Call)) → AddsAll a a []
 adds_none None = tt
@@ -66,6 +67,21 @@ pub long_ends : (h : HierarchyValue) (xs ys : List Call) (call : Call) → first
 long_ends h [] ys call e = absurd (cc e)
 long_ends h (x ∷ xs) ys call e =
     long_found (answered h x) x call (first_long h xs) (first_long h (xs ++ ys)) (until_long h xs) (until_long h (xs ++ ys)) e (λ f. long_ends h xs ys call f)
+
+module _ (h : HierarchyValue) (a b : Option (List Call)) (first last : List Call) where
+  -- calls that ended with one whose walk is too long, before others
+  pub makes_ends : (call : Call) → Makes h first a b (Some call) → Makes h (first ++ last) a b (Some call)
+  makes_ends call made =
+      let ends = long_ends h first last call (sym made.ended) in
+      record { ended = sym ends.0; told = subst (AddsAll a b) (sym ends.1) made.told }
+
+  -- calls that are all made, and others after them
+  pub makes_then : (c : Option (List Call)) (long : Option Call) → Makes h first a b None → Makes h last b c long → Makes h (first ++ last) a c long
+  makes_then c long made more = record {
+    ended = more.ended ∙ sym (first_before h first last (sym made.ended));
+    told = subst (AddsAll a c) (sym (until_before h first last (sym made.ended)))
+        (adds_then a b c first (until_long h last) (subst (AddsAll a b) (until_none h first (sym made.ended)) made.told) more.told);
+  }
 
 pub no_later : (r : Relaxed) (at : ℕ) → IfAt r (λ (arrival : ℕ). (at ≤ arrival) × (arrival ≤ at + 2 ^ 38)) → IfAt r (λ (arrival : ℕ). arrival ≤ at + 2 ^ 38)
 no_later (At arrival) at h = h.1

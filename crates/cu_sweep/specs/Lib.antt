@@ -3,6 +3,8 @@ pub mod Sweeps
 pub mod Places
 pub mod Desks
 pub mod Swept
+pub mod ToAll
 pub mod Answers
+pub mod Outlooks
 pub mod ArcsOnce
 pub mod Steps

@@ -1,17 +1,20 @@
 //! Labels of sweeps, and the links that lead to them.
 
-ghost use Rattle.std.specs.Prelude.{◌≡◌, ◌≤◌, ◌<◌, ◌+◌, ◌*◌, ◌⊎◌, ℕ, All, IfOk, None, Some, false, length};
-ghost use Rattle.std.specs.List.{AllPairs, Contains};
+ghost use Rattle.std.specs.Prelude.{◌≡◌, ◌≤◌, ◌<◌, ◌+◌, ◌*◌, ◌⊎◌, ℕ, All, IfOk, None, Some, false, length, reverse};
+ghost use Rattle.std.specs.List.{AllPairs, Contains, range_with_len};
 ghost use Rattle.cu_model.specs.declared.limits.TheConstants.{DAY, MAX_NODES};
 ghost use Rattle.cu_chordal.specs.Graphs.{HasEdge};
-ghost use Rattle.cu_elimtree.specs.SweepArcs.{parents_in};
+ghost use Rattle.cu_elimtree.specs.SweepArcs.{ancestors_in, parents_in};
 ghost use Rattle.cu_elimtree.specs.Trees.{ancestors_of};
 ghost use Rattle.cu_interval.specs.Hierarchies.{HierarchyValue, IsHierarchyOf, graph_of};
 ghost use Rattle.cu_sweep.specs.Places.{second_at};
 ghost use Rattle.cu_sweep.specs.Sweeps.{up_calls};
 ghost use Rattle.cu_sweep.specs.Swept.{IsBegun, IsSweptDown, IsSweptUp, Makes, Sweep, begun_second, path_calls};
+ghost use Rattle.cu_sweep.specs.ToAll.{AreReached, AreTimesWhereBuilt, reach_calls};
+ghost use Rattle.cu_sweep.specs.Steps.Made.{IsMadeDown, IsMadeUp, Led, down_calls_of, sweep_of, up_calls_of};
 ghost use Rattle.cu_sweep.specs.Steps.Ready.{IsReady};
 
+use crate::limits::{Always, Limits};
 use crate::over_ranks::{pass_down, pass_up};
 use cu_chordal::Chordal;
 use cu_elimtree::Tree;
@@ -118,14 +121,7 @@ impl Labels {
         ensures swept { (q : Sweep) → q.from ≡ from → IsBegun (R.hierarchy relaxer.old) q self.old
             → result ≡ None → IsSweptUp (R.hierarchy relaxer.old) q self.new }
     {
-        pass_up(
-            tree,
-            graph,
-            &mut self.seconds,
-            &mut self.chain,
-            relaxer,
-            from,
-        )
+        self.rise(tree, graph, relaxer, &Always, from)
     }
 
     /// Goes down over the path of a sweep that went up: relaxes the edges to each of its ranks, the last first, from the
@@ -156,7 +152,120 @@ impl Labels {
             → IsSweptUp (R.hierarchy relaxer.old) q self.old
             → result ≡ None → IsSweptDown (R.hierarchy relaxer.old) q self.new }
     {
-        pass_down(graph, &mut self.seconds, &mut self.chain, relaxer, path)
+        self.fall(graph, relaxer, &Always, path)
+    }
+
+    /// Reaches all ranks from one, leaving at a second of a day: both passes of a sweep, downwards over all ranks, which are
+    /// given rising. Answers the first call whose walk is too long, with which it ends; else each rank is reached as it can be,
+    /// in a built hierarchy at the least arrival over all walks to its node, and not where there is none. A call that can't make
+    /// a label earlier, by the least bound of its list, is left out. What an earlier sweep left is taken away. The tree is that of
+    /// the graph, there is room for as many nodes, and the relaxer stands for a hierarchy with this graph. Takes no memory.
+    pub fn reach_all<R: Relaxer>(
+        &mut self,
+        tree: &Tree,
+        graph: &Chordal,
+        relaxer: &mut R,
+        from: u32,
+        second: u32,
+        ranks: &[u32],
+    ) -> Option<Call>
+        requires from { from < graph.now.ranks }
+        requires second { second < DAY }
+        requires ranks { ranks.now ≡ range_with_len 0 graph.now.ranks }
+        requires tree { tree.now ≡ parents_in graph.now }
+        requires graph { IsHierarchyOf graph.now (R.hierarchy relaxer.old) }
+        requires nodes { self.old.nodes ≡ graph.now.ranks }
+        ensures nodes { self.new.nodes ≡ self.old.nodes }
+        ensures unturned { self.new.turned ≡ false }
+        ensures stays { R.hierarchy relaxer.new ≡ R.hierarchy relaxer.old }
+        ensures makes { Makes (R.hierarchy relaxer.old)
+            (reach_calls (R.hierarchy relaxer.old) from second)
+            (R.calls relaxer.old) (R.calls relaxer.new) result }
+        ensures reached { result ≡ None
+            → AreReached (R.hierarchy relaxer.old) from second self.new }
+        ensures least { AreTimesWhereBuilt (R.hierarchy relaxer.old) from second result self.new }
+    {
+        self.begin(tree, from, second, ranks);
+        if let Some(call) = self.sweep_up(tree, graph, relaxer, from) {
+            return Some(call);
+        }
+        self.sweep_down(graph, relaxer, ranks)
+    }
+}
+
+impl Labels {
+    // `sweep_up` by the calls that may be made.
+    pub(crate) fn rise<R: Relaxer, L: Limits>(
+        &mut self,
+        tree: &Tree,
+        graph: &Chordal,
+        relaxer: &mut R,
+        limits: &L,
+        from: u32,
+    ) -> Option<Call>
+        requires from { from < graph.now.ranks }
+        requires tree { tree.now ≡ parents_in graph.now }
+        requires graph { IsHierarchyOf graph.now (R.hierarchy relaxer.old) }
+        requires nodes { self.old.nodes ≡ graph.now.ranks }
+        requires unturned { self.old.turned ≡ false }
+        ensures nodes { self.new.nodes ≡ self.old.nodes }
+        ensures unturned { self.new.turned ≡ false }
+        ensures stays { R.hierarchy relaxer.new ≡ R.hierarchy relaxer.old }
+        ensures makes { (q : Led) → q.from ≡ from → q.allows ≡ L.allows limits.now
+            → IsBegun (R.hierarchy relaxer.old) (sweep_of q) self.old
+            → Makes (R.hierarchy relaxer.old) (up_calls_of (R.hierarchy relaxer.old) q
+            (ancestors_in (graph_of (R.hierarchy relaxer.old)) q.from))
+            (R.calls relaxer.old) (R.calls relaxer.new) result }
+        ensures swept { (q : Led) → q.from ≡ from → q.allows ≡ L.allows limits.now
+            → IsBegun (R.hierarchy relaxer.old) (sweep_of q) self.old
+            → result ≡ None → IsMadeUp (R.hierarchy relaxer.old) q self.new }
+    {
+        pass_up(
+            tree,
+            graph,
+            &mut self.seconds,
+            &mut self.chain,
+            relaxer,
+            limits,
+            from,
+        )
+    }
+
+    // `sweep_down` by the calls that may be made.
+    pub(crate) fn fall<R: Relaxer, L: Limits>(
+        &mut self,
+        graph: &Chordal,
+        relaxer: &mut R,
+        limits: &L,
+        path: &[u32],
+    ) -> Option<Call>
+        requires path { All (λ rank. rank < graph.now.ranks) path.now }
+        requires rising { AllPairs (λ a b. a < b) path.now }
+        requires upwards { (low high : ℕ) → Contains path.now low
+            → HasEdge graph.now.edges low high → Contains path.now high }
+        requires graph { IsHierarchyOf graph.now (R.hierarchy relaxer.old) }
+        requires nodes { self.old.nodes ≡ graph.now.ranks }
+        requires unturned { self.old.turned ≡ false }
+        ensures nodes { self.new.nodes ≡ self.old.nodes }
+        ensures unturned { self.new.turned ≡ false }
+        ensures stays { R.hierarchy relaxer.new ≡ R.hierarchy relaxer.old }
+        ensures makes { (q : Led) → q.path ≡ path.now → q.allows ≡ L.allows limits.now
+            → IsMadeUp (R.hierarchy relaxer.old) q self.old
+            → Makes (R.hierarchy relaxer.old)
+            (down_calls_of (R.hierarchy relaxer.old) q (reverse q.path))
+            (R.calls relaxer.old) (R.calls relaxer.new) result }
+        ensures swept { (q : Led) → q.path ≡ path.now → q.allows ≡ L.allows limits.now
+            → IsMadeUp (R.hierarchy relaxer.old) q self.old
+            → result ≡ None → IsMadeDown (R.hierarchy relaxer.old) q self.new }
+    {
+        pass_down(
+            graph,
+            &mut self.seconds,
+            &mut self.chain,
+            relaxer,
+            limits,
+            path,
+        )
     }
 }
 

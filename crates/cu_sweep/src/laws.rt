@@ -3,13 +3,17 @@
 ghost use Rattle.std.specs.Prelude.{ℕ};
 ghost use Rattle.cu_interval.specs.declared.ways.Dir.TheVariants.{Up, Down};
 ghost use Rattle.cu_interval.specs.Hierarchies.{HierarchyValue, IsHierarchy};
-ghost use Rattle.cu_sweep.specs.ArcsOnce.{TakesArcsOnce};
+ghost use Rattle.cu_sweep.specs.ArcsOnce.{TakesArcsOnce, TakesEdgesOnce};
 ghost use Rattle.cu_sweep.specs.Sweeps.{down_calls, up_calls};
+ghost use Rattle.cu_sweep.specs.ToAll.{down_calls_to_all};
 
-/// A law: the upward sweep takes sweep arcs of its start alone, and the downward one those of its end, each at most once.
+/// A law: the upward sweep takes sweep arcs of its start alone, and the downward one those of its end, each at most once; and
+/// the downward sweep of a reach takes edges, each at most once.
 pub fn sweeps_take_arcs_once()
     ensures up { (h : HierarchyValue) (from second : ℕ) → IsHierarchy h
         → TakesArcsOnce h from Up (up_calls h from second) }
     ensures down { (h : HierarchyValue) (from to second : ℕ) → IsHierarchy h
         → TakesArcsOnce h to Down (down_calls h from to second) }
+    ensures all { (h : HierarchyValue) (from second : ℕ) → IsHierarchy h
+        → TakesEdgesOnce h Down (down_calls_to_all h from second) }
 {}

@@ -1,4 +1,5 @@
-//! The two sweeps of a query, up from its start and down to its end, and the route of the walk that they find.
+//! The two sweeps of a query, up from its start and down to its end, and the route of the walk that they find; and the two of a
+//! reach, down to all ranks.
 //!
 //! [`query`] answers the earliest arrival by labels of both sweeps (`specs/Labels.antt`, `specs/Sweeps.antt`): in a built
 //! hierarchy the least arrival over all walks, or that there is none, and in any hierarchy that of a real walk
@@ -6,8 +7,9 @@
 //!
 //! [`Labels`] makes both sweeps step by step, the downward one over any path of ranks that has all higher neighbours of its
 //! ranks (`specs/Swept.antt`): each is then reached as its downward label says. A query goes down over the ancestors of its
-//! end. A law speaks of the definitions alone, [`sweeps_take_arcs_once`]: a sweep takes sweep arcs, each at most once
-//! (`specs/ArcsOnce.antt`).
+//! end, and [`Labels::reach_all`] over all ranks, so that each has its earliest arrival (`specs/ToAll.antt`). A law speaks of the
+//! definitions alone, [`sweeps_take_arcs_once`]: a query's sweep takes sweep arcs, and a reach's downward one any edges, each at
+//! most once (`specs/ArcsOnce.antt`).
 //!
 //! A sweep leaves out each call whose end already has a label no later than the call's second and its list's least bound:
 //! whatever the call answered, no label would be earlier, so all labels and walks are those of all calls.
@@ -17,17 +19,25 @@
 #![tactic(auto)]
 
 mod desk;
+mod driving;
 mod finding;
 mod labels;
 mod laws;
+mod leading;
+mod limits;
+mod looking;
+mod outlook;
 mod over_ranks;
 mod querying;
 mod routing;
 mod sweeping;
+mod timing;
 
 pub use desk::SweepDesk;
 pub use finding::Found;
 pub use labels::Labels;
 pub use laws::sweeps_take_arcs_once;
-pub use querying::query;
+pub use leading::led_query;
+pub use outlook::Outlook;
+pub use querying::{Question, query};
 pub use routing::route;

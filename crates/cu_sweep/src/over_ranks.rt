@@ -5,23 +5,25 @@ ghost use Rattle.std.specs.List.{AllPairs, Contains};
 ghost use Rattle.cu_chordal.specs.Graphs.{HasEdge};
 ghost use Rattle.cu_elimtree.specs.SweepArcs.{ancestors_in, parents_in};
 ghost use Rattle.cu_interval.specs.Hierarchies.{IsHierarchyOf};
-ghost use Rattle.cu_sweep.specs.Swept.{Sweep};
+ghost use Rattle.cu_sweep.specs.Steps.Made.{Led};
 ghost use Rattle.cu_sweep.specs.Steps.Ready.{IsReady};
 ghost use Rattle.cu_sweep.specs.Steps.Sweeping.{IsDownOver, IsDownSwept, IsUpOver, IsUpSwept};
 
+use crate::limits::Limits;
 use crate::sweeping::{relax_down, relax_up};
 use cu_chordal::Chordal;
 use cu_elimtree::Tree;
 use cu_interval::{Call, Relaxer};
 use cu_links::Chain;
 
-/// The upward pass over the ancestors of a rank. Answers the first call whose walk is too long, with which it ends.
-pub fn pass_up<R: Relaxer>(
+/// The upward pass over the ancestors of a rank, by the calls that may be made. Answers the first call whose walk is too long, with which it ends.
+pub fn pass_up<R: Relaxer, L: Limits>(
     tree: &Tree,
     graph: &Chordal,
     labels: &mut [Option<u64>],
     chain: &mut Chain,
     relaxer: &mut R,
+    limits: &L,
     from: u32,
 ) -> Option<Call>
     requires from { from < graph.now.ranks }
@@ -32,13 +34,13 @@ pub fn pass_up<R: Relaxer>(
     ensures ready { IsReady graph.now.ranks labels.new chain.new }
     ensures unturned { chain.new.turned ≡ false }
     ensures stays { R.hierarchy relaxer.new ≡ R.hierarchy relaxer.old }
-    ensures over { (q : Sweep) → q.from ≡ from
+    ensures over { (q : Led) → q.from ≡ from → q.allows ≡ L.allows limits.now
         → IsUpSwept (R.hierarchy relaxer.old) q [] labels.old chain.old.links
         → IsUpOver (R.hierarchy relaxer.old) q (ancestors_in graph.now from)
         (R.calls relaxer.old) (R.calls relaxer.new) labels.new chain.new.links result }
 {
     'ranks: for rank in tree.ancestors(from) {
-        let long = relax_up(graph, labels, chain, relaxer, rank);
+        let long = relax_up(graph, labels, chain, relaxer, limits, rank);
         if long.is_some() {
             return long;
         }
@@ -46,13 +48,14 @@ pub fn pass_up<R: Relaxer>(
     None
 }
 
-/// The downward pass over ranks, from the last to the first. Answers the first call whose walk is too long, with which it
+/// The downward pass over ranks, from the last to the first, by the calls that may be made. Answers the first call whose walk is too long, with which it
 /// ends.
-pub fn pass_down<R: Relaxer>(
+pub fn pass_down<R: Relaxer, L: Limits>(
     graph: &Chordal,
     labels: &mut [Option<u64>],
     chain: &mut Chain,
     relaxer: &mut R,
+    limits: &L,
     path: &[u32],
 ) -> Option<Call>
     requires path { All (λ rank. rank < graph.now.ranks) path.now }
@@ -65,7 +68,7 @@ pub fn pass_down<R: Relaxer>(
     ensures ready { IsReady graph.now.ranks labels.new chain.new }
     ensures unturned { chain.new.turned ≡ false }
     ensures stays { R.hierarchy relaxer.new ≡ R.hierarchy relaxer.old }
-    ensures over { (q : Sweep) → path.now ≡ q.path
+    ensures over { (q : Led) → path.now ≡ q.path → q.allows ≡ L.allows limits.now
         → IsDownSwept (R.hierarchy relaxer.old) q [] labels.old chain.old.links
         → IsDownOver (R.hierarchy relaxer.old) q (reverse path.now)
         (R.calls relaxer.old) (R.calls relaxer.new) labels.new chain.new.links result }
@@ -73,7 +76,7 @@ pub fn pass_down<R: Relaxer>(
     let mut left = path.len();
     'ranks: while left > 0 {
         left -= 1;
-        let long = relax_down(graph, labels, chain, relaxer, path[left]);
+        let long = relax_down(graph, labels, chain, relaxer, limits, path[left]);
         if long.is_some() {
             return long;
         }

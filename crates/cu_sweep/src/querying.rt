@@ -19,12 +19,12 @@ use cu_chordal::Chordal;
 use cu_elimtree::Tree;
 use cu_interval::{Call, Relaxer};
 
-// A query's ranks, and the second of a day at which it leaves.
+/// A query's ranks, and the second of a day at which it leaves.
 #[derive(Clone, Copy, Debug)]
-struct Question {
-    from: u32,
-    to: u32,
-    second: u32,
+pub struct Question {
+    pub from: u32,
+    pub to: u32,
+    pub second: u32,
 }
 
 /// The earliest arrival from one rank at another, by the upward sweep over the ancestors of the first and the downward sweep
@@ -121,7 +121,7 @@ fn answer_of(second: Option<u64>) -> Found
 }
 
 // Lists the ancestors of a rank, rising, and answers how many they are.
-fn climb(tree: &Tree, rank: u32, path: &mut [u32]) -> usize
+pub(crate) fn climb(tree: &Tree, rank: u32, path: &mut [u32]) -> usize
     requires rank { rank < length tree.now }
     requires places { length path.old ≡ length tree.now }
     ensures count { result ≤ length path.new }

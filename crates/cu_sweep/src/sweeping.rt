@@ -6,24 +6,35 @@ ghost use Rattle.std.specs.List.{Contains};
 ghost use Rattle.cu_chordal.specs.Graphs.{HasEdge};
 ghost use Rattle.cu_interval.specs.Calls.{IfAt};
 ghost use Rattle.cu_interval.specs.Hierarchies.{IsHierarchy, IsHierarchyOf};
-ghost use Rattle.cu_sweep.specs.Labels.{up_label};
-ghost use Rattle.cu_sweep.specs.Sweeps.{AddsAll, calls_up, first_long, is_by, until_long};
+ghost use Rattle.cu_sweep.specs.Sweeps.{AddsAll, first_long, is_by, until_long};
 ghost use Rattle.cu_sweep.specs.Places.{calls_of_some, second_at};
-ghost use Rattle.cu_sweep.specs.Swept.{IsPassed, Sweep};
+ghost use Rattle.cu_sweep.specs.Swept.{IsPassed};
+ghost use Rattle.cu_sweep.specs.Steps.Made.{Led, made_up_after, rows_up, sweep_of, up_made};
 ghost use Rattle.cu_sweep.specs.Steps.Ready.{IsReady};
-ghost use Rattle.cu_sweep.specs.Steps.Sweeping.{IfSecond, IsDownSwept, IsRankDown, IsUpSwept, answer_at, begun_links, call_into, is_earlier, links_after, long_by, seconds_after, up_after};
+ghost use Rattle.cu_sweep.specs.Steps.Sweeping.{IfSecond, IsDownSwept, IsRankDown, IsUpSwept, answer_in, begun_links, call_into, is_earlier, links_after, long_by, seconds_after};
 
+use crate::limits::Limits;
 use cu_chordal::Chordal;
 use cu_interval::{Call, Dir, Relaxed, Relaxer};
 use cu_links::Chain;
 
-// Relaxes the edges from a rank to its higher neighbours, by rising rank, but for those that can't make a label earlier.
-// Answers the first call whose walk is too long, with which it ends.
-pub(crate) fn relax_up<R: Relaxer>(
+// An edge in a direction, with the places that it leads from and into.
+#[derive(Clone, Copy, Debug)]
+struct Leg {
+    edge: u32,
+    dir: Dir,
+    from: u32,
+    into: u32,
+}
+
+// Relaxes the edges from a rank to its higher neighbours, by rising rank, but for those that may not be made or can't
+// make a label earlier. Answers the first call whose walk is too long, with which it ends.
+pub(crate) fn relax_up<R: Relaxer, L: Limits>(
     graph: &Chordal,
     labels: &mut [Option<u64>],
     chain: &mut Chain,
     relaxer: &mut R,
+    limits: &L,
     rank: u32,
 ) -> Option<Call>
     requires rank { rank < graph.now.ranks }
@@ -34,24 +45,31 @@ pub(crate) fn relax_up<R: Relaxer>(
     ensures unturned { chain.new.turned ≡ false }
     ensures stays { R.hierarchy relaxer.new ≡ R.hierarchy relaxer.old }
     ensures long { result ≡ first_long (R.hierarchy relaxer.old)
-        (calls_up (R.hierarchy relaxer.old) rank (second_at labels.old rank)
+        (rows_up (R.hierarchy relaxer.old) (L.allows limits.now) rank (second_at labels.old rank)
         (second_at labels.old)) }
     ensures told { AddsAll (R.calls relaxer.old) (R.calls relaxer.new)
         (until_long (R.hierarchy relaxer.old)
-        (calls_up (R.hierarchy relaxer.old) rank (second_at labels.old rank)
+        (rows_up (R.hierarchy relaxer.old) (L.allows limits.now) rank (second_at labels.old rank)
         (second_at labels.old))) }
-    ensures swept { (q : Sweep) (done : List ℕ)
+    ensures swept { (q : Led) (done : List ℕ)
         → IsUpSwept (R.hierarchy relaxer.old) q done labels.old chain.old.links
-        → IsPassed (R.hierarchy relaxer.old) q rank
-        → up_after (R.hierarchy relaxer.old) q done rank
-        ≡ up_label (R.hierarchy relaxer.old) q.from q.second rank
+        → IsPassed (R.hierarchy relaxer.old) (sweep_of q) rank
+        → made_up_after (R.hierarchy relaxer.old) q done rank
+        ≡ up_made (R.hierarchy relaxer.old) q rank
+        → q.allows ≡ L.allows limits.now
         → result ≡ None
         → IsUpSwept (R.hierarchy relaxer.old) q (done ++ (rank ∷ [])) labels.new chain.new.links }
 {
     let mut edge = graph.first_edge(rank);
     let highers = graph.up(rank);
     'edges: for higher in highers {
-        let long = relax_into(labels, chain, relaxer, edge, Dir::Up, rank, *higher);
+        let leg = Leg {
+            edge,
+            dir: Dir::Up,
+            from: rank,
+            into: *higher,
+        };
+        let long = relax_into(labels, chain, relaxer, limits, leg);
         if long.is_some() {
             return long;
         }
@@ -60,13 +78,15 @@ pub(crate) fn relax_up<R: Relaxer>(
     None
 }
 
-// Relaxes the edges to a rank from its higher neighbours, by rising rank, but for those that can't make its label earlier,
-// after its downward label has begun as the upward one. Answers the first call whose walk is too long, with which it ends.
-pub(crate) fn relax_down<R: Relaxer>(
+// Relaxes the edges to a rank from its higher neighbours, by rising rank, but for those that may not be made or can't make its
+// label earlier, after its downward label has begun as the upward one. Answers the first call whose walk is too long, with
+// which it ends.
+pub(crate) fn relax_down<R: Relaxer, L: Limits>(
     graph: &Chordal,
     labels: &mut [Option<u64>],
     chain: &mut Chain,
     relaxer: &mut R,
+    limits: &L,
     rank: u32,
 ) -> Option<Call>
     requires rank { rank < graph.now.ranks }
@@ -76,10 +96,11 @@ pub(crate) fn relax_down<R: Relaxer>(
     ensures ready { IsReady graph.now.ranks labels.new chain.new }
     ensures unturned { chain.new.turned ≡ false }
     ensures stays { R.hierarchy relaxer.new ≡ R.hierarchy relaxer.old }
-    ensures over { (q : Sweep) (done : List ℕ)
+    ensures over { (q : Led) (done : List ℕ)
         → IsDownSwept (R.hierarchy relaxer.old) q done labels.old chain.old.links
-        → IsPassed (R.hierarchy relaxer.old) q rank
+        → IsPassed (R.hierarchy relaxer.old) (sweep_of q) rank
         → ((y : ℕ) → HasEdge graph.now.edges rank y → Contains done y)
+        → q.allows ≡ L.allows limits.now
         → IsRankDown (R.hierarchy relaxer.old) q rank done
         (R.calls relaxer.old) (R.calls relaxer.new) labels.new chain.new.links result }
 {
@@ -88,15 +109,13 @@ pub(crate) fn relax_down<R: Relaxer>(
     let mut edge = graph.first_edge(rank);
     let highers = graph.up(rank);
     'edges: for higher in highers {
-        let long = relax_into(
-            labels,
-            chain,
-            relaxer,
+        let leg = Leg {
             edge,
-            Dir::Down,
-            nodes + *higher,
-            nodes + rank,
-        );
+            dir: Dir::Down,
+            from: nodes + *higher,
+            into: nodes + rank,
+        };
+        let long = relax_into(labels, chain, relaxer, limits, leg);
         if long.is_some() {
             return long;
         }
@@ -123,42 +142,54 @@ fn begin_down(labels: &mut [Option<u64>], chain: &mut Chain, nodes: u32, rank: u
 }
 
 // Relaxes an edge from the label of one place, and gives another place the label where that is strictly earlier. Answers the
-// call where its walk is too long. The call is left out where the other label is no later than any that it could give.
-fn relax_into<R: Relaxer>(
+// call where its walk is too long. The call is left out where it may not be made, or where the other label is no later than any
+// that it could give.
+fn relax_into<R: Relaxer, L: Limits>(
     labels: &mut [Option<u64>],
     chain: &mut Chain,
     relaxer: &mut R,
-    edge: u32,
-    dir: Dir,
-    from: u32,
-    into: u32,
+    limits: &L,
+    leg: Leg,
 ) -> Option<Call>
-    requires edge { edge < length (R.hierarchy relaxer.old).edges }
-    requires from { from < length labels.old }
-    requires into { into < length labels.old }
+    requires edge { leg.edge < length (R.hierarchy relaxer.old).edges }
+    requires from { leg.from < length labels.old }
+    requires into { leg.into < length labels.old }
     requires places { length chain.old.links ≡ length labels.old }
-    requires time { IfSecond (second_at labels.old from) (λ at. at < 2 ^ 61) }
+    requires time { IfSecond (second_at labels.old leg.from) (λ at. at < 2 ^ 61) }
     requires unturned { chain.old.turned ≡ false }
-    requires apart { IsOnChainTo chain.old.links into from → ⊥ }
+    requires apart { IsOnChainTo chain.old.links leg.into leg.from → ⊥ }
     requires sound { IsHierarchy (R.hierarchy relaxer.old) }
-    ensures labels { labels.new ≡ seconds_after labels.old into
-        (answer_at (R.hierarchy relaxer.old) edge dir (second_at labels.old from)) }
-    ensures links { chain.new.links ≡ links_after labels.old chain.old.links from edge into
-        (answer_at (R.hierarchy relaxer.old) edge dir (second_at labels.old from)) }
+    ensures labels { labels.new ≡ seconds_after labels.old leg.into
+        (answer_in (R.hierarchy relaxer.old) (L.allows limits.now leg.into) leg.edge leg.dir
+        (second_at labels.old leg.from)) }
+    ensures links { chain.new.links ≡ links_after labels.old chain.old.links leg.from leg.edge leg.into
+        (answer_in (R.hierarchy relaxer.old) (L.allows limits.now leg.into) leg.edge leg.dir
+        (second_at labels.old leg.from)) }
     ensures unturned { chain.new.turned ≡ false }
     ensures long { result ≡ first_long (R.hierarchy relaxer.old)
-        (calls_of_some (call_into (R.hierarchy relaxer.old) labels.old (Some edge) dir from into)) }
-    ensures near { IfSecond (second_at labels.old from)
-        (λ at. IfAt (answer_at (R.hierarchy relaxer.old) edge dir (Some at))
-        (λ (arrival : ℕ). arrival ≤ at + 2 ^ 38)) }
+        (calls_of_some (call_into (R.hierarchy relaxer.old) (L.allows limits.now) labels.old
+        (Some leg.edge) leg.dir leg.from leg.into)) }
+    ensures near { IfSecond (second_at labels.old leg.from)
+        (λ at. IfAt (answer_in (R.hierarchy relaxer.old) (L.allows limits.now leg.into) leg.edge
+        leg.dir (Some at)) (λ (arrival : ℕ). arrival ≤ at + 2 ^ 38)) }
     ensures stays { R.hierarchy relaxer.new ≡ R.hierarchy relaxer.old }
     ensures told { AddsAll (R.calls relaxer.old) (R.calls relaxer.new)
-        (calls_of_some (call_into (R.hierarchy relaxer.old) labels.old (Some edge) dir from into)) }
+        (calls_of_some (call_into (R.hierarchy relaxer.old) (L.allows limits.now) labels.old
+        (Some leg.edge) leg.dir leg.from leg.into)) }
 {
+    let Leg {
+        edge,
+        dir,
+        from,
+        into,
+    } = leg;
     let Some(second) = labels[from as usize] else {
         return None;
     };
     let soonest = second + relaxer.least(edge, dir);
+    if !limits.allow(into, soonest) {
+        return None;
+    }
     if is_reached_by(labels[into as usize], soonest) {
         return None;
     }

@@ -39,7 +39,7 @@ pub record IsLeastOr (f : ℕ → ℕ) (second end value : ℕ) : Type 0 where
   pub least : (t : ℕ) → second ≤ t → t < day → value ≤ f t
   pub reached : (value ≡ end) ⊎ ((t : ℕ) × (second ≤ t) × (t < day) × (f t ≡ value))
 
-tile_within : (start : ℕ) (legs : List Leg) → Tile start legs → start ≤ day
+pub tile_within : (start : ℕ) (legs : List Leg) → Tile start legs → start ≤ day
 tile_within start [] t = omega (arith, t)
 tile_within start (leg ∷ legs) (from, some, rest) = let h = tile_within leg.until legs rest in omega (arith, some, h)
 

@@ -1,6 +1,8 @@
 pub mod WaitingLaws
 pub mod LineLaws
 pub mod LegLaws
+pub mod ListingLaws
+pub mod ListedLegs
 pub mod HullLaws
 pub mod AnswerLaws
 pub mod WorkedRows

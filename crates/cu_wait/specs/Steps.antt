@@ -1,3 +1,3 @@
 pub mod HullLegs
-pub mod BoundLegs
+pub mod Listed
 pub mod ReadRows

@@ -5,9 +5,8 @@ ghost use Rattle.cu_model.specs.Profiles.{IsProfile};
 ghost use Rattle.cu_wait.specs.Converted.{IsConvertedProfile};
 ghost use Rattle.cu_wait.specs.Measured.{IsMeasured};
 
-use crate::hull::Hull;
+use crate::hull::hull_pieces;
 use crate::points::Point;
-use cu_forms::day_pieces;
 use cu_model::{NoMemory, Profile};
 use std::alloc::Global;
 
@@ -17,8 +16,7 @@ pub(crate) fn converted(alloc: Global, points: &[Point]) -> Result<Profile, NoMe
     ensures converted { IfOk result (λ profile. IsConvertedProfile points.now profile) }
     ensures valid { IfOk result (λ profile. IsProfile profile) }
 {
-    let hull = Hull::of(alloc, points)?;
-    let pieces = day_pieces(alloc, &hull)?;
+    let pieces = hull_pieces(alloc, points)?;
     match Profile::of(pieces) {
         Ok(profile) => Ok(profile),
         Err(_) => unreachable!(),

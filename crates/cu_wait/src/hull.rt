@@ -1,88 +1,62 @@
-//! The least arrivals of a measured profile from each second of the day on.
+//! The least arrivals of a measured profile from each second of the day on, in pieces.
 
-ghost use Rattle.std.specs.Prelude.{◌≡◌, ◌≤◌, ◌<◌, ◌+◌, All, IfOk, length, nat_le, true, false};
-ghost use Rattle.std.specs.List.Sorted.{IsNonDecreasingBy, IsPartitionPoint};
+ghost use Rattle.std.specs.Prelude.{◌≡◌, ◌≤◌, ◌<◌, ◌+◌, ◌^◌, ℕ, All, IfOk, OnOk, length, min};
 ghost use Rattle.cu_model.specs.Days.{day};
-ghost use Rattle.cu_model.specs.declared.limits.TheConstants.{DAY, MAX_TRAVEL};
-ghost use Rattle.cu_wait.specs.Legs.{IsLeg, Tile, arrival_in, bound_from, bounds_behind, day_least, hull_at, legs_of};
+ghost use Rattle.cu_model.specs.DayForms.{IsDayForm};
+ghost use Rattle.cu_model.specs.declared.limits.TheConstants.{MAX_TRAVEL};
+ghost use Rattle.cu_wait.specs.Legs.{IsLeg, Tile, arrival_in, bound_from, bounds_behind, hull_at, leg_least, legs_of};
 ghost use Rattle.cu_wait.specs.Measured.{IsMeasured};
-ghost use Rattle.cu_wait.specs.Steps.BoundLegs.{IsBoundLeg};
-ghost use Rattle.cu_wait.specs.declared.legs.Leg.{Leg};
+ghost use Rattle.cu_wait.specs.Steps.HullLegs.{IsHull};
+ghost use Rattle.cu_wait.specs.Steps.Listed.{IsListed};
 
 use crate::legs::Leg;
 use crate::points::{Point, legs_of};
-use cu_forms::{DayValues, Stretch};
-use cu_model::{DAY, NoMemory};
+use crate::stretches::Listing;
+use cu_model::{DAY, NoMemory, Piece};
 use std::alloc::Global;
-use std::marker::Model;
 
-// The legs of a day, and what arrives first from each of its seconds on, however long one waits.
-// Contracts see it as its legs.
-#[derive(Drop)]
-pub(crate) struct Hull {
-    legs: Vec<Leg>,
-    // The least arrival of whoever waits until behind each leg.
-    bounds: Vec<u32>,
+// The pieces of what arrives first from each second of the day on, however long one waits.
+pub(crate) fn hull_pieces(alloc: Global, points: &[Point]) -> Result<Vec<Piece>, NoMemory>
+    requires { IsMeasured points.now }
+    ensures form { IfOk result (λ pieces. IsDayForm (hull_at (legs_of points.now)) pieces.items) }
+{
+    let legs = legs_of(alloc, points)?;
+    let mut bounds = vec![in alloc; 0u32; legs.len()]?;
+    // Behind the day's last leg comes the next day, and its least arrival is the least of this one, a day later.
+    let least = set_bounds(&legs, first_arrival(&legs), &mut bounds);
+    set_bounds(&legs, DAY + least, &mut bounds);
+    list_legs(alloc, &legs, &bounds)
 }
 
-impl Model for Hull {
-    ghost use Rattle.std.specs.Prelude.{List};
-    ghost use Rattle.cu_wait.specs.declared.legs.Leg.{Leg};
-    ghost use Rattle.cu_wait.specs.Steps.HullLegs.{IsHull};
-
-    ghost Value = { List Leg };
-
-    ghost view = { λ hull. hull.legs.items };
-
-    ghost invariant = { λ hull. IsHull hull.legs.items hull.bounds.items };
+// The pieces of all legs, each with the least arrival of whoever waits until behind it.
+fn list_legs(alloc: Global, legs: &[Leg], bounds: &[u32]) -> Result<Vec<Piece>, NoMemory>
+    requires { IsHull legs.now bounds.now }
+    ensures { IfOk result (λ pieces. IsDayForm (hull_at legs.now) pieces.items) }
+{
+    let mut listing = Listing::new(alloc);
+    'legs: for (index, leg) in legs.iter().enumerate() {
+        list_leg(*leg, bounds[index], &mut listing)?;
+    }
+    listing.finish()
 }
 
-// A leg, and the least arrival behind it.
-#[derive(Clone, Copy)]
-pub(crate) struct BoundLeg {
-    pub leg: Leg,
-    pub bound: u32,
-}
-
-impl Hull {
-    // The hull of a measured profile.
-    pub fn of(alloc: Global, points: &[Point]) -> Result<Hull, NoMemory>
-        requires { IsMeasured points.now }
-        ensures legs { IfOk result (λ hull. hull ≡ legs_of points.now) }
-    {
-        let legs = legs_of(alloc, points)?;
-        let mut bounds = vec![in alloc; 0u32; legs.len()]?;
-        // Behind the day's last leg comes the next day, and its least arrival is the least of this one, a day later.
-        let least = set_bounds(&legs, first_arrival(&legs), &mut bounds);
-        set_bounds(&legs, DAY + least, &mut bounds);
-        Ok(Hull { legs, bounds })
+// Goes on with a leg, behind which waiting allows this arrival.
+fn list_leg(leg: Leg, bound: u32, listing: &mut Listing) -> Result<(), NoMemory>
+    requires leg { IsLeg leg }
+    requires bound { (leg.until ≤ bound) × (bound < 2 ^ 31) }
+    requires begun { listing.old.last.from ≤ leg.from }
+    ensures begun { OnOk result (listing.new.last.from ≤ leg.until) }
+    ensures listed { OnOk result ((f : ℕ → ℕ)
+        → ((t : ℕ) → leg.from ≤ t → t < leg.until → f t ≡ min (leg_least leg t) bound)
+        → IsListed f listing.old leg.from → IsListed f listing.new leg.until) }
+{
+    let mut second = leg.from;
+    'stretches: while second < leg.until {
+        let stretch = leg.hull_from(bound, second);
+        listing.add(second, stretch)?;
+        second = stretch.end;
     }
-
-    // The leg of a second of the day.
-    fn leg_at(&self, second: u32) -> BoundLeg
-        requires { second < DAY }
-        ensures { IsBoundLeg self.now second result }
-    {
-        let index = ended(&self.legs, second);
-        BoundLeg {
-            leg: self.legs[index],
-            bound: self.bounds[index],
-        }
-    }
-}
-
-impl DayValues for Hull {
-    ghost value = { hull_at };
-
-    fn at(&self, second: u32) -> u64 {
-        let found = self.leg_at(second);
-        u64::from(found.leg.least(second).min(found.bound))
-    }
-
-    fn stretch(&self, second: u32) -> Stretch {
-        let found = self.leg_at(second);
-        found.leg.hull_from(found.bound, second)
-    }
+    Ok(())
 }
 
 // The arrival at the day's first second.
@@ -112,16 +86,4 @@ fn set_bounds(legs: &[Leg], end: u32, bounds: &mut [u32]) -> u32
         bound = bound.min(leg.least(leg.from));
     }
     bound
-}
-
-// How many legs have ended by this second of the day.
-fn ended(legs: &[Leg], second: u32) -> usize
-    requires { IsNonDecreasingBy (λ (leg : Leg). leg.until) legs.now }
-    ensures bound { result ≤ length legs.now }
-    ensures point { IsPartitionPoint
-        (λ (leg : Leg). nat_le leg.until second ≡ true)
-        (λ (leg : Leg). nat_le leg.until second ≡ false)
-        legs.now result }
-{
-    legs.partition_point(|leg| leg.until <= second)
 }

@@ -1,14 +1,13 @@
 //! The legs of a day between the points of a measured profile.
 
 ghost use Rattle.std.specs.Prelude.{◌≡◌, ◌≤◌, ◌<◌, ◌+◌, ◌-◌, ◌*◌, ◌/◌, ◌^◌, ℕ, min, true, false};
-ghost use Rattle.cu_forms.specs.Said.{rule_said};
 ghost use Rattle.cu_model.specs.Days.{day};
-ghost use Rattle.cu_model.specs.Profiles.{rule_value};
 ghost use Rattle.cu_model.specs.declared.limits.TheConstants.{MAX_TRAVEL};
 ghost use Rattle.cu_wait.specs.Legs.{IsLeg, best_from, falls, leg_arrival, leg_least};
 ghost use Rattle.cu_wait.specs.Measured.{on_line};
+ghost use Rattle.cu_wait.specs.Steps.Listed.{course_value};
 
-use cu_forms::{DayRule, Stretch};
+use crate::stretches::{Course, Stretch};
 
 // From a second of the day until before another, the travel times go from one to another on a straight line.
 #[derive(Clone, Copy, Debug)]
@@ -85,40 +84,46 @@ impl Leg {
         if self.falls() { self.until - 1 } else { second }
     }
 
-    // The least of what arrives in the leg from one of its seconds on and of what later legs allow: by a rule that holds from
-    // this second on, and until when it does.
+    // The least of what arrives in the leg from one of its seconds on and of what later legs allow, and how it goes on from
+    // this second.
     pub fn hull_from(self, bound: u32, second: u32) -> Stretch
         requires leg { IsLeg self }
         requires within { (self.from ≤ second) × (second < self.until) }
-        requires bound { bound < 2 ^ 31 }
+        requires bound { (self.until ≤ bound) × (bound < 2 ^ 31) }
         ensures later { second < result.end }
         ensures inside { result.end ≤ self.until }
+        ensures limit { result.arrival ≤ bound }
         ensures kept { (t : ℕ) → second ≤ t → t < result.end
-            → min (leg_least self t) bound ≡ rule_value (rule_said result.rule) 0 t }
+            → min (leg_least self t) bound ≡ course_value result.course second result.arrival t }
     {
         if self.falls() {
             return Stretch {
-                rule: DayRule::Until(u64::from(self.least(second).min(bound))),
+                arrival: self.least(second).min(bound),
+                course: Course::Stays,
                 end: self.until,
             };
         }
         let travel = self.travel(second);
-        if second + travel > bound {
+        let arrival = second + travel;
+        if arrival > bound {
             return Stretch {
-                rule: DayRule::Until(u64::from(bound)),
+                arrival: bound,
+                course: Course::Stays,
                 end: self.until,
             };
         }
         if self.is_steep() {
             return Stretch {
-                rule: DayRule::Until(u64::from(second + travel)),
+                arrival,
+                course: Course::Stays,
                 end: self.arrival_end(second),
             };
         }
         let behind = second - self.from;
         let change = next_change(self.first, self.last, behind, self.until - self.from);
         Stretch {
-            rule: DayRule::Travel(u64::from(travel)),
+            arrival,
+            course: Course::Rises,
             end: (self.from + change).min(bound - travel + 1),
         }
     }

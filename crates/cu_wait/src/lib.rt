@@ -13,11 +13,13 @@ mod converting;
 mod hull;
 mod laws;
 mod legs;
+mod listing;
 mod points;
 mod progress;
 mod reader;
 mod refusals;
 mod rows;
+mod stretches;
 
 pub use laws::waiting_is_converted;
 pub use points::{Mode, Point};

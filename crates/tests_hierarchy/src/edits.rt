@@ -7,7 +7,7 @@ mod lines;
 mod marks;
 
 use cu_edits::{
-    CustomizedEdges, EditSettler, Learned, Touched, recustomize, touch, touch_over, touched_edges,
+    CustomizedEdges, EditSettler, Learned, Touched, plan, recustomize, touch, touch_over,
 };
 use cu_interval::{Dir, EdgeArcs, Entry, Hierarchy, TouchedEdge, Way, Ways};
 use cu_links::RankBuckets;
@@ -35,7 +35,7 @@ fn touches(alloc: Global, hierarchy: &Hierarchy, edit: &Edit, wanted: &[u32]) ->
     requires { IsEditInRange hierarchy.now.network edit.now }
 {
     let mut buckets = RankBuckets::new(alloc, hierarchy.nodes(), hierarchy.edges())?;
-    let touched = touched_edges(alloc, hierarchy, edit, hierarchy.graph(), &mut buckets)?;
+    let touched = plan(alloc, hierarchy, edit, hierarchy.graph(), &mut buckets)?;
     Ok(touched.as_slice() == wanted)
 }
 

@@ -43,7 +43,7 @@ fn edits<'a>(
 }
 
 // The packed file of the slower tables.
-fn built_slower(alloc: Global) -> Result<Vec<u8>, NoMemory> {
+pub fn built_slower(alloc: Global) -> Result<Vec<u8>, NoMemory> {
     let asked = Run {
         words: "build nodes roads profiles ranks out",
         profiles: SLOWER,

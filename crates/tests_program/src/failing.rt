@@ -17,6 +17,8 @@ const BUILD_BY_FILE: &str = "build nodes roads profiles ranks out";
 
 const EDIT: &str = "edit packed lines out";
 
+const DESK: &str = "desk packed out";
+
 const MIGRATE: &str = "migrate packed out";
 
 const ORDER: &str = "order nodes roads profiles out";
@@ -50,7 +52,7 @@ fn stops(alloc: Global, asked: Run<'_>, said: &[u8]) -> Result<bool, NoMemory> {
 
 #[test]
 fn loads_and_stores_that_fail_end_the_run(rt: HostRuntime) -> Result<(), Fail> {
-    let rows: [(&str, u64, &[u8]); 20] = [
+    let rows: [(&str, u64, &[u8]); 23] = [
         (SERVE, 0, b"shelf: fault nodes\n"),
         (SERVE, 1, b"shelf: fault roads\n"),
         (SERVE, 2, b"shelf: fault profiles\n"),
@@ -62,6 +64,13 @@ fn loads_and_stores_that_fail_end_the_run(rt: HostRuntime) -> Result<(), Fail> {
         (EDIT, 0, b"shelf: fault hierarchy\n"),
         (EDIT, 1, b"shelf: fault edits\n"),
         (EDIT, 2, b"done 2\nshelf: fault out\n"),
+        (DESK, 0, b"shelf: fault hierarchy\n"),
+        (DESK, 1, b"refused: line\nshelf: fault out\n"),
+        (
+            "desk packed packed",
+            1,
+            b"refused: line\nshelf: fault out\n",
+        ),
         (MIGRATE, 0, b"shelf: fault hierarchy\n"),
         (MIGRATE, 1, b"shelf: fault out\n"),
         ("verify packed", 0, b"shelf: fault hierarchy\n"),
@@ -88,12 +97,13 @@ fn loads_and_stores_that_fail_end_the_run(rt: HostRuntime) -> Result<(), Fail> {
 
 #[test]
 fn files_past_the_limit_end_the_run(rt: HostRuntime) -> Result<(), Fail> {
-    let rows: [(&str, u64, &[u8]); 7] = [
+    let rows: [(&str, u64, &[u8]); 8] = [
         (SERVE, 30, b"shelf: long nodes\n"),
         (SERVE, 45, b"shelf: long roads\n"),
         (SERVE, 46, b"shelf: long profiles\n"),
         ("ask packed", 439, b"shelf: long hierarchy\n"),
         (EDIT, 439, b"shelf: long hierarchy\n"),
+        (DESK, 439, b"shelf: long hierarchy\n"),
         (MIGRATE, 439, b"shelf: long hierarchy\n"),
         ("verify packed", 439, b"shelf: long hierarchy\n"),
     ];
@@ -202,7 +212,18 @@ fn lines_behind_a_store_that_fail_end_the_run(rt: HostRuntime) -> Result<(), Fai
         ..order
     };
     assert!(rt; leaves(rt.alloc(), migrate, 8, b"", &BUILT));
-    // Where a reply to an edit fails, nothing is stored.
+    let desk = Run {
+        words: DESK,
+        packed: &FIRST_VERSION,
+        ..order
+    };
+    assert!(rt; leaves(rt.alloc(), desk, 8, b"", &BUILT));
+    // Where a reply fails, nothing is stored.
+    let asked = Run {
+        script: "1,x\n",
+        ..desk
+    };
+    assert!(rt; says(rt.alloc(), asked, 8, b""));
     let edit = Run {
         words: EDIT,
         packed: &BUILT,

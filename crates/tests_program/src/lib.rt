@@ -13,6 +13,8 @@ mod days;
 #[cfg(test)]
 mod deep;
 #[cfg(test)]
+mod desks;
+#[cfg(test)]
 mod editing;
 #[cfg(test)]
 mod edits;
@@ -22,6 +24,8 @@ mod failing;
 mod migrating;
 #[cfg(test)]
 mod packed;
+#[cfg(test)]
+mod reaches;
 #[cfg(test)]
 mod runs;
 #[cfg(test)]
@@ -36,3 +40,5 @@ mod talk;
 mod trials;
 #[cfg(test)]
 mod verifying;
+#[cfg(test)]
+mod waiting;

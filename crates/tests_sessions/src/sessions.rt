@@ -37,15 +37,34 @@ fn sessions_are_answered(rt: HostRuntime) -> Result<(), Fail> {
     Ok(())
 }
 
+// Days leave the functions that they learned to those behind them and to edits. Those that an edit moves are learned anew: the days
+// behind it are those of a fresh process over the edited file.
+#[test]
+fn days_behind_an_edit_are_those_of_a_fresh_process(rt: HostRuntime) -> Result<(), Fail> {
+    let alloc = rt.alloc();
+    let days = "d,0,2\nd,0,1\nd,1,2\nd,2,0\nd,0,2\n";
+    let edit = "s,0,0,travel,200\n";
+    let lines = "d,0,2\nd,0,1\nd,1,2\ns,0,0,travel,200\nd,0,2\nd,0,1\nd,1,2\nd,2,0\nd,0,2\n";
+    let (status, said) = answer(alloc, &packed(alloc, RUSH_HOUR)?, lines)?;
+    let router = Router::new(alloc, packed(alloc, RUSH_HOUR)?)?;
+    let (done, after) = edited(alloc, router, edit)?;
+    let (fresh_status, fresh) = answer(alloc, &after, days)?;
+    assert_eq!(rt; done.as_slice(), b"done 2\n".as_slice());
+    assert!(rt; said.ends_with(&fresh));
+    assert!(rt; fresh.starts_with(b"day 0,travel,250\nday 0,travel,200\n"));
+    assert_eq!(rt; (status, fresh_status), (0, 0));
+    Ok(())
+}
+
 #[test]
 fn edits_are_made(rt: HostRuntime) -> Result<(), Fail> {
     let alloc = rt.alloc();
     let router = Router::new(alloc, packed(alloc, RUSH_HOUR)?)?;
-    let text = "s,0,0,travel,200\nq,0,2,0\r\nd,0,2\ns,0,0,travel,60";
+    let text = "s,0,0,travel,200\nq,0,2,0\r\nd,0,2\nr,0,0\nt,0,0\nl,0,2,160\ns,0,0,travel,60";
     let (said, bytes) = edited(alloc, router, text)?;
     assert_eq!(rt;
         said.as_slice(),
-        b"done 2\nrefused: line\nrefused: line\ndone 2\n".as_slice()
+        b"done 2\nrefused: line\nrefused: line\nrefused: line\nrefused: line\nrefused: line\ndone 2\n".as_slice()
     );
     assert_eq!(rt; bytes.as_slice(), BUILT.as_slice());
     Ok(())

@@ -1,5 +1,5 @@
 -- Lists that are taken in turn, by rising number.
-use Rattle.std.specs.Prelude.{ℕ, List, Option, Some, None, ◌≡◌, ◌<◌, length, slice_get, slice_index}
+use Rattle.std.specs.Prelude.{ℕ, List, Option, Some, None, ◌≡◌, ◌≤◌, ◌<◌, length, slice_get, slice_index}
 use Rattle.cu_model.specs.Networks.{NetworkValue}
 use Rattle.cu_model.specs.Roads.{pieces_of}
 use Rattle.cu_chordal.specs.declared.graph.Ends.{Ends}
@@ -14,6 +14,11 @@ use Rattle.cu_bounds.specs.KeptBounds.{AreRightBelow, IsWrongBound}
 abbrev pub IsWayOf : HierarchyValue → Shortcut → Way → Type 0
 IsWayOf h shortcut way =
     (ends : Ends) × (slice_get h.edges shortcut.edge ≡ Some ends) × IsWellFormed h (start_of ends shortcut.dir) (end_of ends shortcut.dir) way
+
+-- a finder of halves knows a hierarchy, and has come no further than to an edge
+pub record IsFinderUpTo (h : HierarchyValue) (edge : ℕ) (known : HierarchyValue) (reached : ℕ) : Type 0 where
+  pub same : known ≡ h
+  pub turn : reached ≤ edge
 
 -- the least travel of each profile is told
 pub record TellsTravels (g : NetworkValue) (profiles : ℕ) (least : ℕ → ℕ) : Type 0 where

@@ -5,6 +5,7 @@ use Rattle.cu_cli.specs.declared.commands.Command.{Command}
 use Rattle.cu_cli.specs.declared.commands.Command.TheVariants as command
 use Rattle.cu_cli.specs.declared.commands.ask.AskWords.{AskWords}
 use Rattle.cu_cli.specs.declared.commands.build.BuildWords.{BuildWords}
+use Rattle.cu_cli.specs.declared.commands.desk.DeskWords.{DeskWords}
 use Rattle.cu_cli.specs.declared.commands.edit.EditWords.{EditWords}
 use Rattle.cu_cli.specs.declared.commands.make.MakeWords.{MakeWords}
 use Rattle.cu_cli.specs.declared.commands.measure.MeasureWords.{MeasureWords}
@@ -13,6 +14,7 @@ use Rattle.cu_cli.specs.declared.commands.order.OrderWords.{OrderWords}
 use Rattle.cu_cli.specs.declared.commands.serve.ServeWords.{ServeWords}
 use Rattle.cu_cli.specs.declared.commands.trial.turns.TrialWords.{TrialWords}
 use Rattle.cu_cli.specs.declared.commands.verify.VerifyWords.{VerifyWords}
+use Rattle.cu_cli.specs.declared.commands.wait.WaitWords.{WaitWords}
 use Rattle.cu_cli.specs.declared.stops.Stop.{Stop}
 use Rattle.cu_cli.specs.declared.words.grid.GridWords.{GridWords}
 use Rattle.cu_cli.specs.declared.words.OrderWord.{OrderWord}
@@ -20,6 +22,7 @@ use Rattle.cu_cli.specs.declared.words.OrderWord.TheVariants as word
 use Rattle.cu_cli.specs.declared.words.TableNames.{TableNames}
 use Rattle.cu_cli.specs.Commands.Ask.{asking}
 use Rattle.cu_cli.specs.Commands.Build.{building}
+use Rattle.cu_cli.specs.Commands.Desk.{serving_desk}
 use Rattle.cu_cli.specs.Commands.Edit.{editing}
 use Rattle.cu_cli.specs.Commands.Make.{making}
 use Rattle.cu_cli.specs.Commands.Measure.{measuring}
@@ -28,6 +31,7 @@ use Rattle.cu_cli.specs.Commands.Order.{ordering}
 use Rattle.cu_cli.specs.Commands.Serve.{serving}
 use Rattle.cu_cli.specs.Commands.Trial.{trying}
 use Rattle.cu_cli.specs.Commands.Verify.{verifying}
+use Rattle.cu_cli.specs.Commands.Wait.{waiting}
 use Rattle.cu_cli.specs.Endings.{Ending}
 use Rattle.cu_cli.specs.Meanings.{Meaning, no_command}
 use Rattle.cu_cli.specs.Words.{OrderAsked, Identity, Dissected, Named, GridAsked, TablesAsked}
@@ -47,6 +51,9 @@ grid_asked grid = record { start = grid.start; width = grid.width; height = grid
 abbrev pub serve_asked : ServeWords → Meaning
 serve_asked asked = serving (tables_asked asked.tables) (order_asked asked.order)
 
+abbrev pub wait_asked : WaitWords → Meaning
+wait_asked asked = waiting (tables_asked asked.tables) (order_asked asked.order)
+
 abbrev pub order_words_asked : OrderWords → Meaning
 order_words_asked asked = ordering (tables_asked asked.tables) asked.out.now
 
@@ -58,6 +65,9 @@ build_asked asked = building (tables_asked asked.tables) (order_asked asked.orde
 
 abbrev pub ask_asked : AskWords → Meaning
 ask_asked asked = asking asked.hierarchy.now
+
+abbrev pub desk_asked : DeskWords → Meaning
+desk_asked asked = serving_desk asked.hierarchy.now asked.out.now
 
 abbrev pub edit_asked : EditWords → Meaning
 edit_asked asked = editing asked.hierarchy.now asked.edits.now asked.out.now
@@ -77,10 +87,12 @@ trial_asked asked = trying (grid_asked asked.grid) asked.turns
 -- what the command that the program takes its words for means
 abbrev pub command_asked : Command → Meaning
 command_asked (command.Serve asked) = serve_asked asked
+command_asked (command.Wait asked) = wait_asked asked
 command_asked (command.Order asked) = order_words_asked asked
 command_asked (command.Make asked) = make_asked asked
 command_asked (command.Build asked) = build_asked asked
 command_asked (command.Ask asked) = ask_asked asked
+command_asked (command.Desk asked) = desk_asked asked
 command_asked (command.Edit asked) = edit_asked asked
 command_asked (command.Verify asked) = verify_asked asked
 command_asked (command.Measure asked) = measure_asked asked

@@ -9,13 +9,14 @@ ghost use Rattle.cu_pack.specs.Steps.Fronts.{PassesIn};
 
 use crate::bounds_in_file::BoundsInFile;
 use crate::cutting::Sections;
+use crate::halving::HalvesInFile;
 use crate::ways_in_file::WaysInFile;
-use cu_bounds::first_wrong_bound;
+use cu_bounds::first_wrong_bound_by;
 use cu_interval::Shortcut;
 use cu_model::NoMemory;
 use std::alloc::Global;
 
-/// The least list whose kept number isn't its least bound.
+/// The least list whose kept number isn't its least bound. Takes 4 bytes for each node and each profile.
 pub fn wrong_bound(alloc: Global, sections: &Sections<'_>) -> Result<Option<Shortcut>, NoMemory>
     requires passes { PassesIn 2 sections.now }
     ensures first { IfOk result (λ found. FindsFirst (IsWrongBound sections.now)
@@ -23,5 +24,6 @@ pub fn wrong_bound(alloc: Global, sections: &Sections<'_>) -> Result<Option<Shor
 {
     let ways = WaysInFile::of(sections);
     let kept = BoundsInFile::of(sections);
-    first_wrong_bound(alloc, &ways, &kept)
+    let mut finder = HalvesInFile::of(alloc, sections)?;
+    first_wrong_bound_by(alloc, &ways, &kept, &mut finder)
 }

@@ -5,6 +5,7 @@ use Rattle.cu_interval.specs.EdgeArcs.{AreEdgeArcs}
 use Rattle.cu_interval.specs.Hierarchies.{HierarchyValue}
 use Rattle.cu_recall.specs.Rooms.{RoomValue}
 use Rattle.cu_sweep.specs.Desks.{DeskValue}
+use Rattle.cu_sweep.specs.Outlooks.{OutlookValue}
 use Rattle.cu_router.specs.declared.edit_room.EditRoom.{EditRoom}
 
 -- what queries keep, while none is answered
@@ -13,9 +14,10 @@ kept_in None = record { nodes = 0; rows = [] }
 kept_in (Some room) = room
 
 -- room for queries, all of it for as many nodes
-pub record IsWholeRoom (queries : DeskValue) (known : Option RoomValue) (walks : Option ℕ) : Type 0 where
+pub record IsWholeRoom (queries : DeskValue) (ahead : OutlookValue) (known : Option RoomValue) (walks : Option ℕ) : Type 0 where
   pub there : IsSome known
   pub desk : queries.nodes ≡ (kept_in known).nodes
+  pub outlook : ahead.nodes ≡ (kept_in known).nodes
   pub work : walks ≡ Some (kept_in known).nodes
 
 -- room for edits fits a hierarchy: the roads of each edge, buckets for its ranks and edges, and functions of its lists, if any are known

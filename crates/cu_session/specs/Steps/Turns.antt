@@ -1,5 +1,5 @@
 -- A script that is being answered.
-use Rattle.std.specs.Prelude.{ℕ, List, [], ◌++◌, ◌+◌, ◌<◌, IfSome, ◌-◌, ◌≡◌, ◌≤◌, Bool, true, false, Option, Some, None, Result, Ok, Err, length}
+use Rattle.std.specs.Prelude.{ℕ, List, [], ◌++◌, ◌+◌, ◌<◌, IfSome, ◌-◌, ◌≡◌, ◌≤◌, Bool, true, false, Some, None, Result, Ok, Err, length}
 use Rattle.cu_io.specs.LineReading.{ReaderState}
 use Rattle.cu_io.specs.Lines.{lines_of}
 use Rattle.cu_io.specs.Steps.Cuts.{IsCut}
@@ -10,13 +10,13 @@ use Rattle.cu_io.specs.Transfers.{Appends, Takes}
 use Rattle.cu_interval.specs.Hierarchies.{HierarchyValue}
 use Rattle.cu_session.specs.declared.stops.SessionStop.{SessionStop}
 use Rattle.cu_session.specs.declared.stops.SessionStop.TheVariants as stop
-use Rattle.cu_session.specs.Held.{AreDone, AreHeldReplies}
-use Rattle.cu_session.specs.Scripts.{line_limit}
-use Rattle.cu_session.specs.Sessions.{EndsSession, IsFlushed, line_bytes, take_limit}
+use Rattle.cu_session.specs.Held.{AreDone}
+use Rattle.cu_session.specs.Scripts.{AreReplied, IsLineReply, line_limit}
+use Rattle.cu_session.specs.Sessions.{EndsLines, IsFlushed, line_bytes, take_limit}
 
--- The bytes taken so far are the lines that were answered, by which the first hierarchy became the one held now, and what the
--- reader holds.
-pub record Session (h held : HierarchyValue) (source_before : SourceState) (sink_before : SinkState) (reader : ReaderState) (source : SourceState) (sink : SinkState) : Type 0 where
+-- The bytes taken so far are the lines that were answered, by which the first state became the one now, and what the reader holds.
+pub record Session {State : Type 0} (Replies : State → List ℕ → List ℕ → State → Type 0) (first held : State) (source_before : SourceState) (sink_before : SinkState)
+    (reader : ReaderState) (source : SourceState) (sink : SinkState) : Type 0 where
   pub taken : List ℕ
   pub lines : List (List ℕ)
   pub output : List ℕ
@@ -29,24 +29,27 @@ pub record Session (h held : HierarchyValue) (source_before : SourceState) (sink
   pub within : reader.taken ≤ take_limit
   pub line_limit : reader.line_limit ≡ line_limit
   pub take_limit : reader.take_limit ≡ take_limit
-  pub replies : AreHeldReplies h lines output held
+  pub replies : AreReplied (IsLineReply Replies) first lines output held
   pub appends : Appends sink_before.written sink.written output
   pub flushed : IsFlushed sink_before sink
   pub source_quiet : source.faults ≡ source_before.faults
   pub sink_quiet : sink.faults ≡ sink_before.faults
   pub rises : sink_before.flushed ≤ sink.flushed
 
--- what one turn makes of a script: it goes on over this hierarchy, or the answering ended
-abbrev pub Turned : HierarchyValue → HierarchyValue → Result Bool SessionStop → SourceState → SinkState → ReaderState → SourceState → SinkState → Type 0
-Turned h held (Ok true) source_before sink_before reader source sink = Session h held source_before sink_before reader source sink × (reader.over ≡ false)
-Turned h held (Ok false) source_before sink_before reader source sink = EndsSession h None source_before source sink_before sink
-Turned h held (Err why) source_before sink_before reader source sink = EndsSession h (Some why) source_before source sink_before sink
+-- what one turn makes of a script: it goes on from this state, or the answering ended
+abbrev pub Turned : {State : Type 0} → (State → List ℕ → List ℕ → State → Type 0) → State → State → Result Bool SessionStop
+    → SourceState → SinkState → ReaderState → SourceState → SinkState → Type 0
+Turned Replies first held (Ok true) source_before sink_before reader source sink =
+    Session Replies first held source_before sink_before reader source sink × (reader.over ≡ false)
+Turned Replies first held (Ok false) source_before sink_before reader source sink = EndsLines Replies first held None source_before source sink_before sink
+Turned Replies first held (Err why) source_before sink_before reader source sink = EndsLines Replies first held (Some why) source_before source sink_before sink
 
--- one turn, before which this hierarchy was held and after which that one is
-abbrev pub TakesTurn : HierarchyValue → HierarchyValue → Result Bool SessionStop → ReaderState → ReaderState → SourceState → SourceState → SinkState → SinkState → Type 0
-TakesTurn held next result reader after source left sink now =
-    (h : HierarchyValue) (source_before : SourceState) (sink_before : SinkState) → Session h held source_before sink_before reader source sink
-    → Turned h next result source_before sink_before after left now
+-- one turn, from this state to that one
+abbrev pub TakesTurn : {State : Type 0} → (State → List ℕ → List ℕ → State → Type 0) → State → State → Result Bool SessionStop
+    → ReaderState → ReaderState → SourceState → SourceState → SinkState → SinkState → Type 0
+TakesTurn {State} Replies held next result reader after source left sink now =
+    (first : State) (source_before : SourceState) (sink_before : SinkState) → Session Replies first held source_before sink_before reader source sink
+    → Turned Replies first next result source_before sink_before after left now
 
 -- how many bytes are left to be handed out, at most
 abbrev pub left_to_read : ReaderState → ℕ

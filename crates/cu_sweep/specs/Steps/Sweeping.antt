@@ -1,7 +1,6 @@
 -- What the sweeps leave in the places of the ranks that they pass, call by call.
-use Rattle.std.specs.Prelude.{ℕ, Bool, List, [], ◌∷◌, ◌++◌, Option, Some, None, ◌≡◌, ◌+◌, nat_lt, if◌then◌else◌, true, flat_map, slice_set}
+use Rattle.std.specs.Prelude.{ℕ, Bool, List, [], ◌∷◌, ◌++◌, Option, Some, None, ◌≡◌, ◌+◌, nat_lt, if◌then◌else◌, true, slice_set}
 use Rattle.std.specs.List.{Contains}
-use Rattle.cu_chordal.specs.Graphs.{up_of}
 use Rattle.cu_interval.specs.declared.ways.Dir.{Dir}
 use Rattle.cu_interval.specs.declared.ways.Dir.TheVariants.{Up, Down}
 use Rattle.cu_interval.specs.declared.relaxing.Call.{Call}
@@ -11,15 +10,17 @@ use Rattle.cu_interval.specs.Hierarchies.{HierarchyValue, number_from}
 use Rattle.cu_interval.specs.Unpacking.{relaxed}
 use Rattle.cu_sweep.specs.declared.finding.Found.{Found}
 use Rattle.cu_sweep.specs.declared.finding.Found.TheVariants.{Arrive, NoWalk}
+use Rattle.cu_interval.specs.LeastBounds.{least_bound}
 use Rattle.cu_sweep.specs.Labels.{Label, down_label, label_over, up_label}
-use Rattle.cu_sweep.specs.Sweeps.{AddsAll, below, call_at, call_unless, down_calls_to, down_label_from, first_long, second_of, until_long, up_calls_from, up_label_from}
+use Rattle.cu_sweep.specs.Sweeps.{AddsAll, call_at, call_unless, down_label_from, first_long, until_long, up_label_from}
 use Rattle.cu_sweep.specs.Places.{second_at}
-use Rattle.cu_sweep.specs.Swept.{Holds, IsPassed, Sweep}
+use Rattle.cu_sweep.specs.Swept.{IsPassed, Sweep}
+use Rattle.cu_sweep.specs.Steps.Made.{HoldsMade, Led, call_if, down_calls_of, down_made, down_made_to, made_up_after, sweep_of, up_calls_of, up_made}
 
--- what a call answers at a second, where there is one
-abbrev pub answer_at : HierarchyValue → ℕ → Dir → Option ℕ → Relaxed
-answer_at h edge dir None = NoWay
-answer_at h edge dir (Some second) = relaxed h edge dir second
+-- what a call answers at a second, where there is one and the call may be made
+abbrev pub answer_in : HierarchyValue → (ℕ → Bool) → ℕ → Dir → Option ℕ → Relaxed
+answer_in h allowed edge dir None = NoWay
+answer_in h allowed edge dir (Some second) = if allowed (second + least_bound h edge dir) then relaxed h edge dir second else NoWay
 
 -- an arrival is earlier than a second, or there is none
 abbrev pub is_earlier : ℕ → Option ℕ → Bool
@@ -41,9 +42,9 @@ long_by (At arrival) call = None
 long_by NoWay call = None
 long_by Long call = call
 
--- the call over an edge from one place to another, unless it can't make the other's label earlier
-abbrev pub call_into : HierarchyValue → List (Option ℕ) → Option ℕ → Dir → ℕ → ℕ → Option Call
-call_into h labels edge dir from into = call_unless h (second_at labels into) (call_at edge dir (second_at labels from))
+-- the call over an edge from one place to another that may be made, unless it can't make the other's label earlier
+abbrev pub call_into : HierarchyValue → (ℕ → ℕ → Bool) → List (Option ℕ) → Option ℕ → Dir → ℕ → ℕ → Option Call
+call_into h allows labels edge dir from into = call_unless h (second_at labels into) (call_if h (allows into) (call_at edge dir (second_at labels from)))
 
 abbrev pub IfSecond : Option ℕ → (ℕ → Type 0) → Type 0
 IfSecond None Fact = Unit {0}
@@ -58,8 +59,8 @@ abbrev pub up_after : HierarchyValue → Sweep → List ℕ → ℕ → Option L
 up_after h q done y = up_label_from h q.from q.second done y
 
 -- each rank that the query passes has its upward label after the calls from these ranks
-abbrev pub IsUpSwept : HierarchyValue → Sweep → List ℕ → List (Option ℕ) → List (Option (ℕ × ℕ)) → Type 0
-IsUpSwept h q done labels links = (y : ℕ) → IsPassed h q y → Holds h q labels links y (up_after h q done y)
+abbrev pub IsUpSwept : HierarchyValue → Led → List ℕ → List (Option ℕ) → List (Option (ℕ × ℕ)) → Type 0
+IsUpSwept h q done labels links = (y : ℕ) → IsPassed h (sweep_of q) y → HoldsMade h q labels links y (made_up_after h q done y)
 
 -- the label that a higher rank gives another downwards
 abbrev pub down_into : HierarchyValue → Sweep → ℕ → ℕ → Option Label
@@ -69,43 +70,31 @@ down_into h q x y = label_over h (number_from 0 h.edges x y) Down (down_label h 
 abbrev pub down_after : HierarchyValue → Sweep → List ℕ → ℕ → Option Label
 down_after h q part x = down_label_from h q.from q.second part x
 
--- the call to a rank from a higher neighbour over an edge, after those from the neighbours below that one
-abbrev pub down_call : HierarchyValue → Sweep → ℕ → ℕ → Option ℕ → Option Call
-down_call h q x y edge = call_unless h (second_of (down_after h q (below y (up_of h.edges x)) x)) (call_at edge Down (second_of (down_label h q.from q.second y)))
-
 -- the upward labels are final, and so are the downward labels of these ranks
-pub record IsDownSwept (h : HierarchyValue) (q : Sweep) (done : List ℕ) (labels : List (Option ℕ)) (links : List (Option (ℕ × ℕ))) : Type 0 where
-  pub up : (y : ℕ) → IsPassed h q y → Holds h q labels links y (up_label h q.from q.second y)
-  pub down : (x : ℕ) → Contains done x → Holds h q labels links (h.network.nodes + x) (down_label h q.from q.second x)
+pub record IsDownSwept (h : HierarchyValue) (q : Led) (done : List ℕ) (labels : List (Option ℕ)) (links : List (Option (ℕ × ℕ))) : Type 0 where
+  pub up : (y : ℕ) → IsPassed h (sweep_of q) y → HoldsMade h q labels links y (up_made h q y)
+  pub down : (x : ℕ) → Contains done x → HoldsMade h q labels links (h.network.nodes + x) (down_made h q x)
 
 -- a downward label that begins as the upward one is linked from it, where there is one
 abbrev pub begun_links : List (Option (ℕ × ℕ)) → ℕ → ℕ → Option ℕ → List (Option (ℕ × ℕ))
 begun_links links from into None = links
 begun_links links from into (Some second) = slice_set links into (Some (from, 0))
 
--- the calls upwards from these ranks
-abbrev pub up_calls_of : HierarchyValue → Sweep → List ℕ → List Call
-up_calls_of h q ranks = flat_map (up_calls_from h q.from q.second) ranks
-
--- the calls downwards to these ranks
-abbrev pub down_calls_of : HierarchyValue → Sweep → List ℕ → List Call
-down_calls_of h q ranks = flat_map (down_calls_to h q.from q.second) ranks
-
 -- the calls to a rank are made, or ended with one whose walk is too long
-pub record IsRankDown (h : HierarchyValue) (q : Sweep) (x : ℕ) (done : List ℕ) (before now : Option (List Call)) (labels : List (Option ℕ))
+pub record IsRankDown (h : HierarchyValue) (q : Led) (x : ℕ) (done : List ℕ) (before now : Option (List Call)) (labels : List (Option ℕ))
     (links : List (Option (ℕ × ℕ))) (long : Option Call) : Type 0 where
-  pub ended : long ≡ first_long h (down_calls_to h q.from q.second x)
-  pub told : AddsAll before now (until_long h (down_calls_to h q.from q.second x))
+  pub ended : long ≡ first_long h (down_made_to h q x)
+  pub told : AddsAll before now (until_long h (down_made_to h q x))
   pub swept : long ≡ None → IsDownSwept h q (done ++ (x ∷ [])) labels links
 
 -- the upward sweep over these ranks is done, or ended with a call whose walk is too long
-pub record IsUpOver (h : HierarchyValue) (q : Sweep) (done : List ℕ) (before now : Option (List Call)) (labels : List (Option ℕ)) (links : List (Option (ℕ × ℕ))) (long : Option Call) : Type 0 where
+pub record IsUpOver (h : HierarchyValue) (q : Led) (done : List ℕ) (before now : Option (List Call)) (labels : List (Option ℕ)) (links : List (Option (ℕ × ℕ))) (long : Option Call) : Type 0 where
   pub ended : long ≡ first_long h (up_calls_of h q done)
   pub told : AddsAll before now (until_long h (up_calls_of h q done))
   pub swept : long ≡ None → IsUpSwept h q done labels links
 
 -- the downward sweep over these ranks is done, or ended with a call whose walk is too long
-pub record IsDownOver (h : HierarchyValue) (q : Sweep) (done : List ℕ) (before now : Option (List Call)) (labels : List (Option ℕ))
+pub record IsDownOver (h : HierarchyValue) (q : Led) (done : List ℕ) (before now : Option (List Call)) (labels : List (Option ℕ))
     (links : List (Option (ℕ × ℕ))) (long : Option Call) : Type 0 where
   pub ended : long ≡ first_long h (down_calls_of h q done)
   pub told : AddsAll before now (until_long h (down_calls_of h q done))

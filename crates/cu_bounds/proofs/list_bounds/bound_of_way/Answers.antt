@@ -20,31 +20,36 @@ both_kept h f kept whole right way m is there first second halves =
     let both = kept_halves h f kept whole right m first second halves by by.0 by.1 in
     (bound_from h (start_of by.0 whole.dir) m, bound_from h m (end_of by.0 whole.dir), both.0, both.1)
 
+-- halves of a hierarchy are those of the same one
+halves_of : (known h : HierarchyValue) (whole : Shortcut) (m : ℕ) (first second : Shortcut) → known ≡ h → AreHalves known whole m first second
+    → AreHalves h whole m first second
+halves_of known h whole m first second same halves = subst (λ (k : HierarchyValue). AreHalves k whole m first second) same halves
+
 pub overflow_cast-list : goal.overflow_cast-list
 overflow_cast-list g c =
     let both = both_kept (g.W.Ways.hierarchy c.args.ways.now) c.requires.sound (g.K.KeptBounds.kept c.args.kept.now) c.args.shortcut c.requires.right
-    c.args.way c.in-Via.middle c.in-Via.is c.requires.way c.halves.result.0 c.halves.result.1 c.halves.ensures.halves in
+    c.args.way c.in-Via.middle c.in-Via.is c.requires.way c.halves.result.0 c.halves.result.1 (halves_of _ _ _ _ _ _ c.requires.finder.same c.halves.ensures.halves) in
     let fits = both.2.fits in
     omega (arith, c.list.ensures.number, fits)
 
 pub kept-requires : goal.kept-requires
 kept-requires g c =
     let both = both_kept (g.W.Ways.hierarchy c.args.ways.now) c.requires.sound (g.K.KeptBounds.kept c.args.kept.now) c.args.shortcut c.requires.right
-    c.args.way c.in-Via.middle c.in-Via.is c.requires.way c.halves.result.0 c.halves.result.1 c.halves.ensures.halves in
+    c.args.way c.in-Via.middle c.in-Via.is c.requires.way c.halves.result.0 c.halves.result.1 (halves_of _ _ _ _ _ _ c.requires.finder.same c.halves.ensures.halves) in
     let below = both.2.below in
     record { list = omega (arith, c.list.ensures.number, below, c.requires.lists) }
 
 pub overflow_cast-list-in-Via : goal.overflow_cast-list-in-Via
 overflow_cast-list-in-Via g c =
     let both = both_kept (g.W.Ways.hierarchy c.args.ways.now) c.requires.sound (g.K.KeptBounds.kept c.args.kept.now) c.args.shortcut c.requires.right
-    c.args.way c.in-Via.middle c.in-Via.is c.requires.way c.halves.result.0 c.halves.result.1 c.halves.ensures.halves in
+    c.args.way c.in-Via.middle c.in-Via.is c.requires.way c.halves.result.0 c.halves.result.1 (halves_of _ _ _ _ _ _ c.requires.finder.same c.halves.ensures.halves) in
     let fits = both.3.fits in
     omega (arith, c.list-in-Via.ensures.number, fits)
 
 pub kept-requires-in-Via : goal.kept-requires-in-Via
 kept-requires-in-Via g c =
     let both = both_kept (g.W.Ways.hierarchy c.args.ways.now) c.requires.sound (g.K.KeptBounds.kept c.args.kept.now) c.args.shortcut c.requires.right
-    c.args.way c.in-Via.middle c.in-Via.is c.requires.way c.halves.result.0 c.halves.result.1 c.halves.ensures.halves in
+    c.args.way c.in-Via.middle c.in-Via.is c.requires.way c.halves.result.0 c.halves.result.1 (halves_of _ _ _ _ _ _ c.requires.finder.same c.halves.ensures.halves) in
     let below = both.3.below in
     record { list = omega (arith, c.list-in-Via.ensures.number, below, c.requires.lists) }
 
@@ -53,7 +58,7 @@ overflow_add-sum g c =
     let kept = g.K.KeptBounds.kept c.args.kept.now in
     let count = number_of c.args.shortcut in
     let (a, b, first, second) = both_kept (g.W.Ways.hierarchy c.args.ways.now) c.requires.sound kept c.args.shortcut c.requires.right
-    c.args.way c.in-Via.middle c.in-Via.is c.requires.way c.halves.result.0 c.halves.result.1 c.halves.ensures.halves in
+    c.args.way c.in-Via.middle c.in-Via.is c.requires.way c.halves.result.0 c.halves.result.1 (halves_of _ _ _ _ _ _ c.requires.finder.same c.halves.ensures.halves) in
     let one = read_half kept count a c.halves.result.0 first c.list.result c.kept.result c.list.ensures.number c.kept.ensures.kept in
     let two = read_half kept count b c.halves.result.1 second c.list-in-Via.result c.kept-in-Via.result
     c.list-in-Via.ensures.number c.kept-in-Via.ensures.kept in
@@ -61,15 +66,15 @@ overflow_add-sum g c =
     let close = second.near in
     omega (arith, one, two, near, close)
 
-pub returns-in-Via : goal.returns-in-Via
-returns-in-Via g c =
+pub returns-in-Via-clause-bound : goal.returns-in-Via-clause-bound
+returns-in-Via-clause-bound g c =
     let h : HierarchyValue = g.W.Ways.hierarchy c.args.ways.now in
     let kept = g.K.KeptBounds.kept c.args.kept.now in
     let count = number_of c.args.shortcut in
     let by : IsWayOf h c.args.shortcut (Via c.in-Via.middle) = subst (IsWayOf h c.args.shortcut) c.in-Via.is c.requires.way in
     λ ends at.
     let (first, second) = kept_halves h c.requires.sound kept c.args.shortcut c.requires.right c.in-Via.middle
-    c.halves.result.0 c.halves.result.1 c.halves.ensures.halves by ends at in
+    c.halves.result.0 c.halves.result.1 (halves_of _ _ _ _ _ _ c.requires.finder.same c.halves.ensures.halves) by ends at in
     let one = read_half kept count _ c.halves.result.0 first c.list.result c.kept.result c.list.ensures.number c.kept.ensures.kept in
     let two = read_half kept count _ c.halves.result.1 second c.list-in-Via.result c.kept-in-Via.result
     c.list-in-Via.ensures.number c.kept-in-Via.ensures.kept in

@@ -8,7 +8,7 @@ use Rattle.cu_bounds.proofs.list_bounds.list_bound.Goals as goal
 pub loop-index-init : goal.loop-index-init
 loop-index-init g c =
     let h : HierarchyValue = g.W.Ways.hierarchy c.args.ways.now in
-    λ ends at. so_far_none (bound_between h ends c.args.shortcut) (ways_of h c.args.shortcut)
+    record { so_far = λ ends at. so_far_none (bound_between h ends c.args.shortcut) (ways_of h c.args.shortcut); finder = c.requires.finder }
 
 pub bound_of_way-requires-clause-way : goal.bound_of_way-requires-clause-way
 bound_of_way-requires-clause-way g c =
@@ -19,19 +19,22 @@ bound_of_way-requires-clause-way g c =
 pub loop-index-preserved : goal.loop-index-preserved
 loop-index-preserved g c =
     let h : HierarchyValue = g.W.Ways.hierarchy c.args.ways.now in
-    λ ends at.
-    so_far_more (bound_between h ends c.args.shortcut) (ways_of h c.args.shortcut) c.loop-index.index c.entry-entry.result
-    c.loop-index.least c.bound_of_way.result c.min-least.result
-    c.entry-entry.ensures.there (c.bound_of_way.ensures ends at) c.min-least.ensures (c.loop-index.invariant ends at)
+    record {
+      so_far = λ ends at.
+          so_far_more (bound_between h ends c.args.shortcut) (ways_of h c.args.shortcut) c.loop-index.index c.entry-entry.result
+          c.loop-index.least c.bound_of_way.result c.min-least.result
+          c.entry-entry.ensures.there (c.bound_of_way.ensures.bound ends at) c.min-least.ensures (c.loop-index.invariant.so_far ends at);
+      finder = c.bound_of_way.ensures.finder;
+    }
 
-pub returns : goal.returns
-returns g c =
+pub returns-clause-bound : goal.returns-clause-bound
+returns-clause-bound g c =
     let h : HierarchyValue = g.W.Ways.hierarchy c.args.ways.now in
     let (ends, at) = item_there h.edges c.args.shortcut.edge c.requires.edge in
     let entries = ways_of h c.args.shortcut in
     let all : length entries ≤ c.loop-index.index =
     omega (arith, c.loop-index-test.false, c.loop-index.auto.index-end, c.entries-index-end.ensures.count) in
     let whole = so_far_all (bound_between h ends c.args.shortcut) entries c.loop-index.index c.loop-index.least all
-    (c.loop-index.invariant ends at) in
+    (c.loop-index.invariant.so_far ends at) in
     let least = least_bound-entries h c.entries-index-end.ensures.sound c.args.shortcut ends at in
     omega (arith, whole, least)

@@ -1,4 +1,4 @@
-use Rattle.std.proofs.Common.{◌<◌, ◌∙◌, arith, length, refl}
+use Rattle.std.proofs.Common.{◌<◌, arith, length, refl}
 use Rattle.std.proofs.lemmas.Option.{slice_get_read}
 use Rattle.cu_model.proofs.RoadLaws.{all_at}
 use Rattle.cu_interval.specs.declared.ways.Dir.TheVariants.{Up}

@@ -4,9 +4,10 @@ use Rattle.cu_chordal.specs.declared.graph.Ends.{Ends}
 use Rattle.cu_chordal.specs.Graphs.{ChordalValue, HasEdge}
 use Rattle.cu_interval.specs.Hierarchies.{HierarchyValue}
 use Rattle.cu_unpack.proofs.Edges.{edge_range}
-use Rattle.cu_sweep.specs.Sweeps.{AddsAll, down_calls_to, first_long}
-use Rattle.cu_sweep.specs.Swept.{IsPassed, Sweep}
-use Rattle.cu_sweep.specs.Steps.Sweeping.{IsDownOver, IsDownSwept, IsRankDown, down_calls_of}
+use Rattle.cu_sweep.specs.Sweeps.{AddsAll, first_long}
+use Rattle.cu_sweep.specs.Swept.{IsPassed}
+use Rattle.cu_sweep.specs.Steps.Made.{Led, down_calls_of, down_made_to, sweep_of}
+use Rattle.cu_sweep.specs.Steps.Sweeping.{IsDownOver, IsDownSwept, IsRankDown}
 use Rattle.cu_sweep.proofs.Behind.{drop_all, member_behind, member_here, turned_at, turned_cut, turned_member}
 use Rattle.cu_sweep.proofs.Passes.{sweep_ends, sweep_more}
 use Rattle.cu_sweep.proofs.Rows.{no_call, some_call}
@@ -24,7 +25,7 @@ ranks-init g c =
       ready = c.requires.ready;
       unturned = c.requires.unturned;
       stays = refl;
-      swept = λ q same sw.
+      swept = λ q same al sw.
           subst (λ (xs : List ℕ). IsDownSwept h q xs c.args.labels.now c.args.chain.now.links × (first_long h (down_calls_of h q xs) ≡ None) × AddsAll a a (down_calls_of h q xs)) none
           (sw, refl, adds_none a);
     }
@@ -32,6 +33,7 @@ ranks-init g c =
 pub ranks-preserved : goal.ranks-preserved
 ranks-preserved g c =
     let h = g.R.Relaxer.hierarchy c.args.relaxer.now in
+    let allows = g.L.Limits.allows c.args.limits.now in
     let m = h.network.nodes in
     let i = c.ranks.invariant in
     let path = c.args.path.now in
@@ -58,17 +60,18 @@ ranks-preserved g c =
       ready = row.ensures.ready;
       unturned = row.ensures.unturned;
       stays = row.ensures.stays ∙ i.stays;
-      swept = λ q same sw.
-          let (swept0, quiet0, told0) = i.swept q same sw in
+      swept = λ q same al sw.
+          let (swept0, quiet0, told0) = i.swept q same al sw in
           let swept : IsDownSwept h q done labels c.ranks.chain.links = subst (λ (n : ℕ). IsDownSwept h q (reverse (drop n path)) labels c.ranks.chain.links) next swept0 in
           let quiet : first_long h (down_calls_of h q done) ≡ None = subst (λ (n : ℕ). first_long h (down_calls_of h q (reverse (drop n path))) ≡ None) next quiet0 in
           let before_told : AddsAll a b (down_calls_of h q done) = subst (λ (n : ℕ). AddsAll a b (down_calls_of h q (reverse (drop n path)))) next told0 in
-          let passed : IsPassed h q x =
+          let passed : IsPassed h (sweep_of q) x =
           (within, inr (subst (λ (xs : List ℕ). Contains xs x) same (member_here path k lt))) in
-          let f = down_calls_to h q.from q.second in
-          let over = subst (λ (v : HierarchyValue). (p : Sweep) (ds : List ℕ) → IsDownSwept v p ds labels c.ranks.chain.links → IsPassed v p x
-          → ((y : ℕ) → HasEdge c.args.graph.now.edges x y → Contains ds y) → IsRankDown v p x ds b d row.new.labels row.new.chain.links row.result) i.stays row.ensures.over in
-          let rank_done = over q done swept passed higher in
+          let f = down_made_to h q in
+          let over = subst (λ (v : HierarchyValue). (p : Led) (ds : List ℕ) → IsDownSwept v p ds labels c.ranks.chain.links → IsPassed v (sweep_of p) x
+          → ((y : ℕ) → HasEdge c.args.graph.now.edges x y → Contains ds y) → p.allows ≡ allows
+          → IsRankDown v p x ds b d row.new.labels row.new.chain.links row.result) i.stays row.ensures.over in
+          let rank_done = over q done swept passed higher al in
           let more = sweep_more h f done x a b d quiet before_told (sym none ∙ rank_done.ended) rank_done.told in
           subst (λ (xs : List ℕ). IsDownSwept h q xs row.new.labels row.new.chain.links × (first_long h (down_calls_of h q xs) ≡ None) × AddsAll a d (down_calls_of h q xs)) (sym turned)
           (rank_done.swept none, more.0, more.1);
@@ -77,6 +80,7 @@ ranks-preserved g c =
 pub returns-then-is_some-clause-over : goal.returns-then-is_some-clause-over
 returns-then-is_some-clause-over g c =
     let h = g.R.Relaxer.hierarchy c.args.relaxer.now in
+    let allows = g.L.Limits.allows c.args.limits.now in
     let m = h.network.nodes in
     let i = c.ranks.invariant in
     let path = c.args.path.now in
@@ -98,17 +102,18 @@ returns-then-is_some-clause-over g c =
     turned_member (drop (suc k) path) y (member_behind path k y c.requires.rising lt (c.requires.upwards x y (member_here path k lt) e) less) in
     let (call, is) = some_call row.result (search rules) in
     let (rest, cut) = turned_cut path k lt in
-    λ q same sw.
-    let (swept0, quiet0, told0) = i.swept q same sw in
+    λ q same al sw.
+    let (swept0, quiet0, told0) = i.swept q same al sw in
     let swept : IsDownSwept h q done labels c.ranks.chain.links = subst (λ (n : ℕ). IsDownSwept h q (reverse (drop n path)) labels c.ranks.chain.links) next swept0 in
     let quiet : first_long h (down_calls_of h q done) ≡ None = subst (λ (n : ℕ). first_long h (down_calls_of h q (reverse (drop n path))) ≡ None) next quiet0 in
     let before_told : AddsAll a b (down_calls_of h q done) = subst (λ (n : ℕ). AddsAll a b (down_calls_of h q (reverse (drop n path)))) next told0 in
-    let passed : IsPassed h q x =
+    let passed : IsPassed h (sweep_of q) x =
     (within, inr (subst (λ (xs : List ℕ). Contains xs x) same (member_here path k lt))) in
-    let f = down_calls_to h q.from q.second in
-    let over = subst (λ (v : HierarchyValue). (p : Sweep) (ds : List ℕ) → IsDownSwept v p ds labels c.ranks.chain.links → IsPassed v p x
-    → ((y : ℕ) → HasEdge c.args.graph.now.edges x y → Contains ds y) → IsRankDown v p x ds b d row.new.labels row.new.chain.links row.result) i.stays row.ensures.over in
-    let rank_done = over q done swept passed higher in
+    let f = down_made_to h q in
+    let over = subst (λ (v : HierarchyValue). (p : Led) (ds : List ℕ) → IsDownSwept v p ds labels c.ranks.chain.links → IsPassed v (sweep_of p) x
+    → ((y : ℕ) → HasEdge c.args.graph.now.edges x y → Contains ds y) → p.allows ≡ allows
+    → IsRankDown v p x ds b d row.new.labels row.new.chain.links row.result) i.stays row.ensures.over in
+    let rank_done = over q done swept passed higher al in
     let ends = sweep_ends h f done x rest (reverse path) call a b d cut quiet before_told (sym rank_done.ended ∙ is) rank_done.told in
     record { ended = is ∙ sym ends.0; told = ends.1; swept = λ none. absurd (cc (none, is)) }
 
@@ -120,7 +125,7 @@ returns-clause-over g c =
     let a = g.R.Relaxer.calls c.args.relaxer.now in
     let b = g.R.Relaxer.calls c.ranks.relaxer in
     let zero : c.ranks.left ≡ 0 = omega (arith, c.ranks-test.false) in
-    λ q same sw.
+    λ q same al sw.
     subst (λ (n : ℕ). IsDownOver h q (reverse (drop n path)) a b c.ranks.labels c.ranks.chain.links None) zero
-    (let (swept, quiet, told) = i.swept q same sw in
+    (let (swept, quiet, told) = i.swept q same al sw in
     record { ended = sym quiet; told = subst (AddsAll a b) (sym (until_none h (down_calls_of h q (reverse (drop c.ranks.left path))) quiet)) told; swept = λ e. swept })

@@ -1,4 +1,4 @@
-use Rattle.std.proofs.Common.{◌≡◌, ◌<◌, ◌∙◌, ◌++◌, ◌∷◌, [], ℕ, List, Option, None, refl, sym, ap, subst, rules, inl, length}
+use Rattle.std.proofs.Common.{Bool, ◌≡◌, ◌<◌, ◌∙◌, ◌++◌, ◌∷◌, [], ℕ, List, Option, None, refl, sym, ap, subst, rules, inl, length}
 use Rattle.std.specs.Prelude.{All}
 use Rattle.std.specs.List.{AllPairs, Contains}
 use Rattle.std.specs.Iterator.{Yields, YieldsFirst}
@@ -10,11 +10,11 @@ use Rattle.cu_elimtree.specs.Trees.{ancestors_of}
 use Rattle.cu_elimtree.proofs.Climbing.{yielded_first}
 use Rattle.cu_interval.specs.declared.relaxing.Call.{Call}
 use Rattle.cu_interval.specs.Hierarchies.{HierarchyValue, IsHierarchyOf, graph_of}
-use Rattle.cu_sweep.specs.Labels.{up_label}
-use Rattle.cu_sweep.specs.Sweeps.{AddsAll, calls_up, first_long, second_of, until_long, up_calls_from}
+use Rattle.cu_sweep.specs.Sweeps.{AddsAll, first_long, second_of, until_long}
 use Rattle.cu_sweep.specs.Places.{second_at}
-use Rattle.cu_sweep.specs.Swept.{IsPassed, Sweep}
-use Rattle.cu_sweep.specs.Steps.Sweeping.{IsUpOver, IsUpSwept, up_after, up_calls_of}
+use Rattle.cu_sweep.specs.Swept.{IsPassed}
+use Rattle.cu_sweep.specs.Steps.Made.{Led, made_up_after, rows_up, sweep_of, up_calls_of, up_made, up_made_from}
+use Rattle.cu_sweep.specs.Steps.Sweeping.{IsUpOver, IsUpSwept}
 use Rattle.cu_sweep.proofs.Passing.{tree_long}
 use Rattle.cu_sweep.proofs.Rows.{no_call, some_call}
 use Rattle.cu_sweep.proofs.Passes.{all_parts, member_inside, row_up_same, sweep_ends, sweep_more, up_final}
@@ -29,7 +29,7 @@ ranks-init g c = record {
   ready = c.requires.ready;
   unturned = c.requires.unturned;
   stays = refl;
-  swept = λ q same sw. (sw, refl, adds_none (g.R.Relaxer.calls c.args.relaxer.now));
+  swept = λ q same al sw. (sw, refl, adds_none (g.R.Relaxer.calls c.args.relaxer.now));
 }
 
 pub relax_up-long-requires-clause-rank : goal.relax_up-long-requires-clause-rank
@@ -56,6 +56,7 @@ relax_up-long-requires-clause-graph g c = subst (IsHierarchyOf c.args.graph.now)
 pub ranks-preserved : goal.ranks-preserved
 ranks-preserved g c =
     let h = g.R.Relaxer.hierarchy c.args.relaxer.now in
+    let allows = g.L.Limits.allows c.args.limits.now in
     let i = c.ranks.invariant in
     let x = c.in-Some.rank in
     let before = c.ranks.yielded in
@@ -74,37 +75,39 @@ ranks-preserved g c =
     let rising : AllPairs (λ a b. a < b) (before ++ (x ∷ behind)) =
     subst (AllPairs (λ a b. a < b)) all (AllPairs-from_increasing (ancestors_of c.args.tree.now c.args.from) c.ancestors-rank-items.ensures.rising) in
     let named : c.args.tree.now ≡ parents_in (graph_of h) = c.requires.tree ∙ ap parents_in c.requires.graph.0 in
-    let long_eq : row.result ≡ first_long h (calls_up h x (second_at c.ranks.labels x) (second_at c.ranks.labels)) =
-    subst (λ (v : HierarchyValue). row.result ≡ first_long v (calls_up v x (second_at c.ranks.labels x) (second_at c.ranks.labels))) i.stays row.ensures.long in
-    let told : AddsAll (g.R.Relaxer.calls c.ranks.relaxer) (g.R.Relaxer.calls row.new.relaxer) (until_long h (calls_up h x (second_at c.ranks.labels x) (second_at c.ranks.labels))) =
+    let long_eq : row.result ≡ first_long h (rows_up h allows x (second_at c.ranks.labels x) (second_at c.ranks.labels)) =
+    subst (λ (v : HierarchyValue). row.result ≡ first_long v (rows_up v allows x (second_at c.ranks.labels x) (second_at c.ranks.labels))) i.stays row.ensures.long in
+    let told : AddsAll (g.R.Relaxer.calls c.ranks.relaxer) (g.R.Relaxer.calls row.new.relaxer) (until_long h (rows_up h allows x (second_at c.ranks.labels x) (second_at c.ranks.labels))) =
     subst (λ (v : HierarchyValue). AddsAll (g.R.Relaxer.calls c.ranks.relaxer) (g.R.Relaxer.calls row.new.relaxer)
-    (until_long v (calls_up v x (second_at c.ranks.labels x) (second_at c.ranks.labels)))) i.stays row.ensures.told in
+    (until_long v (rows_up v allows x (second_at c.ranks.labels x) (second_at c.ranks.labels)))) i.stays row.ensures.told in
     let none : row.result ≡ None = no_call row.result (search rules) in
     record {
       ready = row.ensures.ready;
       unturned = row.ensures.unturned;
       stays = row.ensures.stays ∙ i.stays;
-      swept = λ q same sw.
-          let (swept, quiet, before_told) = i.swept q same sw in
+      swept = λ q same al sw.
+          let (swept, quiet, before_told) = i.swept q same al sw in
           let anc : ancestors_in (graph_of h) q.from ≡ before ++ (x ∷ behind) =
           ap (λ (f : ℕ). ancestors_of (parents_in (graph_of h)) f) same ∙ ap (λ (ps : List (Option ℕ)). ancestors_of ps c.args.from) (sym named) ∙ all in
-          let passed : IsPassed h q x = (within, inl (subst (λ (xs : List ℕ). Contains xs x) (sym anc) (member_inside before x behind))) in
+          let passed : IsPassed h (sweep_of q) x = (within, inl (subst (λ (xs : List ℕ). Contains xs x) (sym anc) (member_inside before x behind))) in
           let final = up_final h c.requires.graph.1 q before x behind anc rising in
-          let second : second_at c.ranks.labels x ≡ second_of (up_label h q.from q.second x) = (swept x passed).second ∙ ap second_of final in
-          let f = up_calls_from h q.from q.second in
-          let same_row : calls_up h x (second_at c.ranks.labels x) (second_at c.ranks.labels) ≡ f x =
-          row_up_same h c.requires.graph.1 q before x behind c.ranks.labels c.ranks.chain.links anc rising swept second in
+          let second : second_at c.ranks.labels x ≡ second_of (up_made h q x) = (swept x passed).second ∙ ap second_of final in
+          let f = up_made_from h q in
+          let same_row : rows_up h allows x (second_at c.ranks.labels x) (second_at c.ranks.labels) ≡ f x =
+          ap (λ (each : ℕ → ℕ → Bool). rows_up h each x (second_at c.ranks.labels x) (second_at c.ranks.labels)) (sym al)
+          ∙ row_up_same h c.requires.graph.1 q before x behind c.ranks.labels c.ranks.chain.links anc rising swept second in
           let told_row = subst (λ (cs : List Call). AddsAll (g.R.Relaxer.calls c.ranks.relaxer) (g.R.Relaxer.calls row.new.relaxer) (until_long h cs)) same_row told in
           let more = sweep_more h f before x (g.R.Relaxer.calls c.args.relaxer.now) (g.R.Relaxer.calls c.ranks.relaxer) (g.R.Relaxer.calls row.new.relaxer) quiet before_told
           (sym none ∙ long_eq ∙ ap (first_long h) same_row) told_row in
-          let kept = subst (λ (v : HierarchyValue). (p : Sweep) (done : List ℕ) → IsUpSwept v p done c.ranks.labels c.ranks.chain.links → IsPassed v p x
-          → up_after v p done x ≡ up_label v p.from p.second x → row.result ≡ None → IsUpSwept v p (done ++ (x ∷ [])) row.new.labels row.new.chain.links) i.stays row.ensures.swept in
-          (kept q before swept passed final none, more.0, more.1);
+          let kept = subst (λ (v : HierarchyValue). (p : Led) (done : List ℕ) → IsUpSwept v p done c.ranks.labels c.ranks.chain.links → IsPassed v (sweep_of p) x
+          → made_up_after v p done x ≡ up_made v p x → p.allows ≡ allows → row.result ≡ None → IsUpSwept v p (done ++ (x ∷ [])) row.new.labels row.new.chain.links) i.stays row.ensures.swept in
+          (kept q before swept passed final al none, more.0, more.1);
     }
 
 pub returns-then-is_some-clause-over : goal.returns-then-is_some-clause-over
 returns-then-is_some-clause-over g c =
     let h = g.R.Relaxer.hierarchy c.args.relaxer.now in
+    let allows = g.L.Limits.allows c.args.limits.now in
     let i = c.ranks.invariant in
     let x = c.in-Some.rank in
     let before = c.ranks.yielded in
@@ -123,22 +126,23 @@ returns-then-is_some-clause-over g c =
     let rising : AllPairs (λ a b. a < b) (before ++ (x ∷ behind)) =
     subst (AllPairs (λ a b. a < b)) all (AllPairs-from_increasing (ancestors_of c.args.tree.now c.args.from) c.ancestors-rank-items.ensures.rising) in
     let named : c.args.tree.now ≡ parents_in (graph_of h) = c.requires.tree ∙ ap parents_in c.requires.graph.0 in
-    let long_eq : row.result ≡ first_long h (calls_up h x (second_at c.ranks.labels x) (second_at c.ranks.labels)) =
-    subst (λ (v : HierarchyValue). row.result ≡ first_long v (calls_up v x (second_at c.ranks.labels x) (second_at c.ranks.labels))) i.stays row.ensures.long in
-    let told : AddsAll (g.R.Relaxer.calls c.ranks.relaxer) (g.R.Relaxer.calls row.new.relaxer) (until_long h (calls_up h x (second_at c.ranks.labels x) (second_at c.ranks.labels))) =
+    let long_eq : row.result ≡ first_long h (rows_up h allows x (second_at c.ranks.labels x) (second_at c.ranks.labels)) =
+    subst (λ (v : HierarchyValue). row.result ≡ first_long v (rows_up v allows x (second_at c.ranks.labels x) (second_at c.ranks.labels))) i.stays row.ensures.long in
+    let told : AddsAll (g.R.Relaxer.calls c.ranks.relaxer) (g.R.Relaxer.calls row.new.relaxer) (until_long h (rows_up h allows x (second_at c.ranks.labels x) (second_at c.ranks.labels))) =
     subst (λ (v : HierarchyValue). AddsAll (g.R.Relaxer.calls c.ranks.relaxer) (g.R.Relaxer.calls row.new.relaxer)
-    (until_long v (calls_up v x (second_at c.ranks.labels x) (second_at c.ranks.labels)))) i.stays row.ensures.told in
+    (until_long v (rows_up v allows x (second_at c.ranks.labels x) (second_at c.ranks.labels)))) i.stays row.ensures.told in
     let (call, is) = some_call row.result (search rules) in
-    λ q same sw.
-    let (swept, quiet, before_told) = i.swept q same sw in
+    λ q same al sw.
+    let (swept, quiet, before_told) = i.swept q same al sw in
     let anc : ancestors_in (graph_of h) q.from ≡ before ++ (x ∷ behind) =
     ap (λ (f : ℕ). ancestors_of (parents_in (graph_of h)) f) same ∙ ap (λ (ps : List (Option ℕ)). ancestors_of ps c.args.from) (sym named) ∙ all in
-    let passed : IsPassed h q x = (within, inl (subst (λ (xs : List ℕ). Contains xs x) (sym anc) (member_inside before x behind))) in
+    let passed : IsPassed h (sweep_of q) x = (within, inl (subst (λ (xs : List ℕ). Contains xs x) (sym anc) (member_inside before x behind))) in
     let final = up_final h c.requires.graph.1 q before x behind anc rising in
-    let second : second_at c.ranks.labels x ≡ second_of (up_label h q.from q.second x) = (swept x passed).second ∙ ap second_of final in
-    let f = up_calls_from h q.from q.second in
-    let same_row : calls_up h x (second_at c.ranks.labels x) (second_at c.ranks.labels) ≡ f x =
-    row_up_same h c.requires.graph.1 q before x behind c.ranks.labels c.ranks.chain.links anc rising swept second in
+    let second : second_at c.ranks.labels x ≡ second_of (up_made h q x) = (swept x passed).second ∙ ap second_of final in
+    let f = up_made_from h q in
+    let same_row : rows_up h allows x (second_at c.ranks.labels x) (second_at c.ranks.labels) ≡ f x =
+    ap (λ (each : ℕ → ℕ → Bool). rows_up h each x (second_at c.ranks.labels x) (second_at c.ranks.labels)) (sym al)
+    ∙ row_up_same h c.requires.graph.1 q before x behind c.ranks.labels c.ranks.chain.links anc rising swept second in
     let told_row = subst (λ (cs : List Call). AddsAll (g.R.Relaxer.calls c.ranks.relaxer) (g.R.Relaxer.calls row.new.relaxer) (until_long h cs)) same_row told in
     let named_all : ancestors_in c.args.graph.now c.args.from ≡ before ++ (x ∷ behind) = ap (λ (ps : List (Option ℕ)). ancestors_of ps c.args.from) (sym c.requires.tree) ∙ all in
     let ends = sweep_ends h f before x behind (ancestors_in c.args.graph.now c.args.from) call (g.R.Relaxer.calls c.args.relaxer.now) (g.R.Relaxer.calls c.ranks.relaxer)
@@ -156,8 +160,8 @@ returns-clause-over g c =
     (subst (λ s. Yields (YieldsFirst (λ (left : List ℕ). left)) s before c.ranks.rank-iterator) c.into_iter-rank-iterator.ensures.into_iter_gives c.ranks.yielded_by) in
     let all : ancestors_of c.args.tree.now c.args.from ≡ before = sym c.ancestors-rank-items.ensures.left ∙ whole ∙ ap (λ (xs : List ℕ). before ++ xs) left ∙ append-nil before in
     let named_all : ancestors_in c.args.graph.now c.args.from ≡ before = ap (λ (ps : List (Option ℕ)). ancestors_of ps c.args.from) (sym c.requires.tree) ∙ all in
-    λ q same sw.
-    let (swept, quiet, told) = i.swept q same sw in
+    λ q same al sw.
+    let (swept, quiet, told) = i.swept q same al sw in
     subst (λ (xs : List ℕ). IsUpOver h q xs (g.R.Relaxer.calls c.args.relaxer.now) (g.R.Relaxer.calls c.ranks.relaxer) c.ranks.labels c.ranks.chain.links None) (sym named_all)
     (record {
       ended = sym quiet;

@@ -1,9 +1,9 @@
 -- The calls from these ancestors were made.
 use Rattle.std.proofs.Common.{◌≡◌, [], None, false}
 use Rattle.cu_sweep.specs.Sweeps.{AddsAll, first_long}
-use Rattle.cu_sweep.specs.Swept.{Sweep}
+use Rattle.cu_sweep.specs.Steps.Made.{Led, up_calls_of}
 use Rattle.cu_sweep.specs.Steps.Ready.{IsReady}
-use Rattle.cu_sweep.specs.Steps.Sweeping.{IsUpSwept, up_calls_of}
+use Rattle.cu_sweep.specs.Steps.Sweeping.{IsUpSwept}
 use Rattle.cu_sweep.proofs.over_ranks.pass_up.Given as goal
 
 abbrev pub invariant-ranks : goal.invariant-ranks
@@ -13,7 +13,7 @@ invariant-ranks g l =
       ready : IsReady l.fn.graph.ranks l.labels l.chain;
       unturned : l.chain.turned ≡ false;
       stays : g.R.Relaxer.hierarchy l.relaxer ≡ h;
-      swept : (q : Sweep) → q.from ≡ l.fn.from → IsUpSwept h q [] l.fn.labels l.fn.chain.links
+      swept : (q : Led) → q.from ≡ l.fn.from → q.allows ≡ g.L.Limits.allows l.fn.limits → IsUpSwept h q [] l.fn.labels l.fn.chain.links
           → IsUpSwept h q l.yielded l.labels l.chain.links × (first_long h (up_calls_of h q l.yielded) ≡ None)
           × AddsAll (g.R.Relaxer.calls l.fn.relaxer) (g.R.Relaxer.calls l.relaxer) (up_calls_of h q l.yielded);
     }

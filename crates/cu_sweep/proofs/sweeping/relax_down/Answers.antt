@@ -1,4 +1,4 @@
-use Rattle.std.proofs.Common.{◌≡◌, ◌≢◌, ◌≤◌, ◌<◌, ◌+◌, ◌*◌, ◌^◌, ◌∙◌, ◌++◌, ℕ, List, [], ◌∷◌, Option, Some, None, refl, sym, ap, subst, arith, rules, length, take, get_or, get_or-set_other}
+use Rattle.std.proofs.Common.{Bool, ◌≡◌, ◌≢◌, ◌≤◌, ◌<◌, ◌+◌, ◌*◌, ◌^◌, ◌∙◌, ◌++◌, ℕ, List, [], ◌∷◌, Option, Some, None, refl, sym, ap, subst, arith, rules, length, take, get_or, get_or-set_other}
 use Rattle.std.specs.Prelude.{slice_get, slice_set}
 use Rattle.std.specs.List.{AllPairs, Contains}
 use Rattle.std.proofs.lemmas.List.{take_more}
@@ -12,13 +12,14 @@ use Rattle.cu_chordal.proofs.Tables.{edge_from_up_of, up_rising}
 use Rattle.cu_links.specs.Chains.{IsOnChainTo}
 use Rattle.cu_interval.specs.declared.ways.Dir.TheVariants.{Down}
 use Rattle.cu_interval.specs.declared.relaxing.Call.{Call}
+use Rattle.cu_interval.specs.declared.relaxing.Relaxed.{Relaxed}
 use Rattle.cu_interval.specs.Calls.{IfAt}
 use Rattle.cu_interval.specs.Hierarchies.{HierarchyValue, number_from}
-use Rattle.cu_sweep.specs.Labels.{down_label}
 use Rattle.cu_sweep.specs.Sweeps.{AddsAll, below, call_at, call_unless, first_long, second_of}
 use Rattle.cu_sweep.specs.Places.{calls_of_some, second_at}
 use Rattle.cu_sweep.specs.Steps.Ready.{IsReady}
-use Rattle.cu_sweep.specs.Steps.Sweeping.{IfSecond, answer_at, begun_links, call_into, down_after, down_call, links_after, seconds_after}
+use Rattle.cu_sweep.specs.Steps.Made.{call_if, down_call, down_made, made_down_after}
+use Rattle.cu_sweep.specs.Steps.Sweeping.{IfSecond, answer_in, begun_links, call_into, links_after, seconds_after}
 use Rattle.cu_sweep.proofs.Readying.{apart, near_at, relaxed_ready, time_left, turn_down}
 use Rattle.cu_sweep.proofs.Passing.{below_taken, cut_at, take_full}
 use Rattle.cu_sweep.proofs.Rows.{IsRow, no_call, row_edge, row_ends, row_more, row_none, row_whole, some_call}
@@ -51,7 +52,7 @@ edges-init g c =
       edge = let e = c.first_edge-edge.ensures.count ∙ ap (λ (es : List Ends). first_edge_of es x) same in omega (arith, e);
       nodes = nodes;
       source = λ y ne. ap (λ (ls : List (Option ℕ)). second_at ls (m + y)) labels_eq ∙ get_or-set_other labels (m + x) (m + y) (second_at labels x) None (λ e. ne (omega (arith, e)));
-      swept = λ q done sw p all. (
+      swept = λ q done sw p all al. (
         subst (λ (ls : List (Option ℕ)). IsDownPart h q done x [] ls begun.new.chain.links) (sym labels_eq)
             (subst (λ (ks : List (Option (ℕ × ℕ))). IsDownPart h q done x [] (slice_set labels (m + x) (second_at labels x)) ks) (sym links_eq)
             (down_begun h q done x labels links sw p (omega (arith, rank, ranks, long)) (omega (arith, rank, ranks, places)))),
@@ -59,8 +60,8 @@ edges-init g c =
       );
     }
 
-pub overflow_add-nodes : goal.overflow_add-nodes
-overflow_add-nodes g c =
+pub overflow_add-leg : goal.overflow_add-leg
+overflow_add-leg g c =
     let h = g.R.Relaxer.hierarchy c.args.relaxer.now in
     let m = h.network.nodes in
     let x = c.args.rank in
@@ -156,6 +157,7 @@ relax_into-long-requires-clause-apart g c =
 pub edges-preserved : goal.edges-preserved
 edges-preserved g c =
     let h = g.R.Relaxer.hierarchy c.args.relaxer.now in
+    let allows = g.L.Limits.allows c.args.limits.now in
     let m = h.network.nodes in
     let x = c.args.rank in
     let ranks : c.args.graph.now.ranks ≡ m = ap (λ (v : ChordalValue). v.ranks) c.requires.graph.0 in
@@ -176,11 +178,11 @@ edges-preserved g c =
     let there_ : edge < length h.edges = subst (λ (j : ℕ). j < length h.edges) (sym i.edge) facts.1 in
     let call = c.relax_into-long in
     let ne : y ≢ x = λ same. absurd (omega (arith, same, up)) in
-    let made = call_into (g.R.Relaxer.hierarchy c.edges.relaxer) labels (Some edge) Down (c.ranks-nodes.result + y) (c.ranks-nodes.result + x) in
-    let own = call_into h labels (Some edge) Down (m + y) (m + x) in
+    let made = call_into (g.R.Relaxer.hierarchy c.edges.relaxer) allows labels (Some edge) Down (c.ranks-nodes.result + y) (c.ranks-nodes.result + x) in
+    let own = call_into h allows labels (Some edge) Down (m + y) (m + x) in
     let same_call : made ≡ own =
-    ap (λ (v : HierarchyValue). call_into v labels (Some edge) Down (c.ranks-nodes.result + y) (c.ranks-nodes.result + x)) i.stays
-    ∙ ap (λ (n : ℕ). call_into h labels (Some edge) Down (n + y) (n + x)) nodes in
+    ap (λ (v : HierarchyValue). call_into v allows labels (Some edge) Down (c.ranks-nodes.result + y) (c.ranks-nodes.result + x)) i.stays
+    ∙ ap (λ (n : ℕ). call_into h allows labels (Some edge) Down (n + y) (n + x)) nodes in
     let a = g.R.Relaxer.calls c.args.relaxer.now in
     let b = g.R.Relaxer.calls c.edges.relaxer in
     let d = g.R.Relaxer.calls call.new.relaxer in
@@ -190,25 +192,26 @@ edges-preserved g c =
     ∙ ap (λ (o : Option Call). first_long h (calls_of_some o)) same_call in
     let rising : AllPairs (λ a b. a < b) highers = subst (AllPairs (λ a b. a < b)) (sym i.highers) (up_rising h.edges x c.requires.graph.1.graph.rising) in
     let lower : take k highers ≡ below y (up_of h.edges x) = below_taken highers k rising lt ∙ ap (below y) i.highers in
-    let answer = answer_at h edge Down (second_at labels (m + y)) in
+    let allowed = allows (m + x) in
+    let answer = answer_in h allowed edge Down (second_at labels (m + y)) in
     let labels_eq : call.new.labels ≡ seconds_after labels (m + x) answer =
-    subst (λ (n : ℕ). call.new.labels ≡ seconds_after labels (n + x) (answer_at h edge Down (second_at labels (n + y)))) nodes
+    subst (λ (n : ℕ). call.new.labels ≡ seconds_after labels (n + x) (answer_in h (allows (n + x)) edge Down (second_at labels (n + y)))) nodes
     (subst (λ (v : HierarchyValue). call.new.labels ≡ seconds_after labels (c.ranks-nodes.result + x)
-    (answer_at v edge Down (second_at labels (c.ranks-nodes.result + y)))) i.stays call.ensures.labels) in
+    (answer_in v (allows (c.ranks-nodes.result + x)) edge Down (second_at labels (c.ranks-nodes.result + y)))) i.stays call.ensures.labels) in
     let links_eq : call.new.chain.links ≡ links_after labels links (m + y) edge (m + x) answer =
-    subst (λ (n : ℕ). call.new.chain.links ≡ links_after labels links (n + y) edge (n + x) (answer_at h edge Down (second_at labels (n + y)))) nodes
+    subst (λ (n : ℕ). call.new.chain.links ≡ links_after labels links (n + y) edge (n + x) (answer_in h (allows (n + x)) edge Down (second_at labels (n + y)))) nodes
     (subst (λ (v : HierarchyValue). call.new.chain.links ≡ links_after labels links (c.ranks-nodes.result + y) edge (c.ranks-nodes.result + x)
-    (answer_at v edge Down (second_at labels (c.ranks-nodes.result + y)))) i.stays call.ensures.links) in
+    (answer_in v (allows (c.ranks-nodes.result + x)) edge Down (second_at labels (c.ranks-nodes.result + y)))) i.stays call.ensures.links) in
     let none : call.result ≡ None = no_call call.result (search rules) in
-    let near = subst (λ (n : ℕ). IfSecond (second_at labels (n + y)) (λ at. IfAt (answer_at h edge Down (Some at)) (λ (arrival : ℕ). arrival ≤ at + 2 ^ 38))) nodes
+    let near = subst (λ (n : ℕ). IfSecond (second_at labels (n + y)) (λ at. IfAt (answer_in h (allows (n + x)) edge Down (Some at)) (λ (arrival : ℕ). arrival ≤ at + 2 ^ 38))) nodes
     (subst (λ (v : HierarchyValue). IfSecond (second_at labels (c.ranks-nodes.result + y))
-    (λ at. IfAt (answer_at v edge Down (Some at)) (λ (arrival : ℕ). arrival ≤ at + 2 ^ 38))) i.stays call.ensures.near) in
+    (λ at. IfAt (answer_in v (allows (c.ranks-nodes.result + x)) edge Down (Some at)) (λ (arrival : ℕ). arrival ≤ at + 2 ^ 38))) i.stays call.ensures.near) in
     let from_m : m + y < 2 * m = omega (arith, within) in
     let into_m : m + x < 2 * m = omega (arith, up, within) in
     let few : length h.edges ≤ MAX_EDGES = c.requires.graph.1.graph.few_edges in
     let small : edge < MAX_EDGES = omega (arith, few, there_) in
     let ready = relaxed_ready m labels c.edges.chain call.new.chain (m + y) edge (m + x) answer i.ready i.unturned from_m into_m small (turn_down m x y up within)
-    (near_at h edge Down (second_at labels (m + y)) near) links_eq in
+    (near_at h allowed edge Down (second_at labels (m + y)) near) links_eq in
     let more : take (k + 1) highers ≡ take k highers ++ (y ∷ []) = take_more highers k 0 lt in
     let long_labels = i.ready.long in
     let long_links = i.ready.places in
@@ -222,24 +225,29 @@ edges-preserved g c =
       source = λ z other.
           ap (λ (ls : List (Option ℕ)). second_at ls (m + z)) labels_eq ∙ seconds_other labels (m + x) (m + z) answer (λ e. other (omega (arith, e)))
           ∙ i.source z other;
-      swept = λ q done sw p all.
-          let before = (i.swept q done sw p all).0 in
-          let row = (i.swept q done sw p all).1 in
+      swept = λ q done sw p all al.
+          let before = (i.swept q done sw p all al).0 in
+          let row = (i.swept q done sw p all al).1 in
           let member = all y (edge_from_up_of h.edges x y (member_at (up_of h.edges x) y k at)) in
-          let s_q : second_at labels (m + y) ≡ second_of (down_label h q.from q.second y) = (before.down y member ne).second in
-          let r_q : second_at labels (m + x) ≡ second_of (down_after h q (below y (up_of h.edges x)) x) =
-          before.here.second ∙ ap (λ (part : List ℕ). second_of (down_after h q part x)) lower in
+          let s_q : second_at labels (m + y) ≡ second_of (down_made h q y) = (before.down y member ne).second in
+          let r_q : second_at labels (m + x) ≡ second_of (made_down_after h q (below y (up_of h.edges x)) x) =
+          before.here.second ∙ ap (λ (part : List ℕ). second_of (made_down_after h q part x)) lower in
           let f = λ (z : ℕ). down_call h q x z (number_from 0 h.edges x z) in
           let o = down_call h q x y (Some edge) in
           let own_q : own ≡ o =
-          ap (λ (t : Option ℕ). call_unless h t (call_at (Some edge) Down (second_at labels (m + y)))) r_q
-          ∙ ap (λ (t : Option ℕ). call_unless h (second_of (down_after h q (below y (up_of h.edges x)) x)) (call_at (Some edge) Down t)) s_q in
+          ap (λ (each : ℕ → ℕ → Bool). call_into h each labels (Some edge) Down (m + y) (m + x)) (sym al)
+          ∙ ap (λ (t : Option ℕ). call_unless h t (call_if h (q.allows (m + x)) (call_at (Some edge) Down (second_at labels (m + y))))) r_q
+          ∙ ap (λ (t : Option ℕ). call_unless h (second_of (made_down_after h q (below y (up_of h.edges x)) x)) (call_if h (q.allows (m + x)) (call_at (Some edge) Down t))) s_q in
           let told : AddsAll b d (calls_of_some o) = subst (λ (w : Option Call). AddsAll b d (calls_of_some w)) own_q told_own in
           let long_q : call.result ≡ first_long h (calls_of_some o) =
           long_own ∙ ap (λ (w : Option Call). first_long h (calls_of_some w)) own_q in
           let at_y : f y ≡ o = ap (down_call h q x y) number in
-          let part = down_more h q done x y edge (take k highers) labels links before (omega (arith, into_m, long_labels)) (omega (arith, into_m, long_links)) number there_
+          let same_answer : answer_in h (q.allows (m + x)) edge Down (second_at labels (m + y)) ≡ answer =
+          ap (λ (each : ℕ → ℕ → Bool). answer_in h (each (m + x)) edge Down (second_at labels (m + y))) al in
+          let part0 = down_more h q done x y edge (take k highers) labels links before (omega (arith, into_m, long_labels)) (omega (arith, into_m, long_links)) number there_
           s_q (time_left m labels c.edges.chain (m + y) (second_at labels (m + y)) i.ready from_m refl) in
+          let part = subst (λ (r : Relaxed). IsDownPart h q done x (take k highers ++ (y ∷ []))
+          (seconds_after labels (m + x) r) (links_after labels links (m + y) edge (m + x) r)) same_answer part0 in
           let next = row_more h f (take k highers) a b d y o row at_y told (sym long_q ∙ none) in (
             subst (λ (xs : List ℕ). IsDownPart h q done x xs call.new.labels call.new.chain.links) (sym more)
                 (subst (λ (ls : List (Option ℕ)). IsDownPart h q done x (take k highers ++ (y ∷ [])) ls call.new.chain.links) (sym labels_eq)
@@ -251,6 +259,7 @@ edges-preserved g c =
 pub returns-then-is_some-clause-ready : goal.returns-then-is_some-clause-ready
 returns-then-is_some-clause-ready g c =
     let h = g.R.Relaxer.hierarchy c.args.relaxer.now in
+    let allows = g.L.Limits.allows c.args.limits.now in
     let m = h.network.nodes in
     let x = c.args.rank in
     let ranks : c.args.graph.now.ranks ≡ m = ap (λ (v : ChordalValue). v.ranks) c.requires.graph.0 in
@@ -269,29 +278,31 @@ returns-then-is_some-clause-ready g c =
     let edge = c.edges.edge in
     let there_ : edge < length h.edges = subst (λ (j : ℕ). j < length h.edges) (sym i.edge) facts.1 in
     let call = c.relax_into-long in
-    let answer = answer_at h edge Down (second_at labels (m + y)) in
+    let allowed = allows (m + x) in
+    let answer = answer_in h allowed edge Down (second_at labels (m + y)) in
     let labels_eq : call.new.labels ≡ seconds_after labels (m + x) answer =
-    subst (λ (n : ℕ). call.new.labels ≡ seconds_after labels (n + x) (answer_at h edge Down (second_at labels (n + y)))) nodes
+    subst (λ (n : ℕ). call.new.labels ≡ seconds_after labels (n + x) (answer_in h (allows (n + x)) edge Down (second_at labels (n + y)))) nodes
     (subst (λ (v : HierarchyValue). call.new.labels ≡ seconds_after labels (c.ranks-nodes.result + x)
-    (answer_at v edge Down (second_at labels (c.ranks-nodes.result + y)))) i.stays call.ensures.labels) in
+    (answer_in v (allows (c.ranks-nodes.result + x)) edge Down (second_at labels (c.ranks-nodes.result + y)))) i.stays call.ensures.labels) in
     let links_eq : call.new.chain.links ≡ links_after labels links (m + y) edge (m + x) answer =
-    subst (λ (n : ℕ). call.new.chain.links ≡ links_after labels links (n + y) edge (n + x) (answer_at h edge Down (second_at labels (n + y)))) nodes
+    subst (λ (n : ℕ). call.new.chain.links ≡ links_after labels links (n + y) edge (n + x) (answer_in h (allows (n + x)) edge Down (second_at labels (n + y)))) nodes
     (subst (λ (v : HierarchyValue). call.new.chain.links ≡ links_after labels links (c.ranks-nodes.result + y) edge (c.ranks-nodes.result + x)
-    (answer_at v edge Down (second_at labels (c.ranks-nodes.result + y)))) i.stays call.ensures.links) in
-    let near = subst (λ (n : ℕ). IfSecond (second_at labels (n + y)) (λ at. IfAt (answer_at h edge Down (Some at)) (λ (arrival : ℕ). arrival ≤ at + 2 ^ 38))) nodes
+    (answer_in v (allows (c.ranks-nodes.result + x)) edge Down (second_at labels (c.ranks-nodes.result + y)))) i.stays call.ensures.links) in
+    let near = subst (λ (n : ℕ). IfSecond (second_at labels (n + y)) (λ at. IfAt (answer_in h (allows (n + x)) edge Down (Some at)) (λ (arrival : ℕ). arrival ≤ at + 2 ^ 38))) nodes
     (subst (λ (v : HierarchyValue). IfSecond (second_at labels (c.ranks-nodes.result + y))
-    (λ at. IfAt (answer_at v edge Down (Some at)) (λ (arrival : ℕ). arrival ≤ at + 2 ^ 38))) i.stays call.ensures.near) in
+    (λ at. IfAt (answer_in v (allows (c.ranks-nodes.result + x)) edge Down (Some at)) (λ (arrival : ℕ). arrival ≤ at + 2 ^ 38))) i.stays call.ensures.near) in
     let from_m : m + y < 2 * m = omega (arith, within) in
     let into_m : m + x < 2 * m = omega (arith, up, within) in
     let few : length h.edges ≤ MAX_EDGES = c.requires.graph.1.graph.few_edges in
     let small : edge < MAX_EDGES = omega (arith, few, there_) in
     let ready = relaxed_ready m labels c.edges.chain call.new.chain (m + y) edge (m + x) answer i.ready i.unturned from_m into_m small (turn_down m x y up within)
-    (near_at h edge Down (second_at labels (m + y)) near) links_eq in
+    (near_at h allowed edge Down (second_at labels (m + y)) near) links_eq in
     subst (λ (n : ℕ). IsReady n call.new.labels call.new.chain) (sym ranks) (subst (λ (ls : List (Option ℕ)). IsReady m ls call.new.chain) (sym labels_eq) ready)
 
 pub returns-then-is_some-clause-over : goal.returns-then-is_some-clause-over
 returns-then-is_some-clause-over g c =
     let h = g.R.Relaxer.hierarchy c.args.relaxer.now in
+    let allows = g.L.Limits.allows c.args.limits.now in
     let m = h.network.nodes in
     let x = c.args.rank in
     let ranks : c.args.graph.now.ranks ≡ m = ap (λ (v : ChordalValue). v.ranks) c.requires.graph.0 in
@@ -312,11 +323,11 @@ returns-then-is_some-clause-over g c =
     let there_ : edge < length h.edges = subst (λ (j : ℕ). j < length h.edges) (sym i.edge) facts.1 in
     let call = c.relax_into-long in
     let ne : y ≢ x = λ same. absurd (omega (arith, same, up)) in
-    let made = call_into (g.R.Relaxer.hierarchy c.edges.relaxer) labels (Some edge) Down (c.ranks-nodes.result + y) (c.ranks-nodes.result + x) in
-    let own = call_into h labels (Some edge) Down (m + y) (m + x) in
+    let made = call_into (g.R.Relaxer.hierarchy c.edges.relaxer) allows labels (Some edge) Down (c.ranks-nodes.result + y) (c.ranks-nodes.result + x) in
+    let own = call_into h allows labels (Some edge) Down (m + y) (m + x) in
     let same_call : made ≡ own =
-    ap (λ (v : HierarchyValue). call_into v labels (Some edge) Down (c.ranks-nodes.result + y) (c.ranks-nodes.result + x)) i.stays
-    ∙ ap (λ (n : ℕ). call_into h labels (Some edge) Down (n + y) (n + x)) nodes in
+    ap (λ (v : HierarchyValue). call_into v allows labels (Some edge) Down (c.ranks-nodes.result + y) (c.ranks-nodes.result + x)) i.stays
+    ∙ ap (λ (n : ℕ). call_into h allows labels (Some edge) Down (n + y) (n + x)) nodes in
     let a = g.R.Relaxer.calls c.args.relaxer.now in
     let b = g.R.Relaxer.calls c.edges.relaxer in
     let d = g.R.Relaxer.calls call.new.relaxer in
@@ -329,19 +340,20 @@ returns-then-is_some-clause-over g c =
     let same : c.args.graph.now.edges ≡ h.edges = ap (λ (v : ChordalValue). v.edges) c.requires.graph.0 in
     let (long, is) = some_call call.result (search rules) in
     let (rest, whole) = cut_at highers k lt in
-    λ q done sw p higher.
+    λ q done sw p higher al.
     let all = subst (λ (es : List Ends). (z : ℕ) → HasEdge es x z → Contains done z) same higher in
-    let before = (i.swept q done sw p all).0 in
-    let row = (i.swept q done sw p all).1 in
+    let before = (i.swept q done sw p all al).0 in
+    let row = (i.swept q done sw p all al).1 in
     let member = all y (edge_from_up_of h.edges x y (member_at (up_of h.edges x) y k at)) in
-    let s_q : second_at labels (m + y) ≡ second_of (down_label h q.from q.second y) = (before.down y member ne).second in
-    let r_q : second_at labels (m + x) ≡ second_of (down_after h q (below y (up_of h.edges x)) x) =
-    before.here.second ∙ ap (λ (part : List ℕ). second_of (down_after h q part x)) lower in
+    let s_q : second_at labels (m + y) ≡ second_of (down_made h q y) = (before.down y member ne).second in
+    let r_q : second_at labels (m + x) ≡ second_of (made_down_after h q (below y (up_of h.edges x)) x) =
+    before.here.second ∙ ap (λ (part : List ℕ). second_of (made_down_after h q part x)) lower in
     let f = λ (z : ℕ). down_call h q x z (number_from 0 h.edges x z) in
     let o = down_call h q x y (Some edge) in
     let own_q : own ≡ o =
-    ap (λ (t : Option ℕ). call_unless h t (call_at (Some edge) Down (second_at labels (m + y)))) r_q
-    ∙ ap (λ (t : Option ℕ). call_unless h (second_of (down_after h q (below y (up_of h.edges x)) x)) (call_at (Some edge) Down t)) s_q in
+    ap (λ (each : ℕ → ℕ → Bool). call_into h each labels (Some edge) Down (m + y) (m + x)) (sym al)
+    ∙ ap (λ (t : Option ℕ). call_unless h t (call_if h (q.allows (m + x)) (call_at (Some edge) Down (second_at labels (m + y))))) r_q
+    ∙ ap (λ (t : Option ℕ). call_unless h (second_of (made_down_after h q (below y (up_of h.edges x)) x)) (call_if h (q.allows (m + x)) (call_at (Some edge) Down t))) s_q in
     let told : AddsAll b d (calls_of_some o) = subst (λ (w : Option Call). AddsAll b d (calls_of_some w)) own_q told_own in
     let long_q : call.result ≡ first_long h (calls_of_some o) =
     long_own ∙ ap (λ (w : Option Call). first_long h (calls_of_some w)) own_q in
@@ -358,8 +370,8 @@ returns-clause-over g c =
     let whole : take c.edges.higher-index c.up-highers.result.now ≡ up_of h.edges x = take_full c.up-highers.result.now c.edges.higher-index (omega arith) ∙ i.highers in
     let a = g.R.Relaxer.calls c.args.relaxer.now in
     let b = g.R.Relaxer.calls c.edges.relaxer in
-    λ q done sw p higher.
-    let (part0, row0) = i.swept q done sw p (subst (λ (es : List Ends). (y : ℕ) → HasEdge es x y → Contains done y) same higher) in
+    λ q done sw p higher al.
+    let (part0, row0) = i.swept q done sw p (subst (λ (es : List Ends). (y : ℕ) → HasEdge es x y → Contains done y) same higher) al in
     let f = λ (z : ℕ). down_call h q x z (number_from 0 h.edges x z) in
     let part = subst (λ (xs : List ℕ). IsDownPart h q done x xs c.edges.labels c.edges.chain.links) whole part0 in
     let row = subst (λ (xs : List ℕ). IsRow h f xs a b) whole row0 in

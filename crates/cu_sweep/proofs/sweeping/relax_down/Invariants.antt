@@ -4,9 +4,10 @@ use Rattle.std.specs.List.{Contains}
 use Rattle.cu_chordal.specs.Graphs.{HasEdge, first_edge_of, up_of}
 use Rattle.cu_interval.specs.Hierarchies.{number_from}
 use Rattle.cu_sweep.specs.Places.{second_at}
-use Rattle.cu_sweep.specs.Swept.{IsPassed, Sweep}
+use Rattle.cu_sweep.specs.Swept.{IsPassed}
+use Rattle.cu_sweep.specs.Steps.Made.{Led, down_call, sweep_of}
 use Rattle.cu_sweep.specs.Steps.Ready.{IsReady}
-use Rattle.cu_sweep.specs.Steps.Sweeping.{IsDownSwept, down_call}
+use Rattle.cu_sweep.specs.Steps.Sweeping.{IsDownSwept}
 use Rattle.cu_sweep.proofs.DownRows.{IsDownPart}
 use Rattle.cu_sweep.proofs.Rows.{IsRow}
 use Rattle.cu_sweep.proofs.sweeping.relax_down.Given as goal
@@ -23,7 +24,8 @@ invariant-edges g l =
       edge : l.edge ≡ first_edge_of h.edges l.fn.rank + l.higher-index;
       nodes : l.nodes ≡ n;
       source : (y : ℕ) → y ≢ l.fn.rank → second_at l.labels (n + y) ≡ second_at l.fn.labels (n + y);
-      swept : (q : Sweep) (done : List ℕ) → IsDownSwept h q done l.fn.labels l.fn.chain.links → IsPassed h q l.fn.rank → ((y : ℕ) → HasEdge h.edges l.fn.rank y → Contains done y)
+      swept : (q : Led) (done : List ℕ) → IsDownSwept h q done l.fn.labels l.fn.chain.links → IsPassed h (sweep_of q) l.fn.rank
+          → ((y : ℕ) → HasEdge h.edges l.fn.rank y → Contains done y) → q.allows ≡ g.L.Limits.allows l.fn.limits
           → IsDownPart h q done l.fn.rank (take l.higher-index l.highers) l.labels l.chain.links
           × IsRow h (λ y. down_call h q l.fn.rank y (number_from 0 h.edges l.fn.rank y))
           (take l.higher-index l.highers) (g.R.Relaxer.calls l.fn.relaxer) (g.R.Relaxer.calls l.relaxer);

@@ -1,4 +1,4 @@
-use Rattle.std.proofs.Common.{◌≡◌, ◌≢◌, ◌≤◌, ◌<◌, ◌+◌, ◌*◌, ◌^◌, ◌∙◌, ◌++◌, ℕ, List, [], ◌∷◌, Option, Some, None, refl, sym, ap, subst, arith, rules, length, take, get_or}
+use Rattle.std.proofs.Common.{Bool, ◌≡◌, ◌≢◌, ◌≤◌, ◌<◌, ◌+◌, ◌*◌, ◌^◌, ◌∙◌, ◌++◌, ℕ, List, [], ◌∷◌, Option, Some, None, refl, sym, ap, subst, arith, rules, length, take, get_or}
 use Rattle.std.specs.Prelude.{slice_get}
 use Rattle.std.specs.List.{AllPairs, Contains}
 use Rattle.std.proofs.lemmas.List.{take_more}
@@ -8,12 +8,14 @@ use Rattle.cu_chordal.specs.Graphs.{ChordalValue, first_edge_of, up_of}
 use Rattle.cu_chordal.proofs.Tables.{up_rising}
 use Rattle.cu_interval.specs.declared.ways.Dir.TheVariants.{Up}
 use Rattle.cu_interval.specs.declared.relaxing.Call.{Call}
+use Rattle.cu_interval.specs.declared.relaxing.Relaxed.{Relaxed}
 use Rattle.cu_interval.specs.Calls.{IfAt}
 use Rattle.cu_interval.specs.Hierarchies.{HierarchyValue, number_from}
 use Rattle.cu_sweep.specs.Sweeps.{AddsAll, call_at, call_unless, first_long, second_of}
 use Rattle.cu_sweep.specs.Places.{calls_of_some, second_at}
 use Rattle.cu_sweep.specs.Steps.Ready.{IsReady}
-use Rattle.cu_sweep.specs.Steps.Sweeping.{IfSecond, answer_at, call_into, links_after, seconds_after}
+use Rattle.cu_sweep.specs.Steps.Made.{call_if}
+use Rattle.cu_sweep.specs.Steps.Sweeping.{IfSecond, answer_in, call_into, links_after, seconds_after}
 use Rattle.cu_sweep.proofs.Readying.{apart, near_at, relaxed_ready, time_left, turn_up}
 use Rattle.cu_sweep.proofs.Passing.{cut_at, not_yet, take_full}
 use Rattle.cu_sweep.proofs.Rows.{IsRow, row_edge, row_ends, row_more, row_none, row_whole, some_call, no_call}
@@ -24,6 +26,7 @@ use Rattle.cu_sweep.proofs.sweeping.relax_up.Goals as goal
 pub edges-init : goal.edges-init
 edges-init g c =
     let h = g.R.Relaxer.hierarchy c.args.relaxer.now in
+    let allows = g.L.Limits.allows c.args.limits.now in
     let same : c.args.graph.now.edges ≡ h.edges = ap (λ (k : ChordalValue). k.edges) c.requires.graph.0 in
     record {
       ready = c.requires.ready;
@@ -33,8 +36,8 @@ edges-init g c =
       edge = let e = c.first_edge-edge.ensures.count ∙ ap (λ es. first_edge_of es c.args.rank) same in omega (arith, e);
       source = refl;
       rest = λ z none. refl;
-      row = row_none h (λ y. call_into h c.args.labels.now (number_from 0 h.edges c.args.rank y) Up c.args.rank y) (g.R.Relaxer.calls c.args.relaxer.now);
-      swept = λ q done f p e. up_begun h q done c.args.rank c.args.labels.now c.args.chain.now.links f;
+      row = row_none h (λ y. call_into h allows c.args.labels.now (number_from 0 h.edges c.args.rank y) Up c.args.rank y) (g.R.Relaxer.calls c.args.relaxer.now);
+      swept = λ q done f p e al. up_begun h q done c.args.rank c.args.labels.now c.args.chain.now.links f;
     }
 
 pub relax_into-long-requires-clause-apart : goal.relax_into-long-requires-clause-apart
@@ -55,6 +58,7 @@ relax_into-long-requires-clause-apart g c =
 pub edges-preserved : goal.edges-preserved
 edges-preserved g c =
     let h = g.R.Relaxer.hierarchy c.args.relaxer.now in
+    let allows = g.L.Limits.allows c.args.limits.now in
     let i = c.edges.invariant in
     let k = c.edges.higher-index in
     let x = c.args.rank in
@@ -75,28 +79,29 @@ edges-preserved g c =
     let number : number_from 0 h.edges x y ≡ Some edge = facts.0 ∙ ap (λ (m : ℕ). Some m) (sym i.edge) in
     let there_ : edge < length h.edges = subst (λ (m : ℕ). m < length h.edges) (sym i.edge) facts.1 in
     let call = c.relax_into-long in
-    let answer = answer_at h edge Up (second_at labels x) in
+    let allowed = allows y in
+    let answer = answer_in h allowed edge Up (second_at labels x) in
     let labels_eq : call.new.labels ≡ seconds_after labels y answer =
-    subst (λ (v : HierarchyValue). call.new.labels ≡ seconds_after labels y (answer_at v edge Up (second_at labels x))) i.stays call.ensures.labels in
+    subst (λ (v : HierarchyValue). call.new.labels ≡ seconds_after labels y (answer_in v allowed edge Up (second_at labels x))) i.stays call.ensures.labels in
     let links_eq : call.new.chain.links ≡ links_after labels links x edge y answer =
-    subst (λ (v : HierarchyValue). call.new.chain.links ≡ links_after labels links x edge y (answer_at v edge Up (second_at labels x))) i.stays call.ensures.links in
+    subst (λ (v : HierarchyValue). call.new.chain.links ≡ links_after labels links x edge y (answer_in v allowed edge Up (second_at labels x))) i.stays call.ensures.links in
     let none : call.result ≡ None = no_call call.result (search rules) in
-    let near = subst (λ (v : HierarchyValue). IfSecond (second_at labels x) (λ at. IfAt (answer_at v edge Up (Some at)) (λ (arrival : ℕ). arrival ≤ at + 2 ^ 38))) i.stays call.ensures.near in
+    let near = subst (λ (v : HierarchyValue). IfSecond (second_at labels x) (λ at. IfAt (answer_in v allowed edge Up (Some at)) (λ (arrival : ℕ). arrival ≤ at + 2 ^ 38))) i.stays call.ensures.near in
     let few : length h.edges ≤ MAX_EDGES = c.requires.graph.1.graph.few_edges in
     let small : edge < MAX_EDGES = omega (arith, few, there_) in
     let ready = relaxed_ready n labels c.edges.chain call.new.chain x edge y answer i.ready i.unturned x_n (omega (arith, within_n)) small (turn_up n x y up within_n)
-    (near_at h edge Up (second_at labels x) near) links_eq in
+    (near_at h allowed edge Up (second_at labels x) near) links_eq in
     let apart_ : x ≢ y = λ same. absurd (omega (arith, same, up)) in
     let s = second_at c.args.labels.now x in
-    let f = λ (z : ℕ). call_into h c.args.labels.now (number_from 0 h.edges x z) Up x z in
-    let o = call_into h c.args.labels.now (Some edge) Up x y in
+    let f = λ (z : ℕ). call_into h allows c.args.labels.now (number_from 0 h.edges x z) Up x z in
+    let o = call_into h allows c.args.labels.now (Some edge) Up x y in
     let new = not_yet highers k (subst (AllPairs (λ a b. a < b)) (sym i.highers) (up_rising h.edges x c.requires.graph.1.graph.rising)) lt in
     let labels_now = c.edges.labels in
-    let made = call_into (g.R.Relaxer.hierarchy c.edges.relaxer) labels_now (Some edge) Up x y in
+    let made = call_into (g.R.Relaxer.hierarchy c.edges.relaxer) allows labels_now (Some edge) Up x y in
     let same_call : made ≡ o =
-    ap (λ (v : HierarchyValue). call_into v labels_now (Some edge) Up x y) i.stays
-    ∙ ap (λ (t : Option ℕ). call_unless h (second_at labels_now y) (call_at (Some edge) Up t)) i.source
-    ∙ ap (λ (t : Option ℕ). call_unless h t (call_at (Some edge) Up s)) (i.rest y new) in
+    ap (λ (v : HierarchyValue). call_into v allows labels_now (Some edge) Up x y) i.stays
+    ∙ ap (λ (t : Option ℕ). call_unless h (second_at labels_now y) (call_if h (allows y) (call_at (Some edge) Up t))) i.source
+    ∙ ap (λ (t : Option ℕ). call_unless h t (call_if h (allows y) (call_at (Some edge) Up s))) (i.rest y new) in
     let told : AddsAll (g.R.Relaxer.calls c.edges.relaxer) (g.R.Relaxer.calls call.new.relaxer) (calls_of_some o) =
     subst (λ (w : Option Call). AddsAll (g.R.Relaxer.calls c.edges.relaxer) (g.R.Relaxer.calls call.new.relaxer) (calls_of_some w)) same_call call.ensures.told in
     let long_eq : call.result ≡ first_long h (calls_of_some o) =
@@ -104,7 +109,7 @@ edges-preserved g c =
     ∙ ap (λ (w : Option Call). first_long h (calls_of_some w)) same_call in
     let quiet : first_long h (calls_of_some o) ≡ None = sym long_eq ∙ none in
     let row = row_more h f (take k highers) (g.R.Relaxer.calls c.args.relaxer.now) (g.R.Relaxer.calls c.edges.relaxer) (g.R.Relaxer.calls call.new.relaxer) y o i.row
-    (ap (λ (m : Option ℕ). call_into h c.args.labels.now m Up x y) number) told quiet in
+    (ap (λ (m : Option ℕ). call_into h allows c.args.labels.now m Up x y) number) told quiet in
     let more : take (k + 1) highers ≡ take k highers ++ (y ∷ []) = take_more highers k 0 lt in
     let long_labels = i.ready.long in
     let long_links = i.ready.places in
@@ -121,10 +126,12 @@ edges-preserved g c =
           ap (λ (ls : List (Option ℕ)). second_at ls z) labels_eq ∙ seconds_other labels y z answer apart_z
           ∙ i.rest z (λ m. none (subst (λ (xs : List ℕ). Contains xs z) (sym more) (member_before (take k highers) y z m)));
       row = subst (λ (part : List ℕ). IsRow h f part (g.R.Relaxer.calls c.args.relaxer.now) (g.R.Relaxer.calls call.new.relaxer)) (sym more) row;
-      swept = λ q done sw p fin.
-          let part = up_more h q done x y edge (take k highers) labels links (i.swept q done sw p fin) new up within (omega (arith, within_n, long_labels))
+      swept = λ q done sw p fin al.
+          let same_answer : answer_in h (q.allows y) edge Up (second_at labels x) ≡ answer = ap (λ (each : ℕ → ℕ → Bool). answer_in h (each y) edge Up (second_at labels x)) al in
+          let part0 = up_more h q done x y edge (take k highers) labels links (i.swept q done sw p fin al) new up within (omega (arith, within_n, long_labels))
           (omega (arith, within_n, long_links)) number there_
           (i.source ∙ (sw x p).second ∙ ap second_of fin) (time_left n labels c.edges.chain x (second_at labels x) i.ready x_n refl) p in
+          let part = subst (λ (r : Relaxed). IsUpPart h q done x (take k highers ++ (y ∷ [])) (seconds_after labels y r) (links_after labels links x edge y r)) same_answer part0 in
           subst (λ (xs : List ℕ). IsUpPart h q done x xs call.new.labels call.new.chain.links) (sym more)
           (subst (λ (ls : List (Option ℕ)). IsUpPart h q done x (take k highers ++ (y ∷ [])) ls call.new.chain.links) (sym labels_eq)
           (subst (λ (ks : List (Option (ℕ × ℕ))). IsUpPart h q done x (take k highers ++ (y ∷ [])) (seconds_after labels y answer) ks) (sym links_eq) part));
@@ -133,8 +140,9 @@ edges-preserved g c =
 pub returns-clause-told : goal.returns-clause-told
 returns-clause-told g c =
     let h = g.R.Relaxer.hierarchy c.args.relaxer.now in
+    let allows = g.L.Limits.allows c.args.limits.now in
     let i = c.edges.invariant in
-    let f = λ (z : ℕ). call_into h c.args.labels.now (number_from 0 h.edges c.args.rank z) Up c.args.rank z in
+    let f = λ (z : ℕ). call_into h allows c.args.labels.now (number_from 0 h.edges c.args.rank z) Up c.args.rank z in
     let all : take c.edges.higher-index c.up-highers.result.now ≡ up_of h.edges c.args.rank = take_full c.up-highers.result.now c.edges.higher-index (omega arith) ∙ i.highers in
     row_whole h f (up_of h.edges c.args.rank) (g.R.Relaxer.calls c.args.relaxer.now) (g.R.Relaxer.calls c.edges.relaxer)
     (subst (λ (part : List ℕ). IsRow h f part (g.R.Relaxer.calls c.args.relaxer.now) (g.R.Relaxer.calls c.edges.relaxer)) all i.row)
@@ -144,13 +152,14 @@ returns-clause-swept g c =
     let h = g.R.Relaxer.hierarchy c.args.relaxer.now in
     let i = c.edges.invariant in
     let all : take c.edges.higher-index c.up-highers.result.now ≡ up_of h.edges c.args.rank = take_full c.up-highers.result.now c.edges.higher-index (omega arith) ∙ i.highers in
-    λ q done sw p fin none.
+    λ q done sw p fin al none.
     up_done h c.requires.graph.1 q done c.args.rank c.edges.labels c.edges.chain.links
-    (subst (λ (part : List ℕ). IsUpPart h q done c.args.rank part c.edges.labels c.edges.chain.links) all (i.swept q done sw p fin))
+    (subst (λ (part : List ℕ). IsUpPart h q done c.args.rank part c.edges.labels c.edges.chain.links) all (i.swept q done sw p fin al))
 
 pub returns-then-is_some-clause-long : goal.returns-then-is_some-clause-long
 returns-then-is_some-clause-long g c =
     let h = g.R.Relaxer.hierarchy c.args.relaxer.now in
+    let allows = g.L.Limits.allows c.args.limits.now in
     let i = c.edges.invariant in
     let k = c.edges.higher-index in
     let x = c.args.rank in
@@ -163,15 +172,15 @@ returns-then-is_some-clause-long g c =
     let number : number_from 0 h.edges x y ≡ Some edge = facts.0 ∙ ap (λ (m : ℕ). Some m) (sym i.edge) in
     let call = c.relax_into-long in
     let s = second_at c.args.labels.now x in
-    let f = λ (z : ℕ). call_into h c.args.labels.now (number_from 0 h.edges x z) Up x z in
-    let o = call_into h c.args.labels.now (Some edge) Up x y in
+    let f = λ (z : ℕ). call_into h allows c.args.labels.now (number_from 0 h.edges x z) Up x z in
+    let o = call_into h allows c.args.labels.now (Some edge) Up x y in
     let new = not_yet highers k (subst (AllPairs (λ a b. a < b)) (sym i.highers) (up_rising h.edges x c.requires.graph.1.graph.rising)) lt in
     let labels_now = c.edges.labels in
-    let made = call_into (g.R.Relaxer.hierarchy c.edges.relaxer) labels_now (Some edge) Up x y in
+    let made = call_into (g.R.Relaxer.hierarchy c.edges.relaxer) allows labels_now (Some edge) Up x y in
     let same_call : made ≡ o =
-    ap (λ (v : HierarchyValue). call_into v labels_now (Some edge) Up x y) i.stays
-    ∙ ap (λ (t : Option ℕ). call_unless h (second_at labels_now y) (call_at (Some edge) Up t)) i.source
-    ∙ ap (λ (t : Option ℕ). call_unless h t (call_at (Some edge) Up s)) (i.rest y new) in
+    ap (λ (v : HierarchyValue). call_into v allows labels_now (Some edge) Up x y) i.stays
+    ∙ ap (λ (t : Option ℕ). call_unless h (second_at labels_now y) (call_if h (allows y) (call_at (Some edge) Up t))) i.source
+    ∙ ap (λ (t : Option ℕ). call_unless h t (call_if h (allows y) (call_at (Some edge) Up s))) (i.rest y new) in
     let (long, is) = some_call call.result (search rules) in
     let told : AddsAll (g.R.Relaxer.calls c.edges.relaxer) (g.R.Relaxer.calls call.new.relaxer) (calls_of_some o) =
     subst (λ (w : Option Call). AddsAll (g.R.Relaxer.calls c.edges.relaxer) (g.R.Relaxer.calls call.new.relaxer) (calls_of_some w)) same_call call.ensures.told in
@@ -181,12 +190,13 @@ returns-then-is_some-clause-long g c =
     let first : first_long h (calls_of_some o) ≡ Some long = sym long_eq ∙ is in
     let (rest, whole) = cut_at highers k lt in
     let ends = row_ends h f (take k highers) (g.R.Relaxer.calls c.args.relaxer.now) (g.R.Relaxer.calls c.edges.relaxer) (g.R.Relaxer.calls call.new.relaxer) y o long rest (up_of h.edges x) i.row
-    (ap (λ (m : Option ℕ). call_into h c.args.labels.now m Up x y) number) told first (sym i.highers ∙ whole) in
+    (ap (λ (m : Option ℕ). call_into h allows c.args.labels.now m Up x y) number) told first (sym i.highers ∙ whole) in
     is ∙ sym ends.0
 
 pub returns-then-is_some-clause-told : goal.returns-then-is_some-clause-told
 returns-then-is_some-clause-told g c =
     let h = g.R.Relaxer.hierarchy c.args.relaxer.now in
+    let allows = g.L.Limits.allows c.args.limits.now in
     let i = c.edges.invariant in
     let k = c.edges.higher-index in
     let x = c.args.rank in
@@ -199,15 +209,15 @@ returns-then-is_some-clause-told g c =
     let number : number_from 0 h.edges x y ≡ Some edge = facts.0 ∙ ap (λ (m : ℕ). Some m) (sym i.edge) in
     let call = c.relax_into-long in
     let s = second_at c.args.labels.now x in
-    let f = λ (z : ℕ). call_into h c.args.labels.now (number_from 0 h.edges x z) Up x z in
-    let o = call_into h c.args.labels.now (Some edge) Up x y in
+    let f = λ (z : ℕ). call_into h allows c.args.labels.now (number_from 0 h.edges x z) Up x z in
+    let o = call_into h allows c.args.labels.now (Some edge) Up x y in
     let new = not_yet highers k (subst (AllPairs (λ a b. a < b)) (sym i.highers) (up_rising h.edges x c.requires.graph.1.graph.rising)) lt in
     let labels_now = c.edges.labels in
-    let made = call_into (g.R.Relaxer.hierarchy c.edges.relaxer) labels_now (Some edge) Up x y in
+    let made = call_into (g.R.Relaxer.hierarchy c.edges.relaxer) allows labels_now (Some edge) Up x y in
     let same_call : made ≡ o =
-    ap (λ (v : HierarchyValue). call_into v labels_now (Some edge) Up x y) i.stays
-    ∙ ap (λ (t : Option ℕ). call_unless h (second_at labels_now y) (call_at (Some edge) Up t)) i.source
-    ∙ ap (λ (t : Option ℕ). call_unless h t (call_at (Some edge) Up s)) (i.rest y new) in
+    ap (λ (v : HierarchyValue). call_into v allows labels_now (Some edge) Up x y) i.stays
+    ∙ ap (λ (t : Option ℕ). call_unless h (second_at labels_now y) (call_if h (allows y) (call_at (Some edge) Up t))) i.source
+    ∙ ap (λ (t : Option ℕ). call_unless h t (call_if h (allows y) (call_at (Some edge) Up s))) (i.rest y new) in
     let (long, is) = some_call call.result (search rules) in
     let told : AddsAll (g.R.Relaxer.calls c.edges.relaxer) (g.R.Relaxer.calls call.new.relaxer) (calls_of_some o) =
     subst (λ (w : Option Call). AddsAll (g.R.Relaxer.calls c.edges.relaxer) (g.R.Relaxer.calls call.new.relaxer) (calls_of_some w)) same_call call.ensures.told in
@@ -217,12 +227,13 @@ returns-then-is_some-clause-told g c =
     let first : first_long h (calls_of_some o) ≡ Some long = sym long_eq ∙ is in
     let (rest, whole) = cut_at highers k lt in
     let ends = row_ends h f (take k highers) (g.R.Relaxer.calls c.args.relaxer.now) (g.R.Relaxer.calls c.edges.relaxer) (g.R.Relaxer.calls call.new.relaxer) y o long rest (up_of h.edges x) i.row
-    (ap (λ (m : Option ℕ). call_into h c.args.labels.now m Up x y) number) told first (sym i.highers ∙ whole) in
+    (ap (λ (m : Option ℕ). call_into h allows c.args.labels.now m Up x y) number) told first (sym i.highers ∙ whole) in
     ends.1
 
 pub returns-then-is_some-clause-ready : goal.returns-then-is_some-clause-ready
 returns-then-is_some-clause-ready g c =
     let h = g.R.Relaxer.hierarchy c.args.relaxer.now in
+    let allows = g.L.Limits.allows c.args.limits.now in
     let i = c.edges.invariant in
     let k = c.edges.higher-index in
     let x = c.args.rank in
@@ -243,14 +254,15 @@ returns-then-is_some-clause-ready g c =
     let number : number_from 0 h.edges x y ≡ Some edge = facts.0 ∙ ap (λ (m : ℕ). Some m) (sym i.edge) in
     let there_ : edge < length h.edges = subst (λ (m : ℕ). m < length h.edges) (sym i.edge) facts.1 in
     let call = c.relax_into-long in
-    let answer = answer_at h edge Up (second_at labels x) in
+    let allowed = allows y in
+    let answer = answer_in h allowed edge Up (second_at labels x) in
     let labels_eq : call.new.labels ≡ seconds_after labels y answer =
-    subst (λ (v : HierarchyValue). call.new.labels ≡ seconds_after labels y (answer_at v edge Up (second_at labels x))) i.stays call.ensures.labels in
+    subst (λ (v : HierarchyValue). call.new.labels ≡ seconds_after labels y (answer_in v allowed edge Up (second_at labels x))) i.stays call.ensures.labels in
     let links_eq : call.new.chain.links ≡ links_after labels links x edge y answer =
-    subst (λ (v : HierarchyValue). call.new.chain.links ≡ links_after labels links x edge y (answer_at v edge Up (second_at labels x))) i.stays call.ensures.links in
-    let near = subst (λ (v : HierarchyValue). IfSecond (second_at labels x) (λ at. IfAt (answer_at v edge Up (Some at)) (λ (arrival : ℕ). arrival ≤ at + 2 ^ 38))) i.stays call.ensures.near in
+    subst (λ (v : HierarchyValue). call.new.chain.links ≡ links_after labels links x edge y (answer_in v allowed edge Up (second_at labels x))) i.stays call.ensures.links in
+    let near = subst (λ (v : HierarchyValue). IfSecond (second_at labels x) (λ at. IfAt (answer_in v allowed edge Up (Some at)) (λ (arrival : ℕ). arrival ≤ at + 2 ^ 38))) i.stays call.ensures.near in
     let few : length h.edges ≤ MAX_EDGES = c.requires.graph.1.graph.few_edges in
     let small : edge < MAX_EDGES = omega (arith, few, there_) in
     let ready = relaxed_ready n labels c.edges.chain call.new.chain x edge y answer i.ready i.unturned x_n (omega (arith, within_n)) small (turn_up n x y up within_n)
-    (near_at h edge Up (second_at labels x) near) links_eq in
+    (near_at h allowed edge Up (second_at labels x) near) links_eq in
     subst (λ (ls : List (Option ℕ)). IsReady n ls call.new.chain) (sym labels_eq) ready

@@ -9,3 +9,6 @@ knowing-requires-clause-known c = λ h spells.
     let here = subst (λ (bytes : List ℕ). Spells bytes view) c.deref.ensures.value c.adopt.ensures.spells in
     knows_of c.args.bytes.items view h c.in_ok-customized.customized here spells (c.in_ok-customized.ensures.long ∙ c.edges-edges.ensures.count)
     (c.in_ok-customized.ensures.customized h (c.requires.built h spells)))
+
+pub knowing-requires-clause-walks : goal.knowing-requires-clause-walks
+knowing-requires-clause-walks c = c.requires.built

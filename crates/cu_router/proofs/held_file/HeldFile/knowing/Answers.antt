@@ -1,6 +1,7 @@
 use Rattle.std.proofs.Common.{◌∙◌, ℕ, List, ap, subst, true}
 use Rattle.cu_elimtree.specs.SweepArcs.{parents_in}
-use Rattle.cu_pack.specs.Checks.{Spells}
+use Rattle.cu_pack.specs.Checks.{Spells, sealed}
+use Rattle.cu_pack.specs.Reading.{decoded}
 use Rattle.cu_pack.proofs.Read.Bodies.{spelled_sealed}
 use Rattle.cu_router.proofs.HeldLaws.{held_new, sealed_spells, spells_sealed}
 use Rattle.cu_router.proofs.held_file.HeldFile.knowing.Goals as goal
@@ -11,13 +12,14 @@ invariant_of-result c =
     let bytes = c.args.bytes.items in
     let spells = subst (λ (bytes : List ℕ). Spells bytes h) c.deref.ensures.value c.adopt.ensures.spells in
     let same = c.in_ok-graph.ensures.same in
-    held_new bytes h true _ _ _ (record {
+    let holds = held_new bytes h true _ _ _ (record {
       spelled = sealed_spells bytes h spells;
       digest = λ _. spelled_sealed bytes h spells;
       chordal = same;
       tree = c.in_ok-tree.ensures.named ∙ ap parents_in same;
       knows = c.requires.known h spells;
-    })
+    }) in
+    (holds, c.requires.walks (decoded (sealed bytes)) (spells_sealed bytes h spells))
 
 pub returns : goal.returns
 returns c =

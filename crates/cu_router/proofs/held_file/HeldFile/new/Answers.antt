@@ -1,4 +1,4 @@
-use Rattle.std.proofs.Common.{◌∙◌, ℕ, List, subst}
+use Rattle.std.proofs.Common.{◌∙◌, ℕ, List, subst, sym}
 use Rattle.cu_pack.specs.Checks.{Spells}
 use Rattle.cu_router.proofs.HeldLaws.{knows_of}
 use Rattle.cu_router.proofs.held_file.HeldFile.new.Goals as goal
@@ -8,3 +8,6 @@ knowing-requires-clause-known c = λ h spells.
     (let view = c.adopt.result in
     let here = subst (λ (bytes : List ℕ). Spells bytes view) c.deref.ensures.value c.adopt.ensures.spells in
     knows_of c.args.bytes.items view h c.in_ok-customized.customized here spells (c.in_ok-customized.ensures.long ∙ c.edges-edges.ensures.count) (c.in_ok-customized.ensures.customized h))
+
+pub knowing-requires-clause-walks : goal.knowing-requires-clause-walks
+knowing-requires-clause-walks c = λ h spells. c.in_ok-known.ensures h (subst (λ (bytes : List ℕ). Spells bytes h) (sym c.deref-2.ensures.value) spells)

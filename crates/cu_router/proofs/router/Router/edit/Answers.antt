@@ -1,9 +1,12 @@
-use Rattle.std.proofs.Common.{◌≡◌, ℕ, List, ap, length, subst, sym}
+use Rattle.std.proofs.Common.{◌≡◌, ◌∙◌, ℕ, List, ap, length, subst, sym}
 use Rattle.cu_model.specs.declared.roads.Edit.{Edit}
 use Rattle.cu_model.specs.Edits.{IsEditInRange}
+use Rattle.cu_edits.specs.Settling.{numbers_of}
 use Rattle.cu_interval.specs.declared.ways.TouchedEdge.{TouchedEdge}
 use Rattle.cu_interval.specs.Hierarchies.{HierarchyValue}
 use Rattle.cu_interval.specs.Replacing.{hierarchy_with}
+use Rattle.cu_interval.specs.Resettling.{IsResettled}
+use Rattle.cu_interval.specs.Touching.{NumbersTouched}
 use Rattle.cu_pack.specs.Checks.{Spells, sealed}
 use Rattle.cu_recall.specs.Rooms.{Fits}
 use Rattle.cu_router.specs.Edited.{IsEdited}
@@ -13,6 +16,23 @@ use Rattle.cu_router.proofs.router.Router.edit.Goals as goal
 
 pub touch_held-requires-clause-knows : goal.touch_held-requires-clause-knows
 touch_held-requires-clause-knows c = c.rows.ensures.knows c.self.inside.held c.self.invariant.0.knows
+
+pub change_over-requires : goal.change_over-requires
+change_over-requires c =
+    let held = c.self.inside.held in
+    let edit = c.args.edit in
+    let bytes = sealed c.in_ok-bytes.bytes.items in
+    let same = sym c.as_slice-lists.ensures.value in
+    let touched = c.in_ok-touched.ensures in
+    record {
+      change = record {
+        edit = edit;
+        range = subst (λ (h : HierarchyValue). IsEditInRange h.network edit) (sym c.self.view_is) c.requires.range;
+        spelled = subst (λ (e : Edit). Spells bytes (hierarchy_with held e c.as_slice-lists.result.now)) c.in_ok-touched.ensures.edit c.in_ok-bytes.ensures.spelled;
+        resettled = subst (λ (l : List TouchedEdge). IsResettled held edit (hierarchy_with held edit l)) same touched.resettled;
+        touched = subst (λ (l : List TouchedEdge). NumbersTouched held edit (numbers_of l)) same touched.touched;
+      };
+    }
 
 pub invariant_of-self-2 : goal.invariant_of-self-2
 invariant_of-self-2 c =
@@ -26,7 +46,11 @@ invariant_of-self-2 c =
     let same : c.change_over.new.self ≡ new = c.change_over.ensures.changed new spells in
     let fits = fits_after held new edit c.in_ok-touched.ensures.resettled c.self.inside.queries c.forget.new.self c.self.invariant.0
     c.forget.ensures.nodes c.forget.ensures.lists (c.forget.ensures.knows new) in
-    (subst (λ (h : HierarchyValue). Fits h c.forget.new.self) (sym same) fits, subst (λ (h : HierarchyValue). HasEditRoom h c.touch_held.new.room) (sym same) c.in_ok-touched.ensures.room)
+    let nodes : length c.self.inside.reaches ≡ new.network.nodes = c.self.invariant.2 ∙ sym (sym fits.nodes ∙ c.forget.ensures.nodes ∙ c.self.invariant.0.nodes) in (
+      subst (λ (h : HierarchyValue). Fits h c.forget.new.self) (sym same) fits,
+      subst (λ (h : HierarchyValue). HasEditRoom h c.touch_held.new.room) (sym same) c.in_ok-touched.ensures.room,
+      nodes ∙ sym (ap (λ (h : HierarchyValue). h.network.nodes) same),
+    )
 
 pub returns-clause-edited : goal.returns-clause-edited
 returns-clause-edited c =

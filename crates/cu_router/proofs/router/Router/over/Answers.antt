@@ -12,4 +12,5 @@ invariant_of-result c =
         knows = made.knows c.args.held;
       },
       tt,
+      c.in_ok-reaches.ensures.nodes ∙ c.nodes-nodes.ensures.count ∙ ap (λ (h : HierarchyValue). h.network.nodes) same,
     )

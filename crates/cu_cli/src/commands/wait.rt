@@ -1,0 +1,81 @@
+//! `wait`: the queries and edits of the source answered over a network whose profiles are measured.
+
+ghost use Rattle.std.specs.Prelude.{IfOk, IfErr, map, string_bytes};
+ghost use Rattle.cu_interval.specs.Hierarchies.{HierarchyValue};
+ghost use Rattle.cu_pack.specs.Checks.{Spells};
+ghost use Rattle.cu_cli.specs.Commands.Wait.{wait_of};
+ghost use Rattle.cu_cli.specs.PreparingWaiting.{StopsWaiting};
+ghost use Rattle.cu_cli.specs.Steps.Asks.{Parses, order_asked, tables_asked, wait_asked};
+ghost use Rattle.cu_cli.specs.Steps.Loading.{OnlyLoads};
+ghost use Rattle.cu_cli.specs.Steps.Measuring.{HasBuiltMeasured};
+ghost use Rattle.cu_cli.specs.Steps.Outcomes.{IsBeforeScript, Works, stop_of, world_of};
+
+use crate::measuring::prepare_measured;
+use crate::stops::Stop;
+use crate::words::{OrderWord, TableNames, parse_order};
+use cu_customize::customize;
+use cu_io::{Shelf, Sink, Source};
+use cu_pack::pack;
+use cu_session::answer_built;
+use std::alloc::Global;
+
+/// The tables of a network, of which that of the profiles is measured, and its order.
+#[derive(Clone, Copy)]
+pub struct WaitWords<'a> {
+    pub tables: TableNames<'a>,
+    pub order: OrderWord<'a>,
+}
+
+/// What the words behind `wait` name; none where they are not four.
+pub fn parse(words: &[String]) -> Option<WaitWords<'_>>
+    ensures { Parses wait_asked (wait_of (map string_bytes words.now)) result }
+{
+    let [nodes, roads, measured, order] = words else {
+        return None;
+    };
+    Some(WaitWords {
+        tables: TableNames {
+            nodes: nodes.as_str(),
+            roads: roads.as_str(),
+            profiles: measured.as_str(),
+        },
+        order: parse_order(order.as_str()),
+    })
+}
+
+/// Packs the built hierarchy of the tables, once the measured profiles are converted to those that arrive when whoever
+/// waits best does, and answers the script of the source over its bytes. All that a query needs is made before the first
+/// reply; an edit takes memory of its own, and one that sets a profile puts its pieces in the place of what was measured.
+pub fn wait<H: Shelf, S: Source, K: Sink>(
+    alloc: Global,
+    asked: WaitWords<'_>,
+    shelf: &mut H,
+    source: &mut S,
+    sink: &mut K,
+) -> Result<(), Stop>
+    ensures works { Works (wait_asked asked.entry) (stop_of result)
+        (world_of (H.state shelf.old) (S.state source.old) (K.state sink.old))
+        (world_of (H.state shelf.new) (S.state source.new) (K.state sink.new)) }
+{
+    let bytes = pack_measured(alloc, asked, shelf)?;
+    answer_built(alloc, bytes, source, sink)?;
+    Ok(())
+}
+
+// The packed bytes of the built hierarchy of the converted network. The hierarchy itself is let go.
+fn pack_measured<H: Shelf>(
+    alloc: Global,
+    asked: WaitWords<'_>,
+    shelf: &mut H,
+) -> Result<Vec<u8>, Stop>
+    ensures ok { IfOk result (λ bytes. (h : HierarchyValue)
+        × HasBuiltMeasured (H.state shelf.old) (tables_asked asked.entry.tables) (order_asked asked.entry.order) h × Spells bytes.items h) }
+    ensures err { IfErr result (StopsWaiting (H.state shelf.old) (H.state shelf.new)
+        (tables_asked asked.entry.tables) (order_asked asked.entry.order)) }
+    ensures before { IfErr result IsBeforeScript }
+    ensures loads { OnlyLoads (stop_of result) (H.state shelf.old) (H.state shelf.new) }
+{
+    let prepared = prepare_measured(alloc, asked.tables, asked.order, shelf)?;
+    let hierarchy = customize(alloc, prepared.network, prepared.order, prepared.graph)?;
+    Ok(pack(alloc, &hierarchy)?)
+}

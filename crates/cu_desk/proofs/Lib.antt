@@ -1,0 +1,6 @@
+mod ClientLaws
+mod HeldAnswers
+pub mod NetworkRuns
+mod ReplyLaws
+mod Simulation
+mod StepLaws

@@ -1,0 +1,4 @@
+-- What private functions mean to each other; no public contract speaks of it.
+pub mod Busies
+pub mod Cuts
+pub mod Refused

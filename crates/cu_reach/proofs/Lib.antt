@@ -1,0 +1,9 @@
+pub mod Queries
+pub mod LatestLaws
+pub mod FieldLaws
+pub mod TableLaws
+pub mod DeskLaws
+pub mod TimeLaws
+pub mod SayingLaws
+pub mod RangeLaws
+pub mod BuiltLaws

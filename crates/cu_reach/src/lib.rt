@@ -1,0 +1,19 @@
+//! One-to-all, tables and latest departures over a hierarchy.
+//!
+//! [`latest`] searches the day for the greatest second from which a query arrives in time, by at most [`MOST_QUERIES`] queries
+//! (`specs/Departures.antt`).
+#![tactic(auto)]
+
+mod departures;
+mod lines;
+mod reaching;
+mod tables;
+mod writing;
+
+pub use departures::{Departure, MOST_QUERIES, latest};
+pub use lines::{
+    LATEST_BY, LatestAsked, MAX_TABLE, ManyRefusal, ReachAsked, check_latest, check_reach,
+};
+pub use reaching::{ReachDesk, Reached, reach};
+pub use tables::{NodeFields, TableAsked, check_table};
+pub use writing::{put_damage, put_dir, put_reach, put_row, put_word_and_long};

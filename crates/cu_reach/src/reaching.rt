@@ -1,0 +1,119 @@
+//! One-to-all.
+
+ghost use Rattle.std.specs.Prelude.{◌≡◌, ◌≤◌, ◌<◌, IfOk, Some, length, slice_get};
+ghost use Rattle.std.specs.List.{range_with_len};
+ghost use Rattle.cu_elimtree.specs.SweepArcs.{parents_in};
+ghost use Rattle.cu_interval.specs.Hierarchies.{IsHierarchyOf};
+ghost use Rattle.cu_model.specs.declared.limits.TheConstants.{DAY, MAX_NODES};
+ghost use Rattle.cu_reach.specs.Reaching.{HoldsReached, IsAllWhereBuilt, reached, reached_by};
+ghost use Rattle.cu_sweep.specs.Sweeps.{AddsAll, until_long};
+ghost use Rattle.cu_sweep.specs.ToAll.{reach_calls};
+
+use cu_chordal::Chordal;
+use cu_elimtree::Tree;
+use cu_interval::{Call, Dir, Relaxer};
+use cu_model::NoMemory;
+use cu_sweep::Labels;
+use std::alloc::Global;
+use std::marker::Model;
+
+/// That every rank has its label, or a relaxation whose walk was too long.
+#[derive(Clone, Copy, Debug, PartialEq, Eq)]
+pub enum Reached {
+    Done,
+    Long { edge: u32, dir: Dir, second: u64 },
+}
+
+/// Room for the labels of all ranks, made once. Contracts see the second at which each rank is reached, none where it isn't.
+#[derive(Drop)]
+pub struct ReachDesk {
+    labels: Labels,
+    // All ranks, rising: the downward pass goes over them as a query's goes over the ancestors of its end.
+    ranks: Vec<u32>,
+}
+
+impl Model for ReachDesk {
+    ghost use Rattle.std.specs.Prelude.{ℕ, List, Option, ◌≡◌};
+    ghost use Rattle.std.specs.List.{range_with_len};
+    ghost use Rattle.cu_reach.specs.Reaching.{labels_of};
+
+    ghost Value = { List (Option ℕ) };
+
+    ghost view = { λ desk. labels_of desk.labels };
+
+    ghost invariant = { λ desk. desk.ranks.items ≡ range_with_len 0 desk.labels.nodes };
+}
+
+impl ReachDesk {
+    /// A desk for so many nodes, which are at most `MAX_NODES` of `cu_model`.
+    pub fn new(alloc: Global, nodes: u32) -> Result<ReachDesk, NoMemory>
+        requires { nodes ≤ MAX_NODES }
+        ensures nodes { IfOk result (λ desk. length desk ≡ nodes) }
+    {
+        Ok(ReachDesk {
+            labels: Labels::new(alloc, nodes)?,
+            ranks: list_ranks(alloc, nodes)?,
+        })
+    }
+
+    /// When the last reach came to a rank, which is below the number of nodes: none where it didn't. That reach was done. Takes
+    /// no memory.
+    pub fn label(&self, rank: u32) -> Option<u64>
+        requires { rank < length self.now }
+        ensures { slice_get self.now rank ≡ Some result }
+    {
+        self.labels.second(rank)
+    }
+}
+
+// All ranks, rising.
+fn list_ranks(alloc: Global, nodes: u32) -> Result<Vec<u32>, NoMemory>
+    ensures { IfOk result (λ ranks. ranks.items ≡ range_with_len 0 nodes) }
+{
+    Ok((0..nodes).collect(alloc)?)
+}
+
+/// Labels every rank by its earliest arrival from a rank, leaving at a second of the day, in a built hierarchy the least arrival
+/// over all walks. Each edge is asked at most once a sweep, and a call that can't make a label earlier is left out. The labels
+/// of an earlier reach are forgotten. The rank is below the number of ranks, the tree is that of the graph, the desk was made
+/// for as many nodes, and the relaxer stands for a hierarchy with this graph. Takes no memory.
+pub fn reach<R: Relaxer>(
+    tree: &Tree,
+    graph: &Chordal,
+    desk: &mut ReachDesk,
+    relaxer: &mut R,
+    from: u32,
+    second: u32,
+) -> Reached
+    requires from { from < graph.now.ranks }
+    requires second { second < DAY }
+    requires tree { tree.now ≡ parents_in graph.now }
+    requires desk { length desk.old ≡ graph.now.ranks }
+    requires graph { IsHierarchyOf graph.now (R.hierarchy relaxer.old) }
+    ensures reached { result ≡ reached (R.hierarchy relaxer.old) from second }
+    ensures told { AddsAll (R.calls relaxer.old) (R.calls relaxer.new)
+        (until_long (R.hierarchy relaxer.old)
+        (reach_calls (R.hierarchy relaxer.old) from second)) }
+    ensures holds { HoldsReached (R.hierarchy relaxer.old) from second result desk.new }
+    ensures least { IsAllWhereBuilt (R.hierarchy relaxer.old) from second result desk.new }
+    ensures nodes { length desk.new ≡ length desk.old }
+    ensures stays { R.hierarchy relaxer.new ≡ R.hierarchy relaxer.old }
+{
+    let ranks = &desk.ranks;
+    let labels = &mut desk.labels;
+    reached_of(labels.reach_all(tree, graph, relaxer, from, second, ranks))
+}
+
+// That the reach is done, or ended with this call.
+fn reached_of(long: Option<Call>) -> Reached
+    ensures { result ≡ reached_by long }
+{
+    match long {
+        None => Reached::Done,
+        Some(call) => Reached::Long {
+            edge: call.edge,
+            dir: call.dir,
+            second: call.second,
+        },
+    }
+}

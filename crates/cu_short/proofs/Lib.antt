@@ -1,0 +1,5 @@
+pub mod MostLaws
+pub mod WalkRoads
+pub mod Halves
+pub mod MostSoFar
+pub mod Turns

@@ -1,0 +1,228 @@
+//! What is at least still to go to a rank, by the least bounds of lists.
+
+ghost use Rattle.std.specs.Prelude.{◌≡◌, ◌≤◌, ◌<◌, ◌+◌, ◌⊎◌, ℕ, Some, All, length, min};
+ghost use Rattle.std.specs.List.{AllPairs, Contains};
+ghost use Rattle.cu_elimtree.specs.SweepArcs.{ancestors_in, parents_in};
+ghost use Rattle.cu_elimtree.specs.Trees.{ancestors_of};
+ghost use Rattle.cu_interval.specs.declared.ways.Dir.TheVariants.{Up, Down};
+ghost use Rattle.cu_interval.specs.Hierarchies.{IsHierarchyOf, graph_of, number_from};
+ghost use Rattle.cu_interval.specs.LeastBounds.{far, least_bound};
+ghost use Rattle.cu_sweep.specs.Steps.Ahead.{IsAhead, IsNear, ahead_at};
+
+use crate::querying::Question;
+use cu_chordal::Chordal;
+use cu_elimtree::Tree;
+use cu_interval::{Dir, Relaxer};
+
+// Further than any travel.
+const FAR: u64 = 1 << 60;
+
+// What is still to go from a rank: no more than is said of it, and than over each edge and from where it leads.
+fn least_ahead<R: Relaxer>(
+    graph: &Chordal,
+    ahead: &[u64],
+    relaxer: &R,
+    rank: u32,
+) -> (u64, Option<u32>)
+    requires rank { rank < graph.now.ranks }
+    requires graph { IsHierarchyOf graph.now (R.hierarchy relaxer.now) }
+    requires places { length ahead.now ≡ graph.now.ranks }
+    requires near { IsNear ahead.now }
+    ensures less { result.0 ≤ ahead_at ahead.now rank }
+    ensures each { (y edge : ℕ) → number_from 0 (R.hierarchy relaxer.now).edges rank y ≡ Some edge
+        → result.0 ≤ least_bound (R.hierarchy relaxer.now) edge Up + ahead_at ahead.now y }
+{
+    let mut best = (ahead[rank as usize], None);
+    let mut edge = graph.first_edge(rank);
+    let highers = graph.up(rank);
+    'edges: for higher in highers {
+        let over = relaxer.least(edge, Dir::Up) + ahead[*higher as usize];
+        best = lesser_of(best, over, edge);
+        edge += 1;
+    }
+    best
+}
+
+// The lesser of both, and the edge with it.
+fn lesser_of(best: (u64, Option<u32>), over: u64, edge: u32) -> (u64, Option<u32>)
+    ensures least { result.0 ≡ min best.0 over }
+{
+    if over < best.0 {
+        (over, Some(edge))
+    } else {
+        best
+    }
+}
+
+// Keeps an edge, where it is better.
+fn keep(next: &mut [Option<u32>], place: usize, edge: u32, better: bool)
+    requires place { place < length next.old }
+    ensures places { length next.new ≡ length next.old }
+{
+    if better {
+        next[place] = Some(edge);
+    }
+}
+
+// Says of each higher neighbour of a rank that no more is still to go from it than over the edge and from the rank.
+fn lead_up<R: Relaxer>(
+    graph: &Chordal,
+    ahead: &mut [u64],
+    next: &mut [Option<u32>],
+    relaxer: &R,
+    rank: u32,
+)
+    requires rank { rank < graph.now.ranks }
+    requires graph { IsHierarchyOf graph.now (R.hierarchy relaxer.now) }
+    requires places { length ahead.old ≡ graph.now.ranks }
+    requires near { IsNear ahead.old }
+    requires nexts { length next.old ≡ graph.now.ranks }
+    ensures places { length ahead.new ≡ length ahead.old }
+    ensures nexts { length next.new ≡ length next.old }
+    ensures near { IsNear ahead.new }
+    ensures less { (y : ℕ) → ahead_at ahead.new y ≤ ahead_at ahead.old y }
+    ensures kept { (y : ℕ) → y ≤ rank → ahead_at ahead.new y ≡ ahead_at ahead.old y }
+    ensures each { (y edge : ℕ) → number_from 0 (R.hierarchy relaxer.now).edges rank y ≡ Some edge
+        → ahead_at ahead.new y ≤ least_bound (R.hierarchy relaxer.now) edge Down + ahead_at ahead.new rank }
+{
+    let own = ahead[rank as usize];
+    let mut edge = graph.first_edge(rank);
+    let highers = graph.up(rank);
+    'edges: for higher in highers {
+        let over = own + relaxer.least(edge, Dir::Down);
+        let place = *higher as usize;
+        keep(next, place, edge, over < ahead[place]);
+        ahead[place] = ahead[place].min(over);
+        edge += 1;
+    }
+}
+
+// The downward pass: over the ancestors of a rank, rising, what is still to go down to it.
+fn look_down<R: Relaxer>(
+    tree: &Tree,
+    graph: &Chordal,
+    ahead: &mut [u64],
+    next: &mut [Option<u32>],
+    relaxer: &R,
+    to: u32,
+)
+    requires to { to < graph.now.ranks }
+    requires tree { tree.now ≡ parents_in graph.now }
+    requires graph { IsHierarchyOf graph.now (R.hierarchy relaxer.now) }
+    requires places { length ahead.old ≡ graph.now.ranks }
+    requires near { IsNear ahead.old }
+    requires nexts { length next.old ≡ graph.now.ranks }
+    ensures places { length ahead.new ≡ length ahead.old }
+    ensures nexts { length next.new ≡ length next.old }
+    ensures near { IsNear ahead.new }
+    ensures end { ahead_at ahead.new to ≡ 0 }
+    ensures fall { (x y edge : ℕ) → Contains (ancestors_in graph.now to) x
+        → number_from 0 (R.hierarchy relaxer.now).edges x y ≡ Some edge
+        → ahead_at ahead.new y ≤ least_bound (R.hierarchy relaxer.now) edge Down + ahead_at ahead.new x }
+{
+    ahead[to as usize] = 0;
+    'ranks: for rank in tree.ancestors(to) {
+        lead_up(graph, ahead, next, relaxer, rank);
+    }
+}
+
+/// The upward pass: over ranks, from the last to the first, what is still to go from each.
+pub fn look_up<R: Relaxer>(
+    graph: &Chordal,
+    ahead: &mut [u64],
+    next: &mut [Option<u32>],
+    relaxer: &R,
+    path: &[u32],
+)
+    requires path { All (λ rank. rank < graph.now.ranks) path.now }
+    requires rising { AllPairs (λ a b. a < b) path.now }
+    requires graph { IsHierarchyOf graph.now (R.hierarchy relaxer.now) }
+    requires places { length ahead.old ≡ graph.now.ranks }
+    requires near { IsNear ahead.old }
+    requires nexts { length next.old ≡ graph.now.ranks }
+    ensures places { length ahead.new ≡ length ahead.old }
+    ensures nexts { length next.new ≡ length next.old }
+    ensures near { IsNear ahead.new }
+    ensures less { (y : ℕ) → ahead_at ahead.new y ≤ ahead_at ahead.old y }
+    ensures climb { (x y edge : ℕ) → Contains path.now x
+        → number_from 0 (R.hierarchy relaxer.now).edges x y ≡ Some edge
+        → ahead_at ahead.new x ≤ least_bound (R.hierarchy relaxer.now) edge Up + ahead_at ahead.new y }
+{
+    let mut left = path.len();
+    'ranks: while left > 0 {
+        left -= 1;
+        let (least, edge) = least_ahead(graph, ahead, relaxer, path[left]);
+        ahead[path[left] as usize] = least;
+        next[path[left] as usize] = edge;
+    }
+}
+
+/// What is at least still to go downwards to the end of a query, from its ancestors and from those of the start.
+pub fn look_back<R: Relaxer>(
+    tree: &Tree,
+    graph: &Chordal,
+    ahead: &mut [u64],
+    next: &mut [Option<u32>],
+    relaxer: &R,
+    question: Question,
+)
+    requires ranks { (question.from < graph.now.ranks) × (question.to < graph.now.ranks) }
+    requires tree { tree.now ≡ parents_in graph.now }
+    requires graph { IsHierarchyOf graph.now (R.hierarchy relaxer.now) }
+    requires places { length ahead.old ≡ graph.now.ranks }
+    requires near { IsNear ahead.old }
+    requires nexts { length next.old ≡ graph.now.ranks }
+    ensures places { length ahead.new ≡ length ahead.old }
+    ensures nexts { length next.new ≡ length next.old }
+    ensures near { IsNear ahead.new }
+    ensures end { ahead_at ahead.new question.to ≡ 0 }
+    ensures fall { (x y edge : ℕ) → Contains (ancestors_in graph.now question.to) x
+        → number_from 0 (R.hierarchy relaxer.now).edges x y ≡ Some edge
+        → ahead_at ahead.new y ≤ least_bound (R.hierarchy relaxer.now) edge Down + ahead_at ahead.new x }
+{
+    set_far(tree, ahead, question.from);
+    set_far(tree, ahead, question.to);
+    look_down(tree, graph, ahead, next, relaxer, question.to);
+}
+
+/// Says of the ancestors of a query's start and end that as much is still to go upwards as downwards.
+pub fn start_up(tree: &Tree, down: &[u64], up: &mut [u64], question: Question)
+    requires ranks { (question.from < length tree.now) × (question.to < length tree.now) }
+    requires places { (length down.now ≡ length tree.now) × (length up.old ≡ length tree.now) }
+    requires near { IsNear down.now × IsNear up.old }
+    ensures places { length up.new ≡ length up.old }
+    ensures near { IsNear up.new }
+    ensures turn { (x : ℕ) → Contains (ancestors_of tree.now question.to) x
+        → ahead_at up.new x ≡ ahead_at down.now x }
+{
+    copy_above(tree, down, up, question.from);
+    copy_above(tree, down, up, question.to);
+}
+
+// Takes away what was said of a rank and its ancestors.
+fn set_far(tree: &Tree, ahead: &mut [u64], rank: u32)
+    requires rank { rank < length tree.now }
+    requires places { length ahead.old ≡ length tree.now }
+    requires near { IsNear ahead.old }
+    ensures places { length ahead.new ≡ length ahead.old }
+    ensures near { IsNear ahead.new }
+{
+    'ranks: for ancestor in tree.ancestors(rank) {
+        ahead[ancestor as usize] = FAR;
+    }
+}
+
+// Says of a rank and its ancestors what is said elsewhere.
+fn copy_above(tree: &Tree, from: &[u64], into: &mut [u64], rank: u32)
+    requires rank { rank < length tree.now }
+    requires places { (length from.now ≡ length tree.now) × (length into.old ≡ length tree.now) }
+    requires near { IsNear from.now × IsNear into.old }
+    ensures places { length into.new ≡ length into.old }
+    ensures near { IsNear into.new }
+    ensures copied { (x : ℕ) → Contains (ancestors_of tree.now rank) x
+        → ahead_at into.new x ≡ ahead_at from.now x }
+{
+    'ranks: for ancestor in tree.ancestors(rank) {
+        into[ancestor as usize] = from[ancestor as usize];
+    }
+}

@@ -1,0 +1,171 @@
+//! Measured profiles: `measure`, which stores those that stand for them, and `wait`, which answers over them.
+
+use crate::runs::{PLAIN, Run, leaves, says};
+use std::alloc::Global;
+use std::test::Fail;
+
+// Two nodes, and a road from the first to the second.
+const PAIR: Run<'static> = Run {
+    nodes: b"node,x,y\n0,0,0\n1,0,0\n",
+    roads: b"arc,tail,head,profile\n0,0,1,0\n",
+    ..PLAIN
+};
+
+// A road that takes less from second 1000 on.
+const FALLS: &[u8] = b"profile,second,mode,travel\n0,0,step,100\n0,1000,step,20\n";
+
+// Whether `wait` over the pair with these measured profiles has this status and writes this.
+fn waits<'a>(alloc: Global, profiles: &'a [u8], script: &'a str, status: u8, said: &[u8]) -> bool {
+    let asked = Run {
+        words: "wait nodes roads profiles identity",
+        profiles,
+        script,
+        ..PAIR
+    };
+    says(alloc, asked, status, said)
+}
+
+#[test]
+fn queries_wait_where_it_pays(rt: HostRuntime) -> Result<(), Fail> {
+    let rows: [(&[u8], &str, &[u8]); 4] = [
+        (
+            FALLS,
+            "q,0,1,950\nq,0,1,0\nq,0,1,1000\nd,0,1\nq,1,0,0\nd,1,0\nq,1,1,7\n",
+            b"arrive=1020 arcs=0\narrive=100 arcs=0\narrive=1020 arcs=0\nday 0,travel,100 921,until,1020 1001,travel,20\nunreachable\nunreachable\narrive=7 arcs=\n",
+        ),
+        (
+            FALLS,
+            "s,0,0,travel,50\nq,0,1,950\nd,0,1\ns,1,0,travel,50\nq,2,0,0\ns,0,0,closed,0\nq,0,1,950\n",
+            b"done 1\narrive=1000 arcs=0\nday 0,travel,50\nrefused: profile\nrefused: node\ndone 1\nunreachable\n",
+        ),
+        (
+            b"profile,second,mode,travel\n0,0,step,100\n0,1000,step,20\n1,0,step,20\n1,86300,step,200\n",
+            "a,0,1\nq,0,1,86350\nd,0,1\na,0,0\nq,0,1,950\n",
+            b"done 1\narrive=86420 arcs=0\nday 0,travel,20 86300,until,86420\ndone 1\narrive=1020 arcs=0\n",
+        ),
+        (
+            b"profile,second,mode,travel\n0,0,line,10\n0,4,line,12\n",
+            "d,0,1\n",
+            b"day 0,travel,10 2,travel,11 4,until,16 6,travel,11 43203,travel,10\n",
+        ),
+    ];
+    for (profiles, script, said) in rows {
+        assert!(rt; waits(rt.alloc(), profiles, script, 0, said));
+    }
+    Ok(())
+}
+
+#[test]
+fn waits_come_before_each_road(rt: HostRuntime) -> Result<(), Fail> {
+    let asked = Run {
+        words: "wait nodes roads profiles ranks",
+        nodes: b"node,x,y\n0,0,0\n1,0,0\n2,0,0\n",
+        roads: b"arc,tail,head,profile\n0,0,1,0\n1,1,2,1\n2,0,2,2\n",
+        profiles: b"profile,second,mode,travel\n0,0,step,100\n0,1000,step,20\n1,0,step,500\n1,2000,step,10\n2,0,step,2000\n",
+        script: "q,0,2,950\nq,0,2,0\nq,0,2,1600\nq,0,2,1981\n",
+        ..PLAIN
+    };
+    let said =
+        b"arrive=1520 arcs=0 1\narrive=600 arcs=0 1\narrive=2010 arcs=0 1\narrive=2011 arcs=0 1\n";
+    assert!(rt; says(rt.alloc(), asked, 0, said));
+    Ok(())
+}
+
+#[test]
+fn measured_texts_are_refused_before_others(rt: HostRuntime) -> Result<(), Fail> {
+    let rows: [(&[u8], &[u8]); 5] = [
+        (
+            b"profile,from,kind,value\n0,0,travel,100\n",
+            b"measured: header\n",
+        ),
+        (
+            b"profile,second,mode,travel\n0,5,step,1\n",
+            b"measured: 0 start\n",
+        ),
+        (
+            b"profile,second,mode,travel\n0,0,jump,1\n",
+            b"measured: 0 mode\n",
+        ),
+        (
+            b"profile,second,mode,travel\n",
+            b"network: roads 0 profile\n",
+        ),
+        (
+            b"profile,second,mode,travel\n0,0,step,1\n0,0,step,2\n",
+            b"measured: 1 rising\n",
+        ),
+    ];
+    for (profiles, said) in rows {
+        assert!(rt; waits(rt.alloc(), profiles, "q,0,1,0\n", 4, said));
+    }
+    let bad_nodes = Run {
+        words: "wait roads nodes profiles identity",
+        ..PAIR
+    };
+    let both = Run {
+        profiles: b"profile,second,mode,travel\n0,5,step,1\n",
+        ..bad_nodes
+    };
+    let nodes = Run {
+        profiles: FALLS,
+        ..bad_nodes
+    };
+    let none = Run {
+        words: "wait nodes roads other identity",
+        ..PAIR
+    };
+    let few = Run {
+        words: "wait nodes roads profiles",
+        ..PAIR
+    };
+    assert!(rt; says(rt.alloc(), both, 4, b"measured: 0 start\n"));
+    assert!(rt; says(rt.alloc(), nodes, 4, b"network: nodes header\n"));
+    assert!(rt; says(rt.alloc(), none, 3, b"shelf: fault profiles\n"));
+    assert!(rt; says(rt.alloc(), few, 2, b"words\n"));
+    Ok(())
+}
+
+#[test]
+fn profiles_are_stored_for_measured_ones(rt: HostRuntime) -> Result<(), Fail> {
+    let rows: [(&[u8], u8, &[u8], &[u8]); 5] = [
+        (
+            FALLS,
+            0,
+            b"measured 1\n",
+            b"profile,from,kind,value\n0,0,travel,100\n0,921,until,1020\n0,1001,travel,20\n",
+        ),
+        (
+            b"profile,second,mode,travel\n0,0,line,10\n0,4,line,12\n",
+            0,
+            b"measured 1\n",
+            b"profile,from,kind,value\n0,0,travel,10\n0,2,travel,11\n0,4,until,16\n0,6,travel,11\n0,43203,travel,10\n",
+        ),
+        (
+            b"profile,second,mode,travel\n0,0,step,20\n0,86300,step,200\n",
+            0,
+            b"measured 1\n",
+            b"profile,from,kind,value\n0,0,travel,20\n0,86300,until,86420\n",
+        ),
+        (
+            b"profile,second,mode,travel\n0,5,step,1\n",
+            4,
+            b"measured: 0 start\n",
+            b"",
+        ),
+        (
+            b"profile,second,mode,travel\n0,0,jump,1\n",
+            4,
+            b"measured: 0 mode\n",
+            b"",
+        ),
+    ];
+    for (profiles, status, said, out) in rows {
+        let asked = Run {
+            words: "measure profiles out",
+            profiles,
+            ..PLAIN
+        };
+        assert!(rt; leaves(rt.alloc(), asked, status, said, out));
+    }
+    Ok(())
+}
