@@ -19,7 +19,11 @@ case "$1" in
   doc) echo "$KIT/START-HERE.md"; exit ;;
   all)
     echo build >>"$BUILDS"
-    [ -z "${SLOW-}" ] || sleep 1
+    # As slow as it takes until so many others wait for it.
+    for _ in ${SLOW:+$(seq 300)}; do
+      [ "$(cat "${BUILDS%/*}"/said.? | grep -c 'waiting for it')" -lt "$SLOW" ] || break
+      sleep 0.1
+    done
     [ -z "${BREAK-}" ] || { echo "stub: not proved"; exit 1; }
     echo "== low"; echo "crate low: modules loaded=1"
     echo "== catchup"
@@ -57,9 +61,14 @@ builds() {
   wc -l <"$room/builds" | tr -d ' '
 }
 
-# Has word of the last start, as if it had begun just now: what changes from now on is newer.
+# Has word of the last start, as if it had begun just now: what changes from now on is newer. Files get their times by a clock
+# that goes in steps and behind `date`, so that a file made right behind another may be as old. So the start's time is a
+# file's, and this waits until another one is newer.
 date_word() {
-  sed -z -i "1s/.*/@$(date +%s.%N)/" "$out"/seen.*
+  echo >"$room/then"
+  echo >"$room/now"
+  until [ -n "$(find "$room/now" -newercc "$room/then")" ]; do echo >"$room/now"; done
+  sed -z -i "1s/.*/@$(find "$room/then" -printf %C@)/" "$out"/seen.*
   : >"$room/sums"
 }
 
@@ -156,7 +165,7 @@ check_waiting() {
   echo eight >"$source"
   before="$(builds)"
   for each in 1 2 3; do
-    (said="$room/said.$each"; SLOW=1 launch >"$room/answer.$each") &
+    (said="$room/said.$each"; SLOW=2 launch >"$room/answer.$each") &
   done
   wait
   check "three at once: each runs it" "eight status 0 eight status 0 eight status 0 " \
@@ -164,6 +173,7 @@ check_waiting() {
   check "three at once: one builds, two wait and say so" "1 2" \
     "$(($(builds) - before)) $(cat "$room"/said.? | grep -c 'waiting for it')"
   echo nine >"$source"
+  rm "$room"/said.?
   before="$(builds)"
   for each in 1 2; do
     (said="$room/said.$each"; SLOW=1 BREAK=1 launch >"$room/answer.$each") &
@@ -267,6 +277,11 @@ check_installed() {
   chmod +x "$room/lib/release/x86_64-linux/catchup"
   ln -s ../../lib/bin/catchup "$room/usr/bin/catchup"
   check "installed: runs the program beside it" "installed ask town.cu" "$(PATH="$plain" "$room/usr/bin/catchup" ask town.cu)"
+  printf '#!/bin/sh\necho "$GLIBC_TUNABLES"\n' >"$room/lib/release/x86_64-linux/catchup"
+  check "installed: asks for large pages" "glibc.malloc.hugetlb=1" \
+    "$(unset GLIBC_TUNABLES; PATH="$plain" "$room/usr/bin/catchup" ask town.cu)"
+  check "installed: leaves the user's own settings" "glibc.malloc.arena_max=1" \
+    "$(GLIBC_TUNABLES=glibc.malloc.arena_max=1 PATH="$plain" "$room/usr/bin/catchup" ask town.cu)"
   rm "$room/lib/release/x86_64-linux/catchup"
   check "installed: tells that it is gone" "status 1, 0 bytes, 1" \
     "$(PATH="$plain" "$room/usr/bin/catchup" >"$room/out" 2>"$room/said"; echo "status $?, $(wc -c <"$room/out" | tr -d ' ') bytes, $(wc -l <"$room/said" | tr -d ' ')")"

@@ -167,9 +167,9 @@ def check_colours(browser, path):
 def check_view(browser):
     """A drag moves the map and chooses nothing; the wheel makes it larger around the pointer; a button shows all again."""
     before, ends = browser.value(f"placeOf({START})"), browser.value("[state.from, state.to]")
-    browser.drag([(600, 300), (630, 310), (660, 330), (660, 330)])
+    browser.drag([(600, 300), (630, 290), (660, 270), (660, 270)])
     moved = browser.value(f"placeOf({START})")
-    check("the page: a drag moves the map", [60, 30], [round(b - a) for a, b in zip(before, moved)])
+    check("the page: a drag moves the map", [60, -30], [round(b - a) for a, b in zip(before, moved)])
     check("the page: and chooses no node", ends, browser.value("[state.from, state.to]"))
     x, y = moved
     browser.call("Input.dispatchMouseEvent", type="mouseWheel", x=x, y=y, deltaX=0, deltaY=-400)

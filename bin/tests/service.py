@@ -1,6 +1,7 @@
 #!/usr/bin/env python3
 """Tests bin/catchup-http with real processes and sockets: service.py TOP ROOM prints a line for each check, with its name,
 what is wanted and what was found between bytes 31. TOP is a checkout, ROOM a folder; CATCHUP may name the program."""
+import contextlib
 import http.client
 import itertools
 import json
@@ -40,7 +41,7 @@ while IFS= read -r line; do
       if [ -z "$tried" ]; then tried=1; echo "no memory"; else begun= ; echo "published ${client}"; fi ;;
     "ask -") echo "refused: line" ;;
     "desk "*,q,*) client="${line%%,*}"; case "$DESK_SAYS" in
-      die) sleep 0.4; exit 9 ;;
+      die) [ -z "$first" ] || exit 9; first="$client" ;;
       *) echo "$client $DESK_SAYS" ;; esac ;;
     "desk "*,s,*) client="${line%%,*}"; begun=1; echo "$client ${EDIT_SAYS-begun 1}" ;;
     "ask s,"*) asked="x$asked"; if [ "$asked" != xxx ]; then echo "no memory"; else echo "done 1"; fi ;;
@@ -97,11 +98,11 @@ class Service:
         self.process.communicate()
 
     def connect(self):
-        return socket.create_connection(("127.0.0.1", self.port), timeout=30)
+        return socket.create_connection(("127.0.0.1", self.port), timeout=240)
 
     def ask(self, path, method="GET", body=None, headers=None):
         """A status and what the answer's JSON says."""
-        client = http.client.HTTPConnection("127.0.0.1", self.port, timeout=60)
+        client = http.client.HTTPConnection("127.0.0.1", self.port, timeout=240)
         try:
             client.request(method, path, body=body, headers=headers or {})
             reply = client.getresponse()
@@ -123,7 +124,7 @@ class Service:
     def end(self, signal_number):
         """Asks it to end: its status, and what it said."""
         self.process.send_signal(signal_number)
-        out, said = self.process.communicate(timeout=30)
+        out, said = self.process.communicate(timeout=240)
         return self.process.returncode, out.strip(), said.strip()
 
 
@@ -136,7 +137,7 @@ def read_all(client):
 
 def refused(*words, **environment):
     done = subprocess.run([f"{TOP}/bin/catchup-http", *words], stdout=subprocess.PIPE, stderr=subprocess.PIPE, text=True,
-                          env={**os.environ, "CATCHUP": PROGRAM, **environment}, check=False, timeout=60)
+                          env={**os.environ, "CATCHUP": PROGRAM, **environment}, check=False, timeout=240)
     return f"status {done.returncode}, {len(done.stdout)} bytes, {done.stderr.strip()}"
 
 
@@ -292,6 +293,8 @@ BAD_EDITS = [
     ("a,99999999999999999999999999,0", "refused: arc"),
     ("a,0,9999", "refused: profile"),
     ("s,9999,0,travel,1", "refused: profile"),
+    ("s,travel,0,travel,1", "refused: line"),
+    ("s,0,0,travel,travel", "refused: line"),
     ("s,0,0,\x07,1", "refused: kind"),
     ("s,0,0,travel,999999999", "refused: limit"),
     ("s,0,5,travel,1", "refused: start"),
@@ -334,6 +337,7 @@ def check_http(service):
         client.shutdown(socket.SHUT_WR)
         found = read_all(client)
     check("many requests at once, and one in two pieces", 301, found.count(b"HTTP/1.1 200 OK"))
+    check("blank lines before a request", "200 OK", service.raw(b"\r\n\r\n\n\r\n" + line, end=True)[0])
     check("HTTP/1.0 is answered and closed", "200 OK", service.raw(b"GET /edit HTTP/1.0\r\n\r\n")[0])
     with service.connect() as client:
         client.sendall(b"HEAD / HTTP/1.1\r\nConnection: close\r\n\r\n")
@@ -356,7 +360,7 @@ def check_http(service):
 # ---- edits ----
 
 
-def wait_for(find, wanted, seconds=20):
+def wait_for(find, wanted, seconds=240):
     last = time.monotonic() + seconds
     while time.monotonic() < last:
         if (found := find()) == wanted:
@@ -399,6 +403,33 @@ def check_edits(town, slow):
         wanted = (0, f"stored {stored(town, line, 'wanted.cu')}", "")
         check("an interrupt stores what is published", wanted, service.end(signal.SIGINT))
     check("without the edit in work", "", said("cmp", kept, f"{ROOM}/wanted.cu"))
+
+
+def check_edits_in_turn(town):
+    """One client cancels an edit while others ask for the next one. Whatever comes of it, both processes know the same."""
+    with Service(town) as service, ThreadPoolExecutor(4) as pool:
+        statuses = set()
+        for turn in range(20):
+            service.ask("/edit", "POST", b"s,0,0,travel,600")
+            asked = [pool.submit(service.ask, "/edit", "DELETE"),
+                     *(pool.submit(service.ask, "/edit", "POST", f"a,{turn * 3 + each},1".encode()) for each in range(3))]
+            statuses |= {each.result()[0] for each in asked}
+        check("edits begun while others are cancelled", 0, wait_for(lambda: service.ask("/edit")[1]["left"], 0))
+        check("are begun, busy or cancelled", [], sorted(statuses - {200, 202, 404, 409}))
+        wanted = service.ask("/reach?from=5&depart=28800")[1]["arrive"]
+        found = [service.ask(f"/route?from=5&to={node}&depart=28800")[1]["arrive"] for node in range(159)]
+        check("and both processes know the same of them", wanted, found)
+
+
+def check_ends_in_work(town):
+    """Asked to end while an edit is in work, it ends, whatever is on its way just then."""
+    found = set()
+    for turn in range(8):
+        with Service(town) as service:
+            service.ask("/edit", "POST", b"s,0,0,travel,600")
+            time.sleep(turn * 0.004)
+            found.add(service.end(signal.SIGTERM))
+    check("a request to terminate ends it while an edit is in work", {(0, "", "")}, found)
 
 
 def stored(path, line, name):
@@ -506,23 +537,35 @@ def check_harm(service):
         check("slow clients are told so in the end", {"HTTP/1.1 408 Request Timeout"}, {each.result() for each in slow})
         check("a body of a gigabyte is refused", {"HTTP/1.1 413"}, {each.result() for each in large})
         check("of a client that reads nothing little is taken", True, max(each.result() for each in unread) < 1 << 24)
-    check("meanwhile others are served in time", "yes", "yes" if longest < 5 else longest)
+    check("meanwhile others are served in time", "yes", "yes" if longest < 8 else longest)
     check("and memory stays within bounds", "yes", "yes" if memory_of(service) < 300 else memory_of(service))
 
 
 # ---- a program in trouble ----
 
 
+def watch_end(service):
+    """Asks until nobody answers any more: the answers that differ from those before."""
+    found = []
+    with contextlib.suppress(OSError, http.client.HTTPException):
+        while True:
+            _, told = service.ask("/edit")
+            found += [told] if told not in found else []
+    return found
+
+
 def check_troubles(town):
     stub = put("stub", STUB)
     with Service(town, program=stub, DESK_SAYS="die", ASK_SAYS="no memory") as service:
+        check("no memory for a day", (503, {"error": "no memory"}), service.ask("/day?from=0&to=1"))
         with ThreadPoolExecutor(3) as pool:
+            watch = pool.submit(watch_end, service)
             found = [pool.submit(service.ask, "/route?from=5&to=151&depart=0") for _ in range(2)]
-            check("no memory for a day", (503, {"error": "no memory"}), service.ask("/day?from=0&to=1"))
             check("a program that ends leaves no question open", {(503, "the program has ended")},
                   {(status, told["error"]) for status, told in (each.result() for each in found)})
-        check("whoever asks behind its end is told so", (503, {"error": "the program ended with status 9"}), service.ask("/edit"))
-        out, said = service.process.communicate(timeout=20)
+        check("whoever asks behind its end is told so", [{"left": 0, "published": 0}, {"error": "the program ended with status 9"}],
+              watch.result())
+        out, said = service.process.communicate(timeout=240)
         check("and the service ends with its status", (9, "", "catchup-http: the program ended with status 9"),
               (service.process.returncode, out, said.strip()))
     with Service(town, program=stub, DESK_SAYS="damaged 5 up 0", ASK_SAYS="day 0,travel,9") as service:
@@ -545,7 +588,7 @@ def check_killed(town):
             wait_for(lambda: service.ask("/edit")[1]["published"], 1)
             with open(f"/proc/{service.process.pid}/task/{service.process.pid}/children", encoding="ascii") as file:
                 os.kill(int(file.read().split()[at]), signal.SIGKILL)
-            out, told = service.process.communicate(timeout=20)
+            out, told = service.process.communicate(timeout=240)
             check(f"a killed {name}", (137, True), (service.process.returncode, wanted in out + told))
     check("what `desk` kept then", "", said("cmp", kept, f"{ROOM}/wanted.cu"))
 
@@ -565,6 +608,8 @@ def main():
         check_harm(service)
     check_unreachable(rush)
     check_edits(town, slow)
+    check_edits_in_turn(town)
+    check_ends_in_work(town)
     check_edits_of_nothing(rush)
     check_troubles(town)
     check_killed(town)

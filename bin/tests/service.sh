@@ -18,7 +18,7 @@ check_service() {
 # Runs a file of checks: each line that it prints has a name, what is wanted, and what was found.
 take_checks() {
   mkdir -p "$2"
-  PATH="$plain" TMPDIR="$2" PYTHONDONTWRITEBYTECODE=1 timeout 600 python3 "$clone/bin/tests/$1.py" "$clone" "$2" ${3+"$3"} \
+  PATH="$plain" TMPDIR="$2" PYTHONDONTWRITEBYTECODE=1 timeout 3600 python3 "$clone/bin/tests/$1.py" "$clone" "$2" ${3+"$3"} \
     >"$room/checks" 2>"$room/said"
   check "the checks of $1.py come to their end" "0 " "$? $(cat "$room/said")"
   while IFS="$(printf '\037')" read -r name wanted found; do

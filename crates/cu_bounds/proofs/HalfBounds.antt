@@ -28,11 +28,16 @@ pub read_half : (kept : ℕ → ℕ) (count bound : ℕ) (half : Shortcut) → I
     → (list value : ℕ) → list ≡ number_of half → value ≡ kept list → value ≡ bound
 read_half kept count bound half is list value number read = read ∙ ap kept number ∙ is.right
 
-numbers_below : (e f : ℕ) (d k : Dir) → e < f → list_number e d < list_number f k
+pub numbers_below : (e f : ℕ) (d k : Dir) → e < f → list_number e d < list_number f k
 numbers_below e f Up Up lt = omega (arith, lt)
 numbers_below e f Up Down lt = omega (arith, lt)
 numbers_below e f Down Up lt = omega (arith, lt)
 numbers_below e f Down Down lt = omega (arith, lt)
+
+-- halves of a hierarchy are those of the same one
+pub halves_of : (known h : HierarchyValue) (whole : Shortcut) (m : ℕ) (first second : Shortcut) → known ≡ h → AreHalves known whole m first second
+    → AreHalves h whole m first second
+halves_of known h whole m first second same halves = subst (λ (k : HierarchyValue). AreHalves k whole m first second) same halves
 
 -- a list's least bound is that between the ends of its edge
 pub bound_at : (h : HierarchyValue) (edge : ℕ) (dir : Dir) (ends : Ends) → slice_get h.edges edge ≡ Some ends

@@ -1,6 +1,6 @@
 -- Bounds that are found anew edge by edge, by rising edge.
 use Rattle.std.proofs.Common.{◌≡◌, ◌≢◌, ◌≤◌, ◌<◌, ◌+◌, ◌*◌, ◌∙◌, ℕ, List, Some, ap, arith, inl, inr, length, map, refl, subst, sym}
-use Rattle.std.specs.Prelude.{slice_get, slice_index, slice_set}
+use Rattle.std.specs.Prelude.{Contains, slice_get, slice_index, slice_set}
 use Rattle.std.specs.List.Sorted.{IsStrictlyIncreasing}
 use Rattle.std.specs.Option.{option_map}
 use Rattle.std.proofs.lemmas.Bool.{cases_eq, cases_lt}
@@ -41,26 +41,45 @@ pub record AreRenewed (h : HierarchyValue) (touched : List TouchedEdge) (i : ℕ
   pub long : length bounds ≡ 2 * length h.edges
   pub right : (edge : ℕ) (dir : Dir) → edge < length h.edges → IsNoneFrom touched i edge → slice_index bounds (list_number edge dir) ≡ least_bound h edge dir
 
-lower_edge : (e f : ℕ) (d : Dir) → list_number e d < list_number f Up → e < f
+pub lower_edge : (e f : ℕ) (d : Dir) → list_number e d < list_number f Up → e < f
 lower_edge e f Up lt = omega (arith, lt)
 lower_edge e f Down lt = omega (arith, lt)
+
+-- an edge that is none of these isn't among their numbers
+pub none_among : (touched : List TouchedEdge) (edge : ℕ) → IsNoneFrom touched 0 edge → Contains (map (λ (t : TouchedEdge). t.edge) touched) edge → ⊥
+none_among touched edge none among =
+    let number : TouchedEdge → ℕ = λ t. t.edge in
+    let (k, at) = place_of (map number touched) edge among in
+    let lt = slice_get_within (map number touched) k edge at in
+    let (t, there) = item_there touched k (omega (arith, lt, length-map touched number)) in
+    let same : Some t.edge ≡ Some edge = sym (ap (option_map number) there) ∙ sym (slice_get-map number touched k) ∙ at in
+    none k t (omega arith) there (cc same)
+
+-- behind the last of these there is none
+pub none_left : (touched : List TouchedEdge) (i edge : ℕ) → length touched ≤ i → IsNoneFrom touched i edge
+none_left touched i edge all k t le there = absurd (let within = slice_get_within touched k t there in omega (arith, within, all, le))
+
+-- an edge that is neither the next of these nor one behind it is none of both
+pub none_more : (touched : List TouchedEdge) (i : ℕ) (t : TouchedEdge) → slice_get touched i ≡ Some t → (edge : ℕ) → edge ≢ t.edge → IsNoneFrom touched (i + 1) edge
+    → IsNoneFrom touched i edge
+none_more touched i t at edge apart none k u le there = elim (cases_lt i k) [
+  | inl behind ↦ none k u (omega (arith, behind)) there
+  | inr here ↦
+      let place : k ≡ i = omega (arith, le, here) in
+      let one : u ≡ t = same_value (slice_get touched k) u t there (ap (slice_get touched) place ∙ at) in
+      λ is. apart (sym is ∙ ap (λ (w : TouchedEdge). w.edge) one)
+]
 
 pub renewed_none : (h : HierarchyValue) (touched : List TouchedEdge) (bounds : List ℕ) → length bounds ≡ 2 * length h.edges
     → AreRightBut h (slice_index bounds) (map (λ (t : TouchedEdge). t.edge) touched) → AreRenewed h touched 0 bounds
 renewed_none h touched bounds long kept = record {
   long = long;
-  right = λ edge dir inside none. kept edge dir inside (λ among.
-      let number : TouchedEdge → ℕ = λ t. t.edge in
-      let (k, at) = place_of (map number touched) edge among in
-      let lt = slice_get_within (map number touched) k edge at in
-      let (t, there) = item_there touched k (omega (arith, lt, length-map touched number)) in
-      let same : Some t.edge ≡ Some edge = sym (ap (option_map number) there) ∙ sym (slice_get-map number touched k) ∙ at in
-      none k t (omega arith) there (cc same));
+  right = λ edge dir inside none. kept edge dir inside (none_among touched edge none);
 }
 
-module _ (h : HierarchyValue) (touched : List TouchedEdge) (rising : AreRising touched) (i : ℕ) (t : TouchedEdge) (at : slice_get touched i ≡ Some t) where
+module _ (touched : List TouchedEdge) (rising : AreRising touched) (i : ℕ) (t : TouchedEdge) (at : slice_get touched i ≡ Some t) where
   -- no edge below the next one is left
-  none_below : (e : ℕ) → e < t.edge → IsNoneFrom touched i e
+  pub none_below : (e : ℕ) → e < t.edge → IsNoneFrom touched i e
   none_below e lt k u le there same =
       elim (cases_lt i k) [
         | inl before ↦ let less = rising i k t u before at there in omega (arith, lt, less, same)
@@ -71,9 +90,10 @@ module _ (h : HierarchyValue) (touched : List TouchedEdge) (rising : AreRising t
             omega (arith, lt, same, edge)
       ]
 
-  -- so all lists before its own have their bounds
-  pub right_before : (bounds : List ℕ) → AreRenewed h touched i bounds → AreRightBelow h (slice_index bounds) (list_number t.edge Up)
-  right_before bounds renewed e d inside lt = renewed.right e d inside (none_below e (lower_edge e t.edge d lt))
+-- so all lists before those of the next edge have their bounds
+pub right_before : (h : HierarchyValue) (touched : List TouchedEdge) → AreRising touched → (i : ℕ) (t : TouchedEdge) → slice_get touched i ≡ Some t
+    → (bounds : List ℕ) → AreRenewed h touched i bounds → AreRightBelow h (slice_index bounds) (list_number t.edge Up)
+right_before h touched rising i t at bounds renewed e d inside lt = renewed.right e d inside (none_below touched rising i t at e (lower_edge e t.edge d lt))
 
 -- one more bound is found anew
 pub right_set : (h : HierarchyValue) (old new : List ℕ) (edge : ℕ) (dir : Dir) → edge < length h.edges → length old ≡ 2 * length h.edges
@@ -114,7 +134,7 @@ module _ (h : HierarchyValue) (old new : List ℕ) (edge : ℕ) (set : AreBothSe
       let long = ap length set.up ∙ length-set old (list_number edge Up) (least_bound h edge Up) in
       ap (λ (xs : List ℕ). slice_index xs (2 * edge + 1)) set.down ∙ get_or-set_same set.middle (2 * edge + 1) (least_bound h edge Down) 0 (omega (arith, lt, long))
 
-numbers_apart : (e f : ℕ) (d k : Dir) → e ≢ f → list_number e d ≢ list_number f k
+pub numbers_apart : (e f : ℕ) (d k : Dir) → e ≢ f → list_number e d ≢ list_number f k
 numbers_apart e f d k apart same = apart (number_parts e f d k same).0
 
 -- one more edge
@@ -128,22 +148,12 @@ renewed_more h touched i t old new at inside set renewed =
             let here = set_here h old new t.edge set dir (omega (arith, inside, long)) in
             subst (λ (e : ℕ). slice_index new (list_number e dir) ≡ least_bound h e dir) (sym same) here
         | inr apart ↦
-            let left : IsNoneFrom touched i edge = λ k u le there. elim (cases_lt i k) [
-              | inl behind ↦ none k u (omega (arith, behind)) there
-              | inr here ↦
-                  let place : k ≡ i = omega (arith, le, here) in
-                  let one : u ≡ t = same_value (slice_get touched k) u t there (ap (slice_get touched) place ∙ at) in
-                  λ is. apart (sym is ∙ ap (λ (w : TouchedEdge). w.edge) one)
-            ] in
             set_other h old new t.edge set (list_number edge dir) (numbers_apart edge t.edge dir Up apart) (numbers_apart edge t.edge dir Down apart)
-            ∙ renewed.right edge dir lt left
+            ∙ renewed.right edge dir lt (none_more touched i t at edge apart none)
       ];
     }
 
 -- all of them
 pub renewed_all : (h : HierarchyValue) (touched : List TouchedEdge) (i : ℕ) (bounds : List ℕ) → length touched ≤ i → AreRenewed h touched i bounds → bounds ≡ bounds_of h
 renewed_all h touched i bounds all renewed =
-    first_all h bounds (2 * length h.edges) refl (record {
-      long = renewed.long;
-      right = λ e d inside lt. renewed.right e d inside (λ k t le there. absurd (let within = slice_get_within touched k t there in omega (arith, within, all, le)));
-    })
+    first_all h bounds (2 * length h.edges) refl (record { long = renewed.long; right = λ e d inside lt. renewed.right e d inside (none_left touched i e all) })

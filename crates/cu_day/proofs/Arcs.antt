@@ -35,33 +35,46 @@ mapped : (f : ℕ → ℕ) (a : Option ℕ) (s : ℕ) → option_map f a ≡ Som
 mapped f None s e = absurd (cc e)
 mapped f (Some b) s e = (b, refl, cc e)
 
-module _ (Goes : ℕ → ℕ → Type 0) (drive : ℕ → ℕ → ℕ → ℕ) (turn : ℕ → ℕ) (Begins : ℕ → ℕ → Type 0) (before after : ℕ → Option ℕ) (x y : ℕ) where
+-- an arc is taken by the lesser of its end's label and what it makes of the start's
+pub lesser_taken : (Counts : ℕ → ℕ → Type 0) (drive : ℕ → ℕ → ℕ → ℕ) (x y : ℕ) (before after : ℕ → Option ℕ)
+    → ((s t : ℕ) → s ≤ t → drive x y s ≤ drive x y t) → ((z : ℕ) → z ≢ y → after z ≡ before z)
+    → after y ≡ lesser_of (before y) (option_map (drive x y) (before x)) → IsTaken Counts drive x y before after
+lesser_taken Counts drive x y before after fifo others end = record {
+  others = others;
+  kept = λ a e. let less = lesser_first (before y) (option_map (drive x y) (before x)) a e in (less.0, end ∙ less.1, less.2);
+  came = λ a e. elim (lesser_came (before y) (option_map (drive x y) (before x)) a (sym end ∙ e)) [
+    | inl old ↦ inl old
+    | inr new ↦ inr (mapped (drive x y) (before x) a new)
+  ];
+  led = λ b s e le counts.
+      let less = lesser_second (before y) (option_map (drive x y) (before x)) (drive x y b) (ap (option_map (drive x y)) e) in
+      let rises = fifo b s le in
+      (less.0, end ∙ less.1, omega (arith, less.2, rises));
+}
+
+module _ (Counts : ℕ → ℕ → Type 0) (Goes : ℕ → ℕ → Type 0) (drive : ℕ → ℕ → ℕ → ℕ) (turn : ℕ → ℕ) (Begins : ℕ → ℕ → Type 0)
+    (before after : ℕ → Option ℕ) (x y : ℕ) where
   -- a rank that isn't the arc's end has its label, and the arc's end has one no later than its own
-  kept : IsTaken drive x y before after → (z a : ℕ) → before z ≡ Some a → (b : ℕ) × (after z ≡ Some b) × (b ≤ a)
+  kept : IsTaken Counts drive x y before after → (z a : ℕ) → before z ≡ Some a → (b : ℕ) × (after z ≡ Some b) × (b ≤ a)
   kept taken z a e = elim (cases_order z y) [
     | inl same ↦
-        let at : before y ≡ Some a = subst (λ (n : ℕ). before n ≡ Some a) same e in
-        let less = lesser_first (before y) (option_map (drive x y) (before x)) a at in
-        (less.0, subst (λ (n : ℕ). after n ≡ Some less.0) (sym same) (taken.end ∙ less.1), less.2)
+        let less = taken.kept a (subst (λ (n : ℕ). before n ≡ Some a) same e) in
+        (less.0, subst (λ (n : ℕ). after n ≡ Some less.0) (sym same) less.1, less.2)
     | inr order ↦ (a, taken.others z (λ same. elim order [ inl l ↦ omega (arith, l, same) | inr m ↦ omega (arith, m, same) ]) ∙ e, omega arith)
   ]
 
   -- Taking an arc whose end no arc has left so far.
-  pub take_arc : IsSwept Goes drive turn Begins before → ((z : ℕ) → Goes y z → ⊥) → turn x < turn y → ((s t : ℕ) → s ≤ t → drive x y s ≤ drive x y t)
-      → IsTaken drive x y before after → IsSwept (With Goes x y) drive turn Begins after
-  take_arc swept fresh rises fifo taken = record {
+  pub take_arc : IsSwept Counts Goes drive turn Begins before → ((z : ℕ) → Goes y z → ⊥) → turn x < turn y
+      → IsTaken Counts drive x y before after → IsSwept Counts (With Goes x y) drive turn Begins after
+  take_arc swept fresh rises taken = record {
     turns = λ p q goes. elim goes [
       | inl old ↦ swept.turns p q old
       | inr new ↦ subst (λ (n : ℕ). turn n < turn q) (sym new.0)
           (subst (λ (n : ℕ). turn x < turn n) (sym new.1) rises)
     ];
-    fifo = λ p q s t goes le. elim goes [
-      | inl old ↦ swept.fifo p q s t old le
-      | inr new ↦ subst (λ (n : ℕ). drive n q s ≤ drive n q t) (sym new.0) (subst (λ (n : ℕ). drive x n s ≤ drive x n t) (sym new.1) (fifo s t le))
-    ];
     came = λ z a e. came_by z a e (cases_order z y);
     begun = λ z b begins. let old = swept.begun z b begins in let new = kept taken z old.0 old.1 in (new.0, new.1, omega (arith, old.2, new.2));
-    led = λ p q b e goes. led_by p q b e goes;
+    led = λ p q b s e goes le counts. led_by p q b s e goes le counts;
   } where
     apart : (z : ℕ) → (z < y) ⊎ (y < z) → z ≢ y
     apart z order same = elim order [ inl l ↦ omega (arith, l, same) | inr m ↦ omega (arith, m, same) ]
@@ -84,49 +97,48 @@ module _ (Goes : ℕ → ℕ → Type 0) (drive : ℕ → ℕ → ℕ → ℕ) (
     came_by : (z a : ℕ) → after z ≡ Some a → (z ≡ y) ⊎ ((z < y) ⊎ (y < z)) → Begins z a ⊎ CameOver (With Goes x y) drive after z a
     came_by z a e (inr order) = elim
         (swept.came z a (sym (taken.others z (apart z order)) ∙ e)) [ inl begins ↦ inl begins | inr over ↦ inr (over_old z a over) ]
-    came_by z a e (inl same) = elim
-        (lesser_came (before y) (option_map (drive x y) (before x)) a (sym taken.end ∙ subst (λ (n : ℕ). after n ≡ Some a) same e)) [
-          | inl old ↦ elim (swept.came z a (subst (λ (n : ℕ). before n ≡ Some a) (sym same) old)) [
-            | inl begins ↦ inl begins
-            | inr over ↦ inr
-                (over_old z a over)
-          ]
-          | inr new ↦
-              let (b, at, is) = mapped (drive x y) (before x) a new in
-              inr (record {
-                from = x;
-                before = b;
-                had = taken.others x start_apart ∙ at;
-                goes = inr (refl, same);
-                drives = subst (λ (n : ℕ). drive x n b ≡ a) (sym same) is;
-              })
-        ]
+    came_by z a e (inl same) = elim (taken.came a (subst (λ (n : ℕ). after n ≡ Some a) same e)) [
+      | inl old ↦ elim (swept.came z a (subst (λ (n : ℕ). before n ≡ Some a) (sym same) old)) [
+        | inl begins ↦ inl begins
+        | inr over ↦ inr (over_old z a over)
+      ]
+      | inr new ↦ inr (record {
+        from = x;
+        before = new.0;
+        had = taken.others x start_apart ∙ new.1;
+        goes = inr (refl, same);
+        drives = subst (λ (n : ℕ). drive x n new.0 ≡ a) (sym same) new.2;
+      })
+    ]
 
-    led_by : (p q b : ℕ) → after p ≡ Some b → With Goes x y p q → (a : ℕ) × (after q ≡ Some a) × (a ≤ drive p q b)
-    led_by p q b e (inl old) =
+    led_by : (p q b s : ℕ) → after p ≡ Some b → With Goes x y p q → b ≤ s → Counts q (drive p q s)
+        → (a : ℕ) × (after q ≡ Some a) × (a ≤ drive p q s)
+    led_by p q b s e (inl old) le counts =
         let at = sym (taken.others p (not_end p q old)) ∙ e in
-        let led = swept.led p q b at old in
+        let led = swept.led p q b s at old le counts in
         let new = kept taken q led.0 led.1 in
         (new.0, new.1, omega (arith, led.2, new.2))
-    led_by p q b e (inr new) =
-        let at : before x ≡ Some b = sym (taken.others x start_apart) ∙ subst (λ (n : ℕ). after n ≡ Some b) new.0 e in
-        let less = lesser_second (before y) (option_map (drive x y) (before x)) (drive x y b) (ap (option_map (drive x y)) at) in (
-          less.0,
-          subst (λ (n : ℕ). after n ≡ Some less.0) (sym new.1) (taken.end ∙ less.1),
-          subst (λ (n : ℕ). less.0 ≤ drive n q b) (sym new.0) (subst (λ (n : ℕ). less.0 ≤ drive x n b) (sym new.1) less.2),
+    led_by p q b s e (inr new) le counts =
+        let at = sym (taken.others x start_apart) ∙ subst (λ (n : ℕ). after n ≡ Some b) new.0 e in
+        let here : Counts y (drive x y s) =
+        subst (λ (n : ℕ). Counts n (drive x n s)) new.1 (subst (λ (n : ℕ). Counts q (drive n q s)) new.0 counts) in
+        let led = taken.led b s at le here in (
+          led.0,
+          subst (λ (n : ℕ). after n ≡ Some led.0) (sym new.1) led.1,
+          subst (λ (n : ℕ). led.0 ≤ drive n q s) (sym new.0) (subst (λ (n : ℕ). led.0 ≤ drive x n s) (sym new.1) led.2),
         )
 
 -- the same arcs, said in another way
-pub swept_same : (Goes Same : ℕ → ℕ → Type 0) (drive : ℕ → ℕ → ℕ → ℕ) (turn : ℕ → ℕ) (Begins : ℕ → ℕ → Type 0) (label : ℕ → Option ℕ)
-    → ((x y : ℕ) → Goes x y → Same x y) → ((x y : ℕ) → Same x y → Goes x y) → IsSwept Goes drive turn Begins label
-    → IsSwept Same drive turn Begins label
-swept_same Goes Same drive turn Begins label to from swept = record {
+pub swept_same : (Counts : ℕ → ℕ → Type 0) (Goes Same : ℕ → ℕ → Type 0) (drive : ℕ → ℕ → ℕ → ℕ) (turn : ℕ → ℕ) (Begins : ℕ → ℕ → Type 0)
+    (label : ℕ → Option ℕ)
+    → ((x y : ℕ) → Goes x y → Same x y) → ((x y : ℕ) → Same x y → Goes x y) → IsSwept Counts Goes drive turn Begins label
+    → IsSwept Counts Same drive turn Begins label
+swept_same Counts Goes Same drive turn Begins label to from swept = record {
   turns = λ x y goes. swept.turns x y (from x y goes);
-  fifo = λ x y s t goes le. swept.fifo x y s t (from x y goes) le;
   came = λ y a e. elim (swept.came y a e) [
     | inl begins ↦ inl begins
     | inr over ↦ inr (record { from = over.from; before = over.before; had = over.had; goes = to over.from y over.goes; drives = over.drives })
   ];
   begun = swept.begun;
-  led = λ x y b e goes. swept.led x y b e (from x y goes);
+  led = λ x y b s e goes le counts. swept.led x y b s e (from x y goes) le counts;
 }

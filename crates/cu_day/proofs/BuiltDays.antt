@@ -22,14 +22,14 @@ use Rattle.cu_sweep.proofs.Ancestry.{ancestors_upwards, own_ancestor}
 use Rattle.cu_sweep.proofs.Peaks.{IsRankWalk}
 use Rattle.cu_sweep.proofs.RankWalks.{below_walk, ranks_append, ranks_of_walk, walk_of_ranks}
 use Rattle.cu_sweep.proofs.Reaching.{IsReachedBy, sweeps_reach}
-use Rattle.cu_day.specs.DayChains.{GoesDown, GoesUp, Passes, list_drive, second_behind, within_limit}
-use Rattle.cu_day.specs.Steps.Sweeping.{BeginsAs, BeginsAt, IsSwept}
-use Rattle.cu_day.proofs.LeastChains.{both_parts, least_chain}
+use Rattle.cu_day.specs.DayChains.{GoesDown, GoesUp, IsLeastChain, Passes, list_drive, second_behind, within_limit}
+use Rattle.cu_day.specs.Steps.Sweeping.{Always, BeginsAs, BeginsAt, IsSwept}
+use Rattle.cu_day.proofs.LeastChains.{all_counted, both_parts, least_chain}
 
 -- a walk below its lower end is a low walk, and joins the ends of an edge
-record IsUnder (h : HierarchyValue) (x y u : ℕ) (walk : List ℕ) (v : ℕ) : Type 0 where
-  low : IsLowWalk h.network h.order u walk v
-  has : HasEdge h.edges x y
+pub record IsUnder (h : HierarchyValue) (x y u : ℕ) (walk : List ℕ) (v : ℕ) : Type 0 where
+  pub low : IsLowWalk h.network h.order u walk v
+  pub has : HasEdge h.edges x y
 
 -- the second behind a chain is that of a walk, and isn't late
 record IsDriven (h : HierarchyValue) (x y s : ℕ) (ranks : List ℕ) (latest : ℕ) : Type 0 where
@@ -49,7 +49,7 @@ module _ (h : HierarchyValue) (f : IsBuilt h) where
       let low = subst (λ (m : ℕ). JoinedBelow h.network h.order m x y) (sym least) joined in
       (f.sound.edges.exact x y).1 (lt, ((λ same. absurd (omega (arith, lt, same))), low))
 
-  up_under : (x y : ℕ) (walk : List ℕ) → x < y → WalkBelow h.network h.order x x walk y → IsUnder h x y x walk y
+  pub up_under : (x y : ℕ) (walk : List ℕ) → x < y → WalkBelow h.network h.order x x walk y → IsUnder h x y x walk y
   up_under x y walk lt w =
       let least : min x y ≡ x = min-eq_left (omega (arith, lt)) in
       let low = subst (λ (m : ℕ). WalkBelow h.network h.order m x walk y) (sym least) w in
@@ -58,7 +58,7 @@ module _ (h : HierarchyValue) (f : IsBuilt h) where
         has = under_by x y lt (walk_path h.network h.order x x walk y w);
       }
 
-  down_under : (x y : ℕ) (walk : List ℕ) → x < y → WalkBelow h.network h.order x y walk x → IsUnder h x y y walk x
+  pub down_under : (x y : ℕ) (walk : List ℕ) → x < y → WalkBelow h.network h.order x y walk x → IsUnder h x y y walk x
   down_under x y walk lt w =
       let least : min y x ≡ x = min-eq_right (omega (arith, lt)) in
       let low = subst (λ (m : ℕ). WalkBelow h.network h.order m y walk x) (sym least) w in
@@ -69,10 +69,10 @@ module _ (h : HierarchyValue) (f : IsBuilt h) where
       }
 
   -- where a low walk leads, the list isn't empty, and it arrives no later
-  list_there : (u v : ℕ) (walk : List ℕ) → IsLowWalk h.network h.order u walk v → list_from h u v ≢ []
+  pub list_there : (u v : ℕ) (walk : List ℕ) → IsLowWalk h.network h.order u walk v → list_from h u v ≢ []
   list_there u v walk low = (built_least h f u v (walk, low)).0
 
-  no_later_than : (u v : ℕ) (walk : List ℕ) → IsLowWalk h.network h.order u walk v → (s : ℕ) → list_drive h u v s ≤ drive h.network walk s
+  pub no_later_than : (u v : ℕ) (walk : List ℕ) → IsLowWalk h.network h.order u walk v → (s : ℕ) → list_drive h u v s ≤ drive h.network walk s
   no_later_than u v walk low s =
       let (b, is, least) = right_values h f (suc (min u v)) u v (omega arith) (walk, low) s in
       let d : list_drive h u v s ≡ min b (2 ^ 62) = ap within_limit is in
@@ -144,9 +144,34 @@ module _ (h : HierarchyValue) (f : IsBuilt h) where
       (λ x y goes. let e = edge_ranks y x goes.0.1 in some_walk h f x y (λ same. absurd (omega (arith, e.0, same))) goes.1)
       x y s (day + most MAX_NODES) ranks path (omega arith) early (omega arith)
 
+  -- the least that a day chain gives is when a walk arrives
+  chain_arrival : (from to t a : ℕ) → from < h.network.nodes → t < day → IsLeastChain h from to t a
+      → (walk : List ℕ) × IsRankWalk h.network h.order from walk to × (drive h.network walk t ≡ a)
+  chain_arrival from to t a from_there early least =
+      let (ups, downs, chain, is) = least.reached in
+      let first = up_part from from chain.top t ups chain.up from_there early in
+      let last = down_part to chain.top to (second_behind (list_drive h) from ups t) downs chain.down first.near in (
+        first.walk ++ last.walk,
+        ranks_append h.network h.order from chain.top to first.walk last.walk first.leads last.leads,
+        drive-append h.network first.walk last.walk t ∙ ap (drive h.network last.walk) first.drives ∙ last.drives
+            ∙ sym (both_parts h (GoesUp h from) from chain.top ups downs t chain.up) ∙ is,
+      )
+
+  -- so it is the least arrival between their nodes, where no walk is earlier
+  pub least_of_walks : (from to t a u v : ℕ) → slice_get h.order.node_at from ≡ Some u → slice_get h.order.node_at to ≡ Some v
+      → from < h.network.nodes → t < day → IsLeastChain h from to t a
+      → ((walk : List ℕ) → IsRankWalk h.network h.order from walk to → a ≤ drive h.network walk t) → IsLeastArrival h.network u v t a
+  least_of_walks from to t a u v at_from at_to from_there early least none_earlier =
+      let (walk, w, arrives) = chain_arrival from to t a from_there early least in
+      record {
+        reached = (walk, walk_of_ranks h.network h.order f.sound.order from to u walk v at_from at_to w, arrives);
+        least = λ other o. none_earlier other
+            (ranks_of_walk h.network h.order f.sound.network f.sound.order f.sound.same from to u other v at_from at_to o);
+      }
+
   module _ (from to t : ℕ) (rises falls : ℕ → ℕ) (up down : ℕ → Option ℕ)
-      (swept_up : IsSwept (GoesUp h from) (list_drive h) rises (BeginsAt from t) up)
-      (swept_down : IsSwept (GoesDown h to) (list_drive h) falls (BeginsAs up) down) (from_there : from < h.network.nodes)
+      (swept_up : IsSwept (Always t) (GoesUp h from) (list_drive h) rises (BeginsAt from t) up)
+      (swept_down : IsSwept (Always t) (GoesDown h to) (list_drive h) falls (BeginsAs up) down) (from_there : from < h.network.nodes)
       (to_there : to < h.network.nodes) where
     -- the end's label is no later than any walk between the ranks
     no_walk_earlier : (walk : List ℕ) → IsRankWalk h.network h.order from walk to → IsReachedBy (down to) (drive h.network walk t)
@@ -155,30 +180,18 @@ module _ (h : HierarchyValue) (f : IsBuilt h) where
         (record {
           climb = λ x y s part c lt below e.
               let under = up_under x y part lt below in
-              let led = swept_up.led x y s e ((c, under.has), list_there x y part under.low) in
+              let led = swept_up.led x y s s e ((c, under.has), list_there x y part under.low) (omega arith) tt in
               let soon = no_later_than x y part under.low s in
               (ancestors_upwards (graph_of h) f.sound.graph from x y c under.has, (led.0, led.1, omega (arith, led.2, soon)));
           fall = λ y z s part c lt below e.
               let under = down_under y z part lt below in
-              let led = swept_down.led z y s e ((c, under.has), list_there z y part under.low) in
+              let led = swept_down.led z y s s e ((c, under.has), list_there z y part under.low) (omega arith) tt in
               let soon = no_later_than z y part under.low s in
               (led.0, led.1, omega (arith, led.2, soon));
           goes_up = λ y z part c lt below. ancestors_upwards (graph_of h) f.sound.graph to y z c (down_under y z part lt below).has;
           turn = λ x s e. swept_down.begun x s e;
         })
         from to t walk (own_ancestor (graph_of h) from from_there) (own_ancestor (graph_of h) to to_there) (swept_up.begun from t (refl, refl)) w
-
-    -- and is that of one
-    label_walk : t < day → (a : ℕ) → down to ≡ Some a → (walk : List ℕ) × IsRankWalk h.network h.order from walk to × (drive h.network walk t ≡ a)
-    label_walk early a e =
-        let (ups, downs, chain, is) = (least_chain h from to t rises falls up down swept_up swept_down a e).reached in
-        let first = up_part from from chain.top t ups chain.up from_there early in
-        let last = down_part to chain.top to (second_behind (list_drive h) from ups t) downs chain.down first.near in (
-          first.walk ++ last.walk,
-          ranks_append h.network h.order from chain.top to first.walk last.walk first.leads last.leads,
-          drive-append h.network first.walk last.walk t ∙ ap (drive h.network last.walk) first.drives ∙ last.drives
-              ∙ sym (both_parts h (GoesUp h from) from chain.top ups downs t chain.up) ∙ is,
-        )
 
     module _ (u v : ℕ) (at_from : slice_get h.order.node_at from ≡ Some u) (at_to : slice_get h.order.node_at to ≡ Some v) where
       walk_reached : (walk : List ℕ) → IsWalk h.network u walk v → IsReachedBy (down to) (drive h.network walk t)
@@ -187,15 +200,12 @@ module _ (h : HierarchyValue) (f : IsBuilt h) where
 
       -- so it is the least arrival between their nodes
       pub least_arrival : t < day → (a : ℕ) → down to ≡ Some a → IsLeastArrival h.network u v t a
-      least_arrival early a e =
-          let (walk, w, arrives) = label_walk early a e in
-          record {
-            reached = (walk, walk_of_ranks h.network h.order f.sound.order from to u walk v at_from at_to w, arrives);
-            least = λ other o.
-                let (s, at, le) = walk_reached other o in
-                let same : s ≡ a = same_Some s a (sym at ∙ e) in
-                omega (arith, same, le);
-          }
+      least_arrival early a e = least_of_walks from to t a u v at_from at_to from_there early
+          (least_chain h from to t (Always t) (Always t) (all_counted h from to t) rises falls up down swept_up swept_down a e tt)
+          (λ walk w.
+          let (s, at, le) = no_walk_earlier walk w in
+          let same : s ≡ a = same_Some s a (sym at ∙ e) in
+          omega (arith, same, le))
 
       -- and without a label there is no walk
       pub no_walk : down to ≡ None → HasNoWalk h.network u v

@@ -10,3 +10,9 @@ pub mod BuiltDays
 pub mod Whole
 pub mod Calls
 pub mod LineFields
+pub mod Slacks
+pub mod Bounded
+pub mod Leaving
+pub mod Counted
+pub mod BuiltInTime
+pub mod LedDays

@@ -33,11 +33,11 @@ all_down_starts h (x ∷ ranks) a c = elim (Contains-append_cases (arcs_down h x
   | inr rest ↦ let e = all_down_starts h ranks a rest in (there x ranks a.end e.0, e.1)
 ]
 
-pub swept_up_none : (h : HierarchyValue) (labels : List (Option (List Run))) → HasSweptUp h [] labels labels
-swept_up_none h labels = record { long = refl; sound = λ sound. sound; swept = λ from swept. swept }
+pub swept_up_none : (Counts : ℕ → ℕ → ℕ → Type 0) (h : HierarchyValue) (labels : List (Option (List Run))) → HasSweptUp Counts h [] labels labels
+swept_up_none Counts h labels = record { long = refl; sound = λ sound. sound; swept = λ from swept. swept }
 
-pub swept_down_none : (h : HierarchyValue) (labels : List (Option (List Run))) → DownSweptBy h [] labels labels
-swept_down_none h labels = (refl, λ sound. sound, λ ups swept. swept)
+pub swept_down_none : (Counts : ℕ → ℕ → ℕ → Type 0) (h : HierarchyValue) (labels : List (Option (List Run))) → DownSweptBy Counts h [] labels labels
+swept_down_none Counts h labels = (refl, λ sound. sound, λ ups swept. swept)
 
 one_up : (h : HierarchyValue) (done : List ℕ) (x : ℕ) → arcs_up_all h done ++ arcs_up h x (up_of h.edges x) ≡ arcs_up_all h (done ++ (x ∷ []))
 one_up h done x = ap (λ (list : List Arc). arcs_up_all h done ++ list) (sym (append-nil (arcs_up h x (up_of h.edges x))))
@@ -48,24 +48,24 @@ one_down : (h : HierarchyValue) (done : List ℕ) (x : ℕ) → arcs_down_all h 
 one_down h done x = ap (λ (list : List Arc). arcs_down_all h done ++ list) (sym (append-nil (arcs_down h x (up_of h.edges x))))
     ∙ sym (flat_map-append (λ (z : ℕ). arcs_down h z (up_of h.edges z)) done (x ∷ []))
 
-pub swept_up_more : (h : HierarchyValue) (done : List ℕ) (x : ℕ) (before mid after : List (Option (List Run))) → ((y : ℕ) → Contains done y → y < x)
-    → HasSweptUp h done before mid
-    → SpreadsTo h x (up_of h.edges x) mid after → HasSweptUp h (done ++ (x ∷ [])) before after
-swept_up_more h done x before mid after below swept spreads = record {
+pub swept_up_more : (Counts : ℕ → ℕ → ℕ → Type 0) (h : HierarchyValue) (done : List ℕ) (x : ℕ) (before mid after : List (Option (List Run))) → ((y : ℕ) → Contains done y → y < x)
+    → HasSweptUp Counts h done before mid
+    → SpreadsTo Counts h x (up_of h.edges x) mid after → HasSweptUp Counts h (done ++ (x ∷ [])) before after
+swept_up_more Counts h done x before mid after below swept spreads = record {
   long = spreads.long ∙ swept.long;
   sound = λ sound. spreads.sound (swept.sound sound);
   swept = λ from begun t within.
       let starts : StartBelow x (arcs_up_all h done) = λ p q c. below p (all_up_starts h done (record { start = p; end = q }) c).0 in
-      subst (λ (list : List Arc). IsSwept (Over list) (list_drive h) (λ x. x) (BeginsAt from t) (label_at after t)) (one_up h done x)
+      subst (λ (list : List Arc). IsSwept (Counts t) (Over list) (list_drive h) (λ x. x) (BeginsAt from t) (label_at after t)) (one_up h done x)
       (spreads.swept from (arcs_up_all h done) starts (swept.swept from begun) t within);
 }
 
-pub swept_down_more : (h : HierarchyValue) (done : List ℕ) (x : ℕ) (before mid after : List (Option (List Run)))
+pub swept_down_more : (Counts : ℕ → ℕ → ℕ → Type 0) (h : HierarchyValue) (done : List ℕ) (x : ℕ) (before mid after : List (Option (List Run)))
     → ((y : ℕ) → Contains done y → x < y)
     → ((y z : ℕ) → Contains (up_of h.edges y) z → y < z)
-    → DownSweptBy h done before mid
-    → GathersFrom h x (up_of h.edges x) mid after → DownSweptBy h (done ++ (x ∷ [])) before after
-swept_down_more h done x before mid after above rises swept gathers = (
+    → DownSweptBy Counts h done before mid
+    → GathersFrom Counts h x (up_of h.edges x) mid after → DownSweptBy Counts h (done ++ (x ∷ [])) before after
+swept_down_more Counts h done x before mid after above rises swept gathers = (
   gathers.long ∙ swept.0,
   λ sound. gathers.sound (swept.1 sound),
   λ ups begun t within.
@@ -74,7 +74,7 @@ swept_down_more h done x before mid after above rises swept gathers = (
       let a = above q e.0 in
       let b = rises q p e.1 in
       omega (arith, a, b) in
-      subst (λ (list : List Arc). IsSwept (Over list) (list_drive h) (λ x. h.network.nodes - x) (BeginsAs (label_at ups t)) (label_at after t))
+      subst (λ (list : List Arc). IsSwept (Counts t) (Over list) (list_drive h) (λ x. h.network.nodes - x) (BeginsAs (label_at ups t)) (label_at after t))
       (one_down h done x)
       (gathers.swept ups (arcs_down_all h done) starts (swept.2 ups begun) t within),
 )

@@ -30,24 +30,24 @@ with_of arcs x y p q c = elim (Contains-append_cases arcs (arc x y ∷ []) (arc 
   ]
 ]
 
-by_list : (h : HierarchyValue) (x y t : ℕ) (turn : ℕ → ℕ) (Begins : ℕ → ℕ → Type 0) (arcs : List Arc) (before after : List (Option (List Run)))
+by_list : (Counts : ℕ → ℕ → ℕ → Type 0) (h : HierarchyValue) (x y t : ℕ) (turn : ℕ → ℕ) (Begins : ℕ → ℕ → Type 0) (arcs : List Arc) (before after : List (Option (List Run)))
     (entries : List Entry)
-    → list_from h x y ≡ entries → IsSwept (Over arcs) (list_drive h) turn Begins (label_at before t) → TakesList h x y before after → t < day
-    → turn x < turn y → ((z : ℕ) → Over arcs y z → ⊥) → IsSwept (Over (arcs ++ arc_if entries x y)) (list_drive h) turn Begins (label_at after t)
-by_list h x y t turn Begins arcs before after [] is swept takes within rises fresh =
-    subst (λ (ls : List (Option (List Run))). IsSwept (Over (arcs ++ [])) (list_drive h) turn Begins (label_at ls t)) (sym (takes.none is))
-    (subst (λ (list : List Arc). IsSwept (Over list) (list_drive h) turn Begins (label_at before t)) (sym (append-nil arcs)) swept)
-by_list h x y t turn Begins arcs before after (entry ∷ entries) is swept takes within rises fresh =
+    → list_from h x y ≡ entries → IsSwept (Counts t) (Over arcs) (list_drive h) turn Begins (label_at before t) → TakesList Counts h x y before after → t < day
+    → turn x < turn y → ((z : ℕ) → Over arcs y z → ⊥) → IsSwept (Counts t) (Over (arcs ++ arc_if entries x y)) (list_drive h) turn Begins (label_at after t)
+by_list Counts h x y t turn Begins arcs before after [] is swept takes within rises fresh =
+    subst (λ (ls : List (Option (List Run))). IsSwept (Counts t) (Over (arcs ++ [])) (list_drive h) turn Begins (label_at ls t)) (sym (takes.none is))
+    (subst (λ (list : List Arc). IsSwept (Counts t) (Over list) (list_drive h) turn Begins (label_at before t)) (sym (append-nil arcs)) swept)
+by_list Counts h x y t turn Begins arcs before after (entry ∷ entries) is swept takes within rises fresh =
     let some : list_from h x y ≢ [] = λ none. let e = sym is ∙ none in absurd (cc e) in
-    let one = take_arc (Over arcs) (list_drive h) turn Begins (label_at before t) (label_at after t) x y swept fresh rises (takes.fifo some)
+    let one = take_arc (Counts t) (Over arcs) (list_drive h) turn Begins (label_at before t) (label_at after t) x y swept fresh rises
     (takes.taken some t within) in
-    swept_same (With (Over arcs) x y) (Over (arcs ++ (arc x y ∷ []))) (list_drive h) turn Begins (label_at after t) (over_more arcs x y)
+    swept_same (Counts t) (With (Over arcs) x y) (Over (arcs ++ (arc x y ∷ []))) (list_drive h) turn Begins (label_at after t) (over_more arcs x y)
     (with_of arcs x y) one
 
-pub one_list : (h : HierarchyValue) (x y t : ℕ) (turn : ℕ → ℕ) (Begins : ℕ → ℕ → Type 0) (arcs : List Arc) (before after : List (Option (List Run)))
-    → IsSwept (Over arcs) (list_drive h) turn Begins (label_at before t) → TakesList h x y before after → t < day
-    → turn x < turn y → ((z : ℕ) → Over arcs y z → ⊥) → IsSwept (Over (arcs ++ arc_over h x y)) (list_drive h) turn Begins (label_at after t)
-one_list h x y t turn Begins arcs before after = by_list h x y t turn Begins arcs before after (list_from h x y) refl
+pub one_list : (Counts : ℕ → ℕ → ℕ → Type 0) (h : HierarchyValue) (x y t : ℕ) (turn : ℕ → ℕ) (Begins : ℕ → ℕ → Type 0) (arcs : List Arc) (before after : List (Option (List Run)))
+    → IsSwept (Counts t) (Over arcs) (list_drive h) turn Begins (label_at before t) → TakesList Counts h x y before after → t < day
+    → turn x < turn y → ((z : ℕ) → Over arcs y z → ⊥) → IsSwept (Counts t) (Over (arcs ++ arc_over h x y)) (list_drive h) turn Begins (label_at after t)
+one_list Counts h x y t turn Begins arcs before after = by_list Counts h x y t turn Begins arcs before after (list_from h x y) refl
 
 -- where the arcs of a rank start and end
 pub ends_of : (entries : List Entry) (x y : ℕ) (a : Arc) → Contains (arc_if entries x y) a → (a.start ≡ x) × (a.end ≡ y)
@@ -72,22 +72,22 @@ down_starts h x (y ∷ part) a c = elim (Contains-append_cases (arc_over h y x) 
 ]
 
 -- no arc yet
-pub spreads_none : (h : HierarchyValue) (x : ℕ) (labels : List (Option (List Run))) → SpreadsTo h x [] labels labels
-spreads_none h x labels = record {
+pub spreads_none : (Counts : ℕ → ℕ → ℕ → Type 0) (h : HierarchyValue) (x : ℕ) (labels : List (Option (List Run))) → SpreadsTo Counts h x [] labels labels
+spreads_none Counts h x labels = record {
   long = refl;
   sound = λ sound. sound;
   swept = λ from arcs below swept t within. subst
-      (λ (list : List Arc). IsSwept (Over list) (list_drive h) (λ x. x) (BeginsAt from t) (label_at labels t)) (sym (append-nil arcs))
+      (λ (list : List Arc). IsSwept (Counts t) (Over list) (list_drive h) (λ x. x) (BeginsAt from t) (label_at labels t)) (sym (append-nil arcs))
       (swept t within);
 }
 
-pub gathers_none : (h : HierarchyValue) (x : ℕ) (labels : List (Option (List Run))) → GathersFrom h x [] labels labels
-gathers_none h x labels = record {
+pub gathers_none : (Counts : ℕ → ℕ → ℕ → Type 0) (h : HierarchyValue) (x : ℕ) (labels : List (Option (List Run))) → GathersFrom Counts h x [] labels labels
+gathers_none Counts h x labels = record {
   long = refl;
   sound = λ sound. sound;
   above = λ y c. absurd (none_in_nil y c);
   swept = λ ups arcs above swept t within. subst
-      (λ (list : List Arc). IsSwept (Over list) (list_drive h) (λ x. h.network.nodes - x) (BeginsAs (label_at ups t)) (label_at labels t))
+      (λ (list : List Arc). IsSwept (Counts t) (Over list) (list_drive h) (λ x. h.network.nodes - x) (BeginsAs (label_at ups t)) (label_at labels t))
       (sym (append-nil arcs)) (swept t within);
 }
 
@@ -108,10 +108,10 @@ down_more h x y arcs part =
     ∙ sym (flat_map-append (λ (z : ℕ). arc_over h z x) part (y ∷ [])))
 
 -- one more arc
-pub spreads_more : (h : HierarchyValue) (x y : ℕ) (part : List ℕ) (before mid after : List (Option (List Run))) → x < y
-    → SpreadsTo h x part before mid → TakesList h x y mid after
-    → SpreadsTo h x (part ++ (y ∷ [])) before after
-spreads_more h x y part before mid after lt spreads takes = record {
+pub spreads_more : (Counts : ℕ → ℕ → ℕ → Type 0) (h : HierarchyValue) (x y : ℕ) (part : List ℕ) (before mid after : List (Option (List Run))) → x < y
+    → SpreadsTo Counts h x part before mid → TakesList Counts h x y mid after
+    → SpreadsTo Counts h x (part ++ (y ∷ [])) before after
+spreads_more Counts h x y part before mid after lt spreads takes = record {
   long = takes.long ∙ spreads.long;
   sound = λ sound. takes.sound (spreads.sound sound);
   swept = λ from arcs below swept t within.
@@ -119,15 +119,15 @@ spreads_more h x y part before mid after lt spreads takes = record {
         | inl old ↦ let less = below y z old in omega (arith, less, lt)
         | inr new ↦ let is = (up_starts h x part (arc y z) new).0 in omega (arith, is, lt)
       ] in
-      let one = one_list h x y t (λ x. x) (BeginsAt from t) (arcs ++ arcs_up h x part) mid after
+      let one = one_list Counts h x y t (λ x. x) (BeginsAt from t) (arcs ++ arcs_up h x part) mid after
       (spreads.swept from arcs below swept t within) takes within lt fresh in
-      subst (λ (list : List Arc). IsSwept (Over list) (list_drive h) (λ x. x) (BeginsAt from t) (label_at after t)) (up_more h x y arcs part) one;
+      subst (λ (list : List Arc). IsSwept (Counts t) (Over list) (list_drive h) (λ x. x) (BeginsAt from t) (label_at after t)) (up_more h x y arcs part) one;
 }
 
-pub gathers_more : (h : HierarchyValue) (x y : ℕ) (part : List ℕ) (before mid after : List (Option (List Run))) → x < y → y < h.network.nodes
-    → GathersFrom h x part before mid → TakesList h y x mid after
-    → GathersFrom h x (part ++ (y ∷ [])) before after
-gathers_more h x y part before mid after lt below gathers takes = record {
+pub gathers_more : (Counts : ℕ → ℕ → ℕ → Type 0) (h : HierarchyValue) (x y : ℕ) (part : List ℕ) (before mid after : List (Option (List Run))) → x < y → y < h.network.nodes
+    → GathersFrom Counts h x part before mid → TakesList Counts h y x mid after
+    → GathersFrom Counts h x (part ++ (y ∷ [])) before after
+gathers_more Counts h x y part before mid after lt below gathers takes = record {
   long = takes.long ∙ gathers.long;
   sound = λ sound. takes.sound (gathers.sound sound);
   above = λ z c. elim (Contains-append_cases part (y ∷ []) z c) [
@@ -139,8 +139,8 @@ gathers_more h x y part before mid after lt below gathers takes = record {
         | inl old ↦ let less = above x z old in omega (arith, less)
         | inr new ↦ let less = gathers.above x (down_starts h x part (arc x z) new).1 in omega (arith, less)
       ] in
-      let one = one_list h y x t (λ x. h.network.nodes - x) (BeginsAs (label_at ups t)) (arcs ++ arcs_down h x part) mid after
+      let one = one_list Counts h y x t (λ x. h.network.nodes - x) (BeginsAs (label_at ups t)) (arcs ++ arcs_down h x part) mid after
       (gathers.swept ups arcs above swept t within) takes within (omega (arith, lt, below)) fresh in
-      subst (λ (list : List Arc). IsSwept (Over list) (list_drive h) (λ x. h.network.nodes - x) (BeginsAs (label_at ups t)) (label_at after t))
+      subst (λ (list : List Arc). IsSwept (Counts t) (Over list) (list_drive h) (λ x. h.network.nodes - x) (BeginsAs (label_at ups t)) (label_at after t))
       (down_more h x y arcs part) one;
 }

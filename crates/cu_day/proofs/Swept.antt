@@ -22,8 +22,19 @@ module _ (Goes : ℕ → ℕ → Type 0) (drive : ℕ → ℕ → ℕ → ℕ) w
   behind_more x y z t [] path = ap (λ (n : ℕ). drive n z t) path
   behind_more x y z t (r ∷ ranks) path = behind_more r y z (drive x r t) ranks path.1
 
-module _ (Goes : ℕ → ℕ → Type 0) (drive : ℕ → ℕ → ℕ → ℕ) (turn : ℕ → ℕ) (Begins : ℕ → ℕ → Type 0) (label : ℕ → Option ℕ)
-    (swept : IsSwept Goes drive turn Begins label) where
+-- the start of an arc counts where its end does
+abbrev pub CountsBack : (ℕ → ℕ → Type 0) → (ℕ → ℕ → Type 0) → (ℕ → ℕ → ℕ → ℕ) → Type 0
+CountsBack Counts Goes drive = (x y s : ℕ) → Goes x y → Counts y (drive x y s) → Counts x s
+
+-- so does the start of a chain
+pub chain_back : (Counts Goes : ℕ → ℕ → Type 0) (drive : ℕ → ℕ → ℕ → ℕ) → CountsBack Counts Goes drive → (x y s : ℕ) (ranks : List ℕ)
+    → Passes Goes x ranks y → Counts y (second_behind drive x ranks s) → Counts x s
+chain_back Counts Goes drive back x y s [] path counts = subst (λ (n : ℕ). Counts n s) (sym path) counts
+chain_back Counts Goes drive back x y s (z ∷ ranks) path counts =
+    back x z s path.0 (chain_back Counts Goes drive back z y (drive x z s) ranks path.1 counts)
+
+module _ (Counts Goes : ℕ → ℕ → Type 0) (drive : ℕ → ℕ → ℕ → ℕ) (turn : ℕ → ℕ) (Begins : ℕ → ℕ → Type 0) (label : ℕ → Option ℕ)
+    (swept : IsSwept Counts Goes drive turn Begins label) where
   reached_by : (fuel y a : ℕ) → turn y < fuel → label y ≡ Some a → IsReached Goes drive Begins y a
   reached_by zero y a few e = absurd (omega (arith, few))
   reached_by (suc fuel) y a few e =
@@ -47,14 +58,17 @@ module _ (Goes : ℕ → ℕ → Type 0) (drive : ℕ → ℕ → ℕ → ℕ) (
   pub reached : (y a : ℕ) → label y ≡ Some a → IsReached Goes drive Begins y a
   reached y a e = reached_by (suc (turn y)) y a (omega arith) e
 
-  onward : (x y b : ℕ) (ranks : List ℕ) → Passes Goes x ranks y → label x ≡ Some b → (t : ℕ) → b ≤ t
-      → (a : ℕ) × (label y ≡ Some a) × (a ≤ second_behind drive x ranks t)
-  onward x y b [] path e t le = (b, subst (λ (n : ℕ). label n ≡ Some b) path e, le)
-  onward x y b (z ∷ ranks) path e t le =
-      let next = swept.led x z b e path.0 in
-      let later = swept.fifo x z b t path.0 le in
-      onward z y next.0 ranks path.1 next.1 (drive x z t) (omega (arith, next.2, later))
+  onward : CountsBack Counts Goes drive → (x y b : ℕ) (ranks : List ℕ) → Passes Goes x ranks y → label x ≡ Some b → (t : ℕ) → b ≤ t
+      → Counts y (second_behind drive x ranks t) → (a : ℕ) × (label y ≡ Some a) × (a ≤ second_behind drive x ranks t)
+  onward back x y b [] path e t le counts = (b, subst (λ (n : ℕ). label n ≡ Some b) path e, le)
+  onward back x y b (z ∷ ranks) path e t le counts =
+      let here = chain_back Counts Goes drive back z y (drive x z t) ranks path.1 counts in
+      let next = swept.led x z b t e path.0 le here in
+      onward back z y next.0 ranks path.1 next.1 (drive x z t) next.2 counts
 
-  -- and none is later than a chain
-  pub least : (x y b : ℕ) (ranks : List ℕ) → Begins x b → Passes Goes x ranks y → (a : ℕ) × (label y ≡ Some a) × (a ≤ second_behind drive x ranks b)
-  least x y b ranks begins path = let first = swept.begun x b begins in onward x y first.0 ranks path first.1 b first.2
+  -- and none is later than a chain that counts, from where the sweep begins or later
+  pub least : CountsBack Counts Goes drive → (x y b t : ℕ) (ranks : List ℕ) → Begins x b → b ≤ t → Passes Goes x ranks y
+      → Counts y (second_behind drive x ranks t) → (a : ℕ) × (label y ≡ Some a) × (a ≤ second_behind drive x ranks t)
+  least back x y b t ranks begins le path counts =
+      let first = swept.begun x b begins in
+      onward back x y first.0 ranks path first.1 t (omega (arith, first.2, le)) counts

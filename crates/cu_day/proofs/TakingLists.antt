@@ -13,18 +13,18 @@ use Rattle.cu_day.specs.DayChains.{list_drive, within_limit}
 use Rattle.cu_unpack.specs.Rebuilds.{IsRebuiltFunction}
 use Rattle.cu_day.specs.Steps.Sweeping.{TakesList, label_at}
 use Rattle.cu_day.specs.Steps.Taking.{TakesArc}
+use Rattle.cu_day.proofs.Arcs.{lesser_taken}
 
 module _ (h : HierarchyValue) (sound : IsHierarchy h) (edge : ℕ) (dir : Dir) (ends : Ends) (at : slice_get h.edges edge ≡ Some ends) where
   between : list_from h (start_of ends dir) (end_of ends dir) ≡ list_of h edge dir
   between = list_from-edge h sound edge dir ends at
 
-  pub none_takes : (labels : List (Option (List Run))) → IsRebuiltFunction h edge dir None
-      → TakesList h (start_of ends dir) (end_of ends dir) labels labels
-  none_takes labels none = record {
+  pub none_takes : (Counts : ℕ → ℕ → ℕ → Type 0) (labels : List (Option (List Run))) → IsRebuiltFunction h edge dir None
+      → TakesList Counts h (start_of ends dir) (end_of ends dir) labels labels
+  none_takes Counts labels none = record {
     long = refl;
     sound = λ all. all;
     none = λ e. refl;
-    fifo = λ some. absurd (some (between ∙ none));
     taken = λ some. absurd (some (between ∙ none));
   }
 
@@ -37,19 +37,18 @@ module _ (h : HierarchyValue) (sound : IsHierarchy h) (edge : ℕ) (dir : Dir) (
   mapped runs function None = refl
   mapped runs function (Some s) = ap Some (sym (drives runs function s))
 
-  pub some_takes : (runs : List Run) (before after : List (Option (List Run))) → IsRebuiltFunction h edge dir (Some runs)
-      → TakesArc runs (start_of ends dir) (end_of ends dir) before after → TakesList h (start_of ends dir) (end_of ends dir) before after
-  some_takes runs before after function takes = record {
+  pub some_takes : (Counts : ℕ → ℕ → ℕ → Type 0) (runs : List Run) (before after : List (Option (List Run))) → IsRebuiltFunction h edge dir (Some runs)
+      → TakesArc runs (start_of ends dir) (end_of ends dir) before after → TakesList Counts h (start_of ends dir) (end_of ends dir) before after
+  some_takes Counts runs before after function takes = record {
     long = takes.long;
     sound = takes.sound;
     none = λ e. absurd (function.0 (sym between ∙ e));
-    fifo = λ some s t le.
+    taken = λ some t within. lesser_taken (Counts t) (list_drive h) (start_of ends dir) (end_of ends dir) (label_at before t) (label_at after t)
+        (λ s r le.
         let a = drives runs function s in
-        let b = drives runs function t in
-        let rises = arrival_value-fifo runs function.1 s t le in
-        omega (arith, a, b, rises);
-    taken = λ some t within. record {
-      others = λ z apart. takes.others t z apart;
-      end = takes.end t within ∙ ap (lesser_of (label_at before t (end_of ends dir))) (mapped runs function (label_at before t (start_of ends dir)));
-    };
+        let b = drives runs function r in
+        let rises = arrival_value-fifo runs function.1 s r le in
+        omega (arith, a, b, rises))
+        (λ z apart. takes.others t z apart)
+        (takes.end t within ∙ ap (lesser_of (label_at before t (end_of ends dir))) (mapped runs function (label_at before t (start_of ends dir))));
   }

@@ -16,11 +16,12 @@ use Rattle.cu_interval.specs.declared.ways.Entry.{Entry}
 use Rattle.cu_interval.specs.Hierarchies.{HierarchyValue, graph_of, list_from}
 use Rattle.cu_day.specs.DayAnswers.{IsLeastWhereBuilt}
 use Rattle.cu_day.specs.DayChains.{GoesDown, GoesUp, IsDayFunction, list_drive}
-use Rattle.cu_day.specs.Steps.Sweeping.{Arc, AreSound, BeginsAs, BeginsAt, DownSwept, IsSwept, Over, UpSwept, arc, arc_if, arc_over, arcs_down, arcs_down_all, arcs_up, arcs_up_all, label_at, value_at}
+use Rattle.cu_day.specs.Steps.Sweeping.{Always, Arc, AreSound, BeginsAs, BeginsAt, DownSwept, IsSwept, Over, UpSwept, arc, arc_if}
+use Rattle.cu_day.specs.Steps.Sweeping.{arc_over, arcs_down, arcs_down_all, arcs_up, arcs_up_all, label_at, value_at}
 use Rattle.cu_day.specs.Steps.Ranks.{AreBegun, HasSwept}
 use Rattle.cu_day.proofs.Arcs.{swept_same}
 use Rattle.cu_day.proofs.BuiltDays.{least_arrival, no_walk}
-use Rattle.cu_day.proofs.LeastChains.{least_chain, no_chain}
+use Rattle.cu_day.proofs.LeastChains.{all_counted, least_chain, no_chain}
 use Rattle.cu_sweep.proofs.Behind.{turned_back, turned_member}
 use Rattle.cu_day.proofs.Ranked.{all_down_starts, all_up_starts}
 use Rattle.cu_day.proofs.Spreading.{ends_of}
@@ -136,10 +137,9 @@ begun_by : (b : Bool) (t : ℕ) → b ≡ true → (if b then Some t else None) 
 begun_by true t e = refl
 begun_by false t e = absurd (cc e)
 
-pub up_begun : (h : HierarchyValue) (ranks from : ℕ) (labels : List (Option (List Run))) → AreBegun ranks from labels → UpSwept h from [] labels
-up_begun h ranks from labels begun t within = record {
+pub up_begun : (Counts : ℕ → ℕ → ℕ → Type 0) (h : HierarchyValue) (ranks from : ℕ) (labels : List (Option (List Run))) → AreBegun ranks from labels → UpSwept Counts h from [] labels
+up_begun Counts h ranks from labels begun t within = record {
   turns = λ x y c. absurd (none_in_nil (arc x y) c);
-  fifo = λ x y s r c le. absurd (none_in_nil (arc x y) c);
   came = λ y a e. inl (begins_by (y == from) y from t a (eqb-true y from) (sym (begun.start t y within) ∙ e));
   begun = λ y b begins. (
     b,
@@ -147,18 +147,17 @@ up_begun h ranks from labels begun t within = record {
         (begun.start t y within ∙ begun_by (y == from) t (same_test y from begins.0)),
     omega arith,
   );
-  led = λ x y b e c. absurd (none_in_nil (arc x y) c);
+  led = λ x y b s e c le counts. absurd (none_in_nil (arc x y) c);
 } where
   same_test : (x y : ℕ) → x ≡ y → (x == y) ≡ true
   same_test x y e = grind (arith, e)
 
-pub down_begun : (h : HierarchyValue) (labels : List (Option (List Run))) → DownSwept h labels [] labels
-down_begun h labels t within = record {
+pub down_begun : (Counts : ℕ → ℕ → ℕ → Type 0) (h : HierarchyValue) (labels : List (Option (List Run))) → DownSwept Counts h labels [] labels
+down_begun Counts h labels t within = record {
   turns = λ x y c. absurd (none_in_nil (arc x y) c);
-  fifo = λ x y s r c le. absurd (none_in_nil (arc x y) c);
   came = λ y a e. inl e;
   begun = λ y b begins. (b, begins, omega arith);
-  led = λ x y b e c. absurd (none_in_nil (arc x y) c);
+  led = λ x y b s e c le counts. absurd (none_in_nil (arc x y) c);
 }
 
 -- what is there is an arrival function
@@ -170,29 +169,42 @@ sound_at (label ∷ labels) zero runs all e =
     subst (λ (o : Option (List Run)). IfSome o IsArrivalFunction) is (all 0 label (omega arith))
 sound_at (label ∷ labels) (suc rank) runs all e = sound_at labels rank runs (λ k d lt. all (suc k) d (omega (arith, lt))) e
 
-module _ (h : HierarchyValue) (from to : ℕ) (downs : List (Option (List Run))) (swept : HasSwept h from to downs) where
-  swept_up : (t : ℕ) → t < day → IsSwept (GoesUp h from) (list_drive h) (λ x. x) (BeginsAt from t) (label_at swept.ups t)
-  swept_up t within = swept_same (Over (arcs_up_all h (ancestors_in (graph_of h) from))) (GoesUp h from) (list_drive h) (λ x. x) (BeginsAt from t)
+module _ (CountsUp CountsDown : ℕ → ℕ → ℕ → Type 0) (h : HierarchyValue) (from to : ℕ) (downs : List (Option (List Run)))
+    (swept : HasSwept CountsUp CountsDown h from to downs) where
+  pub swept_up : (t : ℕ) → t < day → IsSwept (CountsUp t) (GoesUp h from) (list_drive h) (λ x. x) (BeginsAt from t) (label_at swept.ups t)
+  swept_up t within = swept_same (CountsUp t) (Over (arcs_up_all h (ancestors_in (graph_of h) from))) (GoesUp h from) (list_drive h) (λ x. x) (BeginsAt from t)
       (label_at swept.ups t) (up_goes h from) (goes_up h from)
-      (swept.up.swept from (up_begun h swept.ranks from swept.first swept.begun) t within)
+      (swept.up.swept from (up_begun CountsUp h swept.ranks from swept.first swept.begun) t within)
 
-  swept_down : (t : ℕ) → t < day → IsSwept (GoesDown h to) (list_drive h) (λ x. h.network.nodes - x) (BeginsAs (label_at swept.ups t))
+  pub swept_down : (t : ℕ) → t < day → IsSwept (CountsDown t) (GoesDown h to) (list_drive h) (λ x. h.network.nodes - x) (BeginsAs (label_at swept.ups t))
       (label_at downs t)
-  swept_down t within = swept_same (Over (arcs_down_all h (reverse (ancestors_in (graph_of h) to)))) (GoesDown h to) (list_drive h)
+  swept_down t within = swept_same (CountsDown t) (Over (arcs_down_all h (reverse (ancestors_in (graph_of h) to)))) (GoesDown h to) (list_drive h)
       (λ x. h.network.nodes - x) (BeginsAs (label_at swept.ups t)) (label_at downs t)
-      (down_goes h to) (goes_down h to) (swept.down.2 swept.ups (down_begun h swept.ups) t within)
+      (down_goes h to) (goes_down h to) (swept.down.2 swept.ups (down_begun CountsDown h swept.ups) t within)
+
+  -- an arrival function that the end has
+  pub end_sound : (runs : List Run) → slice_get downs to ≡ Some (Some runs) → IsArrivalFunction runs
+  end_sound runs e = sound_at downs to runs (swept.down.1 (swept.up.sound swept.begun.sound)) e
+
+module _ (h : HierarchyValue) (from to : ℕ) (downs : List (Option (List Run))) (swept : HasSwept Always Always h from to downs) where
+  all_up : (t : ℕ) → t < day → IsSwept (Always t) (GoesUp h from) (list_drive h) (λ x. x) (BeginsAt from t) (label_at swept.ups t)
+  all_up t within = swept_up Always Always h from to downs swept t within
+
+  all_down : (t : ℕ) → t < day → IsSwept (Always t) (GoesDown h to) (list_drive h) (λ x. h.network.nodes - x) (BeginsAs (label_at swept.ups t))
+      (label_at downs t)
+  all_down t within = swept_down Always Always h from to downs swept t within
 
   pub day_found : (function : Option (List Run)) → slice_get downs to ≡ Some function → IsDayFunction h from to function
   day_found None e =
       let none : label_at downs 0 to ≡ None = ap (λ (o : Option (Option (List Run))). value_at o 0) e in
-      no_chain h from to 0 (λ x. x) (λ x. h.network.nodes - x) (label_at swept.ups 0) (label_at downs 0) (swept_up 0 (omega arith))
-      (swept_down 0 (omega arith)) none
+      no_chain h from to 0 (Always 0) (Always 0) (all_counted h from to 0) (λ x. x) (λ x. h.network.nodes - x) (label_at swept.ups 0)
+      (label_at downs 0) (all_up 0 (omega arith)) (all_down 0 (omega arith)) (λ s. tt) none
   day_found (Some runs) e = (
-    sound_at downs to runs (swept.down.1 (swept.up.sound swept.begun.sound)) e,
+    end_sound Always Always h from to downs swept runs e,
     λ t within.
         let at : label_at downs t to ≡ Some (arrival_value runs t) = ap (λ (o : Option (Option (List Run))). value_at o t) e in
-        least_chain h from to t (λ x. x) (λ x. h.network.nodes - x) (label_at swept.ups t) (label_at downs t) (swept_up t within)
-        (swept_down t within) (arrival_value runs t) at,
+        least_chain h from to t (Always t) (Always t) (all_counted h from to t) (λ x. x) (λ x. h.network.nodes - x) (label_at swept.ups t)
+        (label_at downs t) (all_up t within) (all_down t within) (arrival_value runs t) at tt,
   )
 
   -- where the hierarchy is built, it has the least arrivals
@@ -200,10 +212,10 @@ module _ (h : HierarchyValue) (from to : ℕ) (downs : List (Option (List Run)))
       → IsLeastWhereBuilt h from to function
   day_least from_there to_there None e f u v at_from at_to =
       let none : label_at downs 0 to ≡ None = ap (λ (o : Option (Option (List Run))). value_at o 0) e in
-      no_walk h f from to 0 (λ x. x) (λ x. h.network.nodes - x) (label_at swept.ups 0) (label_at downs 0) (swept_up 0 (omega arith))
-      (swept_down 0 (omega arith)) from_there to_there u v at_from at_to none
+      no_walk h f from to 0 (λ x. x) (λ x. h.network.nodes - x) (label_at swept.ups 0) (label_at downs 0) (all_up 0 (omega arith))
+      (all_down 0 (omega arith)) from_there to_there u v at_from at_to none
   day_least from_there to_there (Some runs) e f u v at_from at_to = λ t within.
       let at : label_at downs t to ≡ Some (arrival_value runs t) = ap (λ (o : Option (Option (List Run))). value_at o t) e in
-      least_arrival h f from to t (λ x. x) (λ x. h.network.nodes - x) (label_at swept.ups t) (label_at downs t) (swept_up t within)
-      (swept_down t within)
+      least_arrival h f from to t (λ x. x) (λ x. h.network.nodes - x) (label_at swept.ups t) (label_at downs t) (all_up t within)
+      (all_down t within)
       from_there to_there u v at_from at_to within (arrival_value runs t) at

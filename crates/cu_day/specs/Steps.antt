@@ -1,5 +1,6 @@
 -- What private functions mean to each other; no public contract speaks of it.
 pub mod Sweeping
+pub mod InTime
 pub mod Taking
 pub mod Ranks
 pub mod Saying

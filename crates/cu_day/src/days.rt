@@ -15,7 +15,7 @@ ghost use Rattle.cu_day.specs.DayAnswers.{IsLeastWhereBuilt};
 ghost use Rattle.cu_day.specs.DayCalls.{AddsSweepArcs, calls_of_rank, calls_of_ranks};
 ghost use Rattle.cu_day.specs.DayChains.{IsDayFunction};
 ghost use Rattle.cu_day.specs.Steps.Ranks.{AreBegun, GathersFrom, HasSwept, HasSweptDown, HasSweptUp, SpreadsTo};
-ghost use Rattle.cu_day.specs.Steps.Sweeping.{TakesList};
+ghost use Rattle.cu_day.specs.Steps.Sweeping.{Always, TakesList};
 ghost use Rattle.cu_day.specs.Steps.Taking.{HasEarlier, IsEarlier, TakesArc};
 
 use crate::functions::DayFunctions;
@@ -67,7 +67,7 @@ fn sweep<F: DayFunctions>(
     requires graph { IsHierarchyOf graph.now (F.hierarchy functions.old) }
     ensures long { IfOk result (λ labels. length labels.items ≡ graph.now.ranks) }
     ensures swept { IfOk result
-        (λ labels. HasSwept (F.hierarchy functions.old) from to labels.items) }
+        (λ labels. HasSwept Always Always (F.hierarchy functions.old) from to labels.items) }
     ensures told { IfOk result (λ _. AddsSweepArcs graph.now from to
         (F.calls functions.old) (F.calls functions.new)) }
     ensures stays { F.hierarchy functions.new ≡ F.hierarchy functions.old }
@@ -80,8 +80,8 @@ fn sweep<F: DayFunctions>(
     Ok(labels)
 }
 
-// A label for each rank: at the start staying there, and none elsewhere.
-fn begun_labels(alloc: Global, ranks: u32, from: u32) -> Result<Vec<Option<Arrival>>, NoMemory>
+/// A label for each rank: at the start staying there, and none elsewhere.
+pub fn begun_labels(alloc: Global, ranks: u32, from: u32) -> Result<Vec<Option<Arrival>>, NoMemory>
     requires { from < ranks }
     ensures { IfOk result (λ labels. AreBegun ranks from labels.items) }
 {
@@ -102,8 +102,8 @@ fn no_labels(alloc: Global, ranks: u32) -> Result<Vec<Option<Arrival>>, NoMemory
     Ok(labels)
 }
 
-// The function that arrives as it leaves.
-fn staying(alloc: Global) -> Result<Arrival, NoMemory>
+/// The function that arrives as it leaves.
+pub fn staying(alloc: Global) -> Result<Arrival, NoMemory>
     ensures sound { IfOk result IsArrivalFunction }
     ensures stays { IfOk result (λ f. (t : ℕ) → t < DAY → arrival_value f t ≡ t) }
 {
@@ -114,8 +114,8 @@ fn staying(alloc: Global) -> Result<Arrival, NoMemory>
     Arrival::from_runs(alloc, &[run])
 }
 
-// The ancestors of a rank, rising.
-fn list_ancestors(alloc: Global, tree: &Tree, rank: u32) -> Result<Vec<u32>, NoMemory>
+/// The ancestors of a rank, rising.
+pub fn list_ancestors(alloc: Global, tree: &Tree, rank: u32) -> Result<Vec<u32>, NoMemory>
     requires { rank < length tree.now }
     ensures path { IfOk result (λ path. path.items ≡ ancestors_of tree.now rank) }
     ensures rising { IfOk result (λ path. AllPairs (λ a b. a < b) path.items) }
@@ -141,7 +141,7 @@ fn sweep_up<F: DayFunctions>(
     requires graph { IsHierarchyOf graph.now (F.hierarchy functions.old) }
     requires long { length labels.old.items ≡ graph.now.ranks }
     ensures swept { OnOk result
-        (HasSweptUp (F.hierarchy functions.old) path.now labels.old.items labels.new.items) }
+        (HasSweptUp Always (F.hierarchy functions.old) path.now labels.old.items labels.new.items) }
     ensures told { OnOk result (F.calls functions.new
         ≡ F.calls functions.old ++ calls_of_ranks (F.hierarchy functions.old) Up path.now) }
     ensures stays { F.hierarchy functions.new ≡ F.hierarchy functions.old }
@@ -167,7 +167,7 @@ fn sweep_down<F: DayFunctions>(
     requires graph { IsHierarchyOf graph.now (F.hierarchy functions.old) }
     requires long { length labels.old.items ≡ graph.now.ranks }
     ensures swept { OnOk result
-        (HasSweptDown (F.hierarchy functions.old) path.now labels.old.items labels.new.items) }
+        (HasSweptDown Always (F.hierarchy functions.old) path.now labels.old.items labels.new.items) }
     ensures told { OnOk result (F.calls functions.new ≡ F.calls functions.old
         ++ calls_of_ranks (F.hierarchy functions.old) Down (reverse path.now)) }
     ensures stays { F.hierarchy functions.new ≡ F.hierarchy functions.old }
@@ -191,7 +191,7 @@ fn spread<F: DayFunctions>(
     requires rank { rank < graph.now.ranks }
     requires graph { IsHierarchyOf graph.now (F.hierarchy functions.old) }
     requires long { length labels.old.items ≡ graph.now.ranks }
-    ensures spreads { OnOk result (SpreadsTo (F.hierarchy functions.old) rank
+    ensures spreads { OnOk result (SpreadsTo Always (F.hierarchy functions.old) rank
         (up_of (F.hierarchy functions.old).edges rank) labels.old.items labels.new.items) }
     ensures told { OnOk result (F.calls functions.new
         ≡ F.calls functions.old ++ calls_of_rank (F.hierarchy functions.old) Up rank) }
@@ -222,7 +222,7 @@ fn gather<F: DayFunctions>(
     requires rank { rank < graph.now.ranks }
     requires graph { IsHierarchyOf graph.now (F.hierarchy functions.old) }
     requires long { length labels.old.items ≡ graph.now.ranks }
-    ensures gathers { OnOk result (GathersFrom (F.hierarchy functions.old) rank
+    ensures gathers { OnOk result (GathersFrom Always (F.hierarchy functions.old) rank
         (up_of (F.hierarchy functions.old).edges rank) labels.old.items labels.new.items) }
     ensures told { OnOk result (F.calls functions.new
         ≡ F.calls functions.old ++ calls_of_rank (F.hierarchy functions.old) Down rank) }
@@ -245,8 +245,8 @@ fn gather<F: DayFunctions>(
     Ok(())
 }
 
-// Takes the arc of a shortcut, which leads from one rank to another, unless its list is empty.
-fn take_list<F: DayFunctions>(
+/// Takes the arc of a shortcut, which leads from one rank to another, unless its list is empty.
+pub fn take_list<F: DayFunctions>(
     alloc: Global,
     labels: &mut Vec<Option<Arrival>>,
     functions: &mut F,
@@ -259,7 +259,7 @@ fn take_list<F: DayFunctions>(
     requires edge { (ends : Ends)
         × (slice_get (F.hierarchy functions.old).edges shortcut.edge ≡ Some ends)
         × (start_of ends shortcut.dir ≡ leg.from) × (end_of ends shortcut.dir ≡ leg.to) }
-    ensures takes { OnOk result (TakesList (F.hierarchy functions.old) leg.from leg.to
+    ensures takes { OnOk result (TakesList Always (F.hierarchy functions.old) leg.from leg.to
         labels.old.items labels.new.items) }
     ensures told { OnOk result
         (F.calls functions.new ≡ F.calls functions.old ++ shortcut ∷ []) }

@@ -4,5 +4,6 @@ pub mod Spelling
 pub mod Reading
 pub mod InForce
 pub mod Checks
+pub mod Halves
 pub mod Repacking
 pub mod Steps

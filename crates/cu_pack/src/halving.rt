@@ -4,8 +4,9 @@ ghost use Rattle.std.specs.Prelude.{◌≡◌, IfOk, Some, slice_get};
 ghost use Rattle.cu_chordal.specs.Graphs.{HasEdge};
 ghost use Rattle.cu_interval.specs.Shortcuts.{AreHalves, IsMiddle};
 ghost use Rattle.cu_pack.specs.Checks.{IsGraph};
+ghost use Rattle.cu_pack.specs.Halves.{finder_at};
 ghost use Rattle.cu_pack.specs.Reading.{decoded, edge_start};
-ghost use Rattle.cu_pack.specs.Steps.Cursors.{AreCursors, finder_at};
+ghost use Rattle.cu_pack.specs.Steps.Cursors.{AreCursors};
 
 use crate::cutting::Sections;
 use cu_bounds::Halving;
@@ -26,7 +27,8 @@ pub struct HalvesInFile<'a, 'b> {
 }
 
 impl<'a, 'b> Model for HalvesInFile<'a, 'b> {
-    ghost use Rattle.cu_pack.specs.Steps.Cursors.{FinderValue, IsFinder, finder_at};
+    ghost use Rattle.cu_pack.specs.Halves.{FinderValue, finder_at};
+    ghost use Rattle.cu_pack.specs.Steps.Cursors.{IsFinder};
 
     ghost Value = { FinderValue };
 
@@ -37,7 +39,10 @@ impl<'a, 'b> Model for HalvesInFile<'a, 'b> {
 
 impl<'a, 'b> HalvesInFile<'a, 'b> {
     /// A finder that has come to no rank but the first. Takes 4 bytes for each node.
-    pub fn of(alloc: Global, sections: &'a Sections<'b>) -> Result<HalvesInFile<'a, 'b>, NoMemory>
+    pub(crate) fn of(
+        alloc: Global,
+        sections: &'a Sections<'b>,
+    ) -> Result<HalvesInFile<'a, 'b>, NoMemory>
         requires graph { IsGraph sections.now }
         ensures begins { IfOk result (λ finder. finder ≡ finder_at sections.now 0) }
     {

@@ -5,7 +5,8 @@
 //! `specs/Checks.antt`). [`PackedView::adopt`] takes bytes that are known to be such a file, and checks nothing. A
 //! view stands for the hierarchy (`Roads`, `Ways`, `BoundedWays`), and each look-up reads the borrowed bytes:
 //! [`WaySlice`] is a way list in them. [`WayInForce`] and [`RuleInForce`] say a way or a rule with the seconds at which it
-//! holds (`specs/InForce.antt`). [`order_of`] and [`chordal_of`] copy the order and the graph. [`repack`] gives the file of
+//! holds (`specs/InForce.antt`). [`HalvesInFile`] finds the halves of its shortcuts by rising edge
+//! (`specs/Halves.antt`). [`order_of`] and [`chordal_of`] copy the order and the graph. [`repack`] gives the file of
 //! a view's hierarchy with its network edited and the way lists of some edges replaced: whatever stays is copied as it
 //! lies, and the least bounds are found anew. [`repack_unsealed`] saves the digest, [`PackedView::adopt_unsealed`] reads its
 //! bytes as they are, and [`seal`] writes the digest once the whole file is asked for. [`repack_touched`] is for edits that
@@ -24,7 +25,7 @@
 //! columns into memory. `driving` and `joining` answer for roads and edges as soon as the checks of their sections have
 //! passed; the later checks (`checks`) and the view call the same ones. `ways_in_file` stands for the hierarchy of sections
 //! whose bounds nobody has looked at, `bounds_in_file` for the numbers in their place, and `halving` finds the halves of
-//! its shortcuts by rising edge, for the check of the bounds. `sections` puts the sections of a
+//! its shortcuts by rising edge, for the check of the bounds and for a view. `sections` puts the sections of a
 //! hierarchy, `editing` and `replacing` those of a view's after an edit, `bounding` the bounds. What only private functions
 //! cite is in `specs/Steps`.
 //!
@@ -62,6 +63,7 @@ mod way_slices;
 mod ways_in_file;
 
 pub use cutting::in_force::RuleInForce;
+pub use halving::HalvesInFile;
 pub use laws::{file_is_read_back, file_of_one_hierarchy};
 pub use layout::{Counts, Layout};
 pub use migrating::migrate;

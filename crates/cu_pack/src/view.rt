@@ -10,6 +10,7 @@ use crate::ways_in_file::WaysInFile;
 use std::marker::Model;
 
 pub mod copies;
+mod halves;
 mod hierarchy;
 mod in_force;
 mod parts;

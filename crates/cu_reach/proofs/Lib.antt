@@ -7,3 +7,5 @@ pub mod TimeLaws
 pub mod SayingLaws
 pub mod RangeLaws
 pub mod BuiltLaws
+pub mod Blanks
+pub mod Gathering

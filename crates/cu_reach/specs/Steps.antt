@@ -3,3 +3,4 @@ pub mod Searching
 pub mod LineFields
 pub mod Parts
 pub mod TableFields
+pub mod Gathering

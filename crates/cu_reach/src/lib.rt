@@ -4,6 +4,7 @@
 //! (`specs/Departures.antt`).
 #![tactic(auto)]
 
+mod block;
 mod departures;
 mod lines;
 mod reaching;

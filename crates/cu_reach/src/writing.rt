@@ -1,12 +1,15 @@
 //! Writing the replies to lines that ask for more than one answer.
 
-ghost use Rattle.std.specs.Prelude.{◌≡◌, ◌<◌, ◌++◌, [], ℕ, All, codes, decimal, length};
+ghost use Rattle.std.specs.Prelude.{◌≡◌, ◌<◌, ◌≤◌, ◌+◌, ◌++◌, [], ℕ, All, OnOk, codes, decimal, length};
 ghost use Rattle.std.specs.List.{range_with_len};
 ghost use Rattle.cu_io.specs.Sinks.{Wrote};
+ghost use Rattle.cu_reach.specs.declared.block.TheConstants.{LONGEST, SIZE};
 ghost use Rattle.cu_reach.specs.declared.reaching.Reached.TheVariants.{Done};
 ghost use Rattle.cu_reach.specs.Reaching.{HoldsLabels, HoldsReached};
 ghost use Rattle.cu_reach.specs.ReachTexts.{damage_text, dir_text, reach_text, row_then, time_text, times_at, times_text};
+ghost use Rattle.cu_reach.specs.Steps.Gathering.{Gathered};
 
+use crate::block::Block;
 use crate::reaching::{ReachDesk, Reached};
 use crate::tables::NodeFields;
 use cu_interval::{Dir, Ways};
@@ -83,10 +86,11 @@ fn put_all_times<W: Ways, K: Sink>(
         (times_text (times_at (W.hierarchy ways.now) from second
         (range_with_len 0 (W.hierarchy ways.now).network.nodes))) }
 {
+    let mut block = Block::new();
     'nodes: for node in 0..ways.ranks() {
-        put_time(sink, desk.label(ways.rank(node)))?;
+        put_time(&mut block, sink, desk.label(ways.rank(node)))?;
     }
-    Ok(())
+    put_all(sink, block.text())
 }
 
 // Writes the times of these nodes.
@@ -102,20 +106,35 @@ fn put_times<W: Ways, K: Sink>(
         → Wrote (K.state sink.old) (K.state sink.new) result
         (times_text (times_at (W.hierarchy ways.now) from second nodes.entry)) }
 {
+    let mut block = Block::new();
     'nodes: for node in nodes {
-        put_time(sink, desk.label(ways.rank(node)))?;
+        put_time(&mut block, sink, desk.label(ways.rank(node)))?;
     }
+    put_all(sink, block.text())
+}
+
+// Adds an arrival, or that there is none, to a block, which is written first where it has no room.
+fn put_time<K: Sink>(block: &mut Block, sink: &mut K, time: Option<u64>) -> Result<(), SinkFailed>
+    ensures gathered { Gathered (K.state sink.old) (K.state sink.new) result block.old block.new
+        (time_text time) }
+{
+    make_room(block, sink)?;
+    block.add(time);
     Ok(())
 }
 
-// Writes an arrival, or that there is none.
-fn put_time<K: Sink>(sink: &mut K, time: Option<u64>) -> Result<(), SinkFailed>
-    ensures wrote { Wrote (K.state sink.old) (K.state sink.new) result (time_text time) }
+// Writes a block where it has no room for one more time.
+fn make_room<K: Sink>(block: &mut Block, sink: &mut K) -> Result<(), SinkFailed>
+    ensures gathered { Gathered (K.state sink.old) (K.state sink.new) result block.old block.new
+        [] }
+    ensures room { OnOk result (length block.new + LONGEST ≤ SIZE) }
 {
-    match time {
-        None => put_all(sink, b" -"),
-        Some(arrival) => put_word_and_long(sink, b" ", arrival),
+    if block.has_room() {
+        return Ok(());
     }
+    put_all(sink, block.text())?;
+    block.clear();
+    Ok(())
 }
 
 // Writes what ends a table: behind a blank, that the walk of a relaxation is too long.

@@ -5,6 +5,7 @@ use Rattle.std.proofs.lemmas.List.{length-append, length-replicate}
 use Rattle.std.proofs.lemmas.List.Elements.{All-replicate}
 use Rattle.std.proofs.lemmas.Option.{get_or_from_slice_get, slice_get_within}
 use Rattle.cu_interval.specs.Hierarchies.{HierarchyValue}
+use Rattle.cu_recall.specs.declared.downs.DownSpan.{DownSpan}
 use Rattle.cu_recall.specs.declared.spans.Driven.{Driven}
 use Rattle.cu_recall.specs.declared.spans.Met.{Met}
 use Rattle.cu_recall.specs.declared.spans.Parts.{Parts}
@@ -113,6 +114,6 @@ pub length_rows : (lists : ℕ) (rows : List Row) → length rows ≤ lists → 
 length_rows lists rows most = omega (arith, length-append rows (replicate (lists - length rows) no_row), length-replicate (lists - length rows) no_row, most)
 
 -- room whose rows are all written fits by them
-pub fits_written : (h : HierarchyValue) (nodes lists : ℕ) (rows : List Row) → length rows ≡ lists → Fits h (record { nodes = nodes; rows = rows })
-    → Fits h (record { nodes = nodes; rows = rows_of lists rows })
-fits_written h nodes lists rows same fits = subst (λ (rs : List Row). Fits h (record { nodes = nodes; rows = rs })) (sym (all_written lists rows same)) fits
+pub fits_written : (h : HierarchyValue) (nodes lists : ℕ) (rows : List Row) (downs : List DownSpan) → length rows ≡ lists → Fits h (record { nodes = nodes; rows = rows; downs = downs })
+    → Fits h (record { nodes = nodes; rows = rows_of lists rows; downs = downs })
+fits_written h nodes lists rows downs same fits = subst (λ (rs : List Row). Fits h (record { nodes = nodes; rows = rs; downs = downs })) (sym (all_written lists rows same)) fits

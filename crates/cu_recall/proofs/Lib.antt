@@ -2,6 +2,10 @@ pub mod ListEnds
 pub mod DayWalks
 pub mod Joining
 pub mod Keeping
+pub mod RoadByRoad
+pub mod OnWalk
+pub mod Arriving
+pub mod Blanks
 pub mod RoadDrives
 pub mod Entries
 pub mod Middles
@@ -11,3 +15,4 @@ pub mod Turning
 pub mod Answering
 pub mod Tops
 pub mod Unpacks
+pub mod DownLaws

@@ -1,4 +1,5 @@
 pub mod Spans
 pub mod Windows
+pub mod Downs
 pub mod Rooms
 pub mod Steps

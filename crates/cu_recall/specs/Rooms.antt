@@ -1,9 +1,11 @@
 -- Room for relaxations that remember, as contracts see it.
 use Rattle.std.specs.Prelude.{ℕ, List, ◌≡◌, ◌*◌, ◌-◌, ◌++◌, length, replicate}
 use Rattle.cu_interval.specs.Hierarchies.{HierarchyValue}
+use Rattle.cu_recall.specs.declared.downs.DownSpan.{DownSpan}
 use Rattle.cu_recall.specs.declared.kept.Kept.TheVariants as kept
 use Rattle.cu_recall.specs.declared.spans.Row.{Row}
 use Rattle.cu_recall.specs.declared.spans.Span.{Span}
+use Rattle.cu_recall.specs.Downs.{KnowsDowns}
 use Rattle.cu_recall.specs.Spans.{Knows}
 
 -- a span that has no second
@@ -18,13 +20,15 @@ no_row = record { latest = no_span; early = no_span; noon = no_span; late = no_s
 abbrev pub rows_of : ℕ → List Row → List Row
 rows_of lists rows = rows ++ replicate (lists - length rows) no_row
 
--- for how many nodes it was made, and the row of each list
+-- for how many nodes it was made, the row of each list, and what is kept of the lists downwards, of each edge at three places or of none
 pub record RoomValue : Type 0 where
   pub nodes : ℕ
   pub rows : List Row
+  pub downs : List DownSpan
 
 -- it is as large as the hierarchy asks, and what it knows is so of this hierarchy
 pub record Fits (h : HierarchyValue) (room : RoomValue) : Type 0 where
   pub nodes : room.nodes ≡ h.network.nodes
   pub lists : length room.rows ≡ 2 * length h.edges
   pub knows : Knows h room.rows
+  pub downs : KnowsDowns h room.downs

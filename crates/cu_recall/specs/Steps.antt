@@ -2,3 +2,4 @@
 pub mod Drives
 pub mod Looks
 pub mod InWork
+pub mod Walks

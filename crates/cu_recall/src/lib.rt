@@ -3,23 +3,31 @@
 //!
 //! [`Recall`] relaxes the shortcuts of a packed file as `Relaxer` of `cu_interval` says. Its answers are those of an
 //! unpacking, and in a built hierarchy those over all low walks, whatever its [`Room`] holds of earlier relaxations, as long
-//! as that is so of the hierarchy (`Fits` in `specs/Rooms.antt`). It takes no memory, and gives its room back.
+//! as that is so of the hierarchy (`Fits` in `specs/Rooms.antt`). It writes the walk of one that arrives, by what the room holds.
+//! It takes no memory, and gives its room back.
 //!
 //! A [`Row`] has, for one list, up to four [`Span`]s, over each of which the list's walk takes as long over as many roads,
 //! and an entry that was [`Met`]. Each is a fact of the hierarchy alone (`Knows` in `specs/Spans.antt`), so no query
 //! makes it wrong, and it doesn't matter which span is written over. [`travels_add`] is the law that it rests on: near a
 //! second the walk by a middle is those of both halves joined, so that travels and roads add.
 //!
-//! [`RecalledWays`] are the file's ways for whoever writes a walk behind such relaxations, or settles an edit: where the entry
-//! that was met last is in force its way is read from the row, and the ends of an edge from the graph.
+//! [`SweepRecall`] is for passes down over many ranks, which ask most lists downwards once, in the order of their edges. Of
+//! each it keeps a [`DownSpan`] in the same room, the list's least bound and its latest span, in each of three tables, one for
+//! the passes that leave in each third of the day (`KnowsDowns` in `specs/Downs.antt`). It looks into the row only where the
+//! second isn't in that span.
 //!
-//! What is private stands in layers over what a row holds: `remembering` keeps it, row by row; `driving` drives one road,
-//! `looking` looks a list up in what is known or else in the bytes, and `unpacking` parts a list at its middles until each
-//! part is known or a road, while others wait (`pending`). What only private functions cite is in `specs/Steps`.
+//! [`RecalledWays`] are the file's ways for whoever settles an edit behind such relaxations: where the entry that was met last
+//! is in force its way is read from the row, and the ends of an edge from the graph.
 //!
-//! It stands on `cu_model`, `cu_chordal`, `cu_interval`, `cu_unpack` and `cu_pack`.
+//! What is private stands in layers over what a row holds: `remembering` keeps it, row by row, and `downs` edge by edge;
+//! `driving` drives one road, `looking` looks a list up in what is known or else in the bytes, and `unpacking` parts a list at
+//! its middles until each part is known or a road, while others wait (`pending`); `walking` parts it until each part is a road,
+//! which it writes. What only private functions cite is in `specs/Steps`.
+//!
+//! It stands on `cu_model`, `cu_io`, `cu_chordal`, `cu_interval`, `cu_unpack` and `cu_pack`.
 #![tactic(auto)]
 
+mod downs;
 mod driving;
 mod kept;
 mod laws;
@@ -30,11 +38,15 @@ mod recalled;
 mod remembering;
 mod room;
 mod spans;
+mod sweep_recall;
 mod unpacking;
+mod walking;
 
+pub use downs::{DownSpan, NO_BOUND};
 pub use kept::Kept;
 pub use laws::travels_add;
 pub use recall::Recall;
 pub use recalled::RecalledWays;
 pub use room::Room;
 pub use spans::{Driven, Met, Parts, Row, Span};
+pub use sweep_recall::SweepRecall;

@@ -73,8 +73,14 @@ fn over_span(span: Span, second: u32) -> Driven
     }
 }
 
-// Drives the road of an entry that was met, and keeps what that took.
-fn drive_met(view: &PackedView<'_>, rows: &mut [Row], asked: Asked, met: Met, road: u32) -> Driven
+/// Drives the road of an entry that was met, and keeps what that took.
+pub fn drive_met(
+    view: &PackedView<'_>,
+    rows: &mut [Row],
+    asked: Asked,
+    met: Met,
+    road: u32,
+) -> Driven
     requires asked { IsAsked view.now asked }
     requires size { length rows.old ≡ 2 * length view.now.edges }
     requires knows { Knows view.now rows.old }
@@ -91,8 +97,8 @@ fn drive_met(view: &PackedView<'_>, rows: &mut [Row], asked: Asked, met: Met, ro
     driven
 }
 
-// The entry of a list in force at a second: the one that was met last, or by the bytes, and then it is the one met last.
-fn met_at(view: &PackedView<'_>, graph: &Chordal, rows: &mut [Row], asked: Asked) -> Met
+/// The entry of a list in force at a second: the one that was met last, or by the bytes, and then it is the one met last.
+pub fn met_at(view: &PackedView<'_>, graph: &Chordal, rows: &mut [Row], asked: Asked) -> Met
     requires graph { graph.now ≡ graph_of view.now }
     requires asked { IsAsked view.now asked }
     requires size { length rows.old ≡ 2 * length view.now.edges }

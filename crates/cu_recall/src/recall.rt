@@ -1,24 +1,30 @@
 //! Relaxations over a packed file that remember.
 
 ghost use Rattle.std.specs.Prelude.{◌≡◌, ◌≤◌, ◌<◌, ◌+◌, ◌%◌, ◌^◌, ℕ, None, length};
+ghost use Rattle.cu_io.specs.Sinks.{Wrote};
 ghost use Rattle.cu_model.specs.Days.{day};
 ghost use Rattle.cu_chordal.specs.declared.graph.TheConstants.{MAX_EDGES};
 ghost use Rattle.cu_interval.specs.Calls.{Adds, IfAt};
 ghost use Rattle.cu_interval.specs.Hierarchies.{IsHierarchy, IsHierarchyOf, graph_of, list_number};
 ghost use Rattle.cu_interval.specs.LeastBounds.{far, least_bound};
-ghost use Rattle.cu_interval.specs.Unpacking.{relaxed};
-ghost use Rattle.cu_unpack.specs.Answers.{IsLowWhereBuilt};
+ghost use Rattle.cu_interval.specs.Unpacking.{relaxed, unpacked_walk};
+ghost use Rattle.cu_unpack.specs.Answers.{IsArriving, IsLowWhereBuilt, walk_over};
+ghost use Rattle.cu_unpack.specs.Texts.{walk_text};
 ghost use Rattle.cu_recall.specs.Rooms.{Fits};
+ghost use Rattle.cu_recall.specs.Spans.{IsListFrom};
 ghost use Rattle.cu_recall.specs.Windows.{HoldsDriven};
 ghost use Rattle.cu_recall.specs.Steps.Looks.{edge_asked};
+ghost use Rattle.cu_recall.specs.Steps.Walks.{IsShortWalk};
 
 use crate::looking::known;
 use crate::pending::Asked;
 use crate::room::{Room, make_rows};
 use crate::spans::Driven;
 use crate::unpacking::unpack;
+use crate::walking::write_walk;
 use cu_chordal::Chordal;
 use cu_interval::{BoundedWays, Dir, Relaxed, Relaxer, Shortcut, Ways};
+use cu_io::{Sink, SinkFailed};
 use cu_model::{DAY, Roads};
 use cu_pack::PackedView;
 use std::marker::Model;
@@ -61,6 +67,32 @@ impl<'a> Recall<'a> {
     {
         self.room
     }
+
+    /// Writes the roads of the walk of a relaxation that arrives, in plain decimal, a blank before each, but not before the
+    /// first where that is the first of all. The edge's number is below the number of edges. Takes no memory.
+    ///
+    /// Refused only where a write is: the sink's count of faults rose, and some first bytes were written.
+    pub fn walk<K: Sink>(
+        &mut self,
+        edge: u32,
+        dir: Dir,
+        at: u64,
+        first: bool,
+        sink: &mut K,
+    ) -> Result<(), SinkFailed>
+        requires edge { edge < length self.old.edges }
+        requires answers { IsArriving self.old edge dir at }
+        ensures wrote { Wrote (K.state sink.old) (K.state sink.new) result
+            (walk_text first (walk_over self.old edge dir at)) }
+        ensures sound { IsHierarchy self.old }
+        ensures stays { self.new ≡ self.old }
+    {
+        let view = self.view;
+        let graph = self.graph;
+        let room = &mut self.room;
+        let asked = asked_of(edge, dir, at);
+        walk_in(view, graph, room, asked, first, sink)
+    }
 }
 
 impl<'a> Relaxer for Recall<'a> {
@@ -93,8 +125,8 @@ impl<'a> Relaxer for Recall<'a> {
     }
 }
 
-// The answer of a relaxation, by what is known or else by unpacking.
-fn relax_over(
+/// The answer of a relaxation, by what is known or else by unpacking.
+pub fn relax_over(
     view: &PackedView<'_>,
     graph: &Chordal,
     room: &mut Room,
@@ -110,6 +142,7 @@ fn relax_over(
     ensures answer { result ≡ relaxed view.now edge dir at }
     ensures near { IfAt result (λ (arrival : ℕ). (at ≤ arrival) × (arrival ≤ at + 2 ^ 38)) }
     ensures fits { Fits view.now room.new }
+    ensures downs { room.new.downs ≡ room.old.downs }
 {
     let asked = asked_of(edge, dir, at);
     make_rows(&mut room.rows, room.lists);
@@ -123,6 +156,36 @@ fn relax_over(
         Some(driven) => answer(view, edge, dir, at, driven),
         None => Relaxed::Long,
     }
+}
+
+// Writes the walk of a list, in the room's places.
+fn walk_in<K: Sink>(
+    view: &PackedView<'_>,
+    graph: &Chordal,
+    room: &mut Room,
+    asked: Asked,
+    first: bool,
+    sink: &mut K,
+) -> Result<(), SinkFailed>
+    requires graph { graph.now ≡ graph_of view.now }
+    requires short { IsShortWalk view.now asked }
+    requires fits { Fits view.now room.old }
+    requires sound { IsHierarchy view.now }
+    ensures wrote { (u v : ℕ) → IsListFrom view.now asked.list u v
+        → Wrote (K.state sink.old) (K.state sink.new) result
+        (walk_text first (unpacked_walk view.now u v asked.second)) }
+    ensures fits { Fits view.now room.new }
+{
+    make_rows(&mut room.rows, room.lists);
+    write_walk(
+        view,
+        graph,
+        &mut room.rows,
+        &mut room.waiting,
+        asked,
+        first,
+        sink,
+    )
 }
 
 /// The list of an edge in a direction, asked at the second of the day of an absolute second.

@@ -3,28 +3,36 @@
 ghost use Rattle.std.specs.Prelude.{◌≡◌, ◌≤◌, ◌*◌, IfOk, length, vec_capacity};
 ghost use Rattle.cu_chordal.specs.declared.graph.TheConstants.{MAX_EDGES};
 ghost use Rattle.cu_interval.specs.Hierarchies.{HierarchyValue};
+ghost use Rattle.cu_recall.specs.Downs.{KnowsDowns};
 ghost use Rattle.cu_recall.specs.Rooms.{rows_of};
 ghost use Rattle.cu_recall.specs.Spans.{Knows};
 
+use crate::downs::DownSpan;
 use crate::pending::{Asked, Half, Pending};
-use crate::spans::Row;
+use crate::spans::{Row, THIRDS};
+use crate::walking::Glance;
 use cu_chordal::MAX_EDGES;
 use cu_model::NoMemory;
 use std::alloc::Global;
 use std::marker::Model;
 
-/// Rows for the lists of a hierarchy, and places for the lists in work while one is unpacked. There is room for all of them
-/// from the start, but the rows are written when the first query comes, so that opening a file costs none. Contracts see for
-/// how many nodes it was made, and the rows, of which those that aren't written say nothing.
+/// Rows for the lists of a hierarchy, what is kept of the lists downwards, and places for the lists in work while one is
+/// unpacked or its walk is written. Of the lists downwards there are three tables behind one another, each by the number of the
+/// edge: one for the passes that leave in each third of the day. There is room for all of them from the start, but rows are
+/// written when the first query comes, and the tables when the first pass goes down over many ranks, so that opening a file
+/// costs none. Contracts see for how many nodes it was made, the rows, of which those that aren't written say nothing, and what
+/// is kept of the lists downwards.
 #[derive(Debug, Drop)]
 pub struct Room {
     pub(crate) lists: usize,
     pub(crate) rows: Vec<Row>,
+    pub(crate) downs: Vec<DownSpan>,
     pub(crate) pending: Vec<Pending>,
+    pub(crate) waiting: Vec<Glance>,
 }
 
 impl Model for Room {
-    ghost use Rattle.std.specs.Prelude.{◌≤◌, length, vec_capacity};
+    ghost use Rattle.std.specs.Prelude.{◌≡◌, ◌≤◌, ◌*◌, length, vec_capacity};
     ghost use Rattle.cu_recall.specs.Rooms.{RoomValue, rows_of};
 
     ghost Value = { RoomValue };
@@ -32,10 +40,13 @@ impl Model for Room {
     ghost view = { λ room. record {
       nodes = length room.pending.items;
       rows = rows_of room.lists room.rows.items;
+      downs = room.downs.items;
     } };
 
     ghost invariant = { λ room. (length room.rows.items ≤ room.lists)
-        × (room.lists ≤ vec_capacity room.rows) };
+        × (room.lists ≤ vec_capacity room.rows)
+        × (3 * room.lists ≤ 2 * vec_capacity room.downs)
+        × (length room.waiting.items ≡ length room.pending.items) };
 }
 
 impl Room {
@@ -45,6 +56,7 @@ impl Room {
         ensures nodes { IfOk result (λ room. room.nodes ≡ nodes) }
         ensures lists { IfOk result (λ room. length room.rows ≡ 2 * edges) }
         ensures knows { IfOk result (λ room. (h : HierarchyValue) → Knows h room.rows) }
+        ensures downs { IfOk result (λ room. (h : HierarchyValue) → KnowsDowns h room.downs) }
     {
         let nothing = Pending {
             asked: Asked { list: 0, second: 0 },
@@ -56,7 +68,9 @@ impl Room {
         Ok(Room {
             lists,
             rows: Vec::with_capacity(alloc, lists)?,
+            downs: Vec::with_capacity(alloc, THIRDS as usize * edges as usize)?,
             pending: vec![in alloc; nothing; nodes as usize]?,
+            waiting: vec![in alloc; Glance::NOTHING; nodes as usize]?,
         })
     }
 
@@ -72,8 +86,10 @@ impl Room {
         ensures nodes { self.new.nodes ≡ self.old.nodes }
         ensures lists { length self.new.rows ≡ length self.old.rows }
         ensures knows { (h : HierarchyValue) → Knows h self.new.rows }
+        ensures downs { (h : HierarchyValue) → KnowsDowns h self.new.downs }
     {
         self.rows.clear();
+        self.downs.clear();
     }
 }
 

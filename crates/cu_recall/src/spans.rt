@@ -57,12 +57,28 @@ pub struct Driven {
     pub roads: u32,
 }
 
+/// How many thirds a day has.
+pub const THIRDS: u32 = 3;
+
 // Where the second and the last third of the day begin.
 const SECOND_THIRD: u32 = 28_800;
 
 const LAST_THIRD: u32 = 57_600;
 
 const _: () = prove!(size_of::<Row>() == 64);
+
+/// The third of the day that has this second, counted from 0. A number past the day's last second is of the last third.
+pub fn third_of(second: u32) -> u32
+    ensures { result < 3 }
+{
+    if second < SECOND_THIRD {
+        0
+    } else if second < LAST_THIRD {
+        1
+    } else {
+        2
+    }
+}
 
 impl Span {
     const NOTHING: Span = Span {

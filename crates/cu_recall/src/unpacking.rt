@@ -206,8 +206,8 @@ fn joined(top: Pending, travel: u64, roads: u32, driven: Driven) -> Driven
     }
 }
 
-// The second of the day after so much travel.
-fn later(second: u32, travel: u64) -> u32
+/// The second of the day after so much travel.
+pub fn later(second: u32, travel: u64) -> u32
     requires { second + travel < 2 ^ 64 }
     ensures { result ≡ (second + travel) % day }
 {

@@ -27,7 +27,8 @@ use Rattle.cu_pack.proofs.Viewed.Views.{said_again}
 use Rattle.cu_router.specs.Changes.{IsChange, KnowsCustomized}
 use Rattle.cu_router.specs.declared.held_file.Known.{Known}
 use Rattle.cu_router.specs.declared.held_file.Known.TheVariants.{Built, Short, Nothing}
-use Rattle.cu_router.specs.Steps.Holding.{HoldsFile, IsKnown, known_after}
+use Rattle.cu_router.specs.Steps.Holding.{HoldsFile, IsKnown, IsKnownBut}
+use Rattle.cu_router.proofs.RoadsStay.{counts_stay}
 use Rattle.cu_resettled.proofs.ResettledBuilt.{resettled_built}
 
 -- bytes say the hierarchy that they spell
@@ -115,15 +116,24 @@ changed_over old before bytes had graph parents marks lists holds change =
       knows = knows_after old change.edit lists marks holds.spelled.sound change.resettled change.touched holds.knows;
     })
 
-known_built : (known : Known) (old new : HierarchyValue) → (IsBuilt old → IsBuilt new) → IsKnown old known → IsKnown new (known_after known)
-known_built Built old new again is = again is
-known_built Short old new again is = tt
-known_built Nothing old new again is = tt
+known_but : (known : Known) (old : HierarchyValue) (edit : Edit) (lists : List TouchedEdge) → (IsBuilt old → IsBuilt (hierarchy_with old edit lists)) → IsHierarchy old
+    → NumbersTouched old edit (numbers_of lists) → IsKnown old known → IsKnownBut (hierarchy_with old edit lists) known (numbers_of lists)
+known_but Built old edit lists again sound touched is = again is
+known_but (Short roads) old edit lists again sound touched is = counts_stay old sound edit lists touched roads is
+known_but Nothing old edit lists again sound touched is = tt
 
--- what is known of the walks after a change: a built hierarchy is built again
-pub known_over : (old : HierarchyValue) (bytes : List ℕ) (lists : List TouchedEdge) (known : Known) → IsChange old bytes lists → IsKnown old known
-    → IsKnown (decoded (sealed bytes)) (known_after known)
-known_over old bytes lists known change is =
+-- what is known of the walks is so after a change, but for the lists that it resettled: a built hierarchy is built again
+pub known_over : (old : HierarchyValue) (bytes : List ℕ) (lists : List TouchedEdge) (known : Known) → IsHierarchy old → IsChange old bytes lists → IsKnown old known
+    → IsKnownBut (decoded (sealed bytes)) known (numbers_of lists)
+known_over old bytes lists known sound change is =
     let new = hierarchy_with old change.edit lists in
-    subst (λ (h : HierarchyValue). IsKnown h (known_after known)) (sym (decoded_is (sealed bytes) new change.spelled))
-    (known_built known old new (λ built. resettled_built old new change.edit built change.range change.spelled.sound change.resettled) is)
+    subst (λ (h : HierarchyValue). IsKnownBut h known (numbers_of lists)) (sym (decoded_is (sealed bytes) new change.spelled))
+    (known_but known old change.edit lists (λ built. resettled_built old new change.edit built change.range change.spelled.sound change.resettled) sound change.touched is)
+
+-- the edges of a change are edges of the hierarchy after it
+pub change_below : (old : HierarchyValue) (bytes : List ℕ) (lists : List TouchedEdge) → IsChange old bytes lists
+    → All (λ (touched : TouchedEdge). touched.edge < length (decoded (sealed bytes)).edges) lists
+change_below old bytes lists change =
+    subst (λ (h : HierarchyValue). All (λ (touched : TouchedEdge). touched.edge < length h.edges) lists)
+    (sym (decoded_is (sealed bytes) (hierarchy_with old change.edit lists) change.spelled))
+    (touched_below old change.edit lists change.touched)

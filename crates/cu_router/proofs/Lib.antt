@@ -1,3 +1,4 @@
+mod RoadsStay
 mod DayLaws
 mod HeldLaws
 mod WorkingLaws

@@ -1,5 +1,5 @@
 -- The rooms beside a held file fit the hierarchy after an edit.
-use Rattle.std.proofs.Common.{◌≡◌, ◌∙◌, ◌*◌, ℕ, List, Option, length, refl, sym, ap, subst, arith}
+use Rattle.std.proofs.Common.{◌≡◌, ◌∙◌, ℕ, List, Option, length, refl, sym, subst, arith}
 use Rattle.std.specs.Prelude.{IfOk, IfSome, Result, Ok, Err}
 use Rattle.std.proofs.lemmas.List.{length-map}
 use Rattle.cu_model.specs.declared.roads.Edit.{Edit}
@@ -17,6 +17,7 @@ use Rattle.cu_interval.specs.Replacing.{hierarchy_with}
 use Rattle.cu_interval.specs.Resettling.{IsResettled}
 use Rattle.cu_interval.specs.Touching.{NumbersTouched}
 use Rattle.cu_links.specs.Buckets.{BucketsValue}
+use Rattle.cu_recall.specs.Downs.{KnowsDowns}
 use Rattle.cu_recall.specs.Rooms.{Fits, RoomValue}
 use Rattle.cu_recall.specs.Spans.{Knows}
 use Rattle.cu_unpack.specs.RebuiltRuns.{PackedValue}
@@ -63,11 +64,13 @@ module _ (old new : HierarchyValue) (edit : Edit) (resettled : IsResettled old e
   }
 
   -- room for queries that knows nothing more
-  pub fits_after : (before after : RoomValue) → Fits old before → after.nodes ≡ before.nodes → length after.rows ≡ length before.rows → Knows new after.rows → Fits new after
-  fits_after before after fits nodes lists knows = record {
+  pub fits_after : (before after : RoomValue) → Fits old before → after.nodes ≡ before.nodes → length after.rows ≡ length before.rows → Knows new after.rows
+      → KnowsDowns new after.downs → Fits new after
+  fits_after before after fits nodes lists knows downs = record {
     nodes = nodes ∙ fits.nodes ∙ sym (nodes_same old new edit resettled);
     lists = omega (arith, lists, fits.lists, edges_same old new edit resettled);
     knows = knows;
+    downs = downs;
   }
 
 -- the same where it worked, unless memory ran out

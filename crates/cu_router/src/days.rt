@@ -10,10 +10,11 @@ use crate::edit_room::{EditRoom, make_edit_room};
 use crate::held_file::HeldFile;
 use crate::learned_days::DayLearned;
 use cu_arrival::Arrival;
-use cu_day::{DayAsked, day};
+use cu_day::{DayAsked, led_day};
 use cu_edits::Learned;
-use cu_interval::Ways;
+use cu_interval::{Leg, Ways};
 use cu_model::NoMemory;
+use cu_unpack::{Unpacker, Work};
 use std::alloc::Global;
 
 /// The arrivals over a whole day between nodes below the number of nodes. None exactly where no chain of lists leads from the
@@ -53,9 +54,19 @@ fn find_by(
     let view = held.view();
     let from = view.rank(query.from);
     let to = view.rank(query.to);
+    let work = Work::new(alloc, held.graph().ranks())?;
+    let unpacker = Unpacker::new(&view, work);
     let learned = take_learned(alloc, &view, known.take())?;
     let mut functions = DayLearned::new(alloc, &view, learned);
-    let found = day(alloc, held.tree(), held.graph(), &mut functions, from, to);
+    let leg = Leg { from, to };
+    let found = led_day(
+        alloc,
+        held.tree(),
+        held.graph(),
+        &mut functions,
+        &unpacker,
+        leg,
+    );
     *known = Some(functions.into_learned());
     found
 }

@@ -1,16 +1,18 @@
 //! The packed bytes of a hierarchy, and what is kept of it beside them.
 
-ghost use Rattle.std.specs.Prelude.{◌≡◌, IfOk, IsTrue, length};
+ghost use Rattle.std.specs.Prelude.{◌≡◌, ◌<◌, All, IfOk, IsTrue, length};
+ghost use Rattle.std.specs.List.Sorted.{IsStrictlyIncreasing};
 ghost use Rattle.cu_model.specs.Edits.{IsEditInRange};
 ghost use Rattle.cu_edits.specs.Settling.{numbers_of};
 ghost use Rattle.cu_elimtree.specs.SweepArcs.{parents_in};
+ghost use Rattle.cu_interval.specs.declared.ways.TouchedEdge.{TouchedEdge};
 ghost use Rattle.cu_interval.specs.Hierarchies.{HierarchyValue, IsBuilt, IsHierarchy, graph_of};
 ghost use Rattle.cu_interval.specs.Replacing.{hierarchy_with};
 ghost use Rattle.cu_interval.specs.Touching.{NumbersTouched};
 ghost use Rattle.cu_pack.specs.Checks.{Spells, sealed};
 ghost use Rattle.cu_pack.specs.Reading.{decoded};
 ghost use Rattle.cu_router.specs.Changes.{IsChange, KnowsCustomized};
-ghost use Rattle.cu_router.specs.Steps.Holding.{IsKnown, known_after};
+ghost use Rattle.cu_router.specs.Steps.Holding.{IsKnown, IsKnownBut, StaysLed, TellsShort};
 ghost use Rattle.cu_short.specs.Shortness.{NeverLong};
 
 use cu_chordal::Chordal;
@@ -19,7 +21,7 @@ use cu_elimtree::Tree;
 use cu_interval::{TouchedEdge, Ways};
 use cu_model::{Edit, NoMemory};
 use cu_pack::{PackedView, chordal_of, repack_touched, seal};
-use cu_short::is_short;
+use cu_short::RoadCounts;
 use std::alloc::Global;
 use std::marker::Model;
 
@@ -36,11 +38,11 @@ pub struct HeldFile {
     known: Known,
 }
 
-// What is known of a hierarchy's walks: that it is built, that none is too long, or nothing.
-#[derive(Clone, Copy, Debug, PartialEq, Eq)]
+// What is known of a hierarchy's walks: that it is built, that none is too long, by the most roads of each list, or nothing.
+#[derive(Debug, Drop)]
 pub(crate) enum Known {
     Built,
-    Short,
+    Short(RoadCounts),
     Nothing,
 }
 
@@ -60,7 +62,8 @@ impl Model for HeldFile {
 }
 
 impl HeldFile {
-    /// Holds the packed file of a hierarchy, after asking it whether any of its walks may be too long.
+    /// Holds the packed file of a hierarchy, after asking it whether any of its walks may be too long. Where none is, it keeps the
+    /// most roads of each list, by which an edit tells the same of the hierarchy behind it: eight bytes an edge.
     pub fn new(alloc: Global, bytes: Vec<u8>) -> Result<HeldFile, NoMemory>
         requires spelled { (h : HierarchyValue) × Spells bytes.items h }
         ensures held { IfOk result (λ file. Spells bytes.items file) }
@@ -142,7 +145,7 @@ impl HeldFile {
     {
         match self.known {
             Known::Built => true,
-            Known::Short => true,
+            Known::Short(_) => true,
             Known::Nothing => false,
         }
     }
@@ -164,16 +167,17 @@ impl HeldFile {
         repack_touched(alloc, &self.view(), edit, lists)
     }
 
-    /// Holds the hierarchy after an edit, which resettled the lists of these edges, by its packed bytes but for their digest.
-    /// Takes no memory.
+    /// Holds the hierarchy after an edit, which resettled the lists of these edges, by its packed bytes but for their digest. Where
+    /// it was known that no walk is too long, this is asked again of the lists of these edges alone; once one has too many roads it
+    /// is known no more. Takes no memory.
     pub fn change_over(&mut self, bytes: Vec<u8>, lists: &[TouchedEdge])
         requires change { IsChange self.old bytes.items lists.now }
         ensures changed { (h : HierarchyValue) → Spells (sealed bytes.items) h → self.new ≡ h }
     {
+        self.known.renew(&adopt(&bytes), lists);
         self.bytes = bytes;
         self.has_digest = false;
         self.customized.mark(lists);
-        self.known = self.known.after_edit();
     }
 
     /// The packed file of the hierarchy as it is now. Takes no memory.
@@ -190,14 +194,21 @@ impl HeldFile {
 }
 
 impl Known {
-    // What is known after an edit: a built hierarchy is built again, and of any other nothing.
-    fn after_edit(self) -> Known
-        ensures { result ≡ known_after self }
+    // Turns what is known to the hierarchy after an edit, which resettled the lists of these edges: a built hierarchy is built
+    // again, and the most roads of these lists are counted anew.
+    fn renew(&mut self, ways: &PackedView<'_>, lists: &[TouchedEdge])
+        requires rising { IsStrictlyIncreasing (numbers_of lists.now) }
+        requires edges { All
+            (λ (touched : TouchedEdge). touched.edge < length ways.now.edges) lists.now }
+        requires known { IsKnownBut ways.now self.old (numbers_of lists.now) }
+        ensures known { IsKnown ways.now self.new }
+        ensures led { StaysLed ways.now self.old self.new }
     {
-        match self {
-            Known::Built => Known::Built,
-            Known::Short => Known::Nothing,
-            Known::Nothing => Known::Nothing,
+        let Known::Short(roads) = self else {
+            return;
+        };
+        if !roads.renew(ways, lists) {
+            *self = Known::Nothing;
         }
     }
 }
@@ -205,13 +216,17 @@ impl Known {
 // What is known of the walks of the hierarchy that these bytes are the packed file of, once it is asked.
 fn known_of(alloc: Global, bytes: &[u8]) -> Result<Known, NoMemory>
     requires spelled { (h : HierarchyValue) × Spells bytes.now h }
-    ensures { IfOk result
+    ensures known { IfOk result
         (λ known. (h : HierarchyValue) → Spells bytes.now h → IsKnown h known) }
+    ensures short { IfOk result
+        (λ known. (h : HierarchyValue) → Spells bytes.now h → TellsShort h known) }
 {
-    if is_short(alloc, &PackedView::adopt(bytes))? {
-        return Ok(Known::Short);
-    }
-    Ok(Known::Nothing)
+    let view = PackedView::adopt(bytes);
+    let mut finder = view.halves_in_turn(alloc)?;
+    let Some(roads) = RoadCounts::of(alloc, &view, &mut finder)? else {
+        return Ok(Known::Nothing);
+    };
+    Ok(Known::Short(roads))
 }
 
 // The view of bytes that are a packed file but for its digest: no two hierarchies have the same.

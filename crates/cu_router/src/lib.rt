@@ -18,9 +18,9 @@
 //! [`Router::cancel`] lets go of it. A step costs what its own edge costs: all room for all edges is made as the edit begins.
 //!
 //! It stands on `cu_model` and `cu_io` for queries and sinks, on `cu_pack` for the bytes, on `cu_sweep`, `cu_recall`, `cu_unpack`,
-//! `cu_elimtree` and `cu_chordal` for queries, on `cu_day` for days, on `cu_reach` for reaches, tables and latest
-//! departures, and on `cu_edits`, `cu_interval` and `cu_links` for edits. Private is the room for
-//! edits; `specs/Steps` is cited by private functions alone.
+//! `cu_elimtree` and `cu_chordal` for queries, on `cu_short` for whether these may be led to their end, on `cu_day` for
+//! days, on `cu_reach` for reaches, tables and latest departures, and on `cu_edits`, `cu_interval` and `cu_links` for edits.
+//! Private is the room for edits; `specs/Steps` is cited by private functions alone.
 #![tactic(auto)]
 
 mod busy;
@@ -31,6 +31,7 @@ mod learned_days;
 mod query_room;
 mod reaches;
 mod router;
+mod walks;
 mod working;
 mod writing;
 

@@ -6,6 +6,7 @@ ghost use Rattle.cu_chordal.specs.declared.graph.TheConstants.{MAX_EDGES};
 ghost use Rattle.cu_model.specs.declared.limits.TheConstants.{DAY, MAX_NODES};
 ghost use Rattle.cu_model.specs.Answers.{arrive_text};
 ghost use Rattle.cu_interval.specs.Hierarchies.{HierarchyValue, IsBuilt, IsHierarchy};
+ghost use Rattle.cu_recall.specs.Downs.{KnowsDowns};
 ghost use Rattle.cu_recall.specs.Rooms.{Fits};
 ghost use Rattle.cu_recall.specs.Spans.{Knows};
 ghost use Rattle.cu_sweep.specs.Answers.{IsLeastWhereBuilt, IsReal};
@@ -15,25 +16,24 @@ ghost use Rattle.cu_router.specs.Answers.{FindsArrival, IsHeldAnswer};
 ghost use Rattle.cu_router.specs.Swept.{swept_reply};
 
 use crate::held_file::HeldFile;
+use crate::walks::Walks;
 use cu_interval::Ways;
 use cu_io::{Sink, SinkFailed, put_all, put_number};
 use cu_model::{NoMemory, Query};
 use cu_reach::put_damage;
-use cu_recall::{Recall, RecalledWays, Room, Row};
+use cu_recall::{Recall, Room, Row};
 use cu_sweep::{Found, Outlook, Question, SweepDesk, led_query, query, route};
-use cu_unpack::{Unpacker, Work};
 use std::alloc::Global;
 use std::marker::Model;
 
 /// Room for the queries of a hierarchy, in which they keep what they learn of it. Contracts see for how many nodes it was made,
-/// and what is kept of each list.
+/// and what is kept of each list, and of the lists downwards by edge.
 #[derive(Drop)]
 pub struct QueryRoom {
     pub(crate) desk: SweepDesk,
     outlook: Outlook,
-    // Both are there but while a query is answered: what relaxes for it and what writes its walk own them.
+    // It is there but while a query is answered, which owns it.
     pub(crate) room: Option<Room>,
-    pub(crate) work: Option<Work>,
 }
 
 impl Model for QueryRoom {
@@ -44,7 +44,7 @@ impl Model for QueryRoom {
 
     ghost view = { λ queries. kept_in queries.room };
 
-    ghost invariant = { λ queries. IsWholeRoom queries.desk queries.outlook queries.room queries.work };
+    ghost invariant = { λ queries. IsWholeRoom queries.desk queries.outlook queries.room };
 }
 
 impl QueryRoom {
@@ -55,12 +55,13 @@ impl QueryRoom {
         ensures nodes { IfOk result (λ queries. queries.nodes ≡ nodes) }
         ensures lists { IfOk result (λ queries. length queries.rows ≡ 2 * edges) }
         ensures knows { IfOk result (λ queries. (h : HierarchyValue) → Knows h queries.rows) }
+        ensures downs { IfOk result (λ queries. (h : HierarchyValue)
+            → KnowsDowns h queries.downs) }
     {
         Ok(QueryRoom {
             desk: SweepDesk::new(alloc, nodes)?,
             outlook: Outlook::new(alloc, nodes)?,
             room: Some(Room::new(alloc, nodes, edges)?),
-            work: Some(Work::new(alloc, nodes)?),
         })
     }
 
@@ -79,6 +80,7 @@ impl QueryRoom {
         ensures nodes { self.new.nodes ≡ self.old.nodes }
         ensures lists { length self.new.rows ≡ length self.old.rows }
         ensures knows { (h : HierarchyValue) → Knows h self.new.rows }
+        ensures downs { (h : HierarchyValue) → KnowsDowns h self.new.downs }
     {
         let Some(room) = &mut self.room else {
             unreachable!()
@@ -106,9 +108,6 @@ impl QueryRoom {
         let Some(room) = self.room.take() else {
             unreachable!()
         };
-        let Some(work) = self.work.take() else {
-            unreachable!()
-        };
         let view = held.view();
         let from = view.rank(query.from);
         let to = view.rank(query.to);
@@ -118,12 +117,9 @@ impl QueryRoom {
         let mut recall = Recall::new(&view, graph, room);
         let question = Question { from, to, second };
         let found = find_walk(held, desk, &mut self.outlook, &mut recall, question);
-        let room = recall.into_room();
-        let ways = RecalledWays::new(&view, graph, room.rows());
-        let mut unpacker = Unpacker::new(&ways, work);
-        let outcome = put_found(found, desk, &mut unpacker, from, to, query, sink);
-        self.work = Some(unpacker.into_work());
-        self.room = Some(room);
+        let mut walks = Walks::of(recall);
+        let outcome = put_found(found, desk, &mut walks, from, to, query, sink);
+        self.room = Some(walks.into_room());
         outcome
     }
 
@@ -223,27 +219,27 @@ fn find_swept(
 pub(crate) fn put_found<K: Sink>(
     swept: Found,
     desk: &mut SweepDesk,
-    unpacker: &mut Unpacker<'_, RecalledWays<'_>>,
+    walks: &mut Walks<'_>,
     from: u32,
     to: u32,
     query: Query,
     sink: &mut K,
 ) -> Result<(), SinkFailed>
-    requires found { swept ≡ found unpacker.old from to query.second }
-    requires holds { HoldsFound unpacker.old from to query.second swept desk.old }
-    requires least { IsLeastWhereBuilt unpacker.old from to query.second swept }
-    requires real { IsReal unpacker.old from to query.second desk.old.calls swept }
-    requires sound { IsHierarchy unpacker.old }
-    requires start { slice_get unpacker.old.order.rank_of query.from ≡ Some from }
-    requires stop { slice_get unpacker.old.order.rank_of query.to ≡ Some to }
-    ensures answer { IsHeldAnswer unpacker.old query (swept_reply unpacker.old query) }
+    requires found { swept ≡ found walks.old from to query.second }
+    requires holds { HoldsFound walks.old from to query.second swept desk.old }
+    requires least { IsLeastWhereBuilt walks.old from to query.second swept }
+    requires real { IsReal walks.old from to query.second desk.old.calls swept }
+    requires sound { IsHierarchy walks.old }
+    requires start { slice_get walks.old.order.rank_of query.from ≡ Some from }
+    requires stop { slice_get walks.old.order.rank_of query.to ≡ Some to }
+    ensures answer { IsHeldAnswer walks.old query (swept_reply walks.old query) }
     ensures wrote { Wrote (K.state sink.old) (K.state sink.new) result
-        (swept_reply unpacker.old query) }
+        (swept_reply walks.old query) }
     ensures desk { desk.new.nodes ≡ desk.old.nodes }
-    ensures stays { unpacker.new ≡ unpacker.old }
+    ensures stays { walks.new ≡ walks.old }
 {
     match swept {
-        Found::Arrive(arrival) => put_arrival(arrival, desk, unpacker, sink),
+        Found::Arrive(arrival) => put_arrival(arrival, desk, walks, sink),
         Found::NoWalk => put_all(sink, b"unreachable"),
         Found::Long { edge, dir, second } => put_damage(edge, dir, second, sink),
     }
@@ -253,18 +249,18 @@ pub(crate) fn put_found<K: Sink>(
 fn put_arrival<K: Sink>(
     arrival: u64,
     desk: &mut SweepDesk,
-    unpacker: &mut Unpacker<'_, RecalledWays<'_>>,
+    walks: &mut Walks<'_>,
     sink: &mut K,
 ) -> Result<(), SinkFailed>
     requires unturned { desk.old.turned ≡ false }
-    requires arriving { AreArriving unpacker.old desk.old.calls }
+    requires arriving { AreArriving walks.old desk.old.calls }
     ensures wrote { Wrote (K.state sink.old) (K.state sink.new) result
-        (arrive_text arrival (roads_of unpacker.old desk.old.calls)) }
+        (arrive_text arrival (roads_of walks.old desk.old.calls)) }
     ensures desk { desk.new.nodes ≡ desk.old.nodes }
-    ensures stays { unpacker.new ≡ unpacker.old }
+    ensures stays { walks.new ≡ walks.old }
 {
     put_all(sink, b"arrive=")?;
     put_number(sink, arrival)?;
     put_all(sink, b" arcs=")?;
-    route(desk, unpacker, sink)
+    route(desk, walks, sink)
 }

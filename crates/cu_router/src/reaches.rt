@@ -12,6 +12,7 @@ ghost use Rattle.cu_router.specs.Steps.Departing.{departure_text};
 
 use crate::held_file::HeldFile;
 use crate::query_room::{QueryRoom, put_found};
+use crate::walks::Walks;
 use cu_interval::Ways;
 use cu_io::{Sink, SinkFailed, put_all};
 use cu_model::Query;
@@ -19,9 +20,8 @@ use cu_reach::{
     Departure, LatestAsked, ReachAsked, ReachDesk, Reached, TableAsked, latest, put_damage,
     put_row, put_word_and_long, reach,
 };
-use cu_recall::{Recall, RecalledWays};
+use cu_recall::{Recall, SweepRecall};
 use cu_sweep::{Found, SweepDesk};
-use cu_unpack::Unpacker;
 
 // The ranks of the nodes between which a departure is asked.
 #[derive(Clone, Copy, Debug)]
@@ -56,7 +56,7 @@ impl QueryRoom {
         let from = view.rank(asked.from);
         let tree = held.tree();
         let graph = held.graph();
-        let mut recall = Recall::new(&view, graph, room);
+        let mut recall = SweepRecall::new(&view, graph, room, asked.second);
         let reached = reach(tree, graph, desk, &mut recall, from, asked.second);
         self.room = Some(recall.into_room());
         cu_reach::put_reach(&view, desk, reached, sink)
@@ -91,7 +91,7 @@ impl QueryRoom {
             unreachable!()
         };
         let view = held.view();
-        let mut recall = Recall::new(&view, held.graph(), room);
+        let mut recall = SweepRecall::new(&view, held.graph(), room, asked.second());
         let outcome = put_rows(held, desk, &mut recall, asked, sink);
         self.room = Some(recall.into_room());
         outcome
@@ -116,9 +116,6 @@ impl QueryRoom {
         let Some(room) = self.room.take() else {
             unreachable!()
         };
-        let Some(work) = self.work.take() else {
-            unreachable!()
-        };
         let view = held.view();
         let from = view.rank(asked.from);
         let to = view.rank(asked.to);
@@ -127,13 +124,10 @@ impl QueryRoom {
         let desk = &mut self.desk;
         let mut recall = Recall::new(&view, graph, room);
         let departure = latest(tree, graph, desk, &mut recall, from, to, asked.by);
-        let room = recall.into_room();
-        let ways = RecalledWays::new(&view, graph, room.rows());
-        let mut unpacker = Unpacker::new(&ways, work);
+        let mut walks = Walks::of(recall);
         let ranks = Ranks { from, to };
-        let outcome = put_departure(departure, desk, &mut unpacker, ranks, asked, sink);
-        self.work = Some(unpacker.into_work());
-        self.room = Some(room);
+        let outcome = put_departure(departure, desk, &mut walks, ranks, asked, sink);
+        self.room = Some(walks.into_room());
         outcome
     }
 }
@@ -142,7 +136,7 @@ impl QueryRoom {
 fn put_rows<K: Sink>(
     held: &HeldFile,
     desk: &mut ReachDesk,
-    recall: &mut Recall<'_>,
+    recall: &mut SweepRecall<'_>,
     asked: &TableAsked<'_>,
     sink: &mut K,
 ) -> Result<(), SinkFailed>
@@ -175,22 +169,22 @@ fn put_rows<K: Sink>(
 fn put_departure<K: Sink>(
     departure: Departure,
     desk: &mut SweepDesk,
-    unpacker: &mut Unpacker<'_, RecalledWays<'_>>,
+    walks: &mut Walks<'_>,
     ranks: Ranks,
     asked: LatestAsked,
     sink: &mut K,
 ) -> Result<(), SinkFailed>
-    requires departs { IsDeparture unpacker.old ranks.from ranks.to asked.by departure }
-    requires latest { IsLatestWhereBuilt unpacker.old ranks.from ranks.to asked.by departure }
-    requires holds { HoldsDeparture unpacker.old ranks.from ranks.to departure desk.old }
-    requires real { IsRealDeparture unpacker.old ranks.from ranks.to desk.old.calls departure }
-    requires sound { IsHierarchy unpacker.old }
-    requires start { slice_get unpacker.old.order.rank_of asked.from ≡ Some ranks.from }
-    requires stop { slice_get unpacker.old.order.rank_of asked.to ≡ Some ranks.to }
+    requires departs { IsDeparture walks.old ranks.from ranks.to asked.by departure }
+    requires latest { IsLatestWhereBuilt walks.old ranks.from ranks.to asked.by departure }
+    requires holds { HoldsDeparture walks.old ranks.from ranks.to departure desk.old }
+    requires real { IsRealDeparture walks.old ranks.from ranks.to desk.old.calls departure }
+    requires sound { IsHierarchy walks.old }
+    requires start { slice_get walks.old.order.rank_of asked.from ≡ Some ranks.from }
+    requires stop { slice_get walks.old.order.rank_of asked.to ≡ Some ranks.to }
     ensures wrote { Wrote (K.state sink.old) (K.state sink.new) result
-        (departure_text unpacker.old asked departure) }
+        (departure_text walks.old asked departure) }
     ensures desk { desk.new.nodes ≡ desk.old.nodes }
-    ensures stays { unpacker.new ≡ unpacker.old }
+    ensures stays { walks.new ≡ walks.old }
 {
     match departure {
         Departure::Depart { second, arrive } => {
@@ -202,7 +196,7 @@ fn put_departure<K: Sink>(
                 second: second as u32,
             };
             let found = Found::Arrive(arrive);
-            put_found(found, desk, unpacker, ranks.from, ranks.to, query, sink)
+            put_found(found, desk, walks, ranks.from, ranks.to, query, sink)
         }
         Departure::TooLate => put_all(sink, b"too late"),
         Departure::NoWalk => put_all(sink, b"unreachable"),

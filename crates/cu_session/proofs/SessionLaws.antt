@@ -197,7 +197,8 @@ module _ {State : Type 0} (Replies : State → List ℕ → List ℕ → State �
 
   -- a reply broke off
   pub broke : {T E : Type 0} {e : E} {now : SinkState} (next : State) (line reply : List ℕ) → IsFirstLine (r.held ++ chunk) after.shown line after.held → t.faults ≡ s.faults
-      → length after.held ≤ after.line_limit + 1 → IsLineReply Replies held line reply next → WroteLine {T = T} {E = E} k now (Err e) reply → EndsLines Replies first next (Some stop.Sink) source_before t sink_before now
+      → length after.held ≤ after.line_limit + 1 → IsLineReply Replies held line reply next → WroteLine {T = T} {E = E} k now (Err e) reply → EndsLines Replies first next
+      (Some stop.Sink) source_before t sink_before now
   broke {now = now} next line reply cut_off quiet room is wrote =
       let (count, within, app) = appends_more_some sink_before.written k.written now.written h.output (reply ++ 10 ∷ []) h.appends wrote.wrote.err in
       ends Replies first next (Some stop.Sink) source_before t sink_before now (h.taken ++ chunk) (h.output ++ take count (reply ++ 10 ∷ [])) takes_now app

@@ -1,29 +1,26 @@
 -- The halves of a way come before its list, so that their most roads are counted.
-use Rattle.std.proofs.Common.{◌≡◌, ◌<◌, ℕ, arith, subst}
+use Rattle.std.proofs.Common.{◌≡◌, ◌<◌, ℕ, subst}
 use Rattle.std.specs.Prelude.{slice_get, Some}
 use Rattle.cu_model.proofs.OptionLaws.{same_value}
+use Rattle.cu_bounds.specs.Steps.InTurn.{IsWayOf}
+use Rattle.cu_bounds.proofs.HalfBounds.{numbers_below}
 use Rattle.cu_chordal.specs.declared.graph.Ends.{Ends}
 use Rattle.cu_interval.specs.declared.shortcuts.Shortcut.{Shortcut}
 use Rattle.cu_interval.specs.declared.ways.Dir.{Dir}
 use Rattle.cu_interval.specs.declared.ways.Dir.TheVariants.{Up, Down}
 use Rattle.cu_interval.specs.declared.ways.Way.TheVariants.{Via}
-use Rattle.cu_interval.specs.Hierarchies.{HierarchyValue, IsHierarchy, end_of, list_number, start_of}
+use Rattle.cu_interval.specs.Hierarchies.{HierarchyValue, IsHierarchy, end_of, start_of}
 use Rattle.cu_interval.specs.Shortcuts.{AreHalves, number_of}
 use Rattle.cu_interval.proofs.EndsLaws.{below_low, number_below}
 use Rattle.cu_short.specs.Shortness.{most_roads}
-use Rattle.cu_short.specs.Steps.Counted.{AreCountedBelow, IsCounted, IsWayOf}
+use Rattle.cu_short.specs.Counts.{IsCounted}
+use Rattle.cu_short.specs.Steps.Counted.{AreCountedBelow}
 
 -- a half comes before its whole, and what is counted for it are the most roads from one rank to another
 pub record IsCountedHalf (h : HierarchyValue) (counts : ℕ → ℕ) (count : ℕ) (half : Shortcut) (u v : ℕ) : Type 0 where
   pub below : number_of half < count
   pub right : counts (number_of half) ≡ most_roads h u v
   pub few : counts (number_of half) < h.network.nodes
-
-numbers_below : (e f : ℕ) (d k : Dir) → e < f → list_number e d < list_number f k
-numbers_below e f Up Up lt = omega (arith, lt)
-numbers_below e f Up Down lt = omega (arith, lt)
-numbers_below e f Down Up lt = omega (arith, lt)
-numbers_below e f Down Down lt = omega (arith, lt)
 
 module _ (h : HierarchyValue) (f : IsHierarchy h) (counts : ℕ → ℕ) (whole : Shortcut) (right : AreCountedBelow h counts (number_of whole)) where
   counted_half : (half : Shortcut) (dir : Dir) (ends low : Ends) → slice_get h.edges whole.edge ≡ Some ends → slice_get h.edges half.edge ≡ Some low

@@ -3,3 +3,4 @@ pub mod WalkRoads
 pub mod Halves
 pub mod MostSoFar
 pub mod Turns
+pub mod Recounting

@@ -3,16 +3,14 @@ use Rattle.std.proofs.Common.{◌≡◌, ◌≤◌, ◌+◌, ◌∙◌, ℕ, Lis
 use Rattle.std.specs.Prelude.{slice_get}
 use Rattle.std.proofs.lemmas.List.{drop_all, drop_more}
 use Rattle.std.proofs.lemmas.Option.{get_or_from_slice_get, slice_get_within}
-use Rattle.cu_model.proofs.RoadLaws.{all_at}
 use Rattle.cu_chordal.specs.declared.graph.Ends.{Ends}
 use Rattle.cu_interval.specs.declared.shortcuts.Shortcut.{Shortcut}
 use Rattle.cu_interval.specs.declared.ways.Way.{Way}
 use Rattle.cu_interval.specs.declared.ways.Entry.{Entry}
-use Rattle.cu_interval.specs.Hierarchies.{HierarchyValue, IsHierarchy, IsWellFormed, end_of, start_of}
+use Rattle.cu_interval.specs.Hierarchies.{HierarchyValue, IsHierarchy, end_of, start_of}
 use Rattle.cu_interval.specs.Shortcuts.{ways_of}
 use Rattle.cu_interval.proofs.Lookups.{list_from-edge}
 use Rattle.cu_short.specs.Shortness.{most_of, most_roads, way_roads}
-use Rattle.cu_short.specs.Steps.Counted.{IsWayOf}
 use Rattle.cu_short.proofs.MostLaws.{most_roads-ways}
 
 -- the most roads of each way of an edge's list
@@ -46,10 +44,3 @@ module _ (h : HierarchyValue) (f : IsHierarchy h) (shortcut : Shortcut) (ends : 
   most_roads-entries =
       most_roads-ways h f (start_of ends shortcut.dir) (end_of ends shortcut.dir)
       ∙ ap (most_of (roads_between h ends shortcut)) (list_from-edge h f shortcut.edge shortcut.dir ends at)
-
-  -- each of its ways is well formed
-  pub way_of_entry : (i : ℕ) (entry : Entry) → slice_get (ways_of h shortcut) i ≡ Some entry → IsWayOf h shortcut entry.way
-  way_of_entry i entry there =
-      let formed = f.formed shortcut.edge shortcut.dir ends at in
-      let Formed : Entry → Type 0 = λ e. IsWellFormed h (start_of ends shortcut.dir) (end_of ends shortcut.dir) e.way in
-      (ends, at, all_at Formed (ways_of h shortcut) i entry formed there)

@@ -1,2 +1,3 @@
 pub mod Shortness
+pub mod Counts
 pub mod Steps

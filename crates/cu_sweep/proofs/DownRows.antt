@@ -116,10 +116,12 @@ down_more h q done x y edge part labels links f la li number there_ source time 
     let whole = holds_after h q labels links (n + y) edge (n + x) (q.allows (h.network.nodes + x)) Down from (made_down_after h q part x) la li (final_down h q y) (along_down n x y) there_
     (subst (λ (o : Option ℕ). IfSecond o (λ at. at < 2 ^ 61)) source time)
     (inr (x, y, refl, refl, edge_of_number h x y edge number)) f.here in
-    let back = subst (λ (o : Option ℕ). HoldsMade h q (seconds_after labels (n + x) (answer_in h (q.allows (h.network.nodes + x)) edge Down o)) (links_after labels links (n + y) edge (n + x) (answer_in h (q.allows (h.network.nodes + x)) edge Down o)) (n + x)
+    let back = subst (λ (o : Option ℕ). HoldsMade h q (seconds_after labels (n + x) (answer_in h (q.allows (h.network.nodes + x)) edge Down o))
+    (links_after labels links (n + y) edge (n + x) (answer_in h (q.allows (h.network.nodes + x)) edge Down o)) (n + x)
     (earlier_of (made_down_after h q part x) (made_over h (q.allows (h.network.nodes + x)) (Some edge) Down from))) (sym source) whole in
     let step : earlier_of (made_down_after h q part x) (made_over h (q.allows (h.network.nodes + x)) (Some edge) Down from) ≡ made_down_after h q (part ++ (y ∷ [])) x =
-    ap (λ (m : Option ℕ). earlier_of (made_down_after h q part x) (made_over h (q.allows (h.network.nodes + x)) m Down from)) (sym number) ∙ sym (after_more (up_made h q x) (made_down_into h q x) part y) in
+    ap (λ (m : Option ℕ). earlier_of (made_down_after h q part x) (made_over h (q.allows (h.network.nodes + x)) m Down from)) (sym number) ∙ sym
+    (after_more (up_made h q x) (made_down_into h q x) part y) in
     record {
       up = λ z passed.
           let lt = passed.0 in

@@ -4,7 +4,7 @@ use Rattle.std.specs.Prelude.{slice_set}
 use Rattle.std.proofs.lemmas.Bool.{cases_eq}
 use Rattle.std.proofs.lemmas.List.Elements.{All-set}
 use Rattle.cu_interval.specs.LeastBounds.{far}
-use Rattle.cu_sweep.specs.Steps.Ahead.{IsNear, ahead_at}
+use Rattle.cu_sweep.specs.Outlooks.{IsNear, ahead_at}
 
 module _ (ahead : List ℕ) (rank : ℕ) (least : ℕ) (le : least ≤ ahead_at ahead rank) (within : rank < length ahead) where
   pub lowered_here : ahead_at (slice_set ahead rank least) rank ≡ least

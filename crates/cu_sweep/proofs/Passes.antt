@@ -64,7 +64,8 @@ up_final h f q before x rest e rising =
 
 -- the calls from an ancestor, as the places of labels say them
 pub row_up_same : (h : HierarchyValue) → IsHierarchy h → (q : Led) (before : List ℕ) (x : ℕ) (behind : List ℕ)
-    (labels : List (Option ℕ)) (links : List (Option (ℕ × ℕ))) → ancestors_in (graph_of h) q.from ≡ before ++ (x ∷ behind) → AllPairs (λ a b. a < b) (before ++ (x ∷ behind)) → IsUpSwept h q before labels links
+    (labels : List (Option ℕ)) (links : List (Option (ℕ × ℕ))) → ancestors_in (graph_of h) q.from ≡ before ++ (x ∷ behind) → AllPairs (λ a b. a < b) (before ++ (x ∷ behind))
+    → IsUpSwept h q before labels links
     → second_at labels x ≡ second_of (up_made h q x)
     → rows_up h q.allows x (second_at labels x) (second_at labels) ≡ up_made_from h q x
 row_up_same h f q before x behind labels links e rising swept second =

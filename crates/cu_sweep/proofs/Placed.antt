@@ -14,7 +14,8 @@ use Rattle.cu_sweep.specs.Labels.{Label, down_label}
 use Rattle.cu_sweep.specs.Places.{second_at}
 use Rattle.cu_sweep.specs.Sweeps.{found, found_by, second_of, sweep_calls}
 use Rattle.cu_sweep.specs.Swept.{IsClosed, IsReachedAs, LabelsValue, desk_of}
-use Rattle.cu_sweep.specs.Steps.Ahead.{IsAhead, ahead_at, ahead_of, is_in_time}
+use Rattle.cu_sweep.specs.Outlooks.{IsAhead, ahead_at}
+use Rattle.cu_sweep.specs.Steps.Ahead.{ahead_of, is_in_time}
 use Rattle.cu_sweep.specs.Steps.Made.{Led, down_made}
 use Rattle.cu_sweep.proofs.Answering.{none_long}
 use Rattle.cu_sweep.proofs.GoalLaws.{IsPlaced, goal_reached}

@@ -192,7 +192,8 @@ if_at (At arrival) at h = (at, refl, h)
 if_at NoWay at h = tt
 if_at Long at h = tt
 
-pub near_at : (h : HierarchyValue) (allowed : ℕ → Bool) (edge : ℕ) (dir : Dir) (o : Option ℕ) → IfSecond o (λ at. IfAt (answer_in h allowed edge dir (Some at)) (λ (arrival : ℕ). arrival ≤ at + 2 ^ 38))
+pub near_at : (h : HierarchyValue) (allowed : ℕ → Bool) (edge : ℕ) (dir : Dir) (o : Option ℕ) → IfSecond o
+    (λ at. IfAt (answer_in h allowed edge dir (Some at)) (λ (arrival : ℕ). arrival ≤ at + 2 ^ 38))
     → IfAt (answer_in h allowed edge dir o) (λ (arrival : ℕ). (t : ℕ) × (o ≡ Some t) × (arrival ≤ t + 2 ^ 38))
 near_at h allowed edge dir None f = tt
 near_at h allowed edge dir (Some at) f = if_at (answer_in h allowed edge dir (Some at)) at f

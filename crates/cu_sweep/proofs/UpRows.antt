@@ -32,7 +32,8 @@ module _ (h : HierarchyValue) (q : Led) where
   up_after_call : (done : List ℕ) (x y edge : ℕ) → number_from 0 h.edges x y ≡ Some edge
       → earlier_of (made_up_after h q done y) (made_over h (q.allows y) (Some edge) Up (up_made h q x)) ≡ made_up_after h q (done ++ (x ∷ [])) y
   up_after_call done x y edge e =
-      ap (λ (n : Option ℕ). earlier_of (made_up_after h q done y) (made_over h (q.allows y) n Up (up_made h q x))) (sym e) ∙ sym (after_more (start_label q.from q.second y) (made_up_into h q y) done x)
+      ap (λ (n : Option ℕ). earlier_of (made_up_after h q done y) (made_over h (q.allows y) n Up (up_made h q x))) (sym e) ∙ sym
+      (after_more (start_label q.from q.second y) (made_up_into h q y) done x)
 
   -- and where there is none
   pub up_after_none : (done : List ℕ) (x y : ℕ) → number_from 0 h.edges x y ≡ None → made_up_after h q (done ++ (x ∷ [])) y ≡ made_up_after h q done y
@@ -75,7 +76,8 @@ pub up_more : (h : HierarchyValue) (q : Led) (done : List ℕ) (x y edge : ℕ) 
     → (Contains part y → ⊥) → x < y → y < h.network.nodes → y < length labels → y < length links → number_from 0 h.edges x y ≡ Some edge → edge < length h.edges
     → second_at labels x ≡ second_of (up_made h q x) → IfSecond (second_at labels x) (λ at. at < 2 ^ 61)
     → IsPassed h (sweep_of q) x
-    → IsUpPart h q done x (part ++ (y ∷ [])) (seconds_after labels y (answer_in h (q.allows y) edge Up (second_at labels x))) (links_after labels links x edge y (answer_in h (q.allows y) edge Up (second_at labels x)))
+    → IsUpPart h q done x (part ++ (y ∷ [])) (seconds_after labels y (answer_in h (q.allows y) edge Up (second_at labels x)))
+    (links_after labels links x edge y (answer_in h (q.allows y) edge Up (second_at labels x)))
 up_more h q done x y edge part labels links f new lt within la li number there_ source time start z p =
     let answer = answer_in h (q.allows y) edge Up (second_at labels x) in
     elim (cases_eq z y) [

@@ -8,7 +8,7 @@ ghost use Rattle.cu_short.specs.Shortness.{NeverLong};
 ghost use Rattle.cu_sweep.specs.declared.finding.Found.TheVariants.{Arrive};
 ghost use Rattle.cu_sweep.specs.Answers.{IsLeastWhereBuilt, IsReal};
 ghost use Rattle.cu_sweep.specs.Desks.{HoldsFound};
-ghost use Rattle.cu_sweep.specs.Steps.Ahead.{IsAhead};
+ghost use Rattle.cu_sweep.specs.Outlooks.{IsAhead};
 ghost use Rattle.cu_sweep.specs.Sweeps.{found};
 ghost use Rattle.cu_sweep.specs.Swept.{desk_of};
 

@@ -3,7 +3,8 @@
 //!
 //! [`query`] answers the earliest arrival by labels of both sweeps (`specs/Labels.antt`, `specs/Sweeps.antt`): in a built
 //! hierarchy the least arrival over all walks, or that there is none, and in any hierarchy that of a real walk
-//! (`specs/Answers.antt`). [`SweepDesk`] holds that walk's calls (`specs/Desks.antt`), whose roads [`route`] writes.
+//! (`specs/Answers.antt`). [`SweepDesk`] holds that walk's calls (`specs/Desks.antt`), whose roads [`route`] writes
+//! by whatever is a [`Walker`].
 //!
 //! [`Labels`] makes both sweeps step by step, the downward one over any path of ranks that has all higher neighbours of its
 //! ranks (`specs/Swept.antt`): each is then reached as its downward label says. A query goes down over the ancestors of its
@@ -32,6 +33,7 @@ mod querying;
 mod routing;
 mod sweeping;
 mod timing;
+mod walker;
 
 pub use desk::SweepDesk;
 pub use finding::Found;
@@ -41,3 +43,4 @@ pub use leading::led_query;
 pub use outlook::Outlook;
 pub use querying::{Question, query};
 pub use routing::route;
+pub use walker::Walker;

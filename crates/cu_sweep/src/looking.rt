@@ -7,7 +7,7 @@ ghost use Rattle.cu_elimtree.specs.Trees.{ancestors_of};
 ghost use Rattle.cu_interval.specs.declared.ways.Dir.TheVariants.{Up, Down};
 ghost use Rattle.cu_interval.specs.Hierarchies.{IsHierarchyOf, graph_of, number_from};
 ghost use Rattle.cu_interval.specs.LeastBounds.{far, least_bound};
-ghost use Rattle.cu_sweep.specs.Steps.Ahead.{IsAhead, IsNear, ahead_at};
+ghost use Rattle.cu_sweep.specs.Outlooks.{IsAhead, IsNear, ahead_at};
 
 use crate::querying::Question;
 use cu_chordal::Chordal;

@@ -3,7 +3,7 @@
 ghost use Rattle.std.specs.Prelude.{◌≡◌, ◌<◌, IfOk, length};
 ghost use Rattle.cu_elimtree.specs.SweepArcs.{parents_in};
 ghost use Rattle.cu_interval.specs.Hierarchies.{IsHierarchyOf};
-ghost use Rattle.cu_sweep.specs.Steps.Ahead.{IsAhead};
+ghost use Rattle.cu_sweep.specs.Outlooks.{IsAhead};
 
 use crate::looking::{look_back, look_up, start_up};
 use crate::querying::{Question, climb};
@@ -29,7 +29,7 @@ pub struct Outlook {
 impl Model for Outlook {
     ghost use Rattle.std.specs.Prelude.{◌≡◌, length};
     ghost use Rattle.cu_sweep.specs.Outlooks.{OutlookValue};
-    ghost use Rattle.cu_sweep.specs.Steps.Ahead.{IsNear};
+    ghost use Rattle.cu_sweep.specs.Outlooks.{IsNear};
 
     ghost Value = { OutlookValue };
 
@@ -59,9 +59,10 @@ impl Outlook {
         })
     }
 
-    // Finds what is at least still to go to the end of a query from the ancestors of its start, upwards and then downwards, and
-    // from those of its end.
-    pub(crate) fn look<R: Relaxer>(
+    /// Finds what is at least still to go to the end of a question from the ancestors of its start, upwards and then downwards,
+    /// and from those of its end; the second doesn't matter. It was made for as many nodes as there are ranks, and the path is
+    /// room for so many. Takes no memory.
+    pub fn look<R: Relaxer>(
         &mut self,
         tree: &Tree,
         graph: &Chordal,
@@ -110,15 +111,31 @@ impl Outlook {
         }
     }
 
-    // The edges over which the least is still to go upwards.
-    pub(crate) fn up_next(&self) -> &[Option<u32>]
+    /// What is at least still to go from each rank, upwards and then downwards.
+    pub fn up(&self) -> &[u64]
+        ensures all { result.now ≡ self.now.up }
+        ensures places { length result.now ≡ self.now.nodes }
+    {
+        &self.up
+    }
+
+    /// The same downwards alone.
+    pub fn down(&self) -> &[u64]
+        ensures all { result.now ≡ self.now.down }
+        ensures places { length result.now ≡ self.now.nodes }
+    {
+        &self.down
+    }
+
+    /// The edges over which the least is still to go upwards. Nothing is promised of them.
+    pub fn up_next(&self) -> &[Option<u32>]
         ensures places { length result.now ≡ self.now.nodes }
     {
         &self.up_next
     }
 
-    // The same downwards.
-    pub(crate) fn down_next(&self) -> &[Option<u32>]
+    /// The same downwards.
+    pub fn down_next(&self) -> &[Option<u32>]
         ensures places { length result.now ≡ self.now.nodes }
     {
         &self.down_next

@@ -12,82 +12,82 @@ ghost use Rattle.cu_sweep.specs.Steps.Ready.{IsReady};
 
 use crate::desk::SweepDesk;
 use crate::labels::Labels;
-use cu_interval::{Call, Dir, Ways};
+use crate::walker::Walker;
+use cu_interval::{Call, Dir};
 use cu_io::{Sink, SinkFailed};
 use cu_links::Chain;
-use cu_unpack::Unpacker;
 
 /// Writes the roads of the walk that the desk found, each after a blank but the first, in the order in which they are
 /// driven. The desk holds calls over this hierarchy that all arrive, and was not turned since its last query. Its chain is
 /// turned in place, so one route follows a query. Takes no memory; a fault of the sink is handed on, and the roads written
 /// before it stay.
-pub fn route<W: Ways, K: Sink>(
+pub fn route<W: Walker, K: Sink>(
     desk: &mut SweepDesk,
-    unpacker: &mut Unpacker<'_, W>,
+    walker: &mut W,
     sink: &mut K,
 ) -> Result<(), SinkFailed>
     requires unturned { desk.old.turned ≡ false }
-    requires arriving { AreArriving unpacker.old desk.old.calls }
+    requires arriving { AreArriving (W.hierarchy walker.old) desk.old.calls }
     ensures wrote { Wrote (K.state sink.old) (K.state sink.new) result
-        (walk_text true (roads_of unpacker.old desk.old.calls)) }
+        (walk_text true (roads_of (W.hierarchy walker.old) desk.old.calls)) }
     ensures nodes { desk.new.nodes ≡ desk.old.nodes }
     ensures turned { desk.new.turned ≡ true }
-    ensures stays { unpacker.new ≡ unpacker.old }
+    ensures stays { W.hierarchy walker.new ≡ W.hierarchy walker.old }
 {
     let end = desk.end;
-    desk.labels.write_to(end, unpacker, sink)
+    desk.labels.write_to(end, walker, sink)
 }
 
 impl Labels {
     // Turns the chain that leads to a place, and writes the roads of its calls from its first place on.
-    fn write_to<W: Ways, K: Sink>(
+    fn write_to<W: Walker, K: Sink>(
         &mut self,
         end: u32,
-        unpacker: &mut Unpacker<'_, W>,
+        walker: &mut W,
         sink: &mut K,
     ) -> Result<(), SinkFailed>
         requires end { end ≤ 2 * self.old.nodes }
         requires unturned { self.old.turned ≡ false }
-        requires arriving { AreArriving unpacker.old
+        requires arriving { AreArriving (W.hierarchy walker.old)
             (calls_found self.old.nodes self.old.seconds self.old.links end) }
         ensures wrote { Wrote (K.state sink.old) (K.state sink.new) result
-            (walk_text true (roads_of unpacker.old
+            (walk_text true (roads_of (W.hierarchy walker.old)
             (calls_found self.old.nodes self.old.seconds self.old.links end))) }
         ensures nodes { self.new.nodes ≡ self.old.nodes }
         ensures turned { self.new.turned ≡ true }
-        ensures stays { unpacker.new ≡ unpacker.old }
+        ensures stays { W.hierarchy walker.new ≡ W.hierarchy walker.old }
     {
         let nodes = self.nodes();
-        write_chain(nodes, &self.seconds, &mut self.chain, end, unpacker, sink)
+        write_chain(nodes, &self.seconds, &mut self.chain, end, walker, sink)
     }
 }
 
 // The same, in places for labels and links.
-fn write_chain<W: Ways, K: Sink>(
+fn write_chain<W: Walker, K: Sink>(
     nodes: u32,
     labels: &[Option<u64>],
     chain: &mut Chain,
     end: u32,
-    unpacker: &mut Unpacker<'_, W>,
+    walker: &mut W,
     sink: &mut K,
 ) -> Result<(), SinkFailed>
     requires ready { IsReady nodes labels.now chain.old }
     requires end { end ≤ 2 * nodes }
     requires unturned { chain.old.turned ≡ false }
-    requires arriving { AreArriving unpacker.old
+    requires arriving { AreArriving (W.hierarchy walker.old)
         (calls_found nodes labels.now chain.old.links end) }
     ensures wrote { Wrote (K.state sink.old) (K.state sink.new) result
         (walk_text true
-        (roads_of unpacker.old (calls_found nodes labels.now chain.old.links end))) }
+        (roads_of (W.hierarchy walker.old) (calls_found nodes labels.now chain.old.links end))) }
     ensures ready { IsReady nodes labels.now chain.new }
     ensures turned { chain.new.turned ≡ true }
-    ensures stays { unpacker.new ≡ unpacker.old }
+    ensures stays { W.hierarchy walker.new ≡ W.hierarchy walker.old }
 {
     let mut place = chain.reverse_from(end);
     let mut first = true;
     'links: while let Some((next, edge)) = chain.follow(place) {
         let call = call_of(nodes, labels, place, next, edge);
-        first = write_some(call, first, unpacker, sink)?;
+        first = write_some(call, first, walker, sink)?;
         place = next;
     }
     Ok(())
@@ -122,40 +122,39 @@ fn direction(nodes: u32, from: u32, place: u32) -> Option<Dir>
 }
 
 // Writes the roads of a call, where there is one, and answers whether the next road is still the first of all.
-fn write_some<W: Ways, K: Sink>(
+fn write_some<W: Walker, K: Sink>(
     call: Option<Call>,
     first: bool,
-    unpacker: &mut Unpacker<'_, W>,
+    walker: &mut W,
     sink: &mut K,
 ) -> Result<bool, SinkFailed>
-    requires arriving { AreArriving unpacker.old (calls_of_some call) }
+    requires arriving { AreArriving (W.hierarchy walker.old) (calls_of_some call) }
     ensures wrote { Wrote (K.state sink.old) (K.state sink.new) result
-        (walk_text first (roads_of unpacker.old (calls_of_some call))) }
+        (walk_text first (roads_of (W.hierarchy walker.old) (calls_of_some call))) }
     ensures first { IfOk result
-        (λ next. next ≡ first_after first (roads_of unpacker.old (calls_of_some call))) }
-    ensures stays { unpacker.new ≡ unpacker.old }
+        (λ next. next ≡ first_after first (roads_of (W.hierarchy walker.old) (calls_of_some call))) }
+    ensures stays { W.hierarchy walker.new ≡ W.hierarchy walker.old }
 {
     let Some(call) = call else {
         return Ok(first);
     };
-    write_call(call, first, unpacker, sink)?;
+    write_call(call, first, walker, sink)?;
     Ok(false)
 }
 
 // Writes the roads of a call that arrives. The road behind them isn't the first of all.
-fn write_call<W: Ways, K: Sink>(
+fn write_call<W: Walker, K: Sink>(
     call: Call,
     first: bool,
-    unpacker: &mut Unpacker<'_, W>,
+    walker: &mut W,
     sink: &mut K,
 ) -> Result<(), SinkFailed>
-    requires arriving { IsArrivingCall unpacker.old call }
+    requires arriving { IsArrivingCall (W.hierarchy walker.old) call }
     ensures wrote { Wrote (K.state sink.old) (K.state sink.new) result
-        (walk_text first (walk_over unpacker.old call.edge call.dir call.second)) }
-    ensures first { first_after first (walk_over unpacker.old call.edge call.dir call.second)
+        (walk_text first (walk_over (W.hierarchy walker.old) call.edge call.dir call.second)) }
+    ensures first { first_after first (walk_over (W.hierarchy walker.old) call.edge call.dir call.second)
         ≡ false }
-    ensures stays { unpacker.new ≡ unpacker.old }
+    ensures stays { W.hierarchy walker.new ≡ W.hierarchy walker.old }
 {
-    unpacker.walk(call.edge, call.dir, call.second, first, sink)?;
-    Ok(())
+    walker.walk(call.edge, call.dir, call.second, first, sink)
 }

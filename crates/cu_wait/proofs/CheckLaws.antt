@@ -107,7 +107,8 @@ module _ {X Y : Type 0} (f : X → Option Y) where
         let ((y, is), rest) = each_some number x (next ∷ xs) e in
         let ((z, there), behind) = each_some (number + 1) next xs rest in
         let tail : filter_map f (next ∷ xs) ≡ z ∷ filter_map f xs = rw there refl in
-        let more : fallen_from second (number + 1) (next ∷ xs) ≡ fallen_from own (number + 1) (z ∷ filter_map f xs) = same_fallen (number + 1) (next ∷ xs) rest ∙ ap (fallen_from own (number + 1)) tail in
+        let more : fallen_from second (number + 1) (next ∷ xs) ≡ fallen_from own (number + 1) (z ∷ filter_map f xs) = same_fallen (number + 1) (next ∷ xs) rest ∙ ap
+        (fallen_from own (number + 1)) tail in
         rw (is, there, same x y is, same next z there, more) refl
 
 point_parts : (mode : Option Mode) (second travel : ℕ) (point : Point) → point_by mode second travel ≡ Some point → (second ≡ point.second) × (travel ≡ point.travel)

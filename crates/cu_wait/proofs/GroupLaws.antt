@@ -99,7 +99,8 @@ fault_behind row_fault number last [] more = let same : number ≡ number + 0 = 
 fault_behind row_fault number last (row ∷ rows) more =
     let same : (number + 1) + length rows ≡ number + length (row ∷ rows) = omega arith in
     ap (option_or (row_fault number last row)) (fault_behind row_fault (number + 1) (Some (profile_number row)) rows more)
-    ∙ sym (option_or-assoc (row_fault number last row) (first_fault row_fault (number + 1) (Some (profile_number row)) rows) (first_fault row_fault ((number + 1) + length rows) (last_profile last (row ∷ rows)) more))
+    ∙ sym (option_or-assoc (row_fault number last row) (first_fault row_fault (number + 1) (Some (profile_number row)) rows)
+    (first_fault row_fault ((number + 1) + length rows) (last_profile last (row ∷ rows)) more))
     ∙ ap (λ (n : ℕ). option_or (first_fault row_fault number last (row ∷ rows)) (first_fault row_fault n (last_profile last (row ∷ rows)) more)) same
 
 -- the profile of the last of rows and those behind them

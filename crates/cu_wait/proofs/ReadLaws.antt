@@ -69,7 +69,8 @@ own_given : (s : MeasuredRows) (front own : Rows) → IsReading s front own
     → points_of_rows (length front) own ≡ unless (points_refusal s.first s.wrong_mode s.points.items) (Ok s.points.items)
 own_given s front own r =
     let same = same_refusal (length front) own in
-    let mode : first_that (λ row. is_none (point_of_row row)) (length front) own ≡ s.wrong_mode = ap (λ (n : ℕ). first_that (λ row. is_none (point_of_row row)) n own) (sym r.first) ∙ sym r.wrong_mode in
+    let mode : first_that (λ row. is_none (point_of_row row)) (length front) own ≡ s.wrong_mode = ap (λ (n : ℕ). first_that (λ row. is_none (point_of_row row)) n own) (sym r.first)
+    ∙ sym r.wrong_mode in
     rw (same, mode, sym r.points, sym r.first) refl
 
 pub profile_ended : (s m : MeasuredRows) (front own : Rows) (last : ℕ) → IsReading s front own → s.last ≡ Some last → EndsProfile s m
@@ -78,7 +79,8 @@ profile_ended s m front own last r e x =
     let (some, all, other) : AreOwn (Some last) front own = subst (λ (l : Option ℕ). AreOwn l front own) e r.are_own in
     let many = as_many front in
     let number : 0 + rows_in (by_profile front) ≡ length front = omega (arith, many) in
-    let groups : measured_of_groups 0 (by_profile (front ++ own)) ≡ then_last (measured_of_groups 0 (by_profile front)) (unless (points_refusal s.first s.wrong_mode s.points.items) (Ok s.points.items)) =
+    let groups : measured_of_groups 0 (by_profile (front ++ own)) ≡ then_last (measured_of_groups 0 (by_profile front))
+    (unless (points_refusal s.first s.wrong_mode s.points.items) (Ok s.points.items)) =
     ap (of_groups points_of_rows 0) (last_group last front own some all other) ∙ groups_last points_of_rows 0 (by_profile front) own
     ∙ ap (λ (n : ℕ). then_last (measured_of_groups 0 (by_profile front)) (points_of_rows n own)) number
     ∙ ap (then_last (measured_of_groups 0 (by_profile front))) (own_given s front own r) in
@@ -135,7 +137,12 @@ row_added m t row line front own b a passed profile point small =
       row = omega (arith, one, more, at);
       first = a.first ∙ b.first;
       last = last ∙ sym (ap (last_profile None) (sym all) ∙ last_behind None (front ++ own) (row ∷ []));
-      are_own = rw last (omega (arith, one), All-append (IsOf (profile_number row)) own (row ∷ []) b.all_own (All-cons (IsOf (profile_number row)) row [] refl (All-nil (IsOf (profile_number row)))), b.other);
+      are_own = rw last (
+        omega (arith, one),
+        All-append (IsOf (profile_number row)) own (row ∷ []) b.all_own
+            (All-cons (IsOf (profile_number row)) row [] refl (All-nil (IsOf (profile_number row)))),
+        b.other,
+      );
       passed = ap (rows_fault 0 None) (sym all) ∙ fault_behind point_row_fault 0 None (front ++ own) (row ∷ [])
           ∙ none_or_none _ _ b.passed (none_or_none _ None (ap (λ (n : ℕ). point_row_fault n (last_profile None (front ++ own)) row) number ∙ passed) refl);
       wrong_mode = a.wrong_mode ∙ sym there ∙ ap (λ (n : ℕ). first_that (λ row. is_none (point_of_row row)) n (own ++ (row ∷ []))) (sym a.first);
@@ -231,7 +238,8 @@ takes_row s m t row line checked b a rows (front, own, is, r) =
             let next = next_profile last (profile_number row) (subst (λ (l : Option ℕ). may_follow l (profile_number row) ≡ true) e follows) other in
             let begun = begun_other s m front own last (profile_number row) r e other next ended in
             let fault : point_row_fault m.row (last_profile None ((front ++ own) ++ [])) row ≡ None =
-            ap (λ (rs : Rows). point_row_fault m.row (last_profile None rs) row) (append-nil (front ++ own)) ∙ ap (λ (n : ℕ). point_row_fault n (last_profile None (front ++ own)) row) ended.row ∙ here in
+            ap (λ (rs : Rows). point_row_fault m.row (last_profile None rs) row) (append-nil (front ++ own)) ∙ ap
+            (λ (n : ℕ). point_row_fault n (last_profile None (front ++ own)) row) ended.row ∙ here in
             (front ++ own, row ∷ [], ap (λ (rs : Rows). rs ++ (row ∷ [])) is, row_added m t row line (front ++ own) [] begun a fault profile point small)
       ]
     ]

@@ -14,3 +14,5 @@ mod refusals;
 mod verifying;
 #[cfg(test)]
 mod views;
+#[cfg(test)]
+mod walks;

@@ -1,18 +1,19 @@
 //! Arrivals that were worked by hand, asked of one that knows nothing yet and of the same when it does.
 
-ghost use Rattle.std.specs.Prelude.{◌≡◌, ◌<◌, length};
+ghost use Rattle.std.specs.Prelude.{◌≡◌, ◌<◌, IfOk, length};
 ghost use Rattle.cu_interval.specs.Hierarchies.{IsHierarchyOf};
 ghost use Rattle.cu_recall.specs.Rooms.{Fits};
 
 use cu_chordal::Chordal;
 use cu_interval::{BoundedWays, Dir, Relaxed, Relaxer, Ways};
 use cu_io::MemorySink;
-use cu_model::Roads;
+use cu_model::{NoMemory, Roads};
 use cu_pack::{PackedView, chordal_of};
-use cu_recall::{Recall, RecalledWays, Room};
+use cu_recall::{Recall, RecalledWays, Room, SweepRecall};
 use cu_samples::{Tables, packed};
 use cu_unpack::{Unpacker, Work};
 use std::alloc::Global;
+use std::process::Abort;
 use std::test::Fail;
 
 // Four nodes with the roads 2 -> 0, 0 -> 1, 1 -> 3 and 2 -> 3: a minute; 100 seconds, but 300 from 8:00 and closed from 9:56:40 to
@@ -47,78 +48,250 @@ fn least<R: Relaxer>(relaxer: &R, edges: u32, edge: u32, dir: Dir) -> Option<u64
     }
 }
 
+// Is this what is answered over each of these edges, asked twice?
+fn answers<R: Relaxer>(
+    rt: &impl Abort,
+    relaxer: &mut R,
+    edges: u32,
+    rows: &[(u32, Dir, u32, Relaxed)],
+)
+    requires { edges ≡ length (R.hierarchy relaxer.old).edges }
+    ensures { R.hierarchy relaxer.new ≡ R.hierarchy relaxer.old }
+{
+    'rows: for (edge, dir, second, answer) in rows {
+        assert_eq!(rt; ask(relaxer, edges, *edge, *dir, *second), Some(*answer));
+        assert_eq!(rt; ask(relaxer, edges, *edge, *dir, *second), Some(*answer));
+    }
+}
+
+// Are these the least bounds of these edges?
+fn bounds<R: Relaxer>(rt: &impl Abort, relaxer: &R, edges: u32, rows: &[(u32, Dir, u64)])
+    requires { edges ≡ length (R.hierarchy relaxer.now).edges }
+{
+    for (edge, dir, bound) in rows {
+        assert_eq!(rt;
+            least(relaxer, edges, *edge, *dir),
+            Some(*bound),
+            "edge {edge}"
+        );
+    }
+}
+
+// Room that knows nothing, for a hierarchy of this size.
+fn fresh(alloc: Global, view: &PackedView<'_>) -> Result<Room, NoMemory>
+    ensures fits { IfOk result (λ room. Fits view.now room) }
+{
+    Room::new(alloc, view.nodes(), view.edges())
+}
+
+// The same room, when all is forgotten.
+fn forgotten(view: &PackedView<'_>, room: Room) -> Room
+    requires fits { Fits view.now room }
+    ensures fits { Fits view.now result }
+{
+    let mut room = room;
+    room.forget();
+    room
+}
+
+// Relaxations that know nothing yet.
+fn recall<'a>(
+    alloc: Global,
+    view: &'a PackedView<'a>,
+    graph: &'a Chordal,
+) -> Result<Recall<'a>, NoMemory>
+    requires graph { IsHierarchyOf graph.now view.now }
+    ensures view { IfOk result (λ recall. recall ≡ view.now) }
+{
+    Ok(Recall::new(view, graph, fresh(alloc, view)?))
+}
+
+// Those of a sweep that leaves at this second.
+fn sweep<'a>(
+    alloc: Global,
+    view: &'a PackedView<'a>,
+    graph: &'a Chordal,
+    second: u32,
+) -> Result<SweepRecall<'a>, NoMemory>
+    requires graph { IsHierarchyOf graph.now view.now }
+    ensures view { IfOk result (λ sweep. sweep ≡ view.now) }
+{
+    Ok(SweepRecall::new(view, graph, fresh(alloc, view)?, second))
+}
+
+// Those that don't remember.
+fn unpacker<'a>(
+    alloc: Global,
+    view: &'a PackedView<'a>,
+) -> Result<Unpacker<'a, PackedView<'a>>, NoMemory>
+    ensures view { IfOk result (λ unpacker. unpacker ≡ view.now) }
+{
+    Ok(Unpacker::new(view, Work::new(alloc, view.nodes())?))
+}
+
+const REMEMBERED: [(u32, Dir, u32, Relaxed); 12] = [
+    (4, Dir::Up, 0, Relaxed::At(220)),
+    (4, Dir::Up, 28_739, Relaxed::At(28_959)),
+    // By the road beside the others, while the second one is slow.
+    (4, Dir::Up, 28_740, Relaxed::At(29_140)),
+    (4, Dir::Up, 35_739, Relaxed::At(36_139)),
+    // The second road is closed until 36,100.
+    (4, Dir::Up, 35_800, Relaxed::At(36_160)),
+    (4, Dir::Up, 35_939, Relaxed::At(36_160)),
+    (4, Dir::Up, 35_940, Relaxed::At(36_160)),
+    // The second road is driven on the next day.
+    (4, Dir::Up, 86_390, Relaxed::At(86_610)),
+    (4, Dir::Up, 115_139, Relaxed::At(115_359)),
+    (4, Dir::Up, 115_140, Relaxed::At(115_540)),
+    (2, Dir::Down, 86_410, Relaxed::At(86_570)),
+    (2, Dir::Up, 86_410, Relaxed::NoWay),
+];
+
+fn unpacks(rt: &impl Abort, alloc: Global, view: &PackedView<'_>) -> Result<(), Fail> {
+    let mut unpacker = unpacker(alloc, view)?;
+    answers(rt, &mut unpacker, view.edges(), &REMEMBERED);
+    Ok(())
+}
+
+// Is this what is answered by what remembers in this room? The room with what it then knows.
+fn recalled(
+    rt: &impl Abort,
+    view: &PackedView<'_>,
+    graph: &Chordal,
+    room: Room,
+    rows: &[(u32, Dir, u32, Relaxed)],
+) -> Room
+    requires graph { IsHierarchyOf graph.now view.now }
+    requires fits { Fits view.now room }
+    ensures fits { Fits view.now result }
+{
+    let edges = view.edges();
+    let mut recall = Recall::new(view, graph, room);
+    answers(rt, &mut recall, edges, rows);
+    recall.into_room()
+}
+
+// The room that knows the answers forgets them.
+fn remembers(rt: &impl Abort, alloc: Global, view: &PackedView<'_>) -> Result<(), Fail> {
+    let graph = chordal_of(alloc, view)?;
+    let _edges = view.edges();
+    let room = recalled(rt, view, &graph, fresh(alloc, view)?, &REMEMBERED);
+    let room = forgotten(view, room);
+    let last = [(4, Dir::Up, 28_740, Relaxed::At(29_140))];
+    recalled(rt, view, &graph, room, &last);
+    Ok(())
+}
+
 #[test]
 fn remembers_what_is_so(rt: HostRuntime) -> Result<(), Fail> {
     let alloc = rt.alloc();
     let bytes = packed(alloc, BESIDE)?;
     let view = PackedView::open(alloc, &bytes)?;
-    let graph = chordal_of(alloc, &view)?;
+    unpacks(&rt, alloc, &view)?;
+    remembers(&rt, alloc, &view)
+}
+
+// The list from node 2 to 1 is edge 2 downwards: inside its latest span, at the end of it and behind it, and so on the next day.
+const SPANS: [(u32, Dir, u32, Relaxed); 13] = [
+    (2, Dir::Down, 0, Relaxed::At(160)),
+    (2, Dir::Down, 28_739, Relaxed::At(28_899)),
+    (2, Dir::Down, 28_740, Relaxed::At(29_100)),
+    (2, Dir::Down, 35_739, Relaxed::At(36_099)),
+    // The second road is closed until 36,100.
+    (2, Dir::Down, 35_740, Relaxed::At(36_100)),
+    (2, Dir::Down, 35_741, Relaxed::At(36_100)),
+    (2, Dir::Down, 35_940, Relaxed::At(36_100)),
+    (2, Dir::Down, 35_941, Relaxed::At(36_101)),
+    // The second road is driven on the next day.
+    (2, Dir::Down, 86_399, Relaxed::At(86_559)),
+    (2, Dir::Down, 115_139, Relaxed::At(115_299)),
+    (2, Dir::Down, 115_140, Relaxed::At(115_500)),
+    (0, Dir::Down, 0, Relaxed::NoWay),
+    (4, Dir::Up, 28_740, Relaxed::At(29_140)),
+];
+
+// Both that remember answer them, the one of a sweep also when it has forgotten all.
+fn keeps_spans(rt: &impl Abort, alloc: Global, view: &PackedView<'_>) -> Result<(), Fail> {
+    let graph = chordal_of(alloc, view)?;
     let edges = view.edges();
-    let mut recall = Recall::new(&view, &graph, Room::new(alloc, view.nodes(), edges)?);
-    let mut unpacker = Unpacker::new(&view, Work::new(alloc, view.nodes())?);
-    let rows: [(u32, Dir, u32, Relaxed); 12] = [
-        (4, Dir::Up, 0, Relaxed::At(220)),
-        (4, Dir::Up, 28_739, Relaxed::At(28_959)),
-        // By the road beside the others, while the second one is slow.
-        (4, Dir::Up, 28_740, Relaxed::At(29_140)),
-        (4, Dir::Up, 35_739, Relaxed::At(36_139)),
-        // The second road is closed until 36,100.
-        (4, Dir::Up, 35_800, Relaxed::At(36_160)),
-        (4, Dir::Up, 35_939, Relaxed::At(36_160)),
-        (4, Dir::Up, 35_940, Relaxed::At(36_160)),
-        // The second road is driven on the next day.
-        (4, Dir::Up, 86_390, Relaxed::At(86_610)),
-        (4, Dir::Up, 115_139, Relaxed::At(115_359)),
-        (4, Dir::Up, 115_140, Relaxed::At(115_540)),
-        (2, Dir::Down, 86_410, Relaxed::At(86_570)),
-        (2, Dir::Up, 86_410, Relaxed::NoWay),
-    ];
-    'rows: for (edge, dir, second, answer) in rows {
-        assert_eq!(rt; ask(&mut recall, edges, edge, dir, second), Some(answer));
-        assert_eq!(rt; ask(&mut recall, edges, edge, dir, second), Some(answer));
-        assert_eq!(rt; ask(&mut unpacker, edges, edge, dir, second), Some(answer));
-    }
-    let mut room = recall.into_room();
-    room.forget();
-    let mut recall = Recall::new(&view, &graph, room);
-    assert_eq!(rt;
-        ask(&mut recall, edges, 4, Dir::Up, 28_740),
-        Some(Relaxed::At(29_140))
+    let mut knowing = recall(alloc, view, &graph)?;
+    answers(rt, &mut knowing, edges, &SPANS);
+    let mut swept = sweep(alloc, view, &graph, 0)?;
+    answers(rt, &mut swept, edges, &SPANS);
+    let room = forgotten(view, swept.into_room());
+    let mut swept = SweepRecall::new(view, &graph, room, 28_740);
+    answers(
+        rt,
+        &mut swept,
+        edges,
+        &[(2, Dir::Down, 28_740, Relaxed::At(29_100))],
     );
     Ok(())
 }
 
-// The lists from node 0 to 1, 2 to 0, 2 to 1, 1 to 3 and 2 to 3, and one without ways.
+#[test]
+fn keeps_the_latest_span(rt: HostRuntime) -> Result<(), Fail> {
+    let alloc = rt.alloc();
+    let bytes = packed(alloc, BESIDE)?;
+    let view = PackedView::open(alloc, &bytes)?;
+    keeps_spans(&rt, alloc, &view)
+}
+
+// What a sweep in this room answers over the list from node 2 to 1, that leaves at this second. The room that it leaves behind.
+fn swept(rt: &impl Abort, view: &PackedView<'_>, graph: &Chordal, room: Room, second: u32) -> Room
+    requires graph { IsHierarchyOf graph.now view.now }
+    requires fits { Fits view.now room }
+    ensures fits { Fits view.now result }
+{
+    let edges = view.edges();
+    let mut sweep = SweepRecall::new(view, graph, room, second);
+    bounds(rt, &sweep, edges, &[(2, Dir::Down, 160)]);
+    let early = ask(&mut sweep, edges, 2, Dir::Down, 28_739);
+    assert_eq!(rt; early, Some(Relaxed::At(28_899)));
+    let late = ask(&mut sweep, edges, 2, Dir::Down, 28_740);
+    assert_eq!(rt; late, Some(Relaxed::At(29_100)));
+    sweep.into_room()
+}
+
+// The list is asked by sweeps that leave in each third of the day, one after another in the same room.
+#[test]
+fn answers_the_same_in_each_third(rt: HostRuntime) -> Result<(), Fail> {
+    let alloc = rt.alloc();
+    let bytes = packed(alloc, BESIDE)?;
+    let view = PackedView::open(alloc, &bytes)?;
+    let graph = chordal_of(alloc, &view)?;
+    let room = swept(&rt, &view, &graph, fresh(alloc, &view)?, 28_799);
+    let room = swept(&rt, &view, &graph, room, 28_800);
+    swept(&rt, &view, &graph, room, 57_600);
+    Ok(())
+}
+
+// The lists from node 0 to 1, 2 to 0, 2 to 1, 1 to 3 and 2 to 3, and two without ways.
+const LEAST: [(u32, Dir, u64); 7] = [
+    (0, Dir::Up, 100),
+    (1, Dir::Down, 60),
+    (2, Dir::Down, 160),
+    (3, Dir::Up, 60),
+    (4, Dir::Up, 220),
+    (2, Dir::Up, 1 << 60),
+    (0, Dir::Down, 1 << 60),
+];
+
+fn knows_bounds(rt: &impl Abort, alloc: Global, view: &PackedView<'_>) -> Result<(), Fail> {
+    let graph = chordal_of(alloc, view)?;
+    let edges = view.edges();
+    bounds(rt, &unpacker(alloc, view)?, edges, &LEAST);
+    bounds(rt, &recall(alloc, view, &graph)?, edges, &LEAST);
+    bounds(rt, &sweep(alloc, view, &graph, 0)?, edges, &LEAST);
+    Ok(())
+}
+
 #[test]
 fn knows_the_least_bounds(rt: HostRuntime) -> Result<(), Fail> {
     let alloc = rt.alloc();
     let bytes = packed(alloc, BESIDE)?;
     let view = PackedView::open(alloc, &bytes)?;
-    let graph = chordal_of(alloc, &view)?;
-    let edges = view.edges();
-    let recall = Recall::new(&view, &graph, Room::new(alloc, view.nodes(), edges)?);
-    let unpacker = Unpacker::new(&view, Work::new(alloc, view.nodes())?);
-    let rows: [(u32, Dir, u64); 6] = [
-        (0, Dir::Up, 100),
-        (1, Dir::Down, 60),
-        (2, Dir::Down, 160),
-        (3, Dir::Up, 60),
-        (4, Dir::Up, 220),
-        (2, Dir::Up, 1 << 60),
-    ];
-    for (edge, dir, bound) in rows {
-        assert_eq!(rt;
-            least(&unpacker, edges, edge, dir),
-            Some(bound),
-            "edge {edge}"
-        );
-        assert_eq!(rt;
-            least(&recall, edges, edge, dir),
-            Some(bound),
-            "edge {edge}"
-        );
-    }
-    Ok(())
+    knows_bounds(&rt, alloc, &view)
 }
 
 // Room in which the way upwards over edge 4 at this second was met.
@@ -158,7 +331,7 @@ fn writes(
     if edges < 5 {
         return Ok(false);
     }
-    let room = met(view, &graph, Room::new(alloc, view.nodes(), edges)?, other);
+    let room = met(view, &graph, fresh(alloc, view)?, other);
     let ways = RecalledWays::new(view, &graph, room.rows());
     Ok(is_walk(alloc, &ways, second, roads)? && is_walk(alloc, view, second, roads)?)
 }

@@ -4,6 +4,7 @@ use cu_interval::Dir;
 use cu_pack::{Field, PackRefusal, PackedView, migrate};
 use cu_samples::{BUILT, FIRST_VERSION, FORGED, NOTHING, forged};
 use std::alloc::Global;
+use std::process::Abort;
 use std::test::Fail;
 
 // Why a file isn't opened.
@@ -393,19 +394,27 @@ const MORE_BYTES: [(&[(usize, u8)], Option<PackRefusal>); 9] = [
     ),
 ];
 
+// With these bytes changed, is this why neither version is taken?
+fn is_refused_so(
+    rt: &impl Abort,
+    alloc: Global,
+    changes: &[(usize, u8)],
+    wanted: Option<PackRefusal>,
+) -> Result<(), Fail> {
+    let found = forged_refusal(alloc, changes)?;
+    assert_eq!(rt; found, wanted, "{changes:?}");
+    let found = first_refusal(alloc, changes)?;
+    assert_eq!(rt; found, wanted, "{changes:?} in version 1");
+    Ok(())
+}
+
 #[test]
 fn finds_the_first_part_that_is_wrong(rt: HostRuntime) -> Result<(), Fail> {
-    let alloc = rt.alloc();
     for (place, byte, wanted) in ONE_BYTE {
-        let changes = [(place, byte)];
-        let found = forged_refusal(alloc, &changes)?;
-        assert_eq!(rt; found, Some(wanted), "at {place}");
-        let found = first_refusal(alloc, &changes)?;
-        assert_eq!(rt; found, Some(wanted), "at {place} in version 1");
+        is_refused_so(&rt, rt.alloc(), &[(place, byte)], Some(wanted))?;
     }
     for (changes, wanted) in MORE_BYTES {
-        assert_eq!(rt; forged_refusal(alloc, changes)?, wanted);
-        assert_eq!(rt; first_refusal(alloc, changes)?, wanted);
+        is_refused_so(&rt, rt.alloc(), changes, wanted)?;
     }
     Ok(())
 }

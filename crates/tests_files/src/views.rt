@@ -9,6 +9,7 @@ use cu_interval::{BoundedWays, Dir, Entry, TouchedEdge, Way, Ways};
 use cu_model::{Edit, Order, Piece, Roads, Rule};
 use cu_pack::{PackedView, chordal_of, order_of, repack, repack_unsealed, seal};
 use cu_samples::{RUSH_HOUR, packed};
+use std::process::Abort;
 use std::test::Fail;
 
 fn arrival<R: Roads>(roads: &R, arc: u32, second: u64) -> Option<u64> {
@@ -102,18 +103,19 @@ fn answers_as_the_roads_do(rt: HostRuntime) -> Result<(), Fail> {
     Ok(())
 }
 
-#[test]
-fn answers_as_the_ways_do(rt: HostRuntime) -> Result<(), Fail> {
-    let alloc = rt.alloc();
-    let bytes = packed(alloc, RUSH_HOUR)?;
-    let view = PackedView::adopt(&bytes);
+// Are there edges between these, and none between the others?
+fn answers_edges(rt: &impl Abort, view: &PackedView<'_>) {
     for (number, low, high) in [(0, 0, 1), (1, 0, 2), (2, 1, 2)] {
-        assert!(rt; joins(&view, number, low, high), "edge {number}");
-        assert_eq!(rt; edge(&view, low, high), Some(number));
+        assert!(rt; joins(view, number, low, high), "edge {number}");
+        assert_eq!(rt; edge(view, low, high), Some(number));
     }
     for (low, high) in [(0, 0), (1, 0), (1, 1), (2, 1), (0, 3)] {
-        assert_eq!(rt; edge(&view, low, high), None, "{low} and {high}");
+        assert_eq!(rt; edge(view, low, high), None, "{low} and {high}");
     }
+}
+
+// Are these the ways of edge 2 upwards, of day and next day, and none downwards?
+fn answers_ways(rt: &impl Abort, view: &PackedView<'_>) {
     for (second, found) in [
         (0, Way::Via(0)),
         (28_739, Way::Via(0)),
@@ -123,10 +125,19 @@ fn answers_as_the_ways_do(rt: HostRuntime) -> Result<(), Fail> {
         (86_399, Way::Via(0)),
         (86_400 + 28_740, Way::Road(2)),
     ] {
-        assert_eq!(rt; way(&view, 2, Dir::Up, second), Some(found), "at {second}");
+        assert_eq!(rt; way(view, 2, Dir::Up, second), Some(found), "at {second}");
     }
-    assert_eq!(rt; way(&view, 2, Dir::Down, 0), None);
-    assert_eq!(rt; way(&view, 0, Dir::Down, 0), Some(Way::Road(0)));
+    assert_eq!(rt; way(view, 2, Dir::Down, 0), None);
+    assert_eq!(rt; way(view, 0, Dir::Down, 0), Some(Way::Road(0)));
+}
+
+#[test]
+fn answers_as_the_ways_do(rt: HostRuntime) -> Result<(), Fail> {
+    let alloc = rt.alloc();
+    let bytes = packed(alloc, RUSH_HOUR)?;
+    let view = PackedView::adopt(&bytes);
+    answers_edges(&rt, &view);
+    answers_ways(&rt, &view);
     let last = Entry {
         from: 35_851,
         way: Way::Via(0),

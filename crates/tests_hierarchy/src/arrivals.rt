@@ -14,12 +14,17 @@ fn road(rt: &impl Abort, alloc: Global, network: &Network, arc: u32) -> Result<A
     Ok(Arrival::of_arc(alloc, network, arc)?)
 }
 
-// The rush hour's first two roads.
+// A network's first two roads, one behind the other.
+fn first_two(rt: &impl Abort, alloc: Global, network: &Network) -> Result<Arrival, Fail> {
+    let first = road(rt, alloc, network, 0)?;
+    let second = road(rt, alloc, network, 1)?;
+    Ok(compose(alloc, &first, &second)?)
+}
+
+// Those of the rush hour.
 fn both_roads(rt: &impl Abort, alloc: Global) -> Result<Arrival, Fail> {
     let network = network(alloc, RUSH_HOUR)?;
-    let first = road(rt, alloc, &network, 0)?;
-    let second = road(rt, alloc, &network, 1)?;
-    Ok(compose(alloc, &first, &second)?)
+    first_two(rt, alloc, &network)
 }
 
 #[test]
@@ -58,18 +63,32 @@ fn are_choices(choices: &[Choice], wanted: &[(u32, bool)]) -> bool {
     choices.len() == wanted.len()
 }
 
+// From which seconds on the one or the other of two functions is chosen.
+fn choices(alloc: Global, first: &Arrival, second: &Arrival) -> Result<Vec<Choice>, Fail> {
+    let (_, choices) = lesser(alloc, first, second)?;
+    Ok(choices)
+}
+
+// Is a road, beside the first two, chosen so?
+fn is_chosen(
+    rt: &impl Abort,
+    alloc: Global,
+    network: &Network,
+    arc: u32,
+    wanted: &[(u32, bool)],
+) -> Result<bool, Fail> {
+    let both = first_two(rt, alloc, network)?;
+    let direct = road(rt, alloc, network, arc)?;
+    Ok(are_choices(&choices(alloc, &direct, &both)?, wanted))
+}
+
 // Both roads one behind the other arrive when road 2 does, which is chosen all day; road 3 is a second later from noon on.
 #[test]
 fn a_tie_is_not_earlier(rt: HostRuntime) -> Result<(), Fail> {
     let alloc = rt.alloc();
     let network = network(alloc, TIES)?;
-    let first = road(&rt, alloc, &network, 0)?;
-    let second = road(&rt, alloc, &network, 1)?;
-    let both = compose(alloc, &first, &second)?;
-    let (_, tie) = lesser(alloc, &road(&rt, alloc, &network, 2)?, &both)?;
-    assert!(rt; are_choices(&tie, &[(0, false)]));
-    let (_, choices) = lesser(alloc, &road(&rt, alloc, &network, 3)?, &both)?;
-    assert!(rt; are_choices(&choices, &[(0, false), (43_200, true)]));
+    assert!(rt; is_chosen(&rt, alloc, &network, 2, &[(0, false)])?);
+    assert!(rt; is_chosen(&rt, alloc, &network, 3, &[(0, false), (43_200, true)])?);
     Ok(())
 }
 

@@ -234,8 +234,42 @@ const STEADY: Tables<'static> = Tables {
     ..RANKED
 };
 
+// Does the straight list take this way all day, settled over these functions?
+fn takes_over(
+    alloc: Global,
+    parts: &Parts<'_>,
+    settling: &mut PackedSettling,
+    functions: LayeredFunctions<'_>,
+    way: Way,
+) -> Result<bool, NoMemory>
+    requires edges { length parts.now.graph.now.edges ≡ 3 }
+    requires arcs { (o : OrderValue) × AreEdgeArcs parts.now.network.now o
+        parts.now.graph.now.edges parts.now.arcs.now }
+    requires functions { length functions ≡ 6 }
+{
+    let settled = settle(alloc, parts, settling, functions, 2, Dir::Up)?;
+    Ok(takes(settled, way))
+}
+
 // The first half of the way over the middle has an older function, of 300 seconds, and a newer one, of 60; the second takes 100, and
-// the straight road 250.
+// the straight road 250. Is that road taken over the older ones, and the middle over the newer one?
+fn is_newer_taken(alloc: Global, parts: &Parts<'_>) -> Result<bool, NoMemory>
+    requires edges { length parts.now.graph.now.edges ≡ 3 }
+    requires arcs { (o : OrderValue) × AreEdgeArcs parts.now.network.now o
+        parts.now.graph.now.edges parts.now.arcs.now }
+{
+    let first = taking(alloc, 300)?;
+    let second = taking(alloc, 100)?;
+    let older = [None, Some(first), Some(second), None, None, None];
+    let newer = [Some(taking(alloc, 60)?)];
+    let mut settling = PackedSettling::new(alloc, parts.network)?;
+    let all = LayeredFunctions::of(&older);
+    let before = takes_over(alloc, parts, &mut settling, all, Way::Road(2))?;
+    let all = LayeredFunctions::with_newer(&older, &[0, 1], &newer);
+    let after = takes_over(alloc, parts, &mut settling, all, Way::Via(0))?;
+    Ok(before && after)
+}
+
 #[test]
 fn a_newer_function_stands_in_the_place_of_an_older_one(rt: HostRuntime) -> Result<(), Fail> {
     let alloc = rt.alloc();
@@ -249,17 +283,7 @@ fn a_newer_function_stands_in_the_place_of_an_older_one(rt: HostRuntime) -> Resu
         graph: &graph,
         arcs: &arcs,
     };
-    let first = taking(alloc, 300)?;
-    let second = taking(alloc, 100)?;
-    let older = [None, Some(first), Some(second), None, None, None];
-    let newer = [Some(taking(alloc, 60)?)];
-    let mut settling = PackedSettling::new(alloc, &network)?;
-    let all = LayeredFunctions::of(&older);
-    let settled = settle(alloc, &parts, &mut settling, all, 2, Dir::Up)?;
-    assert!(rt; takes(settled, Way::Road(2)));
-    let all = LayeredFunctions::with_newer(&older, &[0, 1], &newer);
-    let settled = settle(alloc, &parts, &mut settling, all, 2, Dir::Up)?;
-    assert!(rt; takes(settled, Way::Via(0)));
+    assert!(rt; is_newer_taken(alloc, &parts)?);
     Ok(())
 }
 

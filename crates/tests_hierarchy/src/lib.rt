@@ -1,5 +1,5 @@
 //! Tests of what stands between the tables of a network and its packed file: closed graphs, functions of a day, hierarchies, their
-//! sweeps, walks and least bounds, and edits of them. What no clause says: that calls succeed, and values that were worked out by hand.
+//! least bounds and roads. What no clause says: that calls succeed, and values that were worked out by hand.
 #![tactic(auto)]
 
 #[cfg(test)]
@@ -11,11 +11,7 @@ mod chordal;
 #[cfg(test)]
 mod customize;
 #[cfg(test)]
-mod days;
-#[cfg(test)]
 mod dissect;
-#[cfg(test)]
-mod edits;
 #[cfg(test)]
 mod elimtree;
 #[cfg(test)]
@@ -25,6 +21,4 @@ mod links;
 #[cfg(test)]
 mod runs;
 #[cfg(test)]
-mod sweep;
-#[cfg(test)]
-mod unpack;
+mod short;

@@ -17,11 +17,18 @@ fn answer(alloc: Global, file: &[u8], script: &str) -> Result<(u8, Vec<u8>), Fai
     Ok((status, Vec::from_slice(alloc, sink.bytes())?))
 }
 
-// The replies to a text of edits from a router, and its file after them.
-fn edited(alloc: Global, mut router: Router, text: &str) -> Result<(Vec<u8>, Vec<u8>), Fail> {
+// The replies to a text of edits from a router.
+fn replies(alloc: Global, router: &mut Router, text: &str) -> Result<Vec<u8>, Fail> {
     let mut sink = MemorySink::new(alloc, 4096, Vec::new(alloc))?;
-    let _ended = answer_edits(alloc, &mut router, text.as_bytes(), &mut sink);
-    Ok((Vec::from_slice(alloc, sink.bytes())?, router.into_file()))
+    let _ended = answer_edits(alloc, router, text.as_bytes(), &mut sink);
+    Ok(Vec::from_slice(alloc, sink.bytes())?)
+}
+
+// The same, and its file after them.
+fn edited(alloc: Global, router: Router, text: &str) -> Result<(Vec<u8>, Vec<u8>), Fail> {
+    let mut router = router;
+    let said = replies(alloc, &mut router, text)?;
+    Ok((said, router.into_file()))
 }
 
 #[test]

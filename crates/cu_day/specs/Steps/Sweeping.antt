@@ -1,5 +1,5 @@
 -- What the sweeps of a day leave: labels at each second of the day.
-use Rattle.std.specs.Prelude.{ℕ, List, [], ◌∷◌, Option, Some, None, ◌≡◌, ◌≢◌, ◌≤◌, ◌<◌, ◌-◌, ◌⊎◌, All, IfSome, length, slice_get, option_map, flat_map}
+use Rattle.std.specs.Prelude.{ℕ, List, [], ◌∷◌, Option, Some, None, ◌≡◌, ◌≢◌, ◌≤◌, ◌<◌, ◌-◌, ◌⊎◌, All, IfSome, length, slice_get, flat_map}
 use Rattle.std.specs.List.{Contains}
 use Rattle.cu_model.specs.Days.{day}
 use Rattle.cu_arrival.specs.declared.runs.Run.{Run}
@@ -7,7 +7,6 @@ use Rattle.cu_arrival.specs.Runs.{IsArrivalFunction, arrival_value}
 use Rattle.cu_chordal.specs.Graphs.{up_of}
 use Rattle.cu_interval.specs.declared.ways.Entry.{Entry}
 use Rattle.cu_interval.specs.Hierarchies.{HierarchyValue, list_from}
-use Rattle.cu_interval.specs.Resettling.{lesser_of}
 use Rattle.cu_day.specs.DayChains.{list_drive}
 
 -- an arc, from one rank to another
@@ -27,18 +26,25 @@ pub record CameOver (Goes : ℕ → ℕ → Type 0) (drive : ℕ → ℕ → ℕ
   pub drives : drive from y before ≡ a
 
 -- Labels of a sweep that begins with some, and goes by arcs of which each leads to a later turn: each label is one of these or came
--- over an arc; none is later than one of these, or than what an arc makes of another.
-pub record IsSwept (Goes : ℕ → ℕ → Type 0) (drive : ℕ → ℕ → ℕ → ℕ) (turn : ℕ → ℕ) (Begins : ℕ → ℕ → Type 0) (label : ℕ → Option ℕ) : Type 0 where
+-- over an arc; none is later than one of these, or than what counts of that which an arc makes of a second no earlier than another.
+pub record IsSwept (Counts : ℕ → ℕ → Type 0) (Goes : ℕ → ℕ → Type 0) (drive : ℕ → ℕ → ℕ → ℕ) (turn : ℕ → ℕ) (Begins : ℕ → ℕ → Type 0)
+    (label : ℕ → Option ℕ) : Type 0 where
   pub turns : (x y : ℕ) → Goes x y → turn x < turn y
-  pub fifo : (x y s t : ℕ) → Goes x y → s ≤ t → drive x y s ≤ drive x y t
   pub came : (y a : ℕ) → label y ≡ Some a → Begins y a ⊎ CameOver Goes drive label y a
   pub begun : (y b : ℕ) → Begins y b → (a : ℕ) × (label y ≡ Some a) × (a ≤ b)
-  pub led : (x y b : ℕ) → label x ≡ Some b → Goes x y → (a : ℕ) × (label y ≡ Some a) × (a ≤ drive x y b)
+  pub led : (x y b s : ℕ) → label x ≡ Some b → Goes x y → b ≤ s → Counts y (drive x y s) → (a : ℕ) × (label y ≡ Some a) × (a ≤ drive x y s)
 
--- an arc was taken: its end has the lesser of its label and what the arc makes of the start's, and all other labels are as they were
-pub record IsTaken (drive : ℕ → ℕ → ℕ → ℕ) (x y : ℕ) (before after : ℕ → Option ℕ) : Type 0 where
+-- An arc was taken, or left out where it gives nothing earlier that counts: its end's label is no later than it was, or than what the
+-- arc makes of a second no earlier than the start's, and is one of these; all other labels are as they were.
+pub record IsTaken (Counts : ℕ → ℕ → Type 0) (drive : ℕ → ℕ → ℕ → ℕ) (x y : ℕ) (before after : ℕ → Option ℕ) : Type 0 where
   pub others : (z : ℕ) → z ≢ y → after z ≡ before z
-  pub end : after y ≡ lesser_of (before y) (option_map (drive x y) (before x))
+  pub kept : (a : ℕ) → before y ≡ Some a → (b : ℕ) × (after y ≡ Some b) × (b ≤ a)
+  pub came : (a : ℕ) → after y ≡ Some a → (before y ≡ Some a) ⊎ ((b : ℕ) × (before x ≡ Some b) × (drive x y b ≡ a))
+  pub led : (b s : ℕ) → before x ≡ Some b → b ≤ s → Counts y (drive x y s) → (a : ℕ) × (after y ≡ Some a) × (a ≤ drive x y s)
+
+-- every second of arrival counts
+abbrev pub Always : ℕ → ℕ → ℕ → Type 0
+Always t rank second = Unit {0}
 
 -- the upward sweep begins with the second itself at the start
 abbrev pub BeginsAt : ℕ → ℕ → ℕ → ℕ → Type 0
@@ -65,14 +71,15 @@ label_at labels t rank = value_at (slice_get labels rank) t
 abbrev pub AreSound : List (Option (List Run)) → Type 0
 AreSound labels = All (λ (label : Option (List Run)). IfSome label IsArrivalFunction) labels
 
--- these arcs of the upward sweep from a rank were taken
-abbrev pub UpSwept : HierarchyValue → ℕ → List Arc → List (Option (List Run)) → Type 0
-UpSwept h from arcs labels = (t : ℕ) → t < day → IsSwept (Over arcs) (list_drive h) (λ x. x) (BeginsAt from t) (label_at labels t)
+-- these arcs of the upward sweep from a rank were taken, as far as what they give counts at each second of the day
+abbrev pub UpSwept : (ℕ → ℕ → ℕ → Type 0) → HierarchyValue → ℕ → List Arc → List (Option (List Run)) → Type 0
+UpSwept Counts h from arcs labels =
+    (t : ℕ) → t < day → IsSwept (Counts t) (Over arcs) (list_drive h) (λ x. x) (BeginsAt from t) (label_at labels t)
 
 -- these arcs of the downward sweep were taken, which began with these labels
-abbrev pub DownSwept : HierarchyValue → List (Option (List Run)) → List Arc → List (Option (List Run)) → Type 0
-DownSwept h ups arcs labels = (t : ℕ) → t < day → IsSwept (Over arcs) (list_drive h) (λ x. h.network.nodes - x) (BeginsAs (label_at ups t))
-    (label_at labels t)
+abbrev pub DownSwept : (ℕ → ℕ → ℕ → Type 0) → HierarchyValue → List (Option (List Run)) → List Arc → List (Option (List Run)) → Type 0
+DownSwept Counts h ups arcs labels =
+    (t : ℕ) → t < day → IsSwept (Counts t) (Over arcs) (list_drive h) (λ x. h.network.nodes - x) (BeginsAs (label_at ups t)) (label_at labels t)
 
 -- the arc between two ranks, where its list isn't empty
 abbrev pub arc_if : List Entry → ℕ → ℕ → List Arc
@@ -103,9 +110,8 @@ abbrev pub StartAbove : ℕ → List Arc → Type 0
 StartAbove x arcs = (p q : ℕ) → Over arcs p q → x < p
 
 -- The list between two ranks was taken: nothing has changed where it is empty; else the arc was taken at each second of the day.
-pub record TakesList (h : HierarchyValue) (x y : ℕ) (before after : List (Option (List Run))) : Type 0 where
+pub record TakesList (Counts : ℕ → ℕ → ℕ → Type 0) (h : HierarchyValue) (x y : ℕ) (before after : List (Option (List Run))) : Type 0 where
   pub long : length after ≡ length before
   pub sound : AreSound before → AreSound after
   pub none : list_from h x y ≡ [] → after ≡ before
-  pub fifo : list_from h x y ≢ [] → (s t : ℕ) → s ≤ t → list_drive h x y s ≤ list_drive h x y t
-  pub taken : list_from h x y ≢ [] → (t : ℕ) → t < day → IsTaken (list_drive h) x y (label_at before t) (label_at after t)
+  pub taken : list_from h x y ≢ [] → (t : ℕ) → t < day → IsTaken (Counts t) (list_drive h) x y (label_at before t) (label_at after t)

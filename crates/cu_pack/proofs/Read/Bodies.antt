@@ -107,7 +107,8 @@ module _ (bytes file : List ℕ) (long : 32 ≤ length bytes) (same : sealed byt
   pub counts_kept : 84 ≤ length bytes → counts_in bytes ≡ counts_in file
   unfolding counts_in
   counts_kept header =
-      same_counts (counts_in bytes) (counts_in file) (short_kept 8 (omega (arith, header, sealed_long))) (short_kept 12 (omega (arith, header, sealed_long))) (short_kept 16 (omega (arith, header, sealed_long)))
+      same_counts (counts_in bytes) (counts_in file) (short_kept 8 (omega (arith, header, sealed_long))) (short_kept 12 (omega (arith, header, sealed_long)))
+      (short_kept 16 (omega (arith, header, sealed_long)))
       (short_kept 20 (omega (arith, header, sealed_long))) (short_kept 24 (omega (arith, header, sealed_long))) (long_kept 28 (omega (arith, header, sealed_long)))
       (long_kept 36 (omega (arith, header, sealed_long)))
 

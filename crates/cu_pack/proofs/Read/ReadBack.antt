@@ -104,7 +104,8 @@ module _ (bytes : List ℕ) (h : HierarchyValue) (f : SpellsSections bytes h) wh
   node_read rank node there =
       let limits = in_limits f.version h f.sound in
       let within = slice_get_within h.order.rank_of node rank (f.sound.order.ranked rank node there) in
-      short_read bytes (52 + 4 * rank) node (stands_ith short 4 (λ n. refl) bytes 52 h.order.node_at rank node (nodes_stand bytes h f) there) (omega (arith, within, f.sound.order.same, f.sound.order.few))
+      short_read bytes (52 + 4 * rank) node (stands_ith short 4 (λ n. refl) bytes 52 h.order.node_at rank node (nodes_stand bytes h f) there)
+      (omega (arith, within, f.sound.order.same, f.sound.order.few))
 
   pub rank_read : (node rank : ℕ) → slice_get h.order.rank_of node ≡ Some rank → short_at bytes (rank_of_at (counts_of f.version h) + 4 * node) ≡ rank
   rank_read node rank there =
@@ -164,7 +165,8 @@ module _ (bytes : List ℕ) (h : HierarchyValue) (f : SpellsSections bytes h) wh
       let range = all_at (λ (e : Ends). (e.low < e.high) × (e.high < h.network.nodes)) h.edges edge ends f.sound.graph.in_range there in
       let limit = f.sound.network.few_nodes in
       short_read bytes (uppers_at (counts_of f.version h) + 4 * edge) ends.high
-      (stands_ith short 4 (λ n. refl) bytes (uppers_at (counts_of f.version h)) (map high h.edges) edge ends.high (uppers_stand bytes h f) (slice_get-map high h.edges edge ∙ ap (option_map high) there))
+      (stands_ith short 4 (λ n. refl) bytes (uppers_at (counts_of f.version h)) (map high h.edges) edge ends.high (uppers_stand bytes h f)
+      (slice_get-map high h.edges edge ∙ ap (option_map high) there))
       (omega (arith, range.1, limit))
 
   -- how many entries are before a way list

@@ -25,14 +25,6 @@ pub record LeadsUp (bytes : List ℕ) (edge low : ℕ) : Type 0 where
   pub from : edge_start bytes low ≤ edge
   pub until : edge < edge_start bytes (suc low)
 
--- bytes, and the lower rank to which look-ups in them have come
-pub record FinderValue : Type 0 where
-  pub bytes : List ℕ
-  pub low : ℕ
-
-abbrev pub finder_at : List ℕ → ℕ → FinderValue
-finder_at bytes low = record { bytes = bytes; low = low }
-
 -- places that follow this rank, in a file whose graph is right
 pub record IsFinder (bytes : List ℕ) (low : ℕ) (places : List ℕ) : Type 0 where
   pub graph : IsGraph bytes

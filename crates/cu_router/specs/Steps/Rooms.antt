@@ -1,5 +1,5 @@
 -- The rooms for the queries and the edits of a hierarchy.
-use Rattle.std.specs.Prelude.{ℕ, List, [], Option, Some, None, ◌≡◌, IfSome, IsSome, length}
+use Rattle.std.specs.Prelude.{[], Option, Some, None, ◌≡◌, IfSome, IsSome, length}
 use Rattle.cu_edits.specs.Learned.{ArePackedOf}
 use Rattle.cu_interval.specs.EdgeArcs.{AreEdgeArcs}
 use Rattle.cu_interval.specs.Hierarchies.{HierarchyValue}
@@ -10,15 +10,14 @@ use Rattle.cu_router.specs.declared.edit_room.EditRoom.{EditRoom}
 
 -- what queries keep, while none is answered
 abbrev pub kept_in : Option RoomValue → RoomValue
-kept_in None = record { nodes = 0; rows = [] }
+kept_in None = record { nodes = 0; rows = []; downs = [] }
 kept_in (Some room) = room
 
 -- room for queries, all of it for as many nodes
-pub record IsWholeRoom (queries : DeskValue) (ahead : OutlookValue) (known : Option RoomValue) (walks : Option ℕ) : Type 0 where
+pub record IsWholeRoom (queries : DeskValue) (ahead : OutlookValue) (known : Option RoomValue) : Type 0 where
   pub there : IsSome known
   pub desk : queries.nodes ≡ (kept_in known).nodes
   pub outlook : ahead.nodes ≡ (kept_in known).nodes
-  pub work : walks ≡ Some (kept_in known).nodes
 
 -- room for edits fits a hierarchy: the roads of each edge, buckets for its ranks and edges, and functions of its lists, if any are known
 pub record HasEditRoom (h : HierarchyValue) (room : EditRoom) : Type 0 where

@@ -7,7 +7,7 @@ use Rattle.cu_interval.specs.LeastBounds.{bound_from}
 use Rattle.cu_interval.specs.Shortcuts.{AreHalves, number_of}
 use Rattle.cu_bounds.specs.KeptBounds.{AreRightBelow}
 use Rattle.cu_bounds.specs.Steps.InTurn.{IsWayOf}
-use Rattle.cu_bounds.proofs.HalfBounds.{IsKeptHalf, kept_halves, read_half}
+use Rattle.cu_bounds.proofs.HalfBounds.{IsKeptHalf, halves_of, kept_halves, read_half}
 use Rattle.cu_bounds.proofs.list_bounds.bound_of_way.Goals as goal
 
 -- both halves come before the list, and something is kept for them
@@ -19,11 +19,6 @@ both_kept h f kept whole right way m is there first second halves =
     let by : IsWayOf h whole (Via m) = subst (IsWayOf h whole) is there in
     let both = kept_halves h f kept whole right m first second halves by by.0 by.1 in
     (bound_from h (start_of by.0 whole.dir) m, bound_from h m (end_of by.0 whole.dir), both.0, both.1)
-
--- halves of a hierarchy are those of the same one
-halves_of : (known h : HierarchyValue) (whole : Shortcut) (m : ℕ) (first second : Shortcut) → known ≡ h → AreHalves known whole m first second
-    → AreHalves h whole m first second
-halves_of known h whole m first second same halves = subst (λ (k : HierarchyValue). AreHalves k whole m first second) same halves
 
 pub overflow_cast-list : goal.overflow_cast-list
 overflow_cast-list g c =

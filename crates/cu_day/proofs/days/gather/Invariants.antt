@@ -4,6 +4,7 @@ use Rattle.std.specs.List.{range_with_len}
 use Rattle.cu_interval.specs.declared.ways.Dir.TheVariants.{Down}
 use Rattle.cu_chordal.specs.Graphs.{first_edge_of, up_of}
 use Rattle.cu_day.specs.Steps.Ranks.{GathersFrom}
+use Rattle.cu_day.specs.Steps.Sweeping.{Always}
 use Rattle.cu_day.proofs.days.gather.Given as goal
 
 abbrev pub invariant-edges : goal.invariant-edges
@@ -11,6 +12,6 @@ invariant-edges g l =
     let h = g.F.DayFunctions.hierarchy l.fn.functions in
     (g.F.DayFunctions.hierarchy l.functions ≡ h) × (l.highers ≡ up_of h.edges l.fn.rank)
     × (l.edge ≡ first_edge_of h.edges l.fn.rank + l.higher-index)
-    × GathersFrom h l.fn.rank (take l.higher-index l.highers) l.fn.labels.items l.labels.items
+    × GathersFrom Always h l.fn.rank (take l.higher-index l.highers) l.fn.labels.items l.labels.items
     × (g.F.DayFunctions.calls l.functions ≡ g.F.DayFunctions.calls l.fn.functions ++ map (λ e. record { edge = e; dir = Down })
     (range_with_len (first_edge_of h.edges l.fn.rank) l.higher-index))

@@ -10,6 +10,7 @@ use Rattle.cu_day.specs.DayCalls.{calls_of_ranks}
 use Rattle.cu_day.proofs.Calls.{adds_sweep_arcs}
 use Rattle.cu_day.specs.Steps.Ranks.{HasSweptDown, HasSweptUp}
 use Rattle.cu_day.proofs.Whole.{tree_long}
+use Rattle.cu_day.specs.Steps.Sweeping.{Always}
 use Rattle.cu_day.proofs.days.sweep.Goals as goal
 
 pub list_ancestors-requires : goal.list_ancestors-requires
@@ -43,11 +44,11 @@ returns-clause-swept g c =
     let path : (rank : ℕ) (items now : List ℕ) → items ≡ ancestors_of c.args.tree.now rank → now ≡ items → now ≡ ancestors_in (graph_of h) rank =
     λ rank items now is held.
     held ∙ is ∙ ap (λ (ps : List (Option ℕ)). ancestors_of ps rank) c.requires.tree ∙ ap (λ (v : ChordalValue). ancestors_in v rank) same in
-    let up = subst (λ (xs : List ℕ). HasSweptUp h xs first ups)
+    let up = subst (λ (xs : List ℕ). HasSweptUp Always h xs first ups)
     (path c.args.from c.in_ok-ups.ups.items c.deref.result.now c.in_ok-ups.ensures.path c.deref.ensures.value) c.in_ok-sweep_up.ensures.swept in
     let swept = subst (λ (v : HierarchyValue).
-    HasSweptDown v c.deref-2.result.now ups downs) c.sweep_up.ensures.stays c.in_ok-sweep_down.ensures.swept in
-    let down = subst (λ (xs : List ℕ). HasSweptDown h xs ups downs)
+    HasSweptDown Always v c.deref-2.result.now ups downs) c.sweep_up.ensures.stays c.in_ok-sweep_down.ensures.swept in
+    let down = subst (λ (xs : List ℕ). HasSweptDown Always h xs ups downs)
     (path c.args.to c.in_ok-downs.downs.items c.deref-2.result.now c.in_ok-downs.ensures.path c.deref-2.ensures.value) swept in
     record { ranks = c.ranks.result; first = first; ups = ups; begun = c.in_ok-labels.ensures; up = up; down = down }
 

@@ -3,12 +3,13 @@ use Rattle.std.proofs.Common.{◌≡◌, ◌≤◌, ◌-◌, ◌++◌, length, t
 use Rattle.cu_day.specs.Steps.Ranks.{HasSweptUp}
 use Rattle.cu_interval.specs.declared.ways.Dir.TheVariants.{Up}
 use Rattle.cu_day.specs.DayCalls.{calls_of_ranks}
+use Rattle.cu_day.specs.Steps.Sweeping.{Always}
 use Rattle.cu_day.proofs.days.sweep_up.Given as goal
 
 abbrev pub invariant-ranks : goal.invariant-ranks
 invariant-ranks g l =
     let h = g.F.DayFunctions.hierarchy l.fn.functions in
-    (g.F.DayFunctions.hierarchy l.functions ≡ h) × (l.done ≤ length l.path) × HasSweptUp h (take l.done l.path) l.fn.labels.items l.labels.items
+    (g.F.DayFunctions.hierarchy l.functions ≡ h) × (l.done ≤ length l.path) × HasSweptUp Always h (take l.done l.path) l.fn.labels.items l.labels.items
     × (g.F.DayFunctions.calls l.functions ≡ g.F.DayFunctions.calls l.fn.functions ++ calls_of_ranks h Up (take l.done l.path))
 
 abbrev pub decreases-ranks : goal.decreases-ranks

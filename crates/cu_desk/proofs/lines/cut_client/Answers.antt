@@ -16,7 +16,8 @@ returns-in_err-client-clause-cut c =
     let end = c.in_ok-end.end in
     let whole = slice_split_some (λ b. b == 44) line 0 end (sym c.comma.ensures.first ∙ c.in_ok-end.was) in
     rw c.from_residual-in_err-client.ensures
-    (λ nodes arcs profiles. client_unnumbered line (take end line) nodes arcs profiles (fields_of_line (take (length line - (end + 1)) (drop (end + 1) line))) whole (sym c.in_err-client.was ∙ c.client_number.ensures.number))
+    (λ nodes arcs profiles. client_unnumbered line (take end line) nodes arcs profiles (fields_of_line (take (length line - (end + 1)) (drop (end + 1) line))) whole
+    (sym c.in_err-client.was ∙ c.client_number.ensures.number))
 
 pub returns-clause-cut : goal.returns-clause-cut
 returns-clause-cut c = λ nodes arcs profiles.

@@ -7,7 +7,9 @@ use Rattle.cu_desk.proofs.ClientLaws.{known_client, past_client}
 use Rattle.cu_desk.proofs.replies.put_cancel_reply.Goals as goal
 
 pub returns-then-client-gt-MAX_CLIENT : goal.returns-then-client-gt-MAX_CLIENT
-returns-then-client-gt-MAX_CLIENT g c = record { reply = (codes "refused: client", rw (past_client c.args.client (omega (arith, c.if-client-gt-MAX_CLIENT.true))) (refl, refl), c.put_all.ensures.wrote) }
+returns-then-client-gt-MAX_CLIENT g c = record {
+  reply = (codes "refused: client", rw (past_client c.args.client (omega (arith, c.if-client-gt-MAX_CLIENT.true))) (refl, refl), c.put_all.ensures.wrote);
+}
 
 pub returns-in_err-put_client : goal.returns-in_err-put_client
 returns-in_err-put_client g c =

@@ -12,7 +12,12 @@ pub returns-in_err-put_client : goal.returns-in_err-put_client
 returns-in_err-put_client g c =
     let text = codes "refused: " ++ c.args.word.now in
     record {
-      reply = (said_to c.args.client text, rw (known_client c.args.client (omega (arith, c.if-client-gt-MAX_CLIENT.false))) refl, wrote_stops text c.from_residual.ensures.0 c.in_err-put_client.ensures.wrote);
+      reply = (
+        said_to c.args.client text,
+        rw (known_client c.args.client (omega (arith, c.if-client-gt-MAX_CLIENT.false))) refl,
+        wrote_stops text c.from_residual.ensures.0
+            c.in_err-put_client.ensures.wrote,
+      );
     }
 
 pub returns-in_err-put_all : goal.returns-in_err-put_all

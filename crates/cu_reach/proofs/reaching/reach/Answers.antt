@@ -19,7 +19,8 @@ returns-clause-holds g c =
     let h = g.R.Relaxer.hierarchy c.args.relaxer.now in
     let nodes = sym (labels_count c.desk.inside.labels) ∙ ap length c.desk.view_is ∙ c.requires.desk in
     subst (λ (answer : Reached). HoldsReached h c.args.from c.args.second answer (labels_of c.reach_all.new.self)) (sym c.reached_of.ensures)
-    (holds_reached h c.args.from c.args.second c.reach_all.new.self c.reach_all.result (c.reach_all.ensures.nodes ∙ nodes ∙ ap (λ (graph : ChordalValue). graph.ranks) c.requires.graph.0) c.reach_all.ensures.reached)
+    (holds_reached h c.args.from c.args.second c.reach_all.new.self c.reach_all.result
+    (c.reach_all.ensures.nodes ∙ nodes ∙ ap (λ (graph : ChordalValue). graph.ranks) c.requires.graph.0) c.reach_all.ensures.reached)
 
 pub returns-clause-least : goal.returns-clause-least
 returns-clause-least g c =

@@ -55,8 +55,8 @@ returns-in-Some-clause-fits c =
     let inside = c.room.inside in
     let nodes = length inside.pending.items in
     let fits = subst (Fits h) (sym c.room.view_is) c.requires.fits in
-    let made = subst (λ (rows : List Row). Fits h (record { nodes = nodes; rows = rows })) (sym c.make_rows.ensures.rows) fits in
-    fits_written h nodes inside.lists c.make_rows.new.rows.items (ap length c.make_rows.ensures.rows ∙ length_rows inside.lists inside.rows.items c.room.invariant.0) made
+    let made = subst (λ (rows : List Row). Fits h (record { nodes = nodes; rows = rows; downs = inside.downs.items })) (sym c.make_rows.ensures.rows) fits in
+    fits_written h nodes inside.lists c.make_rows.new.rows.items inside.downs.items (ap length c.make_rows.ensures.rows ∙ length_rows inside.lists inside.rows.items c.room.invariant.0) made
 
 pub returns-then-entries-eq0-clause-fits : goal.returns-then-entries-eq0-clause-fits
 returns-then-entries-eq0-clause-fits c =
@@ -64,8 +64,8 @@ returns-then-entries-eq0-clause-fits c =
     let inside = c.room.inside in
     let nodes = length inside.pending.items in
     let fits = subst (Fits h) (sym c.room.view_is) c.requires.fits in
-    let made = subst (λ (rows : List Row). Fits h (record { nodes = nodes; rows = rows })) (sym c.make_rows.ensures.rows) fits in
-    fits_written h nodes inside.lists c.make_rows.new.rows.items (ap length c.make_rows.ensures.rows ∙ length_rows inside.lists inside.rows.items c.room.invariant.0) made
+    let made = subst (λ (rows : List Row). Fits h (record { nodes = nodes; rows = rows; downs = inside.downs.items })) (sym c.make_rows.ensures.rows) fits in
+    fits_written h nodes inside.lists c.make_rows.new.rows.items inside.downs.items (ap length c.make_rows.ensures.rows ∙ length_rows inside.lists inside.rows.items c.room.invariant.0) made
 
 pub returns-clause-fits : goal.returns-clause-fits
 returns-clause-fits c =
@@ -76,9 +76,10 @@ returns-clause-fits c =
     let rows_is = with_items_is c.make_rows.new.rows c.unpack.new.rows (omega (arith, c.unpack.auto.rows, c.deref_mut.ensures.len)) in
     let pending_is = with_items_is inside.pending c.unpack.new.pending (omega (arith, c.unpack.auto.pending, c.deref_mut-2.ensures.len)) in
     let size : length c.unpack.new.rows ≡ inside.lists = omega (arith, c.unpack.auto.rows, ap length c.deref_mut.ensures.value, made) in
-    fits_written c.args.view.now _ inside.lists _ (ap length rows_is ∙ size)
+    fits_written c.args.view.now _ inside.lists _ inside.downs.items (ap length rows_is ∙ size)
     (record {
       nodes = omega (arith, ap length pending_is, c.unpack.auto.pending, ap length c.deref_mut-2.ensures.value, fits.nodes);
       lists = omega (arith, ap length rows_is, size, all, fits.lists);
       knows = subst (Knows c.args.view.now) (sym rows_is) c.unpack.ensures.knows;
+      downs = fits.downs;
     })

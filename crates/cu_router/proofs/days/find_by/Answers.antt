@@ -13,7 +13,7 @@ returns-clause-found c =
     let from = c.rank-from.result in
     let to = c.rank-to.result in
     let over : c.new-functions.result.hierarchy ≡ h = ap (λ (v : DayRebuiltValue). v.hierarchy) c.new-functions.ensures in
-    let found = subst (λ (k : HierarchyValue). IfOk c.day-found.result (IsDayFunction k from to)) over c.day-found.ensures.function in
-    let least = subst (λ (k : HierarchyValue). IfOk c.day-found.result (IsLeastWhereBuilt k from to)) over c.day-found.ensures.least in
-    held_day c.args.held.now h c.args.query from to c.day-found.result c.view-view.ensures.same c.rank-from.ensures.sound c.rank-from.ensures.there
+    let found = subst (λ (k : HierarchyValue). IfOk c.led_day-found.result (IsDayFunction k from to)) over c.led_day-found.ensures.function in
+    let least = subst (λ (k : HierarchyValue). IfOk c.led_day-found.result (IsLeastWhereBuilt k from to)) over c.led_day-found.ensures.least in
+    held_day c.args.held.now h c.args.query from to c.led_day-found.result c.view-view.ensures.same c.rank-from.ensures.sound c.rank-from.ensures.there
     c.rank-to.ensures.there found least

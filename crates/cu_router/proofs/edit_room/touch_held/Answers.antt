@@ -1,4 +1,4 @@
-use Rattle.std.proofs.Common.{◌≡◌, ◌∙◌, List, ap, length, subst, sym}
+use Rattle.std.proofs.Common.{◌∙◌, subst, sym}
 use Rattle.std.specs.Prelude.{IfOk, IfSome}
 use Rattle.cu_edits.specs.declared.recustomizing.Touched.{Touched}
 use Rattle.cu_edits.specs.Customized.{AreCustomized}

@@ -22,7 +22,8 @@ returns-in-Arrive-clause-near c =
     let swept = subst (λ (second : ℕ). IsAnswer h.network c.args.query.from c.args.query.to second c.find_walk.result) c.requires.same
     (c.find_walk.ensures.least c.requires.built c.args.query.from c.args.query.to u v) in
     let least = subst (IsAnswer h.network c.args.query.from c.args.query.to c.args.query.second) c.in-Arrive.is swept in
-    let near = arrival_near h.network h.order sound.network sound.order sound.same c.args.question.from c.args.question.to c.args.query.from c.args.query.to c.args.query.second c.in-Arrive.arrival u v least in
+    let near = arrival_near h.network h.order sound.network sound.order sound.same c.args.question.from c.args.question.to c.args.query.from c.args.query.to c.args.query.second
+    c.in-Arrive.arrival u v least in
     let few = sound.network.few_nodes in
     let day = c.requires.second in
     omega (arith, near, few, day)

@@ -14,19 +14,19 @@ put_found-requires-clause-holds g c = rw c.in-Depart.is at c.requires.holds
 
 pub put_found-requires-clause-least : goal.put_found-requires-clause-least
 put_found-requires-clause-least g c =
-    depart_least c.args.unpacker.now c.args.ranks.from c.args.ranks.to c.args.asked.by c.in-Depart.second c.in-Depart.arrive (rw c.in-Depart.is at c.requires.latest)
+    depart_least c.args.walks.now c.args.ranks.from c.args.ranks.to c.args.asked.by c.in-Depart.second c.in-Depart.arrive (rw c.in-Depart.is at c.requires.latest)
 
 pub put_found-requires-clause-real : goal.put_found-requires-clause-real
 put_found-requires-clause-real g c = rw c.in-Depart.is at c.requires.real
 
 pub returns-in_err-put_word_and_long-in-Depart-clause-wrote : goal.returns-in_err-put_word_and_long-in-Depart-clause-wrote
 returns-in_err-put_word_and_long-in-Depart-clause-wrote g c =
-    let rest = codes " " ++ swept_reply c.args.unpacker.now (query_at c.args.asked c.in-Depart.second) in
+    let rest = codes " " ++ swept_reply c.args.walks.now (query_at c.args.asked c.in-Depart.second) in
     rw c.in-Depart.is (wrote_same (simp append_assoc) (wrote_stops rest c.from_residual.ensures.0 c.in_err-put_word_and_long-in-Depart.ensures.wrote))
 
 pub returns-in_err-put_all-in-Depart-clause-wrote : goal.returns-in_err-put_all-in-Depart-clause-wrote
 returns-in_err-put_all-in-Depart-clause-wrote g c =
-    let rest = swept_reply c.args.unpacker.now (query_at c.args.asked c.in-Depart.second) in
+    let rest = swept_reply c.args.walks.now (query_at c.args.asked c.in-Depart.second) in
     let blank = wrote_then c.in_ok-put_word_and_long-in-Depart.ensures.wrote c.in_err-put_all-in-Depart.ensures.wrote in
     rw c.in-Depart.is (wrote_same (simp append_assoc) (wrote_stops rest c.from_residual-in_err-put_all-in-Depart.ensures.0 blank))
 

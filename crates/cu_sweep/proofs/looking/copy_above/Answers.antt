@@ -8,7 +8,7 @@ use Rattle.cu_chordal.proofs.Members.{member_cases, none_in_nil}
 use Rattle.cu_elimtree.specs.Trees.{ancestors_of}
 use Rattle.cu_elimtree.proofs.Climbing.{yielded_first}
 use Rattle.cu_interval.specs.LeastBounds.{far}
-use Rattle.cu_sweep.specs.Steps.Ahead.{ahead_at}
+use Rattle.cu_sweep.specs.Outlooks.{ahead_at}
 use Rattle.cu_sweep.proofs.Passes.{all_parts}
 use Rattle.cu_sweep.proofs.looking.copy_above.Goals as goal
 

@@ -1,6 +1,6 @@
 use Rattle.std.proofs.Common.{◌≡◌, ℕ, length}
 use Rattle.std.specs.List.{Contains}
-use Rattle.cu_sweep.specs.Steps.Ahead.{IsNear, ahead_at}
+use Rattle.cu_sweep.specs.Outlooks.{IsNear, ahead_at}
 use Rattle.cu_sweep.proofs.looking.copy_above.Given as goal
 
 abbrev pub invariant-ranks : goal.invariant-ranks

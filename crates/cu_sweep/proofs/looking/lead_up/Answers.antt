@@ -5,7 +5,7 @@ use Rattle.std.proofs.lemmas.Option.{slice_get-get_or}
 use Rattle.cu_chordal.specs.Graphs.{ChordalValue, first_edge_of, up_of}
 use Rattle.cu_interval.specs.declared.ways.Dir.TheVariants.{Down}
 use Rattle.cu_interval.specs.LeastBounds.{least_bound}
-use Rattle.cu_sweep.specs.Steps.Ahead.{ahead_at}
+use Rattle.cu_sweep.specs.Outlooks.{ahead_at}
 use Rattle.cu_sweep.proofs.Lowering.{lowered_here, lowered_less, lowered_near, lowered_other}
 use Rattle.cu_sweep.proofs.Neighbours.{edge_place, row_edge}
 use Rattle.cu_sweep.proofs.looking.lead_up.Goals as goal

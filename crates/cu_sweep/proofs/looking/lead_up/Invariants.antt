@@ -3,7 +3,7 @@ use Rattle.std.proofs.Common.{◌≡◌, ◌≤◌, ◌<◌, ◌+◌, ℕ, lengt
 use Rattle.cu_chordal.specs.Graphs.{first_edge_of, up_of}
 use Rattle.cu_interval.specs.declared.ways.Dir.TheVariants.{Down}
 use Rattle.cu_interval.specs.LeastBounds.{least_bound}
-use Rattle.cu_sweep.specs.Steps.Ahead.{IsNear, ahead_at}
+use Rattle.cu_sweep.specs.Outlooks.{IsNear, ahead_at}
 use Rattle.cu_sweep.proofs.looking.lead_up.Given as goal
 
 abbrev pub invariant-edges : goal.invariant-edges

@@ -6,7 +6,7 @@ use Rattle.cu_chordal.specs.declared.graph.TheConstants.{MAX_EDGES}
 use Rattle.cu_chordal.specs.Graphs.{ChordalValue, first_edge_of, up_of}
 use Rattle.cu_interval.specs.declared.ways.Dir.TheVariants.{Up}
 use Rattle.cu_interval.specs.LeastBounds.{least_bound}
-use Rattle.cu_sweep.specs.Steps.Ahead.{ahead_at}
+use Rattle.cu_sweep.specs.Outlooks.{ahead_at}
 use Rattle.cu_sweep.proofs.Neighbours.{edge_place, row_edge}
 use Rattle.cu_sweep.proofs.looking.least_ahead.Goals as goal
 

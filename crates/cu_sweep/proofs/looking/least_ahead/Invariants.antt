@@ -3,7 +3,7 @@ use Rattle.std.proofs.Common.{◌≡◌, ◌≤◌, ◌<◌, ◌+◌, ℕ, get_o
 use Rattle.cu_chordal.specs.Graphs.{first_edge_of, up_of}
 use Rattle.cu_interval.specs.declared.ways.Dir.TheVariants.{Up}
 use Rattle.cu_interval.specs.LeastBounds.{least_bound}
-use Rattle.cu_sweep.specs.Steps.Ahead.{ahead_at}
+use Rattle.cu_sweep.specs.Outlooks.{ahead_at}
 use Rattle.cu_sweep.proofs.looking.least_ahead.Given as goal
 
 abbrev pub invariant-edges : goal.invariant-edges

@@ -10,7 +10,7 @@ use Rattle.cu_elimtree.proofs.Climbing.{yielded_first}
 use Rattle.cu_interval.specs.declared.ways.Dir.TheVariants.{Down}
 use Rattle.cu_interval.specs.Hierarchies.{number_from}
 use Rattle.cu_interval.specs.LeastBounds.{least_bound}
-use Rattle.cu_sweep.specs.Steps.Ahead.{ahead_at}
+use Rattle.cu_sweep.specs.Outlooks.{ahead_at}
 use Rattle.cu_sweep.proofs.Ascending.{ancestor_above, before_below}
 use Rattle.cu_sweep.proofs.Passing.{tree_long}
 use Rattle.cu_sweep.proofs.Passes.{all_parts, member_inside}

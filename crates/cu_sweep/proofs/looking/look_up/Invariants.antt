@@ -4,7 +4,7 @@ use Rattle.std.specs.List.{Contains}
 use Rattle.cu_interval.specs.declared.ways.Dir.TheVariants.{Up}
 use Rattle.cu_interval.specs.Hierarchies.{number_from}
 use Rattle.cu_interval.specs.LeastBounds.{least_bound}
-use Rattle.cu_sweep.specs.Steps.Ahead.{IsNear, ahead_at}
+use Rattle.cu_sweep.specs.Outlooks.{IsNear, ahead_at}
 use Rattle.cu_sweep.proofs.looking.look_up.Given as goal
 
 abbrev pub invariant-ranks : goal.invariant-ranks

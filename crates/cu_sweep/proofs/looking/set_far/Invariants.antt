@@ -1,5 +1,5 @@
 use Rattle.std.proofs.Common.{◌≡◌, length}
-use Rattle.cu_sweep.specs.Steps.Ahead.{IsNear}
+use Rattle.cu_sweep.specs.Outlooks.{IsNear}
 use Rattle.cu_sweep.proofs.looking.set_far.Given as goal
 
 abbrev pub invariant-ranks : goal.invariant-ranks

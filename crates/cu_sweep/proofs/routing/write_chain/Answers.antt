@@ -24,7 +24,7 @@ links-init g c =
       stays = refl;
       within = begun.1;
       few = begun.0;
-      on = route_begun c.args.unpacker.now c.args.nodes c.args.labels.now before after c.args.end place (g.K.Sink.state c.args.sink.now) rises c.requires.end chain;
+      on = route_begun (g.W.Walker.hierarchy c.args.walker.now) c.args.nodes c.args.labels.now before after c.args.end place (g.K.Sink.state c.args.sink.now) rises c.requires.end chain;
     }
 
 pub follow-requires-clause-place : goal.follow-requires-clause-place
@@ -36,19 +36,19 @@ call_of-call-requires-clause-from g c = omega (arith, c.links.invariant.within, 
 pub call_of-call-requires-clause-edge : goal.call_of-call-requires-clause-edge
 call_of-call-requires-clause-edge g c =
     let link : link_at c.reverse_from-place.new.self.links c.links.place ≡ Some (c.in-Some.next, c.in-Some.edge) = search rules in
-    (route_next c.args.unpacker.now c.args.nodes c.args.labels.now c.args.chain.now.links c.reverse_from-place.new.self.links c.args.end c.links.place c.links.first
+    (route_next (g.W.Walker.hierarchy c.args.walker.now) c.args.nodes c.args.labels.now c.args.chain.now.links c.reverse_from-place.new.self.links c.args.end c.links.place c.links.first
     (g.K.Sink.state c.args.sink.now) (g.K.Sink.state c.links.sink) c.in-Some.next c.in-Some.edge
     (c.requires.ready.rises c.requires.unturned) c.requires.end c.requires.arriving c.links.invariant.on link).small
 
 pub write_some-requires : goal.write_some-requires
 write_some-requires g c =
     let link : link_at c.reverse_from-place.new.self.links c.links.place ≡ Some (c.in-Some.next, c.in-Some.edge) = search rules in
-    let next = route_next c.args.unpacker.now c.args.nodes c.args.labels.now c.args.chain.now.links c.reverse_from-place.new.self.links c.args.end c.links.place c.links.first
+    let next = route_next (g.W.Walker.hierarchy c.args.walker.now) c.args.nodes c.args.labels.now c.args.chain.now.links c.reverse_from-place.new.self.links c.args.end c.links.place c.links.first
     (g.K.Sink.state c.args.sink.now) (g.K.Sink.state c.links.sink) c.in-Some.next c.in-Some.edge
     (c.requires.ready.rises c.requires.unturned) c.requires.end c.requires.arriving c.links.invariant.on link in
     record {
       arriving = subst (λ (h : HierarchyValue). AreArriving h (calls_of_some c.call_of-call.result)) (sym c.links.invariant.stays)
-          (subst (AreArriving c.args.unpacker.now) (sym c.call_of-call.ensures) next.arriving);
+          (subst (AreArriving (g.W.Walker.hierarchy c.args.walker.now)) (sym c.call_of-call.ensures) next.arriving);
     }
 
 pub returns-in_err-first-clause-wrote : goal.returns-in_err-first-clause-wrote
@@ -61,20 +61,20 @@ returns-in_err-first-clause-wrote g c =
     let call = c.call_of-call.result in
     let wrote = subst (λ (h : HierarchyValue). Wrote {T = Bool} {E = SinkFailed} b d (Err fault)
     (walk_text c.links.first (roads_of h (calls_of_some call)))) c.links.invariant.stays c.in_err-first.ensures.wrote in
-    route_stops c.args.unpacker.now c.args.nodes c.args.labels.now c.args.chain.now.links c.reverse_from-place.new.self.links c.args.end c.links.place c.links.first
+    route_stops (g.W.Walker.hierarchy c.args.walker.now) c.args.nodes c.args.labels.now c.args.chain.now.links c.reverse_from-place.new.self.links c.args.end c.links.place c.links.first
     a b d c.in-Some.next c.in-Some.edge call SinkFailed fault c.from_residual.result c.links.invariant.on link c.call_of-call.ensures wrote c.from_residual.ensures.0
 
 pub links-smaller : goal.links-smaller
 links-smaller g c =
     let link : link_at c.reverse_from-place.new.self.links c.links.place ≡ Some (c.in-Some.next, c.in-Some.edge) = search rules in
-    let next = route_next c.args.unpacker.now c.args.nodes c.args.labels.now c.args.chain.now.links c.reverse_from-place.new.self.links c.args.end c.links.place c.links.first
+    let next = route_next (g.W.Walker.hierarchy c.args.walker.now) c.args.nodes c.args.labels.now c.args.chain.now.links c.reverse_from-place.new.self.links c.args.end c.links.place c.links.first
     (g.K.Sink.state c.args.sink.now) (g.K.Sink.state c.links.sink) c.in-Some.next c.in-Some.edge
     (c.requires.ready.rises c.requires.unturned) c.requires.end c.requires.arriving c.links.invariant.on link in
     omega (arith, next.up, next.few)
 
 pub links-preserved : goal.links-preserved
 links-preserved g c =
-    let h = c.args.unpacker.now in
+    let h = g.W.Walker.hierarchy c.args.walker.now in
     let link : link_at c.reverse_from-place.new.self.links c.links.place ≡ Some (c.in-Some.next, c.in-Some.edge) = search rules in
     let next = route_next h c.args.nodes c.args.labels.now c.args.chain.now.links c.reverse_from-place.new.self.links c.args.end c.links.place c.links.first
     (g.K.Sink.state c.args.sink.now) (g.K.Sink.state c.links.sink) c.in-Some.next c.in-Some.edge
@@ -98,5 +98,5 @@ links-preserved g c =
 pub returns-clause-wrote : goal.returns-clause-wrote
 returns-clause-wrote g c =
     let none : link_at c.reverse_from-place.new.self.links c.links.place ≡ None = sym c.follow.ensures ∙ c.in_default.is in
-    wrote_ok (route_over c.args.unpacker.now c.args.nodes c.args.labels.now c.args.chain.now.links c.reverse_from-place.new.self.links c.args.end c.links.place c.links.first
+    wrote_ok (route_over (g.W.Walker.hierarchy c.args.walker.now) c.args.nodes c.args.labels.now c.args.chain.now.links c.reverse_from-place.new.self.links c.args.end c.links.place c.links.first
     (g.K.Sink.state c.args.sink.now) (g.K.Sink.state c.links.sink) c.links.invariant.on none)

@@ -6,10 +6,10 @@ use Rattle.cu_sweep.proofs.routing.write_chain.Given as goal
 
 abbrev pub invariant-links : goal.invariant-links
 invariant-links g l = record {
-  stays : l.unpacker ≡ l.fn.unpacker;
+  stays : g.W.Walker.hierarchy l.walker ≡ g.W.Walker.hierarchy l.fn.walker;
   within : l.place ≤ 2 * l.fn.nodes;
   few : turn_of l.fn.nodes l.place ≤ 2 * l.fn.nodes;
-  on : IsOnRoute l.fn.unpacker l.fn.nodes l.fn.labels l.fn.chain.links l.chain.links l.fn.end l.place l.first (g.K.Sink.state l.fn.sink) (g.K.Sink.state l.sink);
+  on : IsOnRoute (g.W.Walker.hierarchy l.fn.walker) l.fn.nodes l.fn.labels l.fn.chain.links l.chain.links l.fn.end l.place l.first (g.K.Sink.state l.fn.sink) (g.K.Sink.state l.sink);
 }
 
 abbrev pub decreases-links : goal.decreases-links

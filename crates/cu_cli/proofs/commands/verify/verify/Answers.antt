@@ -40,7 +40,8 @@ returns-in-Some g c =
     let spells = rw c.deref.ensures.value at c.adopt-view.ensures.spells in
     record {
       works = λ source. verify_works name
-          (differs _ _ source _ name c.adopt-view.result opened.loads (opens_held (g.H.Shelf.state c.args.shelf.now) (hierarchy_file name ∷ []) [] opened.ok.1 opened.ok.2 spells) c.in-Some.found (rw c.in-Some.is at c.in_ok-found.ensures.found));
+          (differs _ _ source _ name c.adopt-view.result opened.loads
+          (opens_held (g.H.Shelf.state c.args.shelf.now) (hierarchy_file name ∷ []) [] opened.ok.1 opened.ok.2 spells) c.in-Some.found (rw c.in-Some.is at c.in_ok-found.ensures.found));
     }
 
 pub returns-in_err-put_line : goal.returns-in_err-put_line
@@ -52,7 +53,8 @@ returns-in_err-put_line g c =
     rw (err_is c.from_residual-in_err-put_line.result stop.Sink c.from_residual-in_err-put_line.ensures.1)
     (record {
       works = λ source. verify_works name
-          (same_unsaid _ _ source _ name c.adopt-view.result opened.loads (opens_held (g.H.Shelf.state c.args.shelf.now) (hierarchy_file name ∷ []) [] opened.ok.1 opened.ok.2 spells) _ built c.in_err-put_line.ensures.wrote);
+          (same_unsaid _ _ source _ name c.adopt-view.result opened.loads
+          (opens_held (g.H.Shelf.state c.args.shelf.now) (hierarchy_file name ∷ []) [] opened.ok.1 opened.ok.2 spells) _ built c.in_err-put_line.ensures.wrote);
     })
 
 pub returns : goal.returns
@@ -63,5 +65,6 @@ returns g c =
     let built = rw c.in_default.is at c.in_ok-found.ensures.found in
     record {
       works = λ source. verify_works name
-          (same_said _ _ source _ name c.adopt-view.result opened.loads (opens_held (g.H.Shelf.state c.args.shelf.now) (hierarchy_file name ∷ []) [] opened.ok.1 opened.ok.2 spells) _ built c.in_ok-put_line.ensures.wrote);
+          (same_said _ _ source _ name c.adopt-view.result opened.loads
+          (opens_held (g.H.Shelf.state c.args.shelf.now) (hierarchy_file name ∷ []) [] opened.ok.1 opened.ok.2 spells) _ built c.in_ok-put_line.ensures.wrote);
     }

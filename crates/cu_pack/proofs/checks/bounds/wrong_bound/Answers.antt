@@ -2,8 +2,8 @@ use Rattle.std.proofs.Common.{◌*◌, ◌∙◌, ℕ, List, ap, length, sym, su
 use Rattle.std.proofs.lemmas.Result.{IfOk-weaker}
 use Rattle.cu_interval.specs.Hierarchies.{HierarchyValue}
 use Rattle.cu_bounds.specs.KeptBounds.{FindsFirstWrong}
+use Rattle.cu_pack.specs.Halves.{FinderValue}
 use Rattle.cu_pack.specs.Reading.{bound_in, counts_in, decoded, edge_start}
-use Rattle.cu_pack.specs.Steps.Cursors.{FinderValue}
 use Rattle.cu_pack.proofs.Read.FirstBound.{first_bound}
 use Rattle.cu_pack.proofs.Read.FirstList.{no_edge_before}
 use Rattle.cu_pack.proofs.Viewed.Views.{edges_known}

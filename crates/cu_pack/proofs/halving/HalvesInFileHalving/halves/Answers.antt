@@ -1,8 +1,8 @@
 use Rattle.std.proofs.Common.{◌∙◌, ℕ, Some, ap, subst, sym}
 use Rattle.cu_chordal.specs.declared.graph.Ends.{Ends}
 use Rattle.cu_interval.specs.Shortcuts.{IsMiddle}
+use Rattle.cu_pack.specs.Halves.{FinderValue}
 use Rattle.cu_pack.specs.Reading.{decoded}
-use Rattle.cu_pack.specs.Steps.Cursors.{FinderValue}
 use Rattle.cu_pack.proofs.Read.EdgesRead.{edge_there}
 use Rattle.cu_pack.proofs.Read.HalfEdges.{middle_inside}
 use Rattle.cu_pack.proofs.halving.HalvesInFileHalving.halves.Goals as goal

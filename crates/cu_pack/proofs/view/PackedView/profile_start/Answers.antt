@@ -16,4 +16,7 @@ profile_start-requires c =
 pub returns : goal.returns
 returns c =
     let bytes = c.self.inside.sections in
-    record { start = c.profile_start.ensures.start ∙ profile_start_known bytes c.args.self.now (spelled_sections bytes c.args.self.now (subst (Spells bytes) c.self.view_is c.self.invariant)) c.args.profile c.requires.inside }
+    record {
+      start = c.profile_start.ensures.start ∙ profile_start_known bytes c.args.self.now
+          (spelled_sections bytes c.args.self.now (subst (Spells bytes) c.self.view_is c.self.invariant)) c.args.profile c.requires.inside;
+    }

@@ -50,5 +50,6 @@ returns c =
     record {
       part =
           c.between.ensures.part ∙ same_part bytes start end _ _ (omega (arith, at, c.from.ensures)) (omega (arith, at, c.from-2.ensures))
-          ∙ profile_starts_part bytes c.args.self.now (spelled_sections bytes c.args.self.now (subst (Spells bytes) c.self.view_is c.self.invariant)) c.args.start c.args.end c.requires.order c.requires.inside;
+          ∙ profile_starts_part bytes c.args.self.now
+          (spelled_sections bytes c.args.self.now (subst (Spells bytes) c.self.view_is c.self.invariant)) c.args.start c.args.end c.requires.order c.requires.inside;
     }

@@ -1,13 +1,37 @@
-use Rattle.std.proofs.Common.{◌≡◌, ◌<◌, ◌∙◌, ℕ, Bool, List, ap, false, length, subst, sym, All}
-use Rattle.cu_edits.specs.Customized.{marked}
+use Rattle.std.proofs.Common.{◌<◌, ◌∙◌, ℕ, Bool, List, ap, false, length, subst, sym, All}
+use Rattle.cu_edits.specs.Settling.{numbers_of}
 use Rattle.cu_interval.specs.declared.ways.TouchedEdge.{TouchedEdge}
 use Rattle.cu_interval.specs.Hierarchies.{HierarchyValue}
-use Rattle.cu_pack.specs.Checks.{sealed}
+use Rattle.cu_interval.specs.Replacing.{hierarchy_with}
+use Rattle.cu_pack.specs.Checks.{Spells, sealed}
 use Rattle.cu_pack.specs.Reading.{decoded}
+use Rattle.cu_pack.proofs.Viewed.Views.{said_again}
 use Rattle.cu_router.specs.Changes.{IsChange}
-use Rattle.cu_router.specs.Steps.Holding.{HoldsFile, IsKnown}
-use Rattle.cu_router.proofs.HeldLaws.{changed_over, decoded_is, known_over, touched_below}
+use Rattle.cu_router.specs.Steps.Holding.{HoldsFile, IsKnown, IsKnownBut}
+use Rattle.cu_router.proofs.HeldLaws.{change_below, changed_over, decoded_is, known_over, touched_below}
 use Rattle.cu_router.proofs.held_file.HeldFile.change_over.Goals as goal
+
+pub adopt-requires : goal.adopt-requires
+adopt-requires c =
+    let change = c.requires.change in record {
+      spelled = subst (λ (bs : List ℕ). Spells (sealed bs) (decoded (sealed bs))) (sym c.deref.ensures.value)
+          (said_again (sealed c.args.bytes.items) (hierarchy_with c.args.self.now change.edit c.args.lists.now) change.spelled);
+    }
+
+pub renew-requires : goal.renew-requires
+renew-requires c =
+    let lists = c.args.lists.now in
+    let inside = c.self.inside in
+    let bytes = c.args.bytes.items in
+    let h = decoded (sealed inside.bytes.items) in
+    let change = subst (λ (g : HierarchyValue). IsChange g bytes lists) (sym c.self.view_is) c.requires.change in
+    let same = sym (c.adopt.ensures.same ∙ ap (λ (bs : List ℕ). decoded (sealed bs)) c.deref.ensures.value) in
+    record {
+      rising = change.touched.rising;
+      edges = subst (λ (g : HierarchyValue). All (λ (touched : TouchedEdge). touched.edge < length g.edges) lists) same (change_below h bytes lists change);
+      known = subst (λ (g : HierarchyValue). IsKnownBut g inside.known (numbers_of lists)) same
+          (known_over h bytes lists inside.known c.self.invariant.0.spelled.sound change c.self.invariant.1);
+    }
 
 pub mark-requires : goal.mark-requires
 mark-requires c =
@@ -24,10 +48,10 @@ invariant_of-self c =
     let bytes = c.args.bytes.items in
     let h = decoded (sealed inside.bytes.items) in
     let change = subst (λ (g : HierarchyValue). IsChange g bytes c.args.lists.now) (sym c.self.view_is) c.requires.change in
-    let known = known_over h bytes c.args.lists.now inside.known change c.self.invariant.1 in (
+    let same = c.adopt.ensures.same ∙ ap (λ (bs : List ℕ). decoded (sealed bs)) c.deref.ensures.value in (
       subst (λ (marks : List Bool). HoldsFile (decoded (sealed bytes)) bytes false inside.graph inside.tree marks) (sym c.mark.ensures)
           (changed_over h inside.bytes.items bytes inside.has_digest inside.graph inside.tree inside.customized c.args.lists.now c.self.invariant.0 change),
-      subst (IsKnown (decoded (sealed bytes))) (sym c.after_edit-self-inside.ensures) known,
+      subst (λ (g : HierarchyValue). IsKnown g c.renew.new.self) same c.renew.ensures.known,
     )
 
 pub returns : goal.returns

@@ -10,4 +10,4 @@ knowing-requires-clause-known c = λ h spells.
     knows_of c.args.bytes.items view h c.in_ok-customized.customized here spells (c.in_ok-customized.ensures.long ∙ c.edges-edges.ensures.count) (c.in_ok-customized.ensures.customized h))
 
 pub knowing-requires-clause-walks : goal.knowing-requires-clause-walks
-knowing-requires-clause-walks c = λ h spells. c.in_ok-known.ensures h (subst (λ (bytes : List ℕ). Spells bytes h) (sym c.deref-2.ensures.value) spells)
+knowing-requires-clause-walks c = λ h spells. c.in_ok-known.ensures.known h (subst (λ (bytes : List ℕ). Spells bytes h) (sym c.deref-2.ensures.value) spells)

@@ -1,10 +1,10 @@
-use Rattle.std.proofs.Common.{◌<◌, List, length, refl, subst, sym, All}
+use Rattle.std.proofs.Common.{◌<◌, length, subst, sym, All}
 use Rattle.cu_interval.specs.declared.ways.TouchedEdge.{TouchedEdge}
 use Rattle.cu_interval.specs.Hierarchies.{HierarchyValue, IsHierarchy}
 use Rattle.cu_interval.specs.Replacing.{hierarchy_with}
 use Rattle.cu_edits.proofs.BoundsStay.{untouched_bound}
 use Rattle.cu_pack.specs.Repacking.{KeepsOtherBounds}
-use Rattle.cu_router.proofs.HeldLaws.{spelled_with, touched_below}
+use Rattle.cu_router.proofs.HeldLaws.{touched_below}
 use Rattle.cu_router.proofs.held_file.HeldFile.repacked.Goals as goal
 
 pub repack_touched-requires-clause-edges : goal.repack_touched-requires-clause-edges

@@ -3,25 +3,19 @@ use Rattle.std.specs.Prelude.{slice_get}
 use Rattle.cu_io.specs.Sinks.{Wrote}
 use Rattle.cu_interval.specs.Hierarchies.{HierarchyValue, IsHierarchy}
 use Rattle.cu_reach.specs.Departures.{IsDeparture, IsLatestWhereBuilt}
-use Rattle.cu_recall.specs.Spans.{Knows}
 use Rattle.cu_router.specs.Reaches.{IsHeldLatestReply}
 use Rattle.cu_router.specs.Steps.Departing.{departure_text}
 use Rattle.cu_router.proofs.DepartureLaws.{departure_told}
 use Rattle.cu_router.proofs.query_room.QueryRoom.put_latest.Goals as goal
 
-pub new-ways-requires-clause-knows : goal.new-ways-requires-clause-knows
-new-ways-requires-clause-knows g c =
-    let same = c.latest-departure.ensures.stays ∙ c.new-recall.ensures.view in
-    c.rows.ensures.knows c.view-view.result (subst (λ (h : HierarchyValue). Knows h c.into_room-room.result.rows) same c.into_room-room.ensures.fits.knows)
-
 pub put_departure-outcome-requires-clause-departs : goal.put_departure-outcome-requires-clause-departs
 put_departure-outcome-requires-clause-departs g c =
-    let same = c.new-recall.ensures.view ∙ sym c.new-ways.ensures.view ∙ sym c.new-unpacker.ensures in
+    let same = sym c.latest-departure.ensures.stays ∙ sym c.of-walks.ensures in
     subst (λ (h : HierarchyValue). IsDeparture h c.rank-from.result c.rank-to.result c.args.asked.by c.latest-departure.result) same c.latest-departure.ensures.departure
 
 pub put_departure-outcome-requires-clause-latest : goal.put_departure-outcome-requires-clause-latest
 put_departure-outcome-requires-clause-latest g c =
-    let same = c.new-recall.ensures.view ∙ sym c.new-ways.ensures.view ∙ sym c.new-unpacker.ensures in
+    let same = sym c.latest-departure.ensures.stays ∙ sym c.of-walks.ensures in
     subst (λ (h : HierarchyValue). IsLatestWhereBuilt h c.rank-from.result c.rank-to.result c.args.asked.by c.latest-departure.result) same c.latest-departure.ensures.latest
 
 pub returns-clause-reply : goal.returns-clause-reply
@@ -37,7 +31,7 @@ returns-clause-reply g c =
     let told = departure_told c.new-recall.result sound asked c.rank-from.result c.rank-to.result start stop found.result found.new.desk
     found.ensures.departure found.ensures.latest found.ensures.holds found.ensures.real in
     let wrote = subst (λ (h : HierarchyValue). Wrote (g.K.Sink.state c.args.sink.now) (g.K.Sink.state c.put_departure-outcome.new.sink) c.put_departure-outcome.result
-    (departure_text h asked found.result)) (c.new-unpacker.ensures ∙ c.new-ways.ensures.view ∙ seen) c.put_departure-outcome.ensures.wrote in (
+    (departure_text h asked found.result)) (c.of-walks.ensures ∙ c.latest-departure.ensures.stays ∙ over ∙ seen) c.put_departure-outcome.ensures.wrote in (
       departure_text held asked found.result,
       subst (λ (h : HierarchyValue). IsHeldLatestReply h asked (departure_text h asked found.result)) (over ∙ seen) told,
       wrote,

@@ -1,4 +1,4 @@
-use Rattle.std.proofs.Common.{◌≡◌, ◌∙◌, ℕ, List, ap, length, subst, sym}
+use Rattle.std.proofs.Common.{◌≡◌, ◌∙◌, List, ap, length, subst, sym}
 use Rattle.cu_model.specs.declared.roads.Edit.{Edit}
 use Rattle.cu_model.specs.Edits.{IsEditInRange}
 use Rattle.cu_edits.specs.Settling.{numbers_of}
@@ -45,7 +45,7 @@ invariant_of-self-2 c =
     let new = hierarchy_with held edit lists in
     let same : c.change_over.new.self ≡ new = c.change_over.ensures.changed new spells in
     let fits = fits_after held new edit c.in_ok-touched.ensures.resettled c.self.inside.queries c.forget.new.self c.self.invariant.0
-    c.forget.ensures.nodes c.forget.ensures.lists (c.forget.ensures.knows new) in
+    c.forget.ensures.nodes c.forget.ensures.lists (c.forget.ensures.knows new) (c.forget.ensures.downs new) in
     let nodes : length c.self.inside.reaches ≡ new.network.nodes = c.self.invariant.2 ∙ sym (sym fits.nodes ∙ c.forget.ensures.nodes ∙ c.self.invariant.0.nodes) in (
       subst (λ (h : HierarchyValue). Fits h c.forget.new.self) (sym same) fits,
       subst (λ (h : HierarchyValue). HasEditRoom h c.touch_held.new.room) (sym same) c.in_ok-touched.ensures.room,

@@ -10,6 +10,7 @@ invariant_of-result c =
         nodes = made.nodes ∙ c.nodes-nodes.ensures.count ∙ ap (λ (h : HierarchyValue). h.network.nodes) same;
         lists = omega (arith, made.lists, c.edges-edges.ensures.count, ap (λ (h : HierarchyValue). length h.edges) same);
         knows = made.knows c.args.held;
+        downs = made.downs c.args.held;
       },
       tt,
       c.in_ok-reaches.ensures.nodes ∙ c.nodes-nodes.ensures.count ∙ ap (λ (h : HierarchyValue). h.network.nodes) same,

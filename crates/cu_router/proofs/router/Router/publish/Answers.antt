@@ -57,7 +57,7 @@ invariant_of-self-2 c =
     let spelled = subst (λ (lists : List TouchedEdge). Spells (sealed bytes) (hierarchy_with held busy.edit lists)) c.lists.ensures c.in-Ok-repacked.ensures.spelled in
     let same : c.change_over.new.self ≡ new = c.change_over.ensures.changed new spelled in
     let queries = fits_after held new busy.edit (ready_resettled held busy fits c.requires.none) c.self.inside.queries c.forget.new.self c.self.invariant.0
-    c.forget.ensures.nodes c.forget.ensures.lists (c.forget.ensures.knows new) in
+    c.forget.ensures.nodes c.forget.ensures.lists (c.forget.ensures.knows new) (c.forget.ensures.downs new) in
     let nodes : length c.self.inside.reaches ≡ new.network.nodes = c.self.invariant.2 ∙ sym (sym queries.nodes ∙ c.forget.ensures.nodes ∙ c.self.invariant.0.nodes) in (
       subst (λ (h : HierarchyValue). Fits h c.forget.new.self) (sym same) queries,
       subst (λ (h : HierarchyValue). HasEditRoom h c.finish-papers.result.1) (sym same) c.finish-papers.ensures.room,

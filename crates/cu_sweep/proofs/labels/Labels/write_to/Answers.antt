@@ -14,4 +14,4 @@ write_chain-requires-clause-arriving g c =
     ap (λ (n : ℕ). calls_found n now.seconds now.links end) (sym c.nodes-nodes.ensures.count)
     ∙ ap (λ (v : LabelsValue). calls_found nodes v.seconds v.links end) (sym c.self.view_is)
     ∙ ap (λ (xs : List (Option ℕ)). calls_found nodes xs inside.chain.links end) (sym c.deref.ensures.value) in
-    subst (AreArriving c.args.unpacker.now) calls c.requires.arriving
+    subst (AreArriving (g.W.Walker.hierarchy c.args.walker.now)) calls c.requires.arriving

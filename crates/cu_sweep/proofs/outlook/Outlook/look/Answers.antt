@@ -9,7 +9,7 @@ use Rattle.cu_elimtree.proofs.Climbing.{ancestors_below, ancestors_rise, tree_of
 use Rattle.cu_interval.specs.Hierarchies.{graph_of}
 use Rattle.cu_links.proofs.Setting.{whole_back}
 use Rattle.cu_sweep.specs.Outlooks.{OutlookValue}
-use Rattle.cu_sweep.specs.Steps.Ahead.{IsAhead, IsNear, ahead_at}
+use Rattle.cu_sweep.specs.Outlooks.{IsAhead, IsNear, ahead_at}
 use Rattle.cu_sweep.proofs.Ancestry.{parents_are_tree}
 use Rattle.cu_sweep.proofs.Passing.{tree_long}
 use Rattle.cu_sweep.proofs.outlook.Outlook.look.Goals as goal

@@ -1,5 +1,0 @@
-use Rattle.std.proofs.Common.{◌≡◌}
-use Rattle.tests_hierarchy.proofs.sweep.finds_tells_and_writes.Given as goal
-
-abbrev pub invariant-rows : goal.invariant-rows
-invariant-rows g l = l.desk.nodes ≡ 3
