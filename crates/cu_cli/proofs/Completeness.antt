@@ -1,6 +1,6 @@
 -- Where nothing fails, a command that can be done is done, but for want of memory and what its meaning says.
-use Rattle.std.proofs.Common.{◌≡◌, ◌<◌, ◌≤◌, ◌⊎◌, ◌∙◌, ◌∷◌, [], ℕ, List, length, refl, sym, ap, subst, arith, inl, inr, length-append}
-use Rattle.std.specs.Prelude.{Option, Some, None, Result, Ok, Err}
+use Rattle.std.proofs.Common.{◌≡◌, ◌<◌, ◌⊎◌, ◌∙◌, ◌∷◌, [], ℕ, List, length, refl, sym, ap, subst, arith, inl, inr, length-append}
+use Rattle.std.specs.Prelude.{Option, Some, None, Result, Ok}
 use Rattle.cu_io.specs.Counts.{Rose}
 use Rattle.cu_io.specs.Shelves.{ShelfState}
 use Rattle.cu_io.specs.Sinks.{SinkState}
@@ -14,7 +14,7 @@ use Rattle.cu_roads.specs.NetworkTexts.{NetworkRead, network_of}
 use Rattle.cu_roads.specs.declared.refusals.RoadRefusal.{RoadRefusal}
 use Rattle.cu_session.specs.declared.stops.SessionStop.{SessionStop}
 use Rattle.cu_session.specs.declared.stops.SessionStop.TheVariants as session
-use Rattle.cu_session.specs.Sessions.{AnswersBy, Leaves, take_limit}
+use Rattle.cu_session.specs.Sessions.{AnswersBy, take_limit}
 use Rattle.cu_cli.specs.declared.stops.Stop.{Stop}
 use Rattle.cu_cli.specs.declared.stops.Stop.TheVariants as stop
 use Rattle.cu_cli.specs.Endings.{Answers, Ending, EndsPacking, EndsStoring, IsTooLarge, ending_of}

@@ -1,8 +1,7 @@
 -- Tables read with profiles in pieces that stand for measured ones: the network is the converted one, and what follows from its roads alone
 -- follows from those of the measured one.
 use Rattle.std.proofs.Common.{◌≡◌, ◌∙◌, ℕ, zero, suc, List, [], ◌∷◌, length, map, refl, sym, ap, subst, inl, inr}
-use Rattle.std.specs.Prelude.{Option, Some, None, Result, Ok, Err, not, slice_get}
-use Rattle.std.specs.Option.{option_map}
+use Rattle.std.specs.Prelude.{Result, Ok, Err, not, slice_get}
 use Rattle.std.specs.List.{filter, list_any, range_with_len}
 use Rattle.std.proofs.lemmas.List.{length-map}
 use Rattle.cu_dissect.specs.Dissection.{Dissected as DissectedNodes, dissected, dissected_by, joins, left_of, rest_of, right_of}
@@ -10,7 +9,6 @@ use Rattle.cu_model.specs.declared.profiles.Piece.{Piece}
 use Rattle.cu_model.specs.declared.roads.RoadArc.{RoadArc}
 use Rattle.cu_model.specs.Networks.{NetworkValue}
 use Rattle.cu_model.specs.Orders.{OrderValue}
-use Rattle.cu_order.specs.OrderTexts.{order_of}
 use Rattle.cu_order.specs.declared.refusals.OrderRefusal.{OrderRefusal}
 use Rattle.cu_profile.specs.declared.refusals.ProfileRefusal.{ProfileRefusal}
 use Rattle.cu_profile.specs.ProfileTexts.{profiles_of_text}
@@ -21,7 +19,7 @@ use Rattle.cu_session.specs.Waiting.{roads_of}
 use Rattle.cu_session.proofs.RoadsAlone.{edges_same, many_same}
 use Rattle.cu_wait.specs.declared.points.Point.{Point}
 use Rattle.cu_wait.specs.Converted.{AreConverted, IsConverted, StandForSome}
-use Rattle.cu_wait.specs.Networks.{Measured, RawNetwork, RawProfile}
+use Rattle.cu_wait.specs.Networks.{Measured}
 use Rattle.cu_io.specs.Shelves.{ShelfState}
 use Rattle.cu_interval.specs.Hierarchies.{HierarchyValue, IsBuilt}
 use Rattle.cu_cli.specs.declared.preparing.OrderGiven.{OrderGiven}

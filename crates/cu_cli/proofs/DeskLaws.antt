@@ -8,7 +8,6 @@ use Rattle.cu_io.specs.Sources.{SourceState}
 use Rattle.cu_interval.specs.Hierarchies.{HierarchyValue, IsBuilt}
 use Rattle.cu_pack.specs.Spelling.{spelling}
 use Rattle.cu_session.specs.declared.stops.SessionStop.{SessionStop}
-use Rattle.cu_session.specs.declared.stops.SessionStop.TheVariants as session
 use Rattle.cu_session.specs.Sessions.{AnswersBy, EndsLines, Leaves}
 use Rattle.cu_session.proofs.Legal.{answers_so}
 use Rattle.cu_desk.specs.HeldDesks.{HeldDesk, IsHeldDeskOutput, IsHeldDeskText, desk_over}
@@ -16,10 +15,10 @@ use Rattle.cu_desk.specs.NetworkDesks.{IsDeskOutput}
 use Rattle.cu_desk.proofs.NetworkRuns.{legal_desk, replies_follow}
 use Rattle.cu_cli.specs.declared.stops.Stop.{Stop}
 use Rattle.cu_cli.specs.declared.stops.Stop.TheVariants as stop
-use Rattle.cu_cli.specs.Commands.Desk.{EndsDesk, EndsDeskEarly, EndsDeskWhole, IsPublished, serving_desk}
+use Rattle.cu_cli.specs.Commands.Desk.{EndsDesk, IsPublished, serving_desk}
 use Rattle.cu_cli.specs.Endings.{Ending, EndsPacking, IsTooLarge, ending_of, packed_file}
 use Rattle.cu_cli.specs.Opening.{Opens, StopsOpening}
-use Rattle.cu_cli.specs.Stops.{numbers_text, status_at}
+use Rattle.cu_cli.specs.Stops.{numbers_text}
 use Rattle.cu_cli.specs.Storing.{FileMade}
 use Rattle.cu_cli.specs.Words.{hierarchy_file}
 use Rattle.cu_cli.specs.Steps.Loading.{OnlyLoads}

@@ -14,13 +14,13 @@ use Rattle.cu_session.proofs.Legal.{done_built}
 use Rattle.cu_cli.specs.declared.stops.Stop.{Stop}
 use Rattle.cu_cli.specs.declared.stops.Stop.TheVariants as stop
 use Rattle.cu_cli.specs.Commands.Edit.{EndsEdit, EndsEditing, editing}
-use Rattle.cu_cli.specs.Endings.{Ending, IsTooLarge, ending_of, packed_file}
+use Rattle.cu_cli.specs.Endings.{IsTooLarge, ending_of, packed_file}
 use Rattle.cu_cli.specs.Opening.{Opens, StopsOpening}
 use Rattle.cu_cli.specs.Stops.{numbers_text}
 use Rattle.cu_cli.specs.Words.{editing_files}
 use Rattle.cu_cli.specs.Steps.Loading.{OnlyLoads}
 use Rattle.cu_cli.specs.Steps.Outcomes.{Did, IsBeforeScript, world_of}
-use Rattle.cu_cli.proofs.Completeness.{Fine, IsComplete, opening_stops, packing_stops}
+use Rattle.cu_cli.proofs.Completeness.{IsComplete, opening_stops, packing_stops}
 use Rattle.cu_cli.proofs.LoadLaws.{only_refused}
 use Rattle.cu_cli.proofs.StoreLaws.{Storing}
 use Rattle.cu_cli.proofs.WorkLaws.{Behind, ends_so, leaves_behind, stopped_before, stopped_behind}

@@ -1,6 +1,6 @@
 -- Measured profiles read and stored.
 use Rattle.std.proofs.Common.{◌≡◌, ◌≢◌, ◌∙◌, ◌∷◌, [], ℕ, List, length, inl, inr, sym, refl, subst}
-use Rattle.std.specs.Prelude.{Option, Some, Result, Ok, Err}
+use Rattle.std.specs.Prelude.{Result, Ok, Err}
 use Rattle.cu_io.specs.Counts.{Rose}
 use Rattle.cu_io.specs.Shelves.{ShelfState}
 use Rattle.cu_wait.specs.declared.points.Point.{Point}
@@ -9,7 +9,7 @@ use Rattle.cu_wait.specs.declared.refusals.MeasuredRefusal.TheVariants as measur
 use Rattle.cu_wait.specs.MeasuredTexts.{measured_of_text}
 use Rattle.cu_cli.specs.declared.stops.Stop.{Stop}
 use Rattle.cu_cli.specs.declared.stops.Stop.TheVariants as stop
-use Rattle.cu_cli.specs.Commands.Measure.{EndsMeasure, IsMeasurable, StopsMeasured, StopsMeasuring, measured_file, measured_text, measuring, profiles_file}
+use Rattle.cu_cli.specs.Commands.Measure.{IsMeasurable, StopsMeasured, StopsMeasuring, measured_file, measured_text, measuring, profiles_file}
 use Rattle.cu_cli.specs.Steps.Outcomes.{IsRefusal, stop_of_measured}
 use Rattle.cu_cli.proofs.Completeness.{IsComplete, loads_stop, same_texts, storing_stops}
 

@@ -1,5 +1,5 @@
 -- The order that is asked for, and what gives it.
-use Rattle.std.proofs.Common.{ℕ, List, ◌∷◌, inl, inr}
+use Rattle.std.proofs.Common.{◌∷◌, inl, inr}
 use Rattle.cu_io.specs.Shelves.{ShelfState}
 use Rattle.cu_model.specs.Orders.{OrderValue}
 use Rattle.cu_order.specs.declared.refusals.OrderRefusal.{OrderRefusal}

@@ -1,5 +1,5 @@
 -- Numbers behind a word, one after another.
-use Rattle.std.proofs.Common.{◌≡◌, ◌<◌, ◌+◌, ◌∙◌, ◌∷◌, ◌++◌, [], ℕ, List, zero, suc, length, take, get_or, refl, sym, arith, append_assoc, decimal}
+use Rattle.std.proofs.Common.{◌≡◌, ◌<◌, ◌+◌, ◌∙◌, ◌∷◌, ◌++◌, [], ℕ, List, zero, suc, length, take, get_or, sym, arith, append_assoc, decimal}
 use Rattle.std.proofs.lemmas.List.{append-nil}
 use Rattle.std.specs.Prelude.{codes}
 use Rattle.cu_cli.specs.Stops.{numbers_text}

@@ -1,5 +1,5 @@
 -- Stores one after another, and what is said of them.
-use Rattle.std.proofs.Common.{◌≡◌, ◌≤◌, ◌∙◌, ◌∷◌, ◌++◌, [], ℕ, List, take, refl, ap, subst, arith, inl, inr, false}
+use Rattle.std.proofs.Common.{◌≡◌, ◌∙◌, ◌∷◌, ◌++◌, [], ℕ, List, take, refl, ap, subst, arith, inl, inr, false}
 use Rattle.std.specs.Prelude.{Option, Some, None, Result, Ok, Err, IfErr, OnOk, is_some}
 use Rattle.cu_io.specs.Holdings.{Holds, KeepsOthers}
 use Rattle.cu_io.specs.Shelves.{ShelfState}

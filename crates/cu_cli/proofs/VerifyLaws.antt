@@ -1,5 +1,5 @@
 -- What a comparison with the built hierarchy makes of a run.
-use Rattle.std.proofs.Common.{◌≡◌, ℕ, List, ◌∷◌, ◌∙◌, [], inl, inr, refl, false, sym}
+use Rattle.std.proofs.Common.{◌≡◌, ℕ, List, ◌∷◌, ◌∙◌, [], inl, inr, false, sym}
 use Rattle.std.specs.Prelude.{Some, None, Ok, Err, codes}
 use Rattle.cu_io.specs.Shelves.{ShelfState}
 use Rattle.cu_io.specs.Sinks.{SinkState, WroteLine}

@@ -1,6 +1,6 @@
 -- Where nothing fails, a script is answered over measured profiles but for want of memory.
-use Rattle.std.proofs.Common.{◌≡◌, ◌∙◌, ◌∷◌, ℕ, List, refl, sym, subst, inl, inr}
-use Rattle.std.specs.Prelude.{Option, Some, Result, Ok, Err}
+use Rattle.std.proofs.Common.{◌≡◌, ◌∙◌, ◌∷◌, ℕ, List, sym, subst, inl, inr}
+use Rattle.std.specs.Prelude.{Result, Ok}
 use Rattle.cu_io.specs.Counts.{Rose}
 use Rattle.cu_io.specs.Shelves.{ShelfState}
 use Rattle.cu_model.specs.Orders.{OrderValue}

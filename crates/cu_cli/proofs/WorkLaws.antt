@@ -1,5 +1,5 @@
 -- The work of commands, and what is said of it.
-use Rattle.std.proofs.Common.{◌≡◌, ◌≢◌, ◌<◌, ◌≤◌, ◌∙◌, ◌∷◌, ◌++◌, [], ℕ, List, length, take, refl, sym, ap, subst, arith, inl, inr, true, false}
+use Rattle.std.proofs.Common.{◌≡◌, ◌≢◌, ◌≤◌, ◌∙◌, ◌++◌, [], ℕ, List, take, refl, sym, ap, subst, arith, inl, inr, true}
 use Rattle.std.specs.Prelude.{Bool, Option, Some, None}
 use Rattle.cu_io.specs.Shelves.{ShelfState}
 use Rattle.cu_io.specs.Sinks.{SinkState}
@@ -16,7 +16,6 @@ use Rattle.cu_cli.specs.declared.stops.Stop.{Stop}
 use Rattle.cu_cli.specs.declared.stops.Stop.TheVariants as stop
 use Rattle.cu_cli.specs.Commands.{meaning_of}
 use Rattle.cu_cli.specs.Endings.{Ending, StopsBefore, StopsBehind, ending_of}
-use Rattle.cu_cli.specs.Meanings.{Meaning, no_command}
 use Rattle.cu_cli.specs.Runs.{CountsFaults, EndsRun, Moves}
 use Rattle.cu_cli.specs.Storing.{Stores}
 use Rattle.cu_cli.specs.Stops.{said_at, said_of, status_at, status_of}

@@ -1,5 +1,5 @@
 -- What a command means: how its work ends, when it can be done, and what may stop it then.
-use Rattle.std.specs.Prelude.{Bool, true, false, Option, Some, None, ◌≡◌}
+use Rattle.std.specs.Prelude.{Bool, true, false, Option, Some, None}
 use Rattle.cu_io.specs.Shelves.{ShelfState}
 use Rattle.cu_cli.specs.declared.stops.Stop.{Stop}
 use Rattle.cu_cli.specs.declared.stops.Stop.TheVariants as stop

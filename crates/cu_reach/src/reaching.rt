@@ -13,7 +13,7 @@ use cu_chordal::Chordal;
 use cu_elimtree::Tree;
 use cu_interval::{Call, Dir, Relaxer};
 use cu_model::NoMemory;
-use cu_sweep::Labels;
+use cu_sweep::{Labels, Unlinked};
 use std::alloc::Global;
 use std::marker::Model;
 
@@ -27,7 +27,7 @@ pub enum Reached {
 /// Room for the labels of all ranks, made once. Contracts see the second at which each rank is reached, none where it isn't.
 #[derive(Drop)]
 pub struct ReachDesk {
-    labels: Labels,
+    labels: Labels<Unlinked>,
     // All ranks, rising: the downward pass goes over them as a query's goes over the ancestors of its end.
     ranks: Vec<u32>,
 }

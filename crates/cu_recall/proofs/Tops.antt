@@ -24,7 +24,7 @@ done_last h whole pending depth total driven d lt done =
     subst (λ (q : Pending). IsTop h whole pending (depth - 1) total driven q) (sym (get_or_from_slice_get pending (depth - 1) p d top.at)) top
 
 half_apart : (h : HierarchyValue) (p : Pending) (half_ : Half) (u v m x y second : ℕ) → IsHalf h p half_ u v m x y second → m < u → m < v → x ≢ y
-half_apart h p (half.First rest) u v m x y second (from, to, at, waits) mu mv = λ same. omega (arith, from, to, mu, same)
+half_apart h p (half.First rest seen) u v m x y second (from, to, at, waits, sees) mu mv = λ same. omega (arith, from, to, mu, same)
 half_apart h p (half.Second travel roads) u v m x y second (from, to, at, takes) mu mv = λ same. omega (arith, from, to, mv, same)
 
 module _ (h : HierarchyValue) (f : IsHierarchy h) (whole : Asked) (pending : List Pending) (below total : ℕ) (driven : Driven) (p : Pending) (top : IsTop h whole pending below total driven p) where

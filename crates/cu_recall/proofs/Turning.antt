@@ -11,6 +11,7 @@ use Rattle.cu_recall.specs.declared.pending.Asked.{Asked}
 use Rattle.cu_recall.specs.declared.pending.Half.{Half}
 use Rattle.cu_recall.specs.declared.pending.Half.TheVariants as half
 use Rattle.cu_recall.specs.declared.pending.Pending.{Pending}
+use Rattle.cu_recall.specs.declared.pending.Seen.{Seen}
 use Rattle.cu_recall.specs.declared.pending.Spot.{Spot}
 use Rattle.cu_recall.specs.Windows.{HoldsDriven, IsDriven}
 use Rattle.cu_recall.specs.Steps.InWork.{AreInWork, IsAt, IsDone, IsHalf, IsParted, IsSomewhere, roads_before}
@@ -57,14 +58,14 @@ done_whole h whole pending total driven (x, y, second, roads, (list, at, none), 
 
 module _ (h : HierarchyValue) (f : IsHierarchy h) (whole : Asked) (pending : List Pending) (below total : ℕ) (driven : Driven) (p : Pending) (top : IsTop h whole pending below total driven p) where
   -- the first half was driven, and the second is next
-  pub first_done : (rest : ℕ) → p.half ≡ half.First rest → (q : Pending)
+  pub first_done : (rest : ℕ) (seen : Seen) → p.half ≡ half.First rest seen → (q : Pending)
       → q ≡ record { asked = p.asked; back = min p.back driven.back; ahead = min p.ahead driven.ahead; half = half.Second driven.travel driven.roads }
-      → (next : Spot) → next ≡ record { whole = whole; next = record { list = rest; second = (p.asked.second + driven.travel) % day }; depth = suc below; roads = total }
+      → (next : Spot) → next ≡ record { whole = whole; next = record { list = rest; second = (p.asked.second + driven.travel) % day }; seen = seen; depth = suc below; roads = total }
       → IsSomewhere h (slice_set pending below q) next
-  first_done rest is q same next moved =
+  first_done rest seen is q same next moved =
       let t = p.asked.second in
       let m = top.middle in
-      let (from, to, at, waits) = subst (λ (k : Half). IsHalf h p k top.u top.v m top.x top.y top.second) is top.in_work in
+      let (from, to, at, waits, sees) = subst (λ (k : Half). IsHalf h p k top.u top.v m top.x top.y top.second) is top.in_work in
       let done : IsDriven h top.u m t driven = subst (λ (n : ℕ). IsDriven h top.u m n driven) at
       (subst (λ (b : ℕ). IsDriven h top.u b top.second driven) to (subst (λ (a : ℕ). IsDriven h a top.y top.second driven) from top.done)) in
       let w0 = top.parted.window.0 in
@@ -73,7 +74,7 @@ module _ (h : HierarchyValue) (f : IsHierarchy h) (whole : Asked) (pending : Lis
       let d1 = done.window.1 in
       let formed = parted_formed h f p top.u top.v m top.parted in
       let made : Pending = record { asked = p.asked; back = min p.back driven.back; ahead = min p.ahead driven.ahead; half = half.Second driven.travel driven.roads } in
-      let there : Spot = record { whole = whole; next = record { list = rest; second = (t + driven.travel) % day }; depth = suc below; roads = total } in
+      let there : Spot = record { whole = whole; next = record { list = rest; second = (t + driven.travel) % day }; seen = seen; depth = suc below; roads = total } in
       let list : IsParted h made top.u top.v m = record {
         list = top.parted.list;
         window = (omega (arith, w0), omega (arith, w1, d1), omega (arith, w2));
@@ -86,6 +87,7 @@ module _ (h : HierarchyValue) (f : IsHierarchy h) (whole : Asked) (pending : Lis
         list = waits;
         some = formed.5;
         early = mod_below (t + driven.travel) day (omega arith);
+        seen = sees;
         below = (
           made,
           top.u,

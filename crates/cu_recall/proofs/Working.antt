@@ -15,9 +15,10 @@ use Rattle.cu_recall.specs.declared.pending.Half.{Half}
 use Rattle.cu_recall.specs.declared.pending.Half.TheVariants as half
 use Rattle.cu_recall.specs.declared.pending.Parted.{Parted}
 use Rattle.cu_recall.specs.declared.pending.Pending.{Pending}
+use Rattle.cu_recall.specs.declared.pending.Seen.{Seen}
 use Rattle.cu_recall.specs.declared.pending.Spot.{Spot}
 use Rattle.cu_recall.specs.Spans.{IsListFrom}
-use Rattle.cu_recall.specs.Steps.Looks.{HoldsParted}
+use Rattle.cu_recall.specs.Steps.Looks.{HoldsParted, HoldsSeen}
 use Rattle.cu_recall.specs.Steps.InWork.{AreInWork, IsAt, IsHalf, IsParted, roads_before}
 use Rattle.cu_recall.proofs.DayWalks.{walk_days}
 use Rattle.cu_recall.proofs.ListEnds.{list_room}
@@ -36,7 +37,7 @@ parted_formed h f p u v m parted =
     well_formed h f u v p.asked.second (Via m) (parted.way p.asked.second (omega arith, omega (arith, some)))
 
 half_low : (h : HierarchyValue) (p : Pending) (half_ : Half) (u v m x y second : ℕ) → IsHalf h p half_ u v m x y second → m < u → m < v → min x y ≤ m
-half_low h p (half.First rest) u v m x y second (from, to, at, waits) mu mv = omega (arith, from, to, mu)
+half_low h p (half.First rest seen) u v m x y second (from, to, at, waits, sees) mu mv = omega (arith, from, to, mu)
 half_low h p (half.Second travel roads) u v m x y second (from, to, at, takes) mu mv = omega (arith, from, to, mv)
 
 module _ (h : HierarchyValue) (f : IsHierarchy h) where
@@ -54,7 +55,7 @@ module _ (h : HierarchyValue) (f : IsHierarchy h) where
 
   half_long : (p : Pending) (half_ : Half) (u v m x y second : ℕ) → IsParted h p u v m → IsHalf h p half_ u v m x y second
       → roads_before half_ + length (unpacked_walk h x y second) ≤ length (unpacked_walk h u v p.asked.second)
-  half_long p (half.First rest) u v m x y second parted (from, to, at, waits) =
+  half_long p (half.First rest seen) u v m x y second parted (from, to, at, waits, sees) =
       let some = parted.window.1 in
       let t = p.asked.second in
       let via = unpacked-via h (middles_fall h f) u v t m (parted.way t (omega arith, omega (arith, some))) in
@@ -93,18 +94,18 @@ module _ (h : HierarchyValue) (f : IsHierarchy h) where
       (a, b, list, omega (arith, le, more, sum))
 
   -- a list whose halves are found is in work, and its first half is next
-  pub parts : (pending now : List Pending) (spot next : Spot) (parted : Parted) (p : Pending) (x y : ℕ) → length pending ≡ h.network.nodes
-      → IsAt h pending spot x y → HoldsParted h spot.next parted
-      → p ≡ record { asked = spot.next; back = parted.back; ahead = parted.ahead; half = half.First parted.rest }
+  pub parts : (pending now : List Pending) (spot next : Spot) (parted : Parted) (first rest : Seen) (p : Pending) (x y : ℕ) → length pending ≡ h.network.nodes
+      → IsAt h pending spot x y → HoldsParted h spot.next parted → HoldsSeen h parted.first first → HoldsSeen h parted.rest rest
+      → p ≡ record { asked = spot.next; back = parted.back; ahead = parted.ahead; half = half.First parted.rest rest }
       → now ≡ slice_set pending spot.depth p
-      → next ≡ record { whole = spot.whole; next = record { list = parted.first; second = spot.next.second }; depth = suc spot.depth; roads = spot.roads }
+      → next ≡ record { whole = spot.whole; next = record { list = parted.first; second = spot.next.second }; seen = first; depth = suc spot.depth; roads = spot.roads }
       → (m : ℕ) × IsAt h now next x m × (m < x) × (m < y)
-  parts pending now spot next parted p x y long is (window, halves) same written moved =
+  parts pending now spot next parted first rest p x y long is (window, halves) sees waits same written moved =
       let (m, both, way) = halves x y is.list in
       let some = window.1 in
       let formed = well_formed h f x y spot.next.second (Via m) (way spot.next.second (omega arith, omega (arith, some))) in
-      let made : Pending = record { asked = spot.next; back = parted.back; ahead = parted.ahead; half = half.First parted.rest } in
-      let there : Spot = record { whole = spot.whole; next = record { list = parted.first; second = spot.next.second }; depth = suc spot.depth; roads = spot.roads } in
+      let made : Pending = record { asked = spot.next; back = parted.back; ahead = parted.ahead; half = half.First parted.rest rest } in
+      let there : Spot = record { whole = spot.whole; next = record { list = parted.first; second = spot.next.second }; seen = first; depth = suc spot.depth; roads = spot.roads } in
       let room = work_room spot.whole pending spot.depth x y spot.next.second spot.roads is.below in
       let list : IsParted h made x y m = record { list = is.list; window = window; way = way } in
       let at : slice_get (slice_set pending spot.depth made) spot.depth ≡ Some made = get_here pending spot.depth made (omega (arith, room, long)) in
@@ -114,7 +115,8 @@ module _ (h : HierarchyValue) (f : IsHierarchy h) where
         list = both.0;
         some = formed.4;
         early = is.early;
-        below = (made, x, y, m, spot.roads, at, list, (refl, refl, refl, both.1), sum, kept);
+        seen = sees;
+        below = (made, x, y, m, spot.roads, at, list, (refl, refl, refl, both.1, waits), sum, kept);
       } in
       let set : now ≡ slice_set pending spot.depth made = written ∙ ap (λ (q : Pending). slice_set pending spot.depth q) same in
       (m, subst (λ (n : Spot). IsAt h now n x m) (sym moved) (subst (λ (ps : List Pending). IsAt h ps there x m) (sym set) work), formed.0, formed.1)

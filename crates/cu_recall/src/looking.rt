@@ -3,13 +3,14 @@
 ghost use Rattle.std.specs.Prelude.{◌≡◌, ◌≤◌, ◌<◌, ◌-◌, ◌*◌, ◌/◌, ◌↔◌, ℕ, IfSome, IsTrue, length};
 ghost use Rattle.cu_interval.specs.Hierarchies.{HierarchyValue, IsHierarchy, graph_of};
 ghost use Rattle.cu_interval.specs.Shortcuts.{IsMiddle};
-ghost use Rattle.cu_recall.specs.Spans.{AreHalvesAt, HasSecond, IsListFrom, Knows, dir_of};
+ghost use Rattle.cu_recall.specs.Spans.{AreHalvesAt, HasSecond, HoldsMet, HoldsSpan, IsListFrom, Knows, dir_of, met_of};
 ghost use Rattle.cu_recall.specs.declared.spans.Parts.TheVariants as part;
 ghost use Rattle.cu_recall.specs.Windows.{HoldsDriven};
-ghost use Rattle.cu_recall.specs.Steps.Looks.{Finds, HoldsPartsOf, IsAsked, IsMetAt};
+ghost use Rattle.cu_recall.specs.Steps.Looks.{Finds, HoldsPartsOf, HoldsSeen, IsAsked, IsMetAt};
 
 use crate::driving::drive;
-use crate::pending::{Asked, Found, Parted};
+use crate::kept::Kept;
+use crate::pending::{Asked, Found, Parted, Seen};
 use crate::remembering::{meet, remember};
 use crate::spans::{Driven, Met, Parts, Row, Span};
 use cu_chordal::Chordal;
@@ -17,20 +18,28 @@ use cu_interval::{Dir, Way, find_halves};
 use cu_model::DAY;
 use cu_pack::PackedView;
 
-/// What driving a list takes, where that is known or its way is a road; else the halves of the way in force.
-pub fn look(view: &PackedView<'_>, graph: &Chordal, rows: &mut [Row], asked: Asked) -> Found
+/// What driving a list takes, where that is known or its way is a road; else the halves of the way in force. What was read of the
+/// list before is asked first.
+pub fn look(
+    view: &PackedView<'_>,
+    graph: &Chordal,
+    rows: &mut [Row],
+    asked: Asked,
+    seen: Seen,
+) -> Found
     requires graph { graph.now ≡ graph_of view.now }
     requires asked { IsAsked view.now asked }
     requires size { length rows.old ≡ 2 * length view.now.edges }
     requires knows { Knows view.now rows.old }
+    requires seen { HoldsSeen view.now asked.list seen }
     requires sound { IsHierarchy view.now }
     ensures finds { Finds view.now asked result }
     ensures knows { Knows view.now rows.new }
 {
-    if let Some(driven) = known(rows, asked) {
+    if let Some(driven) = known_from(rows, asked, seen.widest) {
         return Found::Driven(driven);
     }
-    let met = met_at(view, graph, rows, asked);
+    let met = met_from(view, graph, rows, asked, seen.met);
     match met.parts {
         Parts::Road(road) => Found::Driven(drive_met(view, rows, asked, met, road)),
         Parts::Halves { first, second } => Found::Parted(Parted {
@@ -40,6 +49,32 @@ pub fn look(view: &PackedView<'_>, graph: &Chordal, rows: &mut [Row], asked: Ask
             rest: second,
         }),
     }
+}
+
+/// What a row says first of a list that will be asked near this second of the day.
+#[inline(always)]
+pub fn see(rows: &[Row], list: u32, second: u32) -> Seen
+    requires list { list < length rows.now }
+    ensures holds { (h : HierarchyValue) → Knows h rows.now → HoldsSeen h list result }
+{
+    let row = &rows[list as usize];
+    Seen {
+        widest: row.widest(second),
+        met: row.met,
+    }
+}
+
+// What driving a list takes, by a span of it that was read, or as far as that is known.
+#[inline(always)]
+fn known_from(rows: &[Row], asked: Asked, span: Span) -> Option<Driven>
+    requires list { asked.list < length rows.now }
+    ensures holds { (h : HierarchyValue) → Knows h rows.now → HoldsSpan h asked.list span
+        → IfSome result (λ driven. HoldsDriven h asked.list asked.second driven) }
+{
+    if span.has(asked.second) {
+        return Some(over_span(span, asked.second));
+    }
+    known(rows, asked)
 }
 
 /// What driving a list takes, as far as that is known.
@@ -95,6 +130,29 @@ pub fn drive_met(
     let driven = drive(view, road, asked.second, back, ahead);
     remember(rows, asked.list, asked.second, driven);
     driven
+}
+
+// The entry of a list in force at a second: one of it that was read, or the one that was met last, or by the bytes.
+#[inline(always)]
+fn met_from(
+    view: &PackedView<'_>,
+    graph: &Chordal,
+    rows: &mut [Row],
+    asked: Asked,
+    kept: Kept,
+) -> Met
+    requires graph { graph.now ≡ graph_of view.now }
+    requires asked { IsAsked view.now asked }
+    requires size { length rows.old ≡ 2 * length view.now.edges }
+    requires knows { Knows view.now rows.old }
+    requires kept { HoldsMet view.now asked.list (met_of kept) }
+    ensures met { IsMetAt view.now asked result }
+    ensures knows { Knows view.now rows.new }
+{
+    if let Some(met) = kept.at(asked.second) {
+        return met;
+    }
+    met_at(view, graph, rows, asked)
 }
 
 /// The entry of a list in force at a second: the one that was met last, or by the bytes, and then it is the one met last.

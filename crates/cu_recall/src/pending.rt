@@ -1,6 +1,7 @@
 //! Where an unpacking stands.
 
-use crate::spans::Driven;
+use crate::kept::Kept;
+use crate::spans::{Driven, Span};
 
 /// A list that is asked at a second of the day.
 #[derive(Clone, Copy, Debug, PartialEq, Eq)]
@@ -9,11 +10,27 @@ pub struct Asked {
     pub second: u32,
 }
 
-/// The half of a parted list that is in work: the first, where the list of the second one waits; or the second, where the
-/// first took this.
+/// What was read of a list's row before the list is asked: the widest span of a third of the day, and the entry met last. Those
+/// of both halves are read when a list is parted, so that the processor fetches both rows at once.
+#[derive(Clone, Copy, Debug, PartialEq, Eq)]
+pub struct Seen {
+    pub widest: Span,
+    pub met: Kept,
+}
+
+impl Seen {
+    /// Nothing was read.
+    pub const NOTHING: Seen = Seen {
+        widest: Span::NOTHING,
+        met: Kept::NOTHING,
+    };
+}
+
+/// The half of a parted list that is in work: the first, where the list of the second one waits, with what was read of it;
+/// or the second, where the first took this.
 #[derive(Clone, Copy, Debug, PartialEq, Eq)]
 pub enum Half {
-    First { rest: u32 },
+    First { rest: u32, seen: Seen },
     Second { travel: u64, roads: u32 },
 }
 
@@ -27,12 +44,13 @@ pub struct Pending {
     pub half: Half,
 }
 
-/// Where an unpacking stands: the list that is unpacked, the one that is next, how many are in work below it, and how many
-/// roads were driven.
+/// Where an unpacking stands: the list that is unpacked, the one that is next, what was read of it, how many are in work below
+/// it, and how many roads were driven.
 #[derive(Clone, Copy, Debug, PartialEq, Eq)]
 pub struct Spot {
     pub whole: Asked,
     pub next: Asked,
+    pub seen: Seen,
     pub depth: usize,
     pub roads: u32,
 }

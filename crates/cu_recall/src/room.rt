@@ -8,7 +8,7 @@ ghost use Rattle.cu_recall.specs.Rooms.{rows_of};
 ghost use Rattle.cu_recall.specs.Spans.{Knows};
 
 use crate::downs::DownSpan;
-use crate::pending::{Asked, Half, Pending};
+use crate::pending::{Asked, Half, Pending, Seen};
 use crate::spans::{Row, THIRDS};
 use crate::walking::Glance;
 use cu_chordal::MAX_EDGES;
@@ -62,7 +62,10 @@ impl Room {
             asked: Asked { list: 0, second: 0 },
             back: 0,
             ahead: 0,
-            half: Half::First { rest: 0 },
+            half: Half::First {
+                rest: 0,
+                seen: Seen::NOTHING,
+            },
         };
         let lists = 2 * edges as usize;
         Ok(Room {

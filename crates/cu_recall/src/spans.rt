@@ -81,7 +81,8 @@ pub fn third_of(second: u32) -> u32
 }
 
 impl Span {
-    const NOTHING: Span = Span {
+    /// A span that has no second.
+    pub const NOTHING: Span = Span {
         from: 0,
         seconds: 0,
         roads: 0,
@@ -122,9 +123,9 @@ impl Row {
         self.any(second)
     }
 
-    // The span of this second's third of the day.
+    /// The span of this second's third of the day.
     #[inline(always)]
-    fn widest(&self, second: u32) -> Span
+    pub fn widest(&self, second: u32) -> Span
         ensures holds { (h : HierarchyValue) (list : ℕ) → HoldsRow h list self.now
             → HoldsSpan h list result }
     {

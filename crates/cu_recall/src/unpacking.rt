@@ -11,8 +11,8 @@ ghost use Rattle.cu_recall.specs.Windows.{HoldsDriven};
 ghost use Rattle.cu_recall.specs.Steps.InWork.{Follows, IsDone, IsSomewhere, Unpacks};
 ghost use Rattle.cu_recall.specs.Steps.Looks.{HoldsParted, IsAsked};
 
-use crate::looking::look;
-use crate::pending::{After, Asked, Found, Half, Parted, Pending, Spot};
+use crate::looking::{look, see};
+use crate::pending::{After, Asked, Found, Half, Parted, Pending, Seen, Spot};
 use crate::remembering::remember;
 use crate::spans::{Driven, Row};
 use cu_chordal::Chordal;
@@ -38,7 +38,7 @@ pub fn unpack(
     ensures knows { Knows view.now rows.new }
 {
     let nodes = view.nodes();
-    let mut spot = start(whole);
+    let mut spot = start(whole, see(rows, whole.list, whole.second));
     'parts: loop {
         let (next, driven) = go_down(view, graph, rows, pending, spot);
         if driven.roads >= nodes - next.roads {
@@ -52,12 +52,13 @@ pub fn unpack(
 }
 
 // Where an unpacking begins.
-fn start(whole: Asked) -> Spot
-    ensures { result ≡ record { whole = whole; next = whole; depth = 0; roads = 0 } }
+fn start(whole: Asked, seen: Seen) -> Spot
+    ensures { result ≡ record { whole = whole; next = whole; seen = seen; depth = 0; roads = 0 } }
 {
     Spot {
         whole,
         next: whole,
+        seen,
         depth: 0,
         roads: 0,
     }
@@ -85,36 +86,51 @@ fn go_down(
 {
     let mut spot = spot;
     'parts: loop {
-        match look(view, graph, rows, spot.next) {
+        match look(view, graph, rows, spot.next, spot.seen) {
             Found::Driven(driven) => return (spot, driven),
-            Found::Parted(parted) => spot = part(view, pending, spot, parted),
+            Found::Parted(parted) => spot = part(view, rows, pending, spot, parted),
         }
     }
 }
 
-// Puts a parted list in work: its second half waits, and its first half is next.
-fn part(view: &PackedView<'_>, pending: &mut [Pending], spot: Spot, parted: Parted) -> Spot
+// Puts a parted list in work: its second half waits, and its first half is next. The rows of both are read.
+fn part(
+    view: &PackedView<'_>,
+    rows: &[Row],
+    pending: &mut [Pending],
+    spot: Spot,
+    parted: Parted,
+) -> Spot
     requires somewhere { IsSomewhere view.now pending.old spot }
     requires room { length pending.old ≡ view.now.network.nodes }
     requires parted { HoldsParted view.now spot.next parted }
+    requires size { length rows.now ≡ 2 * length view.now.edges }
+    requires knows { Knows view.now rows.now }
     requires sound { IsHierarchy view.now }
     ensures somewhere { IsSomewhere view.now pending.new result }
     ensures whole { result.whole ≡ spot.whole }
     ensures roads { result.roads ≡ spot.roads }
     ensures lower { low_of_list view.now result.next.list < low_of_list view.now spot.next.list }
 {
+    let second = spot.next.second;
+    let seen = see(rows, parted.first, second);
+    let rest = see(rows, parted.rest, second);
     pending[spot.depth] = Pending {
         asked: spot.next,
         back: parted.back,
         ahead: parted.ahead,
-        half: Half::First { rest: parted.rest },
+        half: Half::First {
+            rest: parted.rest,
+            seen: rest,
+        },
     };
     Spot {
         whole: spot.whole,
         next: Asked {
             list: parted.first,
-            second: spot.next.second,
+            second,
         },
+        seen,
         depth: spot.depth + 1,
         roads: spot.roads,
     }
@@ -145,7 +161,7 @@ fn resume(
     'joins: while depth > 0 {
         let top = pending[depth - 1];
         match top.half {
-            Half::First { rest } => {
+            Half::First { rest, seen } => {
                 pending[depth - 1] = second_next(top, driven);
                 return After::Next(Spot {
                     whole: spot.whole,
@@ -153,6 +169,7 @@ fn resume(
                         list: rest,
                         second: later(top.asked.second, driven.travel),
                     },
+                    seen,
                     depth,
                     roads: total,
                 });

@@ -22,12 +22,14 @@ use cu_model::Roads;
 use cu_pack::PackedView;
 use itoa::write_digits;
 
-/// A list, with the entry that its row met last. Those of both halves are read when a list is parted, so that the processor
-/// fetches both rows at once.
+/// A list, with the entry that its row met last, and a list below it with what its row met. When a list is parted the rows of both
+/// halves are read, and the row of the second half's own first half, so that the processor fetches all three at once.
 #[derive(Clone, Copy, Debug)]
 pub struct Glance {
     pub list: u32,
     pub met: Kept,
+    pub below: u32,
+    pub below_met: Kept,
 }
 
 /// Where a walk stands: the list that is next, the second of the day at which it is asked, and how many wait behind it.
@@ -51,6 +53,8 @@ impl Glance {
     pub const NOTHING: Glance = Glance {
         list: 0,
         met: Kept::NOTHING,
+        below: 0,
+        below_met: Kept::NOTHING,
     };
 }
 
@@ -111,9 +115,56 @@ fn read_list(rows: &[Row], list: u32) -> Glance
     ensures list { result.list ≡ list }
     ensures holds { (h : HierarchyValue) → Knows h rows.now → HoldsGlance h result }
 {
+    alone(list, rows[list as usize].met)
+}
+
+// A list and what its row met last, and the same of the first of the halves that this names.
+#[inline(always)]
+fn read_ahead(rows: &[Row], list: u32) -> Glance
+    requires list { list < length rows.now }
+    ensures list { result.list ≡ list }
+    ensures holds { (h : HierarchyValue) → Knows h rows.now → HoldsGlance h result }
+{
+    let glance = read_list(rows, list);
+    let Kept::Halves { first, .. } = glance.met else {
+        return glance;
+    };
+    if first as usize >= rows.len() {
+        return glance;
+    }
+    let below = read_list(rows, first);
     Glance {
         list,
-        met: rows[list as usize].met,
+        met: glance.met,
+        below: first,
+        below_met: below.met,
+    }
+}
+
+// The first half of a list, and what its row met last: as it was read with the list, or else by the rows.
+#[inline(always)]
+fn first_of(rows: &[Row], glance: Glance, first: u32) -> Glance
+    requires first { first < length rows.now }
+    ensures list { result.list ≡ first }
+    ensures holds { (h : HierarchyValue) → Knows h rows.now → HoldsGlance h glance
+        → HoldsGlance h result }
+{
+    if glance.below == first {
+        return alone(first, glance.below_met);
+    }
+    read_list(rows, first)
+}
+
+// A list and what its row met last, and nothing of another list.
+#[inline(always)]
+fn alone(list: u32, met: Kept) -> Glance
+    ensures { result ≡ record { list = list; met = met; below = list; below_met = met } }
+{
+    Glance {
+        list,
+        met,
+        below: list,
+        below_met: met,
     }
 }
 
@@ -202,11 +253,12 @@ fn part(rows: &[Row], waiting: &mut [Glance], spot: WalkSpot, first: u32, second
     requires first { first < length rows.now }
     requires second { second < length rows.now }
     ensures next { IsNext first spot.second (spot.waiting + 1) result }
-    ensures holds { (h : HierarchyValue) → Knows h rows.now → HoldsGlance h result.next }
+    ensures holds { (h : HierarchyValue) → Knows h rows.now → HoldsGlance h spot.next
+        → HoldsGlance h result.next }
     ensures waits { Waits rows.now second spot.waiting waiting.old waiting.new }
 {
-    let next = read_list(rows, first);
-    waiting[spot.waiting] = read_list(rows, second);
+    let next = first_of(rows, spot.next, first);
+    waiting[spot.waiting] = read_ahead(rows, second);
     WalkSpot {
         next,
         second: spot.second,

@@ -10,7 +10,8 @@ use Rattle.cu_interval.specs.Hierarchies.{HierarchyValue, graph_of, number_from}
 use Rattle.cu_sweep.specs.Labels.{Label, down_label, down_label_by, earliest, label_over, start_label, up_label, up_label_by}
 use Rattle.cu_sweep.specs.Sweeps.{below, call_at, call_unless, calls_up, down_calls_to, down_label_from, second_of, up_calls, up_label_from}
 use Rattle.cu_sweep.specs.Swept.{Holds, IsBegun, IsLinked, IsLinkedLabel, IsReachedAs, IsSweptDown, IsSweptUp, LabelsValue, Makes, Sweep, final_label, path_calls}
-use Rattle.cu_sweep.specs.Steps.Made.{HoldsMade, IsLinkedLabelMade, IsLinkedMade, IsMadeDown, IsMadeUp, call_if, down_calls_of, down_made, down_made_by, down_made_to, final_made, made_down_after, made_down_into}
+use Rattle.cu_sweep.specs.Steps.Made.{HoldsMade, IsLinkedLabelMade, IsLinkedMade, IsMadeDown, IsMadeUp, call_if, down_calls_of, down_made, down_made_by, down_made_to, final_made}
+use Rattle.cu_sweep.specs.Steps.Made.{made_down_after, made_down_into}
 use Rattle.cu_sweep.specs.Steps.Made.{made_over, made_up_after, made_up_into, open_to, rows_up, sweep_of, up_calls_of, up_made, up_made_by}
 use Rattle.cu_sweep.proofs.Behind.{filter_same}
 
@@ -153,7 +154,7 @@ module _ (h : HierarchyValue) (q : Sweep) where
       let made : HoldsMade h (open_to q) labels.seconds labels.links rank (up_made h (open_to q) rank) = up rank passed in
       let holds : Holds h q labels.seconds labels.links rank (up_made h (open_to q) rank) = record {
         second = made.second;
-        linked = linked_open labels.links rank (up_made h (open_to q) rank) made.linked;
+        linked = λ kept. linked_open labels.links rank (up_made h (open_to q) rank) (made.linked kept);
       } in
       subst (Holds h q labels.seconds labels.links rank) (up_open rank) holds
 
@@ -162,7 +163,7 @@ module _ (h : HierarchyValue) (q : Sweep) where
       let held : Holds h q labels.seconds labels.links rank (up_label h q.from q.second rank) = up rank passed in
       let made : HoldsMade h (open_to q) labels.seconds labels.links rank (up_label h q.from q.second rank) = record {
         second = held.second;
-        linked = open_linked labels.links rank (up_label h q.from q.second rank) held.linked;
+        linked = λ kept. open_linked labels.links rank (up_label h q.from q.second rank) (held.linked kept);
       } in
       subst (HoldsMade h (open_to q) labels.seconds labels.links rank) (sym (up_open rank)) made
 

@@ -4,7 +4,7 @@ use Rattle.std.proofs.Common.{get_or-set_other}
 use Rattle.std.specs.Prelude.{slice_set}
 use Rattle.std.specs.List.{Contains}
 use Rattle.std.proofs.lemmas.Bool.{cases_eq}
-use Rattle.std.proofs.lemmas.List.{append-nil}
+use Rattle.std.proofs.lemmas.List.{append-nil, length-set}
 use Rattle.cu_links.specs.Chains.{link_at}
 use Rattle.cu_links.proofs.Links.{link_here, link_other}
 use Rattle.cu_chordal.specs.Graphs.{HasEdge, up_of}
@@ -17,12 +17,12 @@ use Rattle.cu_interval.proofs.Lookups.{number_found}
 use Rattle.cu_sweep.specs.Labels.{Label, earlier_of}
 use Rattle.cu_sweep.specs.Sweeps.{second_of}
 use Rattle.cu_sweep.specs.Desks.{AreArriving}
-use Rattle.cu_sweep.specs.Places.{calls_between, dir_between, second_at}
+use Rattle.cu_sweep.specs.Places.{AreKept, calls_between, dir_between, second_at}
 use Rattle.cu_sweep.specs.Swept.{IsPassed}
 use Rattle.cu_sweep.specs.Steps.Made.{HoldsMade, IsLinkedLabelMade, Led, down_made, final_made, made_down_after, made_down_into, made_over, sweep_of, up_made}
 use Rattle.cu_sweep.specs.Steps.Sweeping.{IfSecond, IsDownSwept, answer_in, begun_links, links_after, seconds_after}
 use Rattle.cu_sweep.proofs.Choosing.{after_more, earlier_none}
-use Rattle.cu_sweep.proofs.Holding.{holds_after, holds_other, holds_same}
+use Rattle.cu_sweep.proofs.Holding.{holds_after, holds_other, holds_same, kept_before}
 use Rattle.cu_sweep.proofs.MadeLaws.{down_made-whole}
 use Rattle.cu_sweep.proofs.UpRows.{final_up, member_other}
 
@@ -60,9 +60,13 @@ begun_other : (links : List (Option (ℕ × ℕ))) (from into place : ℕ) (o : 
 begun_other links from into place None ne = refl
 begun_other links from into place (Some second) ne = link_other links into place (Some (from, 0)) (λ same. ne (sym same))
 
+pub begun_long : (links : List (Option (ℕ × ℕ))) (from into : ℕ) (o : Option ℕ) → length (begun_links links from into o) ≡ length links
+begun_long links from into None = refl
+begun_long links from into (Some second) = length-set links into (Some (from, 0))
+
 -- a downward label begins
 pub down_begun : (h : HierarchyValue) (q : Led) (done : List ℕ) (x : ℕ) (labels : List (Option ℕ)) (links : List (Option (ℕ × ℕ))) → IsDownSwept h q done labels links → IsPassed h (sweep_of q) x
-    → h.network.nodes + x < length labels → h.network.nodes + x < length links
+    → h.network.nodes + x < length labels → (AreKept links → h.network.nodes + x < length links)
     → IsDownPart h q done x [] (slice_set labels (h.network.nodes + x) (second_at labels x)) (begun_links links x (h.network.nodes + x) (second_at labels x))
 down_begun h q done x labels links f p la li =
     let n = h.network.nodes in
@@ -73,17 +77,18 @@ down_begun h q done x labels links f p la li =
     let label = up_made h q x in
     let here : HoldsMade h q labels2 links2 (n + x) label = record {
       second = get_or-set_same labels (n + x) o None la ∙ old.second;
-      linked = begun_linked h q links x label o p.0 li (final_up h q x p.0) old.second p;
+      linked = λ kept. begun_linked h q links x label o p.0 (li (kept_before links links2 (begun_long links x (n + x) o) kept)) (final_up h q x p.0) old.second p;
     } in
     record {
       up = λ y passed.
           let lt = passed.0 in
           let ne : y ≢ n + x = λ same. absurd (omega (arith, same, lt)) in
-          holds_same h q labels labels2 links links2 y (up_made h q y) (get_or-set_other labels (n + x) y o None ne) (begun_other links x (n + x) y o ne) (f.up y passed);
+          holds_same h q labels labels2 links links2 y (up_made h q y) (get_or-set_other labels (n + x) y o None ne) (begun_other links x (n + x) y o ne)
+          (begun_long links x (n + x) o) (f.up y passed);
       down = λ y c other.
           let ne : n + y ≢ n + x = λ same. other (omega (arith, same)) in
           holds_same h q labels labels2 links links2 (n + y) (down_made h q y) (get_or-set_other labels (n + x) (n + y) o None ne) (begun_other links x (n + x) (n + y) o ne)
-          (f.down y c);
+          (begun_long links x (n + x) o) (f.down y c);
       here = subst (HoldsMade h q labels2 links2 (n + x)) (sym (earlier_none label)) here;
     }
 
@@ -105,7 +110,7 @@ edge_of_number h x y edge e = let (j, is, at) = number_found 0 h.edges x y edge 
 
 -- one call more
 pub down_more : (h : HierarchyValue) (q : Led) (done : List ℕ) (x y edge : ℕ) (part : List ℕ) (labels : List (Option ℕ)) (links : List (Option (ℕ × ℕ))) → IsDownPart h q done x part labels links
-    → h.network.nodes + x < length labels → h.network.nodes + x < length links → number_from 0 h.edges x y ≡ Some edge → edge < length h.edges
+    → h.network.nodes + x < length labels → (AreKept links → h.network.nodes + x < length links) → number_from 0 h.edges x y ≡ Some edge → edge < length h.edges
     → second_at labels (h.network.nodes + y) ≡ second_of (down_made h q y) → IfSecond (second_at labels (h.network.nodes + y)) (λ at. at < 2 ^ 61)
     → IsDownPart h q done x (part ++ (y ∷ [])) (seconds_after labels (h.network.nodes + x) (answer_in h (q.allows (h.network.nodes + x)) edge Down (second_at labels (h.network.nodes + y))))
     (links_after labels links (h.network.nodes + y) edge (h.network.nodes + x) (answer_in h (q.allows (h.network.nodes + x)) edge Down (second_at labels (h.network.nodes + y))))

@@ -8,6 +8,7 @@ use Rattle.cu_sweep.specs.declared.finding.Found.TheVariants.{Arrive, NoWalk, Lo
 use Rattle.cu_sweep.specs.Answers.{IsReal}
 use Rattle.cu_sweep.specs.Desks.{DeskValue, HoldsFound}
 use Rattle.cu_sweep.specs.Labels.{Label, down_label}
+use Rattle.cu_sweep.specs.Places.{AreKept}
 use Rattle.cu_sweep.specs.Sweeps.{AddsAll, down_calls, first_long, found, found_by, second_of, sweep_calls, until_long, up_calls}
 use Rattle.cu_sweep.specs.Swept.{IsReachedAs, LabelsValue, Makes, Sweep, desk_of, path_calls}
 use Rattle.cu_sweep.specs.Steps.Sweeping.{answer_by}
@@ -63,13 +64,13 @@ arrives_some None (Some label) arrival e = (label, refl)
 
 -- the places hold the calls of what was found
 pub holds_found : (h : HierarchyValue) (from to second : ℕ) (labels : LabelsValue) (result : Found) → result ≡ found h from to second
-    → IsReachedAs h labels (labels.nodes + to) (down_label h from second to) → labels.turned ≡ false
+    → IsReachedAs h labels (labels.nodes + to) (down_label h from second to) → AreKept labels.links → labels.turned ≡ false
     → HoldsFound h from to second result (desk_of labels (labels.nodes + to))
-holds_found h from to second labels NoWalk e reached unturned = tt
-holds_found h from to second labels (Long edge dir t) e reached unturned = tt
-holds_found h from to second labels (Arrive arrival) e reached unturned =
+holds_found h from to second labels NoWalk e reached kept unturned = tt
+holds_found h from to second labels (Long edge dir t) e reached kept unturned = tt
+holds_found h from to second labels (Arrive arrival) e reached kept unturned =
     let (label, is) = arrives_some (first_long h (sweep_calls h from to second)) (down_label h from second to) arrival e in
-    let (calls, arriving) = reached.calls label is in
+    let (calls, arriving) = reached.calls kept label is in
     (label, is, calls, arriving, unturned)
 
 -- and where a walk was found its calls are real

@@ -14,7 +14,7 @@ use Rattle.cu_interval.specs.Hierarchies.{HierarchyValue, IsHierarchy, graph_of}
 use Rattle.cu_sweep.specs.Labels.{Label, start_label}
 use Rattle.cu_sweep.specs.Sweeps.{second_of}
 use Rattle.cu_sweep.specs.Desks.{AreArriving, IsArrivingCall}
-use Rattle.cu_sweep.specs.Places.{calls_after, calls_between, calls_over, calls_to, dir_between, second_at}
+use Rattle.cu_sweep.specs.Places.{AreKept, calls_after, calls_between, calls_over, calls_to, dir_between, second_at}
 use Rattle.cu_sweep.specs.Swept.{IsBegun, IsClosed, IsPassed, IsReachedAs, IsSource, LabelsValue, Sweep, begun_second}
 use Rattle.cu_sweep.specs.Steps.Made.{HoldsMade, IsLinkedLabelMade, IsMadeDown, IsMadeUp, Led, down_made, final_made, sweep_of}
 use Rattle.cu_sweep.specs.Steps.Ready.{Rises, turn_of}
@@ -49,7 +49,7 @@ pub begun_swept : (h : HierarchyValue) (q : Led) (labels : LabelsValue) → IsBe
 begun_swept h q labels begun y passed =
     let start : HoldsMade h q labels.seconds labels.links y (start_label q.from q.second y) = record {
       second = begun.seconds y passed ∙ start_second (y == q.from) q.second;
-      linked = start_linked h q labels.links y (y == q.from) q.second (none_at labels.links y begun.unlinked);
+      linked = λ kept. start_linked h q labels.links y (y == q.from) q.second (none_at labels.links y begun.unlinked);
     } in
     subst (HoldsMade h q labels.seconds labels.links y) (sym (earlier_none (start_label q.from q.second y))) start
 
@@ -105,20 +105,20 @@ no_calls n labels links zero place e = refl
 no_calls n labels links (suc fuel) place e = ap (calls_after (calls_to n labels links fuel) n labels place) e
 
 -- the calls of the links are those of the label, and all of them arrive
-calls_held : (h : HierarchyValue) (q : Led) → IsClosed h q.path → (labels : List (Option ℕ)) (links : List (Option (ℕ × ℕ))) → Rises h.network.nodes links
+calls_held : (h : HierarchyValue) (q : Led) → IsClosed h q.path → (labels : List (Option ℕ)) (links : List (Option (ℕ × ℕ))) → AreKept links → Rises h.network.nodes links
     → IsDownSwept h q (reverse q.path) labels links → (fuel place : ℕ) (label : Label) → turn_of h.network.nodes place < fuel
     → IsHeld h q place → final_made h q place ≡ Some label
     → (calls_to h.network.nodes labels links fuel place ≡ label.calls) × AreArriving h label.calls
-calls_held h q closed labels links rises swept zero place label lt is final = absurd (omega (arith, lt))
-calls_held h q closed labels links rises swept (suc fuel) place label lt is final =
+calls_held h q closed labels links kept rises swept zero place label lt is final = absurd (omega (arith, lt))
+calls_held h q closed labels links kept rises swept (suc fuel) place label lt is final =
     let n = h.network.nodes in
-    let linked : IsLinkedLabelMade h q links place (Some label) = subst (IsLinkedLabelMade h q links place) final (held h q labels links place swept is).linked in
+    let linked : IsLinkedLabelMade h q links place (Some label) = subst (IsLinkedLabelMade h q links place) final ((held h q labels links place swept is).linked kept) in
     elim linked [
       | inl none ↦ (no_calls n labels links (suc fuel) place none.0 ∙ sym none.1, subst (AreArriving h) (sym none.1) (λ k d less. absurd (omega (arith, less))))
       | inr k ↦
           let up = (rises place k.from k.edge k.link).0 in
           let source = from_held h q closed place k.from is k.source in
-          let before = calls_held h q closed labels links rises swept fuel k.from k.before (omega (arith, lt, up)) source k.final in
+          let before = calls_held h q closed labels links kept rises swept fuel k.from k.before (omega (arith, lt, up)) source k.final in
           let second : second_at labels k.from ≡ Some k.before.second = (held h q labels links k.from swept source).second ∙ ap second_of k.final in (
             ap (calls_after (calls_to n labels links fuel) n labels place) k.link
                 ∙ ap (λ (cs : List Call). cs ++ calls_over n labels k.from place k.edge) before.0
@@ -137,7 +137,7 @@ swept_down h q labels nodes closed below rises swept rank c =
     let lt : rank < n = All-contains (λ r. r < n) q.path rank below c in
     let here : IsReachedAs h (record labels { nodes = n }) (n + rank) label = record {
       second = (swept.down rank (turned_member q.path rank c)).second;
-      calls = λ one is. calls_held h q closed labels.seconds labels.links rises swept (2 * n + 1) (n + rank) one
+      calls = λ kept one is. calls_held h q closed labels.seconds labels.links kept rises swept (2 * n + 1) (n + rank) one
           (turn_last n rank lt) (inr (rank, refl, c)) (final_down h q rank ∙ is);
     } in
     subst (λ (m : ℕ). IsReachedAs h (record labels { nodes = m }) (m + rank) label) (sym nodes) here

@@ -11,7 +11,7 @@ use Rattle.cu_short.specs.Shortness.{NeverLong}
 use Rattle.cu_sweep.specs.declared.finding.Found.TheVariants.{Arrive}
 use Rattle.cu_sweep.specs.Desks.{HoldsFound}
 use Rattle.cu_sweep.specs.Labels.{Label, down_label}
-use Rattle.cu_sweep.specs.Places.{second_at}
+use Rattle.cu_sweep.specs.Places.{AreKept, second_at}
 use Rattle.cu_sweep.specs.Sweeps.{found, found_by, second_of, sweep_calls}
 use Rattle.cu_sweep.specs.Swept.{IsClosed, IsReachedAs, LabelsValue, desk_of}
 use Rattle.cu_sweep.specs.Outlooks.{IsAhead, ahead_at}
@@ -87,8 +87,8 @@ module _ (h : HierarchyValue) (f : IsHierarchy h) (short : NeverLong h) (q : Led
       ∙ sym (ap (λ (long : Option Call). found_by long (down_label h q.from q.second to)) (none_long h short (sweep_calls h q.from to q.second)) ∙ ap (found_by None) whole)
 
   -- and the places hold its calls
-  pub holds_in_time : labels.turned ≡ false → HoldsFound h q.from to q.second (Arrive arrival) (desk_of labels (labels.nodes + to))
-  holds_in_time unturned =
+  pub holds_in_time : AreKept labels.links → labels.turned ≡ false → HoldsFound h q.from to q.second (Arrive arrival) (desk_of labels (labels.nodes + to))
+  holds_in_time kept unturned =
       let (l, whole, made, same) = in_time in
-      let (calls, arriving) = reached.calls l made in
+      let (calls, arriving) = reached.calls kept l made in
       (l, whole, calls, arriving, unturned)

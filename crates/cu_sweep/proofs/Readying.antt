@@ -8,14 +8,14 @@ use Rattle.std.proofs.lemmas.Bool.{cases_eq}
 use Rattle.std.proofs.lemmas.Option.{same_Some}
 use Rattle.std.proofs.lemmas.List.{length-set}
 use Rattle.cu_links.specs.Chains.{ChainValue, IsChain, IsOnChainTo, link_at}
-use Rattle.cu_links.proofs.Links.{link_here, link_other}
+use Rattle.cu_links.proofs.Links.{link_here, link_other, link_within}
 use Rattle.cu_chordal.specs.declared.graph.TheConstants.{MAX_EDGES}
 use Rattle.cu_interval.specs.declared.ways.Dir.{Dir}
 use Rattle.cu_interval.specs.declared.relaxing.Relaxed.{Relaxed}
 use Rattle.cu_interval.specs.declared.relaxing.Relaxed.TheVariants.{At, NoWay, Long}
 use Rattle.cu_interval.specs.Calls.{IfAt}
 use Rattle.cu_interval.specs.Hierarchies.{HierarchyValue}
-use Rattle.cu_sweep.specs.Places.{second_at}
+use Rattle.cu_sweep.specs.Places.{AreKept, KeepsLinks, second_at}
 use Rattle.cu_sweep.specs.Steps.Ready.{AreNear, IsReady, Rises, turn_of}
 use Rattle.cu_sweep.specs.Steps.Sweeping.{IfSecond, answer_in, begun_links, is_earlier, links_after, seconds_after}
 
@@ -54,13 +54,15 @@ near_unset n labels into lt f place t e =
       | inr other ↦ f place t (sym (get_or-set_other labels into place None None other) ∙ e)
     ]
 
-pub rises_set : (n : ℕ) (links : List (Option (ℕ × ℕ))) (from edge into : ℕ) → into < length links → turn_of n from < turn_of n into → from < 2 * n → edge < MAX_EDGES → Rises n links
+pub rises_set : (n : ℕ) (links : List (Option (ℕ × ℕ))) (from edge into : ℕ) → turn_of n from < turn_of n into → from < 2 * n → edge < MAX_EDGES → Rises n links
     → Rises n (slice_set links into (Some (from, edge)))
-rises_set n links from edge into lt up within small f place p e is =
+rises_set n links from edge into up within small f place p e is =
     elim (cases_eq place into) [
       | inl same ↦
-          let here : link_at (slice_set links into (Some (from, edge))) into ≡ Some (from, edge) = link_here links into (Some (from, edge)) lt in
           let at : link_at (slice_set links into (Some (from, edge))) into ≡ Some (p, e) = subst (λ (q : ℕ). link_at (slice_set links into (Some (from, edge))) q ≡ Some (p, e)) same is in
+          let more = link_within (slice_set links into (Some (from, edge))) into (p, e) at in
+          let long = length-set links into (Some (from, edge)) in
+          let here : link_at (slice_set links into (Some (from, edge))) into ≡ Some (from, edge) = link_here links into (Some (from, edge)) (omega (arith, more, long)) in
           let both : (from, edge) ≡ (p, e) = same_Some (from, edge) (p, e) (sym here ∙ at) in
           let first : from ≡ p = ap (λ (l : ℕ × ℕ). l.0) both in
           let second : edge ≡ e = ap (λ (l : ℕ × ℕ). l.1) both in
@@ -70,68 +72,70 @@ rises_set n links from edge into lt up within small f place p e is =
       | inr other ↦ f place p e (sym (link_other links into place (Some (from, edge)) (λ same. other (sym same))) ∙ is)
     ]
 
-pub ready_with : (n : ℕ) (labels more : List (Option ℕ)) (chain now : ChainValue) → IsReady n labels chain → length more ≡ length labels → length now.links ≡ length chain.links
-    → AreNear n more → Rises n now.links → IsReady n more now
-ready_with n labels more chain now f long places near rises = record {
-  few = f.few;
-  long = long ∙ f.long;
-  places = places ∙ f.places;
-  near = near;
-  rises = λ e. rises;
-}
+-- what has links is of a kind that keeps them
+pub keeps_links : {K : Type 0} → (links : K → List (Option (ℕ × ℕ))) (one : K) → AreKept (links one) → KeepsLinks links
+keeps_links links one kept none = let empty = ap length (none one) in absurd (omega (arith, kept, empty))
 
--- after a label begins as another
-pub begun_ready : (n : ℕ) (labels : List (Option ℕ)) (chain now : ChainValue) (from into : ℕ) (o : Option ℕ) → IsReady n labels chain → chain.turned ≡ false → from < 2 * n → into < 2 * n
-    → turn_of n from < turn_of n into
-    → second_at labels from ≡ o → now.links ≡ begun_links chain.links from into o → IsReady n (slice_set labels into o) now
-begun_ready n labels chain now from into None f unturned lf li up e is =
-    let lt : into < length labels = let long = f.long in omega (arith, li, long) in
-    ready_with n labels (slice_set labels into None) chain now f (length-set labels into None) (ap length is) (near_unset n labels into lt f.near) (subst (Rises n) (sym is) (f.rises unturned))
-begun_ready n labels chain now from into (Some s) f unturned lf li up e is =
-    let lt : into < length labels = let long = f.long in omega (arith, li, long) in
-    let lt2 : into < length chain.links = let long = f.places in omega (arith, li, long) in
-    let near = f.near from s e in
-    let le : s ≤ day - 1 + turn_of n into * 2 ^ 38 = omega (arith, near, up) in
-    ready_with n labels (slice_set labels into (Some s)) chain now f (length-set labels into (Some s)) (ap length is ∙ length-set chain.links into (Some (from, 0)))
-    (near_set n labels into s lt le f.near) (subst (Rises n) (sym is) (rises_set n chain.links from 0 into lt2 up lf (omega arith) (f.rises unturned)))
+-- chains keep links
+pub chain_keeps : KeepsLinks (λ (one : ChainValue). one.links)
+chain_keeps none = let one : ChainValue = record { links = None ∷ []; turned = false } in absurd (cc (none one))
 
--- after a call
-relaxed_by : (n : ℕ) (labels : List (Option ℕ)) (chain now : ChainValue) (from edge into at arrival : ℕ) (b : Bool) → IsReady n labels chain → chain.turned ≡ false → from < 2 * n
-    → into < 2 * n → edge < MAX_EDGES → turn_of n from < turn_of n into
-    → second_at labels from ≡ Some at → arrival ≤ at + 2 ^ 38 → now.links ≡ (if b then slice_set chain.links into (Some (from, edge)) else chain.links)
-    → IsReady n (if b then slice_set labels into (Some arrival) else labels) now
-relaxed_by n labels chain now from edge into at arrival true f unturned lf li small up e near is =
-    let lt : into < length labels = let long = f.long in omega (arith, li, long) in
-    let lt2 : into < length chain.links = let long = f.places in omega (arith, li, long) in
-    let before = f.near from at e in
-    let le : arrival ≤ day - 1 + turn_of n into * 2 ^ 38 = omega (arith, before, up, near) in
-    ready_with n labels (slice_set labels into (Some arrival)) chain now f (length-set labels into (Some arrival)) (ap length is ∙ length-set chain.links into (Some (from, edge)))
-    (near_set n labels into arrival lt le f.near) (subst (Rises n) (sym is) (rises_set n chain.links from edge into lt2 up lf small (f.rises unturned)))
-relaxed_by n labels chain now from edge into at arrival false f unturned lf li small up e near is =
-    ready_with n labels labels chain now f refl (ap length is) f.near (subst (Rises n) (sym is) (f.rises unturned))
+module _ {Kept : Type 0} (n : ℕ) (labels : List (Option ℕ)) (links now : List (Option (ℕ × ℕ))) (turned still : Bool) (f : IsReady Kept n labels links turned) where
+  ready_with : (more : List (Option ℕ)) → length more ≡ length labels → length now ≡ length links → AreNear n more → Rises n now → IsReady Kept n more now still
+  ready_with more long places near rises = record {
+    few = f.few;
+    long = long ∙ f.long;
+    places = λ kept. places ∙ f.places kept;
+    near = near;
+    rises = λ e. rises;
+  }
 
-pub relaxed_ready : (n : ℕ) (labels : List (Option ℕ)) (chain now : ChainValue) (from edge into : ℕ) (r : Relaxed) → IsReady n labels chain → chain.turned ≡ false → from < 2 * n
-    → into < 2 * n → edge < MAX_EDGES → turn_of n from < turn_of n into
-    → IfAt r (λ (arrival : ℕ). (at : ℕ) × (second_at labels from ≡ Some at) × (arrival ≤ at + 2 ^ 38))
-    → now.links ≡ links_after labels chain.links from edge into r → IsReady n (seconds_after labels into r) now
-relaxed_ready n labels chain now from edge into (At arrival) f unturned lf li small up near is =
-    relaxed_by n labels chain now from edge into near.0 arrival (is_earlier arrival (second_at labels into)) f unturned lf li small up near.1 near.2 is
-relaxed_ready n labels chain now from edge into NoWay f unturned lf li small up near is =
-    ready_with n labels labels chain now f refl (ap length is) f.near (subst (Rises n) (sym is) (f.rises unturned))
-relaxed_ready n labels chain now from edge into Long f unturned lf li small up near is =
-    ready_with n labels labels chain now f refl (ap length is) f.near (subst (Rises n) (sym is) (f.rises unturned))
+  -- after a label begins as another
+  pub begun_ready : (from into : ℕ) (o : Option ℕ) → turned ≡ false → from < 2 * n → into < 2 * n → turn_of n from < turn_of n into
+      → second_at labels from ≡ o → now ≡ begun_links links from into o → IsReady Kept n (slice_set labels into o) now still
+  begun_ready from into None unturned lf li up e is =
+      let lt : into < length labels = let long = f.long in omega (arith, li, long) in
+      ready_with (slice_set labels into None) (length-set labels into None) (ap length is) (near_unset n labels into lt f.near) (subst (Rises n) (sym is) (f.rises unturned))
+  begun_ready from into (Some s) unturned lf li up e is =
+      let lt : into < length labels = let long = f.long in omega (arith, li, long) in
+      let near = f.near from s e in
+      let le : s ≤ day - 1 + turn_of n into * 2 ^ 38 = omega (arith, near, up) in
+      ready_with (slice_set labels into (Some s)) (length-set labels into (Some s)) (ap length is ∙ length-set links into (Some (from, 0)))
+      (near_set n labels into s lt le f.near) (subst (Rises n) (sym is) (rises_set n links from 0 into up lf (omega arith) (f.rises unturned)))
+
+  -- after a call
+  relaxed_by : (from edge into at arrival : ℕ) (b : Bool) → turned ≡ false → from < 2 * n → into < 2 * n → edge < MAX_EDGES → turn_of n from < turn_of n into
+      → second_at labels from ≡ Some at → arrival ≤ at + 2 ^ 38 → now ≡ (if b then slice_set links into (Some (from, edge)) else links)
+      → IsReady Kept n (if b then slice_set labels into (Some arrival) else labels) now still
+  relaxed_by from edge into at arrival true unturned lf li small up e near is =
+      let lt : into < length labels = let long = f.long in omega (arith, li, long) in
+      let before = f.near from at e in
+      let le : arrival ≤ day - 1 + turn_of n into * 2 ^ 38 = omega (arith, before, up, near) in
+      ready_with (slice_set labels into (Some arrival)) (length-set labels into (Some arrival)) (ap length is ∙ length-set links into (Some (from, edge)))
+      (near_set n labels into arrival lt le f.near) (subst (Rises n) (sym is) (rises_set n links from edge into up lf small (f.rises unturned)))
+  relaxed_by from edge into at arrival false unturned lf li small up e near is =
+      ready_with labels refl (ap length is) f.near (subst (Rises n) (sym is) (f.rises unturned))
+
+  pub relaxed_ready : (from edge into : ℕ) (r : Relaxed) → turned ≡ false → from < 2 * n → into < 2 * n → edge < MAX_EDGES → turn_of n from < turn_of n into
+      → IfAt r (λ (arrival : ℕ). (at : ℕ) × (second_at labels from ≡ Some at) × (arrival ≤ at + 2 ^ 38))
+      → now ≡ links_after labels links from edge into r → IsReady Kept n (seconds_after labels into r) now still
+  relaxed_ready from edge into (At arrival) unturned lf li small up near is =
+      relaxed_by from edge into near.0 arrival (is_earlier arrival (second_at labels into)) unturned lf li small up near.1 near.2 is
+  relaxed_ready from edge into NoWay unturned lf li small up near is =
+      ready_with labels refl (ap length is) f.near (subst (Rises n) (sym is) (f.rises unturned))
+  relaxed_ready from edge into Long unturned lf li small up near is =
+      ready_with labels refl (ap length is) f.near (subst (Rises n) (sym is) (f.rises unturned))
 
 turn_by : (b : Bool) (m place : ℕ) → place < 2 * m → (if b then place else 3 * m - place) ≤ 3 * m
 turn_by true m place lt = omega (arith, lt)
 turn_by false m place lt = omega (arith, lt)
 
 -- a place's second leaves room for a call
-pub time_left : (n : ℕ) (labels : List (Option ℕ)) (chain : ChainValue) (from : ℕ) (o : Option ℕ) → IsReady n labels chain → from < 2 * n → second_at labels from ≡ o → IfSecond o (λ at. at < 2 ^ 61)
-time_left n labels chain from None f lf e = tt
-time_left n labels chain from (Some at) f lf e =
-    let near = f.near from at e in
+pub time_left : (n : ℕ) (labels : List (Option ℕ)) (from : ℕ) (o : Option ℕ) → n ≤ MAX_NODES → AreNear n labels → from < 2 * n → second_at labels from ≡ o → IfSecond o (λ at. at < 2 ^ 61)
+time_left n labels from None few f lf e = tt
+time_left n labels from (Some at) few f lf e =
+    let near = f from at e in
     let turn = turn_by (ltb from n) n from lf in
-    let few : n ≤ MAX_NODES = f.few in
     omega (arith, near, turn, few)
 
 pub turn_up : (n x y : ℕ) → x < y → y < n → turn_of n x < turn_of n y
@@ -177,14 +181,14 @@ none_linked (x ∷ links) zero from edge all e = let none : x ≡ None = all 0 N
 none_linked (x ∷ links) (suc place) from edge all e = none_linked links place from edge (λ k d lt. all (suc k) d (omega (arith, lt))) e
 
 -- places that are new
-pub new_ready : (n : ℕ) (labels : List (Option ℕ)) (chain : ChainValue) → n ≤ MAX_NODES → length labels ≡ 2 * n + 1 → All (λ o. o ≡ None) labels → length chain.links ≡ 2 * n + 1
-    → All (λ link. link ≡ None) chain.links → IsReady n labels chain
-new_ready n labels chain few long is places none = record {
+pub new_ready : {Kept : Type 0} → (n : ℕ) (labels : List (Option ℕ)) (links : List (Option (ℕ × ℕ))) (turned : Bool) → n ≤ MAX_NODES → length labels ≡ 2 * n + 1
+    → All (λ o. o ≡ None) labels → (Kept → length links ≡ 2 * n + 1) → All (λ link. link ≡ None) links → IsReady Kept n labels links turned
+new_ready n labels links turned few long is places none = record {
   few = few;
   long = long;
   places = places;
   near = λ place second e. absurd (none_second labels place second is e);
-  rises = λ e place from edge link. absurd (none_linked chain.links place from edge none link);
+  rises = λ e place from edge link. absurd (none_linked links place from edge none link);
 }
 
 if_at : (r : Relaxed) (at : ℕ) → IfAt r (λ (arrival : ℕ). arrival ≤ at + 2 ^ 38) → IfAt r (λ (arrival : ℕ). (t : ℕ) × (Some at ≡ Some t) × (arrival ≤ t + 2 ^ 38))

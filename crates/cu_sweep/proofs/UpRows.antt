@@ -11,7 +11,7 @@ use Rattle.cu_interval.specs.Hierarchies.{HierarchyValue, IsHierarchy, number_fr
 use Rattle.cu_interval.proofs.Lookups.{number_at, number_found}
 use Rattle.cu_sweep.specs.Labels.{earlier_of, start_label}
 use Rattle.cu_sweep.specs.Sweeps.{second_of}
-use Rattle.cu_sweep.specs.Places.{dir_between, second_at}
+use Rattle.cu_sweep.specs.Places.{AreKept, dir_between, second_at}
 use Rattle.cu_sweep.specs.Swept.{IsPassed}
 use Rattle.cu_sweep.specs.Steps.Made.{HoldsMade, Led, final_made, made_over, made_up_after, made_up_into, sweep_of, up_made}
 use Rattle.cu_sweep.specs.Steps.Sweeping.{IfSecond, IsUpSwept, answer_in, links_after, seconds_after}
@@ -73,7 +73,7 @@ member_other (x ∷ part) y z ne c =
 
 -- one call more
 pub up_more : (h : HierarchyValue) (q : Led) (done : List ℕ) (x y edge : ℕ) (part : List ℕ) (labels : List (Option ℕ)) (links : List (Option (ℕ × ℕ))) → IsUpPart h q done x part labels links
-    → (Contains part y → ⊥) → x < y → y < h.network.nodes → y < length labels → y < length links → number_from 0 h.edges x y ≡ Some edge → edge < length h.edges
+    → (Contains part y → ⊥) → x < y → y < h.network.nodes → y < length labels → (AreKept links → y < length links) → number_from 0 h.edges x y ≡ Some edge → edge < length h.edges
     → second_at labels x ≡ second_of (up_made h q x) → IfSecond (second_at labels x) (λ at. at < 2 ^ 61)
     → IsPassed h (sweep_of q) x
     → IsUpPart h q done x (part ++ (y ∷ [])) (seconds_after labels y (answer_in h (q.allows y) edge Up (second_at labels x)))

@@ -1,5 +1,5 @@
 -- Places of labels and links: place x is rank x in the upward sweep, place nodes + x is rank x in the downward one.
-use Rattle.std.specs.Prelude.{ℕ, zero, suc, List, [], ◌∷◌, ◌++◌, Option, Some, None, ◌+◌, ◌*◌, nat_lt, if◌then◌else◌, slice_index_or}
+use Rattle.std.specs.Prelude.{ℕ, zero, suc, List, [], ◌∷◌, ◌++◌, Option, Some, None, ◌≡◌, ◌<◌, ◌+◌, ◌*◌, nat_lt, if◌then◌else◌, length, slice_index_or}
 use Rattle.cu_links.specs.Chains.{link_at}
 use Rattle.cu_interval.specs.declared.ways.Dir.{Dir}
 use Rattle.cu_interval.specs.declared.ways.Dir.TheVariants.{Up, Down}
@@ -9,6 +9,14 @@ use Rattle.cu_sweep.specs.Sweeps.{call_at}
 -- the second of a place; none where there is no such place
 abbrev pub second_at : List (Option ℕ) → ℕ → Option ℕ
 second_at labels place = slice_index_or labels place None
+
+-- links are kept: there is a place for one
+abbrev pub AreKept : List (Option (ℕ × ℕ)) → Type 0
+AreKept links = 0 < length links
+
+-- a kind keeps links, where this gives those of each one of it: not all of these are empty
+abbrev pub KeepsLinks : {K : Type 0} → (K → List (Option (ℕ × ℕ))) → Type 0
+KeepsLinks {K = K} links = ((one : K) → links one ≡ []) → ⊥
 
 abbrev pub calls_of_some : Option Call → List Call
 calls_of_some None = []

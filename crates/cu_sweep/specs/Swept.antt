@@ -8,7 +8,7 @@ use Rattle.cu_interval.specs.declared.relaxing.Call.{Call}
 use Rattle.cu_interval.specs.Hierarchies.{HierarchyValue, graph_of}
 use Rattle.cu_sweep.specs.Desks.{AreArriving, DeskValue}
 use Rattle.cu_sweep.specs.Labels.{Label, down_label, up_label}
-use Rattle.cu_sweep.specs.Places.{calls_between, calls_found, dir_between, second_at}
+use Rattle.cu_sweep.specs.Places.{AreKept, calls_between, calls_found, dir_between, second_at}
 use Rattle.cu_sweep.specs.Sweeps.{AddsAll, down_calls_to, first_long, second_of, until_long}
 
 -- where and when a sweep starts, and the ranks that it goes down over
@@ -17,7 +17,7 @@ pub record Sweep : Type 0 where
   pub second : ℕ
   pub path : List ℕ
 
--- for how many nodes there are labels, when each place is reached, by which links, and whether these were turned since
+-- for how many nodes there are labels, when each place is reached, by which links, none where they aren't kept, and whether these were turned since
 pub record LabelsValue : Type 0 where
   pub nodes : ℕ
   pub seconds : List (Option ℕ)
@@ -57,10 +57,10 @@ abbrev pub IsLinkedLabel : HierarchyValue → Sweep → List (Option (ℕ × ℕ
 IsLinkedLabel h q links place None = Unit {0}
 IsLinkedLabel h q links place (Some label) = ((link_at links place ≡ None) × (label.calls ≡ [])) ⊎ IsLinked h q links place label
 
--- a place has a label: its second, and the link of its last call
+-- a place has a label: its second, and the link of its last call, where links are kept
 pub record Holds (h : HierarchyValue) (q : Sweep) (labels : List (Option ℕ)) (links : List (Option (ℕ × ℕ))) (place : ℕ) (label : Option Label) : Type 0 where
   pub second : second_at labels place ≡ second_of label
-  pub linked : IsLinkedLabel h q links place label
+  pub linked : AreKept links → IsLinkedLabel h q links place label
 
 -- the second of a rank when a sweep begins
 abbrev pub begun_second : ℕ → ℕ → ℕ → Option ℕ
@@ -75,10 +75,10 @@ pub record IsBegun (h : HierarchyValue) (q : Sweep) (labels : LabelsValue) : Typ
 abbrev pub IsSweptUp : HierarchyValue → Sweep → LabelsValue → Type 0
 IsSweptUp h q labels = (rank : ℕ) → IsPassed h q rank → Holds h q labels.seconds labels.links rank (up_label h q.from q.second rank)
 
--- a place is reached as a label says: at its second, and by its calls, which all arrive
+-- a place is reached as a label says: at its second, and, where links are kept, by its calls, which all arrive
 pub record IsReachedAs (h : HierarchyValue) (labels : LabelsValue) (place : ℕ) (label : Option Label) : Type 0 where
   pub second : second_at labels.seconds place ≡ second_of label
-  pub calls : (one : Label) → label ≡ Some one
+  pub calls : AreKept labels.links → (one : Label) → label ≡ Some one
       → (calls_found labels.nodes labels.seconds labels.links place ≡ one.calls) × AreArriving h one.calls
 
 -- after the downward calls each rank of the path has its downward label

@@ -4,6 +4,7 @@ ghost use Rattle.std.specs.Prelude.{◌≡◌, ◌≤◌, false, IfOk};
 ghost use Rattle.cu_model.specs.declared.limits.TheConstants.{MAX_NODES};
 
 use crate::labels::Labels;
+use cu_links::Chain;
 use cu_model::NoMemory;
 use std::alloc::Global;
 use std::marker::Model;
@@ -12,7 +13,7 @@ use std::marker::Model;
 /// calls of the walk that was found, and whether it was turned since.
 #[derive(Drop)]
 pub struct SweepDesk {
-    pub(crate) labels: Labels,
+    pub(crate) labels: Labels<Chain>,
     // The ancestors of a query's end.
     pub(crate) path: Vec<u32>,
     // The place of the last query's end, and one behind them all before there was one.

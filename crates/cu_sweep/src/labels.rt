@@ -7,53 +7,54 @@ ghost use Rattle.cu_chordal.specs.Graphs.{HasEdge};
 ghost use Rattle.cu_elimtree.specs.SweepArcs.{ancestors_in, parents_in};
 ghost use Rattle.cu_elimtree.specs.Trees.{ancestors_of};
 ghost use Rattle.cu_interval.specs.Hierarchies.{HierarchyValue, IsHierarchyOf, graph_of};
-ghost use Rattle.cu_sweep.specs.Places.{second_at};
+ghost use Rattle.cu_sweep.specs.Places.{AreKept, KeepsLinks, second_at};
 ghost use Rattle.cu_sweep.specs.Sweeps.{up_calls};
 ghost use Rattle.cu_sweep.specs.Swept.{IsBegun, IsSweptDown, IsSweptUp, Makes, Sweep, begun_second, path_calls};
 ghost use Rattle.cu_sweep.specs.ToAll.{AreReached, AreTimesWhereBuilt, reach_calls};
 ghost use Rattle.cu_sweep.specs.Steps.Made.{IsMadeDown, IsMadeUp, Led, down_calls_of, sweep_of, up_calls_of};
-ghost use Rattle.cu_sweep.specs.Steps.Ready.{IsReady};
+ghost use Rattle.cu_sweep.specs.Steps.Ready.{IsReadyBy};
 
 use crate::limits::{Always, Limits};
+use crate::linking::Linking;
 use crate::over_ranks::{pass_down, pass_up};
 use cu_chordal::Chordal;
 use cu_elimtree::Tree;
 use cu_interval::{Call, Relaxer};
-use cu_links::Chain;
 use cu_model::NoMemory;
 use std::alloc::Global;
 use std::marker::Model;
 
-/// Room for the labels of both passes of a sweep, and for the links that lead to them, made once: upwards over the ancestors
-/// of a start, and then downwards over any path of ranks that has all higher neighbours of its ranks. Contracts see for how
-/// many nodes it was made, when each place is reached and by which link, and whether links were turned since.
+/// Room for the labels of both passes of a sweep, and for the links that lead to them, where these are kept, made once: upwards
+/// over the ancestors of a start, and then downwards over any path of ranks that has all higher neighbours of its ranks.
+/// Contracts see for how many nodes it was made, when each place is reached and by which link, and whether links were turned
+/// since. After each pass links are kept by a linking that keeps any.
 #[derive(Drop)]
-pub struct Labels {
+pub struct Labels<K: Linking> {
     nodes: u32,
     // Place x is rank x upwards, place nodes + x is rank x downwards.
     pub(crate) seconds: Vec<Option<u64>>,
-    pub(crate) chain: Chain,
+    pub(crate) chain: K,
 }
 
-impl Model for Labels {
+impl<K: Linking> Model for Labels<K> {
     ghost use Rattle.cu_sweep.specs.Swept.{LabelsValue};
-    ghost use Rattle.cu_sweep.specs.Steps.Ready.{IsReady};
+    ghost use Rattle.cu_sweep.specs.Steps.Ready.{IsReadyBy};
 
     ghost Value = { LabelsValue };
 
     ghost view = { λ labels. record {
       nodes = labels.nodes;
       seconds = labels.seconds.items;
-      links = labels.chain.links;
-      turned = labels.chain.turned;
+      links = K.links labels.chain;
+      turned = K.turned labels.chain;
     } };
 
-    ghost invariant = { λ labels. IsReady labels.nodes labels.seconds.items labels.chain };
+    ghost invariant = { λ labels. IsReadyBy K.links K.turned labels.nodes labels.seconds.items labels.chain };
 }
 
-impl Labels {
+impl<K: Linking> Labels<K> {
     /// Room for so many nodes, at most `MAX_NODES` of `cu_model`. No place is reached.
-    pub fn new(alloc: Global, nodes: u32) -> Result<Labels, NoMemory>
+    pub fn new(alloc: Global, nodes: u32) -> Result<Labels<K>, NoMemory>
         requires { nodes ≤ MAX_NODES }
         ensures nodes { IfOk result (λ labels. labels.nodes ≡ nodes) }
         ensures unturned { IfOk result (λ labels. labels.turned ≡ false) }
@@ -61,7 +62,7 @@ impl Labels {
         Ok(Labels {
             nodes,
             seconds: vec![in alloc; None; 2 * nodes as usize + 1]?,
-            chain: Chain::new(alloc, 2 * nodes + 1)?,
+            chain: K::with_places(alloc, 2 * nodes + 1)?,
         })
     }
 
@@ -120,6 +121,7 @@ impl Labels {
             (R.calls relaxer.old) (R.calls relaxer.new) result }
         ensures swept { (q : Sweep) → q.from ≡ from → IsBegun (R.hierarchy relaxer.old) q self.old
             → result ≡ None → IsSweptUp (R.hierarchy relaxer.old) q self.new }
+        ensures kept { KeepsLinks K.links → AreKept self.new.links }
     {
         self.rise(tree, graph, relaxer, &Always, from)
     }
@@ -151,6 +153,7 @@ impl Labels {
         ensures swept { (q : Sweep) → q.path ≡ path.now
             → IsSweptUp (R.hierarchy relaxer.old) q self.old
             → result ≡ None → IsSweptDown (R.hierarchy relaxer.old) q self.new }
+        ensures kept { KeepsLinks K.links → AreKept self.new.links }
     {
         self.fall(graph, relaxer, &Always, path)
     }
@@ -184,6 +187,7 @@ impl Labels {
         ensures reached { result ≡ None
             → AreReached (R.hierarchy relaxer.old) from second self.new }
         ensures least { AreTimesWhereBuilt (R.hierarchy relaxer.old) from second result self.new }
+        ensures kept { KeepsLinks K.links → AreKept self.new.links }
     {
         self.begin(tree, from, second, ranks);
         if let Some(call) = self.sweep_up(tree, graph, relaxer, from) {
@@ -193,7 +197,7 @@ impl Labels {
     }
 }
 
-impl Labels {
+impl<K: Linking> Labels<K> {
     // `sweep_up` by the calls that may be made.
     pub(crate) fn rise<R: Relaxer, L: Limits>(
         &mut self,
@@ -219,6 +223,7 @@ impl Labels {
         ensures swept { (q : Led) → q.from ≡ from → q.allows ≡ L.allows limits.now
             → IsBegun (R.hierarchy relaxer.old) (sweep_of q) self.old
             → result ≡ None → IsMadeUp (R.hierarchy relaxer.old) q self.new }
+        ensures kept { KeepsLinks K.links → AreKept self.new.links }
     {
         pass_up(
             tree,
@@ -257,6 +262,7 @@ impl Labels {
         ensures swept { (q : Led) → q.path ≡ path.now → q.allows ≡ L.allows limits.now
             → IsMadeUp (R.hierarchy relaxer.old) q self.old
             → result ≡ None → IsMadeDown (R.hierarchy relaxer.old) q self.new }
+        ensures kept { KeepsLinks K.links → AreKept self.new.links }
     {
         pass_down(
             graph,
@@ -270,10 +276,10 @@ impl Labels {
 }
 
 // Takes away what the sweep before left at the ranks that this one passes, and all links, and labels the start.
-fn begin_in(
+fn begin_in<K: Linking>(
     tree: &Tree,
     labels: &mut [Option<u64>],
-    chain: &mut Chain,
+    chain: &mut K,
     from: u32,
     second: u32,
     path: &[u32],
@@ -281,12 +287,12 @@ fn begin_in(
     requires from { from < length tree.now }
     requires second { second < DAY }
     requires path { All (λ rank. rank < length tree.now) path.now }
-    requires ready { IsReady (length tree.now) labels.old chain.old }
-    ensures ready { IsReady (length tree.now) labels.new chain.new }
-    ensures unturned { chain.new.turned ≡ false }
+    requires ready { IsReadyBy K.links K.turned (length tree.now) labels.old chain.old }
+    ensures ready { IsReadyBy K.links K.turned (length tree.now) labels.new chain.new }
+    ensures unturned { K.turned chain.new ≡ false }
     ensures begins { (y : ℕ) → Contains (ancestors_of tree.now from) y ⊎ Contains path.now y
         → second_at labels.new y ≡ begun_second from second y }
-    ensures unlinked { All (λ link. link ≡ None) chain.new.links }
+    ensures unlinked { All (λ link. link ≡ None) (K.links chain.new) }
 {
     clear_above(tree, labels, from);
     clear_along(labels, path);

@@ -22,6 +22,7 @@ use crate::timing::InTime;
 use cu_chordal::Chordal;
 use cu_elimtree::Tree;
 use cu_interval::Relaxer;
+use cu_links::Chain;
 
 /// [`query`] over a hierarchy none of whose walks is too long: it finds the same, and leaves the same walk on the desk, but makes
 /// only calls that may still be in time for the end, as long as a way that is driven first is met; else it is [`query`]. The
@@ -188,7 +189,7 @@ struct Goal<'a> {
 fn sweep_in_time<R: Relaxer>(
     tree: &Tree,
     graph: &Chordal,
-    labels: &mut Labels,
+    labels: &mut Labels<Chain>,
     path: &[u32],
     relaxer: &mut R,
     goal: Goal<'_>,

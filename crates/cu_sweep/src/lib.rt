@@ -12,6 +12,9 @@
 //! definitions alone, [`sweeps_take_arcs_once`]: a query's sweep takes sweep arcs, and a reach's downward one any edges, each at
 //! most once (`specs/ArcsOnce.antt`).
 //!
+//! From where each label came is a [`Linking`]'s: a desk's are a chain of `cu_links`, whose links give the calls of the walk that
+//! was found, and a reach, of which only seconds are asked, keeps none ([`Unlinked`]).
+//!
 //! A sweep leaves out each call whose end already has a label no later than the call's second and its list's least bound:
 //! whatever the call answered, no label would be earlier, so all labels and walks are those of all calls.
 //!
@@ -26,6 +29,7 @@ mod labels;
 mod laws;
 mod leading;
 mod limits;
+mod linking;
 mod looking;
 mod outlook;
 mod over_ranks;
@@ -40,6 +44,7 @@ pub use finding::Found;
 pub use labels::Labels;
 pub use laws::sweeps_take_arcs_once;
 pub use leading::led_query;
+pub use linking::{Linking, Unlinked};
 pub use outlook::Outlook;
 pub use querying::{Question, query};
 pub use routing::route;

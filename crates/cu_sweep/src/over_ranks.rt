@@ -6,22 +6,22 @@ ghost use Rattle.cu_chordal.specs.Graphs.{HasEdge};
 ghost use Rattle.cu_elimtree.specs.SweepArcs.{ancestors_in, parents_in};
 ghost use Rattle.cu_interval.specs.Hierarchies.{IsHierarchyOf};
 ghost use Rattle.cu_sweep.specs.Steps.Made.{Led};
-ghost use Rattle.cu_sweep.specs.Steps.Ready.{IsReady};
+ghost use Rattle.cu_sweep.specs.Steps.Ready.{IsReadyBy};
 ghost use Rattle.cu_sweep.specs.Steps.Sweeping.{IsDownOver, IsDownSwept, IsUpOver, IsUpSwept};
 
 use crate::limits::Limits;
+use crate::linking::Linking;
 use crate::sweeping::{relax_down, relax_up};
 use cu_chordal::Chordal;
 use cu_elimtree::Tree;
 use cu_interval::{Call, Relaxer};
-use cu_links::Chain;
 
 /// The upward pass over the ancestors of a rank, by the calls that may be made. Answers the first call whose walk is too long, with which it ends.
-pub fn pass_up<R: Relaxer, L: Limits>(
+pub fn pass_up<R: Relaxer, L: Limits, K: Linking>(
     tree: &Tree,
     graph: &Chordal,
     labels: &mut [Option<u64>],
-    chain: &mut Chain,
+    chain: &mut K,
     relaxer: &mut R,
     limits: &L,
     from: u32,
@@ -29,15 +29,15 @@ pub fn pass_up<R: Relaxer, L: Limits>(
     requires from { from < graph.now.ranks }
     requires tree { tree.now ≡ parents_in graph.now }
     requires graph { IsHierarchyOf graph.now (R.hierarchy relaxer.old) }
-    requires ready { IsReady graph.now.ranks labels.old chain.old }
-    requires unturned { chain.old.turned ≡ false }
-    ensures ready { IsReady graph.now.ranks labels.new chain.new }
-    ensures unturned { chain.new.turned ≡ false }
+    requires ready { IsReadyBy K.links K.turned graph.now.ranks labels.old chain.old }
+    requires unturned { K.turned chain.old ≡ false }
+    ensures ready { IsReadyBy K.links K.turned graph.now.ranks labels.new chain.new }
+    ensures unturned { K.turned chain.new ≡ false }
     ensures stays { R.hierarchy relaxer.new ≡ R.hierarchy relaxer.old }
     ensures over { (q : Led) → q.from ≡ from → q.allows ≡ L.allows limits.now
-        → IsUpSwept (R.hierarchy relaxer.old) q [] labels.old chain.old.links
+        → IsUpSwept (R.hierarchy relaxer.old) q [] labels.old (K.links chain.old)
         → IsUpOver (R.hierarchy relaxer.old) q (ancestors_in graph.now from)
-        (R.calls relaxer.old) (R.calls relaxer.new) labels.new chain.new.links result }
+        (R.calls relaxer.old) (R.calls relaxer.new) labels.new (K.links chain.new) result }
 {
     'ranks: for rank in tree.ancestors(from) {
         let long = relax_up(graph, labels, chain, relaxer, limits, rank);
@@ -50,10 +50,10 @@ pub fn pass_up<R: Relaxer, L: Limits>(
 
 /// The downward pass over ranks, from the last to the first, by the calls that may be made. Answers the first call whose walk is too long, with which it
 /// ends.
-pub fn pass_down<R: Relaxer, L: Limits>(
+pub fn pass_down<R: Relaxer, L: Limits, K: Linking>(
     graph: &Chordal,
     labels: &mut [Option<u64>],
-    chain: &mut Chain,
+    chain: &mut K,
     relaxer: &mut R,
     limits: &L,
     path: &[u32],
@@ -63,15 +63,15 @@ pub fn pass_down<R: Relaxer, L: Limits>(
     requires upwards { (low high : ℕ) → Contains path.now low → HasEdge graph.now.edges low high
         → Contains path.now high }
     requires graph { IsHierarchyOf graph.now (R.hierarchy relaxer.old) }
-    requires ready { IsReady graph.now.ranks labels.old chain.old }
-    requires unturned { chain.old.turned ≡ false }
-    ensures ready { IsReady graph.now.ranks labels.new chain.new }
-    ensures unturned { chain.new.turned ≡ false }
+    requires ready { IsReadyBy K.links K.turned graph.now.ranks labels.old chain.old }
+    requires unturned { K.turned chain.old ≡ false }
+    ensures ready { IsReadyBy K.links K.turned graph.now.ranks labels.new chain.new }
+    ensures unturned { K.turned chain.new ≡ false }
     ensures stays { R.hierarchy relaxer.new ≡ R.hierarchy relaxer.old }
     ensures over { (q : Led) → path.now ≡ q.path → q.allows ≡ L.allows limits.now
-        → IsDownSwept (R.hierarchy relaxer.old) q [] labels.old chain.old.links
+        → IsDownSwept (R.hierarchy relaxer.old) q [] labels.old (K.links chain.old)
         → IsDownOver (R.hierarchy relaxer.old) q (reverse path.now)
-        (R.calls relaxer.old) (R.calls relaxer.new) labels.new chain.new.links result }
+        (R.calls relaxer.old) (R.calls relaxer.new) labels.new (K.links chain.new) result }
 {
     let mut left = path.len();
     'ranks: while left > 0 {

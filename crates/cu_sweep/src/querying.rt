@@ -18,6 +18,7 @@ use crate::labels::Labels;
 use cu_chordal::Chordal;
 use cu_elimtree::Tree;
 use cu_interval::{Call, Relaxer};
+use cu_links::Chain;
 
 /// A query's ranks, and the second of a day at which it leaves.
 #[derive(Clone, Copy, Debug)]
@@ -67,7 +68,7 @@ pub fn query<R: Relaxer>(
 fn sweep<R: Relaxer>(
     tree: &Tree,
     graph: &Chordal,
-    labels: &mut Labels,
+    labels: &mut Labels<Chain>,
     path: &[u32],
     relaxer: &mut R,
     question: Question,

@@ -8,7 +8,7 @@ ghost use Rattle.cu_unpack.specs.Texts.{walk_text};
 ghost use Rattle.cu_unpack.proofs.Texts.{first_after};
 ghost use Rattle.cu_sweep.specs.Desks.{AreArriving, IsArrivingCall, roads_of};
 ghost use Rattle.cu_sweep.specs.Places.{calls_found, calls_of_some, calls_over, dir_between};
-ghost use Rattle.cu_sweep.specs.Steps.Ready.{IsReady};
+ghost use Rattle.cu_sweep.specs.Steps.Ready.{IsChainReady};
 
 use crate::desk::SweepDesk;
 use crate::labels::Labels;
@@ -38,7 +38,7 @@ pub fn route<W: Walker, K: Sink>(
     desk.labels.write_to(end, walker, sink)
 }
 
-impl Labels {
+impl Labels<Chain> {
     // Turns the chain that leads to a place, and writes the roads of its calls from its first place on.
     fn write_to<W: Walker, K: Sink>(
         &mut self,
@@ -71,7 +71,7 @@ fn write_chain<W: Walker, K: Sink>(
     walker: &mut W,
     sink: &mut K,
 ) -> Result<(), SinkFailed>
-    requires ready { IsReady nodes labels.now chain.old }
+    requires ready { IsChainReady nodes labels.now chain.old }
     requires end { end ≤ 2 * nodes }
     requires unturned { chain.old.turned ≡ false }
     requires arriving { AreArriving (W.hierarchy walker.old)
@@ -79,7 +79,7 @@ fn write_chain<W: Walker, K: Sink>(
     ensures wrote { Wrote (K.state sink.old) (K.state sink.new) result
         (walk_text true
         (roads_of (W.hierarchy walker.old) (calls_found nodes labels.now chain.old.links end))) }
-    ensures ready { IsReady nodes labels.now chain.new }
+    ensures ready { IsChainReady nodes labels.now chain.new }
     ensures turned { chain.new.turned ≡ true }
     ensures stays { W.hierarchy walker.new ≡ W.hierarchy walker.old }
 {

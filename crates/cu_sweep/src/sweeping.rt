@@ -7,16 +7,16 @@ ghost use Rattle.cu_chordal.specs.Graphs.{HasEdge};
 ghost use Rattle.cu_interval.specs.Calls.{IfAt};
 ghost use Rattle.cu_interval.specs.Hierarchies.{IsHierarchy, IsHierarchyOf};
 ghost use Rattle.cu_sweep.specs.Sweeps.{AddsAll, first_long, is_by, until_long};
-ghost use Rattle.cu_sweep.specs.Places.{calls_of_some, second_at};
+ghost use Rattle.cu_sweep.specs.Places.{KeepsLinks, calls_of_some, second_at};
 ghost use Rattle.cu_sweep.specs.Swept.{IsPassed};
 ghost use Rattle.cu_sweep.specs.Steps.Made.{Led, made_up_after, rows_up, sweep_of, up_made};
-ghost use Rattle.cu_sweep.specs.Steps.Ready.{IsReady};
+ghost use Rattle.cu_sweep.specs.Steps.Ready.{IsReadyBy};
 ghost use Rattle.cu_sweep.specs.Steps.Sweeping.{IfSecond, IsDownSwept, IsRankDown, IsUpSwept, answer_in, begun_links, call_into, is_earlier, links_after, long_by, seconds_after};
 
 use crate::limits::Limits;
+use crate::linking::Linking;
 use cu_chordal::Chordal;
 use cu_interval::{Call, Dir, Relaxed, Relaxer};
-use cu_links::Chain;
 
 // An edge in a direction, with the places that it leads from and into.
 #[derive(Clone, Copy, Debug)]
@@ -29,20 +29,20 @@ struct Leg {
 
 // Relaxes the edges from a rank to its higher neighbours, by rising rank, but for those that may not be made or can't
 // make a label earlier. Answers the first call whose walk is too long, with which it ends.
-pub(crate) fn relax_up<R: Relaxer, L: Limits>(
+pub(crate) fn relax_up<R: Relaxer, L: Limits, K: Linking>(
     graph: &Chordal,
     labels: &mut [Option<u64>],
-    chain: &mut Chain,
+    chain: &mut K,
     relaxer: &mut R,
     limits: &L,
     rank: u32,
 ) -> Option<Call>
     requires rank { rank < graph.now.ranks }
     requires graph { IsHierarchyOf graph.now (R.hierarchy relaxer.old) }
-    requires ready { IsReady graph.now.ranks labels.old chain.old }
-    requires unturned { chain.old.turned ≡ false }
-    ensures ready { IsReady graph.now.ranks labels.new chain.new }
-    ensures unturned { chain.new.turned ≡ false }
+    requires ready { IsReadyBy K.links K.turned graph.now.ranks labels.old chain.old }
+    requires unturned { K.turned chain.old ≡ false }
+    ensures ready { IsReadyBy K.links K.turned graph.now.ranks labels.new chain.new }
+    ensures unturned { K.turned chain.new ≡ false }
     ensures stays { R.hierarchy relaxer.new ≡ R.hierarchy relaxer.old }
     ensures long { result ≡ first_long (R.hierarchy relaxer.old)
         (rows_up (R.hierarchy relaxer.old) (L.allows limits.now) rank (second_at labels.old rank)
@@ -52,13 +52,13 @@ pub(crate) fn relax_up<R: Relaxer, L: Limits>(
         (rows_up (R.hierarchy relaxer.old) (L.allows limits.now) rank (second_at labels.old rank)
         (second_at labels.old))) }
     ensures swept { (q : Led) (done : List ℕ)
-        → IsUpSwept (R.hierarchy relaxer.old) q done labels.old chain.old.links
+        → IsUpSwept (R.hierarchy relaxer.old) q done labels.old (K.links chain.old)
         → IsPassed (R.hierarchy relaxer.old) (sweep_of q) rank
         → made_up_after (R.hierarchy relaxer.old) q done rank
         ≡ up_made (R.hierarchy relaxer.old) q rank
         → q.allows ≡ L.allows limits.now
         → result ≡ None
-        → IsUpSwept (R.hierarchy relaxer.old) q (done ++ (rank ∷ [])) labels.new chain.new.links }
+        → IsUpSwept (R.hierarchy relaxer.old) q (done ++ (rank ∷ [])) labels.new (K.links chain.new) }
 {
     let mut edge = graph.first_edge(rank);
     let highers = graph.up(rank);
@@ -81,28 +81,28 @@ pub(crate) fn relax_up<R: Relaxer, L: Limits>(
 // Relaxes the edges to a rank from its higher neighbours, by rising rank, but for those that may not be made or can't make its
 // label earlier, after its downward label has begun as the upward one. Answers the first call whose walk is too long, with
 // which it ends.
-pub(crate) fn relax_down<R: Relaxer, L: Limits>(
+pub(crate) fn relax_down<R: Relaxer, L: Limits, K: Linking>(
     graph: &Chordal,
     labels: &mut [Option<u64>],
-    chain: &mut Chain,
+    chain: &mut K,
     relaxer: &mut R,
     limits: &L,
     rank: u32,
 ) -> Option<Call>
     requires rank { rank < graph.now.ranks }
     requires graph { IsHierarchyOf graph.now (R.hierarchy relaxer.old) }
-    requires ready { IsReady graph.now.ranks labels.old chain.old }
-    requires unturned { chain.old.turned ≡ false }
-    ensures ready { IsReady graph.now.ranks labels.new chain.new }
-    ensures unturned { chain.new.turned ≡ false }
+    requires ready { IsReadyBy K.links K.turned graph.now.ranks labels.old chain.old }
+    requires unturned { K.turned chain.old ≡ false }
+    ensures ready { IsReadyBy K.links K.turned graph.now.ranks labels.new chain.new }
+    ensures unturned { K.turned chain.new ≡ false }
     ensures stays { R.hierarchy relaxer.new ≡ R.hierarchy relaxer.old }
     ensures over { (q : Led) (done : List ℕ)
-        → IsDownSwept (R.hierarchy relaxer.old) q done labels.old chain.old.links
+        → IsDownSwept (R.hierarchy relaxer.old) q done labels.old (K.links chain.old)
         → IsPassed (R.hierarchy relaxer.old) (sweep_of q) rank
         → ((y : ℕ) → HasEdge graph.now.edges rank y → Contains done y)
         → q.allows ≡ L.allows limits.now
         → IsRankDown (R.hierarchy relaxer.old) q rank done
-        (R.calls relaxer.old) (R.calls relaxer.new) labels.new chain.new.links result }
+        (R.calls relaxer.old) (R.calls relaxer.new) labels.new (K.links chain.new) result }
 {
     let nodes = graph.ranks();
     begin_down(labels, chain, nodes, rank);
@@ -125,15 +125,15 @@ pub(crate) fn relax_down<R: Relaxer, L: Limits>(
 }
 
 // A downward label begins as the upward one, without a call of its own.
-fn begin_down(labels: &mut [Option<u64>], chain: &mut Chain, nodes: u32, rank: u32)
+fn begin_down<K: Linking>(labels: &mut [Option<u64>], chain: &mut K, nodes: u32, rank: u32)
     requires rank { rank < nodes }
-    requires ready { IsReady nodes labels.old chain.old }
-    requires unturned { chain.old.turned ≡ false }
-    ensures ready { IsReady nodes labels.new chain.new }
-    ensures unturned { chain.new.turned ≡ false }
+    requires ready { IsReadyBy K.links K.turned nodes labels.old chain.old }
+    requires unturned { K.turned chain.old ≡ false }
+    ensures ready { IsReadyBy K.links K.turned nodes labels.new chain.new }
+    ensures unturned { K.turned chain.new ≡ false }
     ensures labels { labels.new ≡ slice_set labels.old (nodes + rank) (second_at labels.old rank) }
-    ensures links { chain.new.links
-        ≡ begun_links chain.old.links rank (nodes + rank) (second_at labels.old rank) }
+    ensures links { K.links chain.new
+        ≡ begun_links (K.links chain.old) rank (nodes + rank) (second_at labels.old rank) }
 {
     labels[(nodes + rank) as usize] = labels[rank as usize];
     if labels[rank as usize].is_some() {
@@ -144,9 +144,9 @@ fn begin_down(labels: &mut [Option<u64>], chain: &mut Chain, nodes: u32, rank: u
 // Relaxes an edge from the label of one place, and gives another place the label where that is strictly earlier. Answers the
 // call where its walk is too long. The call is left out where it may not be made, or where the other label is no later than any
 // that it could give.
-fn relax_into<R: Relaxer, L: Limits>(
+fn relax_into<R: Relaxer, L: Limits, K: Linking>(
     labels: &mut [Option<u64>],
-    chain: &mut Chain,
+    chain: &mut K,
     relaxer: &mut R,
     limits: &L,
     leg: Leg,
@@ -154,18 +154,18 @@ fn relax_into<R: Relaxer, L: Limits>(
     requires edge { leg.edge < length (R.hierarchy relaxer.old).edges }
     requires from { leg.from < length labels.old }
     requires into { leg.into < length labels.old }
-    requires places { length chain.old.links ≡ length labels.old }
+    requires places { KeepsLinks K.links → length (K.links chain.old) ≡ length labels.old }
     requires time { IfSecond (second_at labels.old leg.from) (λ at. at < 2 ^ 61) }
-    requires unturned { chain.old.turned ≡ false }
-    requires apart { IsOnChainTo chain.old.links leg.into leg.from → ⊥ }
+    requires unturned { K.turned chain.old ≡ false }
+    requires apart { IsOnChainTo (K.links chain.old) leg.into leg.from → ⊥ }
     requires sound { IsHierarchy (R.hierarchy relaxer.old) }
     ensures labels { labels.new ≡ seconds_after labels.old leg.into
         (answer_in (R.hierarchy relaxer.old) (L.allows limits.now leg.into) leg.edge leg.dir
         (second_at labels.old leg.from)) }
-    ensures links { chain.new.links ≡ links_after labels.old chain.old.links leg.from leg.edge leg.into
+    ensures links { K.links chain.new ≡ links_after labels.old (K.links chain.old) leg.from leg.edge leg.into
         (answer_in (R.hierarchy relaxer.old) (L.allows limits.now leg.into) leg.edge leg.dir
         (second_at labels.old leg.from)) }
-    ensures unturned { chain.new.turned ≡ false }
+    ensures unturned { K.turned chain.new ≡ false }
     ensures long { result ≡ first_long (R.hierarchy relaxer.old)
         (calls_of_some (call_into (R.hierarchy relaxer.old) (L.allows limits.now) labels.old
         (Some leg.edge) leg.dir leg.from leg.into)) }
@@ -210,9 +210,9 @@ fn long_of(answer: Relaxed, call: Call) -> Option<Call>
 }
 
 // Gives a place the label of a call that arrives, where that is strictly earlier than the label it has.
-fn give(
+fn give<K: Linking>(
     labels: &mut [Option<u64>],
-    chain: &mut Chain,
+    chain: &mut K,
     from: u32,
     edge: u32,
     into: u32,
@@ -220,12 +220,12 @@ fn give(
 )
     requires from { from < length labels.old }
     requires into { into < length labels.old }
-    requires places { length chain.old.links ≡ length labels.old }
-    requires unturned { chain.old.turned ≡ false }
-    requires apart { IsOnChainTo chain.old.links into from → ⊥ }
+    requires places { KeepsLinks K.links → length (K.links chain.old) ≡ length labels.old }
+    requires unturned { K.turned chain.old ≡ false }
+    requires apart { IsOnChainTo (K.links chain.old) into from → ⊥ }
     ensures labels { labels.new ≡ seconds_after labels.old into answer }
-    ensures links { chain.new.links ≡ links_after labels.old chain.old.links from edge into answer }
-    ensures unturned { chain.new.turned ≡ false }
+    ensures links { K.links chain.new ≡ links_after labels.old (K.links chain.old) from edge into answer }
+    ensures unturned { K.turned chain.new ≡ false }
 {
     if let Relaxed::At(arrival) = answer {
         if is_earlier_than(arrival, labels[into as usize]) {

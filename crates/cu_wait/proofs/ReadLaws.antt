@@ -1,5 +1,6 @@
 -- What a reader of measured profiles has taken, row by row, and what it answers of it.
-use Rattle.std.proofs.Common.{◌≡◌, ◌≢◌, ◌∙◌, ◌<◌, ◌≤◌, ◌+◌, ℕ, List, [], ◌∷◌, ◌++◌, true, Option, Some, None, Result, Ok, Err, All, length, refl, sym, subst, ap, arith, inl, inr, append_assoc, length-append}
+use Rattle.std.proofs.Common.{◌≡◌, ◌≢◌, ◌∙◌, ◌<◌, ◌≤◌, ◌+◌, ℕ, List, [], ◌∷◌, ◌++◌, true, Option, Some}
+use Rattle.std.proofs.Common.{None, Result, Ok, Err, All, length, refl, sym, subst, ap, arith, inl, inr, append_assoc, length-append}
 use Rattle.std.specs.Prelude.{◌==◌, IfSome, if◌then◌else◌, option_to_list}
 use Rattle.std.specs.List.{cons_option, filter_map}
 use Rattle.std.specs.Option.{option_or}
@@ -22,7 +23,8 @@ use Rattle.cu_wait.specs.declared.rows.PointRow.{PointRow}
 use Rattle.cu_wait.specs.declared.rows.TheConstants.{MAX_MEASURED}
 use Rattle.cu_wait.specs.Converted.{AreConverted}
 use Rattle.cu_wait.specs.MeasuredTexts.{first_that, header, is_none, measured_of_groups, measured_of_rows, measured_of_text, point_of_row, point_row_fault, points_of_rows, rows_fault}
-use Rattle.cu_wait.specs.Steps.ReadRows.{AddsRow, AreOwn, BeginsRow, EndsProfile, EndsRows, GivesRead, HasTaken, IsNew, IsOf, IsReading, Kept, KeepsProfile, RefusesRow, TakesRow, before, last_profile, points_refusal}
+use Rattle.cu_wait.specs.Steps.ReadRows.{AddsRow, AreOwn, BeginsRow, EndsProfile, EndsRows, GivesRead, HasTaken, IsNew}
+use Rattle.cu_wait.specs.Steps.ReadRows.{IsOf, IsReading, Kept, KeepsProfile, RefusesRow, TakesRow, before, last_profile, points_refusal}
 use Rattle.cu_wait.proofs.CheckLaws.{first_behind, same_refusal}
 use Rattle.cu_wait.proofs.ConvertedLaws.{converted_more}
 use Rattle.cu_wait.proofs.GroupLaws.{as_many, fault_behind, groups_last, last_behind, last_group, rows_in, then_last}

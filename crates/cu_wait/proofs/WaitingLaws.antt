@@ -15,7 +15,8 @@ use Rattle.cu_model.proofs.ListLaws.{get_here, get_other}
 use Rattle.cu_model.proofs.ProfileLaws.{profile_value-fifo}
 use Rattle.cu_model.proofs.RoadLaws.{all_at, drive-fifo, profile_of_road}
 use Rattle.cu_wait.specs.Waits.{IsLeastFrom}
-use Rattle.cu_wait.specs.Networks.{RawProfile, Measured, InPieces, RawNetwork, raw_value, is_raw_closed, LeadsRaw, IsRawWalk, raw_arc_value, waiting_drive, DrivesWaiting, IsLeastWaiting, HasNoRawWalk, raw_edited}
+use Rattle.cu_wait.specs.Networks.{RawProfile, Measured, InPieces, RawNetwork, raw_value, is_raw_closed, LeadsRaw}
+use Rattle.cu_wait.specs.Networks.{IsRawWalk, raw_arc_value, waiting_drive, DrivesWaiting, IsLeastWaiting, HasNoRawWalk, raw_edited}
 use Rattle.cu_wait.specs.Converted.{StandFor, StandForSome, IsConverted}
 
 -- functions that are the same at every second have the same least values

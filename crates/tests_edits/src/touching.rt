@@ -1,16 +1,16 @@
 //! Edits whose touched edges were found by hand.
 
-ghost use Rattle.std.specs.Prelude.{◌<◌, length};
+ghost use Rattle.std.specs.Prelude.{◌≡◌, ◌<◌, IfOk, OnOk, length};
 ghost use Rattle.cu_model.specs.Edits.{IsEditInRange};
+ghost use Rattle.cu_interval.specs.EdgeArcs.{AreEdgeArcs};
 
-use cu_edits::{
-    CustomizedEdges, EditSettler, Learned, Touched, plan, recustomize, touch, touch_over,
-};
+use cu_edits::{CustomizedEdges, EditSettler, plan, recustomize, touch, touch_over};
 use cu_interval::{Dir, EdgeArcs, Entry, Hierarchy, TouchedEdge, Way, Ways};
 use cu_links::RankBuckets;
 use cu_model::{Edit, Piece, Profile, Roads, Rule};
 use cu_samples::{RANKED, RANKS, Tables, hierarchy};
 use std::alloc::Global;
+use std::process::Abort;
 use std::test::Fail;
 
 // The profile of one rule all day.
@@ -46,16 +46,29 @@ fn assigning_touches_the_edge_of_the_road(rt: HostRuntime) -> Result<(), Fail> {
     Ok(())
 }
 
+// Does giving a profile another rule touch exactly these edges?
+fn setting_touches(
+    alloc: Global,
+    hierarchy: &Hierarchy,
+    profile: u32,
+    wanted: &[u32],
+) -> Result<bool, Fail>
+    requires { profile < length hierarchy.now.network.profiles }
+{
+    let pieces = always(alloc, Rule::Travel(60))?;
+    touches(alloc, hierarchy, &Edit::Set { profile, pieces }, wanted)
+}
+
+// The edges that each profile's roads touch.
+const PROFILE_EDGES: [&[u32]; 3] = [&[0, 2], &[1, 2], &[]];
+
 #[test]
 fn setting_touches_the_edges_of_roads_and_those_above(rt: HostRuntime) -> Result<(), Fail> {
     let alloc = rt.alloc();
     let hierarchy = hierarchy(alloc, MINUTES)?;
     assert!(rt; hierarchy.profiles() == 3);
-    let rows: [&[u32]; 3] = [&[0, 2], &[1, 2], &[]];
     for profile in 0..3u32 {
-        let pieces = always(alloc, Rule::Travel(60))?;
-        let edit = Edit::Set { profile, pieces };
-        assert!(rt; touches(alloc, &hierarchy, &edit, rows[profile as usize])?);
+        assert!(rt; setting_touches(alloc, &hierarchy, profile, PROFILE_EDGES[profile as usize])?);
     }
     Ok(())
 }
@@ -72,51 +85,6 @@ const SLOW_ROAD: Tables<'static> = Tables {
     profiles: b"profile,from,kind,value\n0,0,travel,60\n1,0,travel,60\n2,0,travel,250\n",
     ..LOW_MIDDLE
 };
-
-// What the edits touch that give a profile this rule all day: settled over functions of nothing, and with what is learned on the
-// way.
-fn touch_twice(
-    alloc: Global,
-    hierarchy: &Hierarchy,
-    profile: u32,
-    rule: Rule,
-) -> Result<(Touched, Touched, Option<Learned>), Fail>
-    requires { profile < length hierarchy.now.network.profiles }
-{
-    let mut buckets = RankBuckets::new(alloc, hierarchy.nodes(), hierarchy.edges())?;
-    let graph = hierarchy.graph();
-    let arcs = EdgeArcs::of(alloc, hierarchy, hierarchy.order(), graph)?;
-    let pieces = always(alloc, rule)?;
-    let edit = Edit::Set { profile, pieces };
-    let touched = touch(alloc, hierarchy, edit, graph, &arcs, &mut buckets)?;
-    let none = CustomizedEdges::none(alloc, hierarchy.edges())?;
-    let mut learned = None;
-    let pieces = always(alloc, rule)?;
-    let edit = Edit::Set { profile, pieces };
-    let again = touch_over(
-        alloc,
-        hierarchy,
-        edit,
-        graph,
-        &arcs,
-        &mut buckets,
-        &none,
-        &mut learned,
-    )?;
-    Ok((touched, again, learned))
-}
-
-// The same by a settler of these edges.
-fn settled(alloc: Global, hierarchy: &Hierarchy, edit: &Edit) -> Result<Vec<TouchedEdge>, Fail>
-    requires { IsEditInRange hierarchy.now.network edit.now }
-{
-    let mut buckets = RankBuckets::new(alloc, hierarchy.nodes(), hierarchy.edges())?;
-    let graph = hierarchy.graph();
-    let arcs = EdgeArcs::of(alloc, hierarchy, hierarchy.order(), graph)?;
-    let mut settler = EditSettler::new(alloc, hierarchy, edit, graph, &arcs)?;
-    let lists = recustomize(alloc, hierarchy, edit, graph, &mut buckets, &mut settler)?;
-    Ok(lists)
-}
 
 // The way from node 0 to node 2 at second 0: road 2, or over node 1, whose rank is 0, along roads 0 and 1.
 fn way(hierarchy: &Hierarchy) -> Option<Way>
@@ -150,7 +118,111 @@ fn are_all(lists: &[TouchedEdge], wanted: &[AllDay]) -> bool {
     lists.len() == wanted.len()
 }
 
-// Does an edit settle these lists, by itself and as one of several, and is something learned of it?
+// An edit of a hierarchy, which gives a profile this rule all day, and the roads of the hierarchy's edges.
+#[derive(Clone, Copy)]
+struct Edited<'a> {
+    hierarchy: &'a Hierarchy,
+    arcs: &'a EdgeArcs,
+    profile: u32,
+    rule: Rule,
+}
+
+// The edit itself.
+fn edit(alloc: Global, edited: Edited<'_>) -> Result<Edit, Fail>
+    requires { edited.profile < length edited.hierarchy.now.network.profiles }
+    ensures { IfOk result (IsEditInRange edited.entry.hierarchy.now.network) }
+{
+    let profile = edited.profile;
+    let pieces = always(alloc, edited.rule)?;
+    Ok(Edit::Set { profile, pieces })
+}
+
+// Does the edit settle these lists over functions of nothing?
+fn settles_alone(
+    alloc: Global,
+    edited: Edited<'_>,
+    buckets: &mut RankBuckets,
+    wanted: &[AllDay],
+) -> Result<bool, Fail>
+    requires profile { edited.profile < length edited.hierarchy.now.network.profiles }
+    requires arcs { AreEdgeArcs edited.hierarchy.now.network edited.hierarchy.now.order
+        edited.hierarchy.now.edges edited.arcs.now }
+    requires ranks { buckets.old.ranks ≡ edited.hierarchy.now.network.nodes }
+    requires edges { length buckets.old.states ≡ length edited.hierarchy.now.edges }
+    ensures ranks { OnOk result (buckets.new.ranks ≡ buckets.old.ranks) }
+    ensures edges { OnOk result (length buckets.new.states ≡ length buckets.old.states) }
+{
+    let hierarchy = edited.hierarchy;
+    let _edges = hierarchy.edges();
+    let edit = edit(alloc, edited)?;
+    let graph = hierarchy.graph();
+    let touched = touch(alloc, hierarchy, edit, graph, edited.arcs, buckets)?;
+    Ok(are_all(&touched.lists, wanted))
+}
+
+// Does it with what is learned on the way, and is something learned?
+fn settles_and_learns(
+    alloc: Global,
+    edited: Edited<'_>,
+    buckets: &mut RankBuckets,
+    wanted: &[AllDay],
+) -> Result<bool, Fail>
+    requires profile { edited.profile < length edited.hierarchy.now.network.profiles }
+    requires arcs { AreEdgeArcs edited.hierarchy.now.network edited.hierarchy.now.order
+        edited.hierarchy.now.edges edited.arcs.now }
+    requires ranks { buckets.old.ranks ≡ edited.hierarchy.now.network.nodes }
+    requires edges { length buckets.old.states ≡ length edited.hierarchy.now.edges }
+{
+    let hierarchy = edited.hierarchy;
+    let none = CustomizedEdges::none(alloc, hierarchy.edges())?;
+    let mut learned = None;
+    let again = touch_over(
+        alloc,
+        hierarchy,
+        edit(alloc, edited)?,
+        hierarchy.graph(),
+        edited.arcs,
+        buckets,
+        &none,
+        &mut learned,
+    )?;
+    Ok(learned.is_some() && are_all(&again.lists, wanted))
+}
+
+// Does a settler of its edges?
+fn settles_by_settler(
+    alloc: Global,
+    edited: Edited<'_>,
+    buckets: &mut RankBuckets,
+    wanted: &[AllDay],
+) -> Result<bool, Fail>
+    requires profile { edited.profile < length edited.hierarchy.now.network.profiles }
+    requires arcs { AreEdgeArcs edited.hierarchy.now.network edited.hierarchy.now.order
+        edited.hierarchy.now.edges edited.arcs.now }
+    requires ranks { buckets.old.ranks ≡ edited.hierarchy.now.network.nodes }
+    requires edges { length buckets.old.states ≡ length edited.hierarchy.now.edges }
+{
+    let hierarchy = edited.hierarchy;
+    let _edges = hierarchy.edges();
+    let edit = edit(alloc, edited)?;
+    let graph = hierarchy.graph();
+    let mut settler = EditSettler::new(alloc, hierarchy, &edit, graph, edited.arcs)?;
+    let lists = recustomize(alloc, hierarchy, &edit, graph, buckets, &mut settler)?;
+    Ok(are_all(&lists, wanted))
+}
+
+// The roads of a hierarchy's edges.
+fn edge_arcs(alloc: Global, hierarchy: &Hierarchy) -> Result<EdgeArcs, Fail>
+    ensures { IfOk result (AreEdgeArcs hierarchy.now.network hierarchy.now.order
+        hierarchy.now.edges) }
+{
+    let _edges = hierarchy.edges();
+    let graph = hierarchy.graph();
+    let arcs = EdgeArcs::of(alloc, hierarchy, hierarchy.order(), graph)?;
+    Ok(arcs)
+}
+
+// Does an edit settle these lists, by itself and as one of several, one after the other with the same buckets?
 fn settles_twice(
     alloc: Global,
     hierarchy: &Hierarchy,
@@ -160,12 +232,20 @@ fn settles_twice(
 ) -> Result<bool, Fail>
     requires { profile < length hierarchy.now.network.profiles }
 {
-    let (touched, again, learned) = touch_twice(alloc, hierarchy, profile, rule)?;
-    let both = are_all(&touched.lists, wanted) && are_all(&again.lists, wanted);
-    Ok(both && learned.is_some())
+    let arcs = edge_arcs(alloc, hierarchy)?;
+    let edited = Edited {
+        hierarchy,
+        arcs: &arcs,
+        profile,
+        rule,
+    };
+    let mut buckets = RankBuckets::new(alloc, hierarchy.nodes(), hierarchy.edges())?;
+    let alone = settles_alone(alloc, edited, &mut buckets, wanted)?;
+    let again = settles_and_learns(alloc, edited, &mut buckets, wanted)?;
+    Ok(alone && again)
 }
 
-// Does a settler of its edges?
+// Does a settler of the edges that it touches?
 fn settles(
     alloc: Global,
     hierarchy: &Hierarchy,
@@ -175,38 +255,69 @@ fn settles(
 ) -> Result<bool, Fail>
     requires { profile < length hierarchy.now.network.profiles }
 {
-    let pieces = always(alloc, rule)?;
-    let lists = settled(alloc, hierarchy, &Edit::Set { profile, pieces })?;
-    Ok(are_all(&lists, wanted))
+    let arcs = edge_arcs(alloc, hierarchy)?;
+    let edited = Edited {
+        hierarchy,
+        arcs: &arcs,
+        profile,
+        rule,
+    };
+    let mut buckets = RankBuckets::new(alloc, hierarchy.nodes(), hierarchy.edges())?;
+    settles_by_settler(alloc, edited, &mut buckets, wanted)
+}
+
+// The way from node 0 to node 2 before an edit, the edit's profile and rule, and the lists that it settles.
+#[derive(Clone, Copy)]
+struct Case<'a> {
+    before: Way,
+    profile: u32,
+    rule: Rule,
+    wanted: &'a [AllDay],
+}
+
+// Once road 0 takes 200 seconds, 260 along roads 0 and 1 is more than the 250 of road 2.
+const SLOWER: Case<'static> = Case {
+    before: Way::Via(0),
+    profile: 0,
+    rule: Rule::Travel(200),
+    wanted: &[(0, None, Some(Way::Road(0))), (2, Some(Way::Road(2)), None)],
+};
+
+// Roads 1 and 2 are closed.
+const CLOSED: Case<'static> = Case {
+    before: Way::Road(2),
+    profile: 1,
+    rule: Rule::Closed(0),
+    wanted: &[(1, None, None), (2, None, None)],
+};
+
+// Is a case as it says, over this hierarchy?
+fn settles_touched(
+    rt: &impl Abort,
+    alloc: Global,
+    hierarchy: &Hierarchy,
+    case: Case<'_>,
+) -> Result<(), Fail> {
+    assert!(rt; hierarchy.nodes() == 3 && case.profile < hierarchy.profiles());
+    assert_eq!(rt; way(hierarchy), Some(case.before));
+    assert!(rt; settles_twice(alloc, hierarchy, case.profile, case.rule, case.wanted)?);
+    assert!(rt; settles(alloc, hierarchy, case.profile, case.rule, case.wanted)?);
+    Ok(())
+}
+
+// Over the hierarchy of these tables?
+fn settles_over(
+    rt: &impl Abort,
+    alloc: Global,
+    tables: Tables<'_>,
+    case: Case<'_>,
+) -> Result<(), Fail> {
+    let hierarchy = hierarchy(alloc, tables)?;
+    settles_touched(rt, alloc, &hierarchy, case)
 }
 
 #[test]
 fn touching_settles_the_touched_edges(rt: HostRuntime) -> Result<(), Fail> {
-    let alloc = rt.alloc();
-    let rows: [(Tables<'_>, Way, u32, Rule, [AllDay; 2]); 2] = [
-        // Once road 0 takes 200 seconds, 260 along roads 0 and 1 is more than the 250 of road 2.
-        (
-            SLOW_ROAD,
-            Way::Via(0),
-            0,
-            Rule::Travel(200),
-            [(0, None, Some(Way::Road(0))), (2, Some(Way::Road(2)), None)],
-        ),
-        // Roads 1 and 2 are closed.
-        (
-            LOW_MIDDLE,
-            Way::Road(2),
-            1,
-            Rule::Closed(0),
-            [(1, None, None), (2, None, None)],
-        ),
-    ];
-    for (tables, before, profile, rule, wanted) in rows {
-        let hierarchy = hierarchy(alloc, tables)?;
-        assert!(rt; hierarchy.nodes() == 3 && profile < hierarchy.profiles());
-        assert_eq!(rt; way(&hierarchy), Some(before));
-        assert!(rt; settles_twice(alloc, &hierarchy, profile, rule, &wanted)?);
-        assert!(rt; settles(alloc, &hierarchy, profile, rule, &wanted)?);
-    }
-    Ok(())
+    settles_over(&rt, rt.alloc(), SLOW_ROAD, SLOWER)?;
+    settles_over(&rt, rt.alloc(), LOW_MIDDLE, CLOSED)
 }

@@ -210,22 +210,34 @@ const SPANS: [(u32, Dir, u32, Relaxed); 13] = [
     (4, Dir::Up, 28_740, Relaxed::At(29_140)),
 ];
 
+// Is this what a sweep in this room answers that leaves at this second? The room with what it then knows.
+fn kept(
+    rt: &impl Abort,
+    view: &PackedView<'_>,
+    graph: &Chordal,
+    room: Room,
+    second: u32,
+    rows: &[(u32, Dir, u32, Relaxed)],
+) -> Room
+    requires graph { IsHierarchyOf graph.now view.now }
+    requires fits { Fits view.now room }
+    ensures fits { Fits view.now result }
+{
+    let edges = view.edges();
+    let mut sweep = SweepRecall::new(view, graph, room, second);
+    answers(rt, &mut sweep, edges, rows);
+    sweep.into_room()
+}
+
 // Both that remember answer them, the one of a sweep also when it has forgotten all.
 fn keeps_spans(rt: &impl Abort, alloc: Global, view: &PackedView<'_>) -> Result<(), Fail> {
     let graph = chordal_of(alloc, view)?;
-    let edges = view.edges();
-    let mut knowing = recall(alloc, view, &graph)?;
-    answers(rt, &mut knowing, edges, &SPANS);
-    let mut swept = sweep(alloc, view, &graph, 0)?;
-    answers(rt, &mut swept, edges, &SPANS);
-    let room = forgotten(view, swept.into_room());
-    let mut swept = SweepRecall::new(view, &graph, room, 28_740);
-    answers(
-        rt,
-        &mut swept,
-        edges,
-        &[(2, Dir::Down, 28_740, Relaxed::At(29_100))],
-    );
+    let _edges = view.edges();
+    recalled(rt, view, &graph, fresh(alloc, view)?, &SPANS);
+    let room = kept(rt, view, &graph, fresh(alloc, view)?, 0, &SPANS);
+    let room = forgotten(view, room);
+    let last = [(2, Dir::Down, 28_740, Relaxed::At(29_100))];
+    kept(rt, view, &graph, room, 28_740, &last);
     Ok(())
 }
 

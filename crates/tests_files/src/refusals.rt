@@ -179,6 +179,17 @@ fn refuses_counts_past_their_limits(rt: HostRuntime) -> Result<(), Fail> {
     Ok(())
 }
 
+// What the counts ask for where each version stands under the number of the other.
+fn first_as_second(alloc: Global) -> Result<Option<u64>, Fail> {
+    let file = forged(alloc, &FIRST_VERSION, &[(8, 2)], 360)?;
+    Ok(counted(refusal(alloc, &file), 392))
+}
+
+fn second_as_first(alloc: Global) -> Result<Option<u64>, Fail> {
+    let file = forged(alloc, &BUILT, &[(8, 1)], 408)?;
+    Ok(counted(migrate_refusal(alloc, &file), 440))
+}
+
 #[test]
 fn refuses_other_sizes(rt: HostRuntime) -> Result<(), Fail> {
     let alloc = rt.alloc();
@@ -190,11 +201,8 @@ fn refuses_other_sizes(rt: HostRuntime) -> Result<(), Fail> {
         let found = counted(first_refusal(alloc, &[change])?, 392);
         assert_eq!(rt; found, Some(first_counts));
     }
-    // Each version under the number of the other.
-    let file = forged(alloc, &FIRST_VERSION, &[(8, 2)], 360)?;
-    assert_eq!(rt; counted(refusal(alloc, &file), 392), Some(440));
-    let file = forged(alloc, &BUILT, &[(8, 1)], 408)?;
-    assert_eq!(rt; counted(migrate_refusal(alloc, &file), 440), Some(392));
+    assert_eq!(rt; first_as_second(alloc)?, Some(440));
+    assert_eq!(rt; second_as_first(alloc)?, Some(392));
     Ok(())
 }
 

@@ -4,7 +4,7 @@ ghost use Rattle.std.specs.Prelude.{◌≡◌, ◌<◌, [], length};
 ghost use Rattle.cu_model.specs.Edits.{IsEditInRange};
 ghost use Rattle.cu_interval.specs.Replacing.{hierarchy_with};
 
-use cu_chordal::Ends;
+use cu_chordal::{Chordal, Ends};
 use cu_interval::{BoundedWays, Dir, Entry, TouchedEdge, Way, Ways};
 use cu_model::{Edit, Order, Piece, Roads, Rule};
 use cu_pack::{PackedView, chordal_of, order_of, repack, repack_unsealed, seal};
@@ -163,19 +163,27 @@ fn answers_as_the_least_bounds_do(rt: HostRuntime) -> Result<(), Fail> {
     Ok(())
 }
 
+// Are these the nodes by rank?
+fn copies_order(rt: &impl Abort, order: &Order) {
+    for (rank, found) in [(0, 1), (1, 0), (2, 2)] {
+        assert_eq!(rt; node(order, rank), Some(found), "rank {rank}");
+    }
+}
+
+// Are these the higher neighbours of each rank?
+fn copies_graph(rt: &impl Abort, graph: &Chordal) {
+    assert_eq!(rt; graph.ranks(), 3);
+    assert_eq!(rt; graph.up(0), [1, 2].as_slice());
+    assert_eq!(rt; graph.up(1), [2].as_slice());
+}
+
 #[test]
 fn copies_the_order_and_the_graph(rt: HostRuntime) -> Result<(), Fail> {
     let alloc = rt.alloc();
     let bytes = packed(alloc, RUSH_HOUR)?;
     let view = PackedView::adopt(&bytes);
-    let order = order_of(alloc, &view)?;
-    for (rank, found) in [(0, 1), (1, 0), (2, 2)] {
-        assert_eq!(rt; node(&order, rank), Some(found), "rank {rank}");
-    }
-    let graph = chordal_of(alloc, &view)?;
-    assert_eq!(rt; graph.ranks(), 3);
-    assert_eq!(rt; graph.up(0), [1, 2].as_slice());
-    assert_eq!(rt; graph.up(1), [2].as_slice());
+    copies_order(&rt, &order_of(alloc, &view)?);
+    copies_graph(&rt, &chordal_of(alloc, &view)?);
     Ok(())
 }
 

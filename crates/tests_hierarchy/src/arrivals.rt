@@ -27,19 +27,21 @@ fn both_roads(rt: &impl Abort, alloc: Global) -> Result<Arrival, Fail> {
     first_two(rt, alloc, &network)
 }
 
+// Seconds, and when both roads arrive that are driven from then on.
+const BOTH_VALUES: [(u64, u64); 6] = [
+    (28_739, 28_899),
+    (28_740, 29_100),
+    (35_740, 36_100),
+    (35_940, 36_100),
+    (86_399, 86_559),
+    (86_400 + 28_740, 86_400 + 29_100),
+];
+
 #[test]
 fn composition_of_two_roads(rt: HostRuntime) -> Result<(), Fail> {
     let both = both_roads(&rt, rt.alloc())?;
     let copy = both.copy(rt.alloc())?;
-    let values = [
-        (28_739, 28_899),
-        (28_740, 29_100),
-        (35_740, 36_100),
-        (35_940, 36_100),
-        (86_399, 86_559),
-        (86_400 + 28_740, 86_400 + 29_100),
-    ];
-    for (second, arrival) in values {
+    for (second, arrival) in BOTH_VALUES {
         assert_eq!(rt; both.value(second), arrival, "at {second}");
         assert_eq!(rt; copy.value(second), arrival, "of a copy at {second}");
     }
@@ -92,16 +94,27 @@ fn a_tie_is_not_earlier(rt: HostRuntime) -> Result<(), Fail> {
     Ok(())
 }
 
-#[test]
-fn lesser_of_a_road_and_two(rt: HostRuntime) -> Result<(), Fail> {
-    let alloc = rt.alloc();
-    let direct = road(&rt, alloc, &network(alloc, RUSH_HOUR)?, 2)?;
-    let (least, choices) = lesser(alloc, &direct, &both_roads(&rt, alloc)?)?;
+// The rush hour's road beside both.
+fn straight_road(rt: &impl Abort, alloc: Global) -> Result<Arrival, Fail> {
+    let network = network(alloc, RUSH_HOUR)?;
+    road(rt, alloc, &network, 2)
+}
+
+// Is the lesser of it and of both chosen so, and as early?
+fn is_lesser(rt: &impl Abort, least: &Arrival, choices: &[Choice]) {
     let wanted = [(0, true), (28_740, false), (35_851, true)];
     assert_eq!(rt; choices.len(), 3);
     for (choice, (from, second)) in choices.iter().zip(wanted) {
         assert_eq!(rt; (choice.from, choice.second), (from, second));
     }
     assert_eq!(rt; least.value(35_850), 36_100);
+}
+
+#[test]
+fn lesser_of_a_road_and_two(rt: HostRuntime) -> Result<(), Fail> {
+    let straight = straight_road(&rt, rt.alloc())?;
+    let both = both_roads(&rt, rt.alloc())?;
+    let (least, choices) = lesser(rt.alloc(), &straight, &both)?;
+    is_lesser(&rt, &least, &choices);
     Ok(())
 }

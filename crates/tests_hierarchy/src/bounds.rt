@@ -54,13 +54,25 @@ fn are_bounds<W: Ways>(alloc: Global, ways: &W, wanted: &[u64]) -> Result<bool, 
 // The bound of a list without ways.
 const FAR: u64 = 1 << 60;
 
+// Of three edges.
+const RUSH_HOUR_BOUNDS: [u64; 6] = [FAR, 60, 100, FAR, 160, FAR];
+
+fn bounds_rush_hour(alloc: Global) -> Result<bool, Fail> {
+    let three = hierarchy(alloc, RUSH_HOUR)?;
+    are_bounds(alloc, &three, &RUSH_HOUR_BOUNDS)
+}
+
+// Of six edges, by the middles that the file names.
+const FORGED_BOUNDS: [u64; 12] = [10, 10, 10, 10, 10, 10, 10, 20, 20, 10, 40, 10];
+
+fn bounds_forged_ways(alloc: Global) -> Result<bool, Fail> {
+    let forged = PackedView::open(alloc, &FORGED)?;
+    are_bounds(alloc, &forged, &FORGED_BOUNDS)
+}
+
 #[test]
 fn bounds_each_list(rt: HostRuntime) -> Result<(), Fail> {
-    let alloc = rt.alloc();
-    let three = hierarchy(alloc, RUSH_HOUR)?;
-    assert!(rt; are_bounds(alloc, &three, &[FAR, 60, 100, FAR, 160, FAR])?);
-    let forged = PackedView::open(alloc, &FORGED)?;
-    let by_middles = [10, 10, 10, 10, 10, 10, 10, 20, 20, 10, 40, 10];
-    assert!(rt; are_bounds(alloc, &forged, &by_middles)?);
+    assert!(rt; bounds_rush_hour(rt.alloc())?);
+    assert!(rt; bounds_forged_ways(rt.alloc())?);
     Ok(())
 }

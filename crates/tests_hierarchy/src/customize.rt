@@ -2,16 +2,19 @@
 
 ghost use Rattle.std.specs.Prelude.{◌≡◌, ◌<◌, ◌*◌, IfOk, length};
 ghost use Rattle.cu_model.specs.Orders.{OrderValue};
+ghost use Rattle.cu_chordal.specs.Edges.{IsClosureOf};
 ghost use Rattle.cu_interval.specs.EdgeArcs.{AreEdgeArcs};
 
+use crate::ranked::Ranked;
 use crate::runs::taking;
 use cu_chordal::{Chordal, close};
 use cu_customize::{PackedSettling, SettledRuns, built_lists};
 use cu_interval::{Dir, EdgeArcs, Entry, Hierarchy, Way, WayList, Ways};
-use cu_model::{Network, NoMemory, Roads};
+use cu_model::{Network, NoMemory};
 use cu_runs::{DayFunction, LayeredFunctions};
-use cu_samples::{RANKED, RUSH_HOUR, Tables, hierarchy, network, order};
+use cu_samples::{RANKED, RUSH_HOUR, Tables, hierarchy};
 use std::alloc::Global;
+use std::process::Abort;
 use std::test::Fail;
 
 // Does this entry stand in the list of an edge in a direction?
@@ -209,23 +212,33 @@ fn are_settled(alloc: Global, parts: &Parts<'_>, lists: &[WayList]) -> Result<bo
 }
 
 // By words, from the functions of the lists before it, each list is the same.
-#[test]
-fn settles_by_words_what_is_built(rt: HostRuntime) -> Result<(), Fail> {
-    let alloc = rt.alloc();
-    let network = network(alloc, RANKED)?;
-    let order = order(alloc, RANKED, network.nodes())?;
-    let graph = close(alloc, &network, &order)?;
-    let arcs = EdgeArcs::of(alloc, &network, &order, &graph)?;
-    let lists = built_lists(alloc, &network, &order, &graph)?;
+fn settles_built(
+    rt: &impl Abort,
+    alloc: Global,
+    ranked: &Ranked,
+    graph: &Chordal,
+) -> Result<(), Fail>
+    requires same { length ranked.now.order.node_at ≡ ranked.now.network.nodes }
+    requires closed { IsClosureOf ranked.now.network ranked.now.order graph.now }
+{
+    let arcs = EdgeArcs::of(alloc, &ranked.network, &ranked.order, graph)?;
+    let lists = built_lists(alloc, &ranked.network, &ranked.order, graph)?;
     let parts = Parts {
-        network: &network,
-        graph: &graph,
+        network: &ranked.network,
+        graph,
         arcs: &arcs,
     };
     assert!(rt; graph.edges() == 3);
     assert!(rt; lists.len() == 6);
     assert!(rt; are_settled(alloc, &parts, &lists)?);
     Ok(())
+}
+
+#[test]
+fn settles_by_words_what_is_built(rt: HostRuntime) -> Result<(), Fail> {
+    let ranked = Ranked::of(rt.alloc(), RANKED)?;
+    let graph = close(rt.alloc(), &ranked.network, &ranked.order)?;
+    settles_built(&rt, rt.alloc(), &ranked, &graph)
 }
 
 // The ranked roads, which take as long all day.
@@ -273,13 +286,12 @@ fn is_newer_taken(alloc: Global, parts: &Parts<'_>) -> Result<bool, NoMemory>
 #[test]
 fn a_newer_function_stands_in_the_place_of_an_older_one(rt: HostRuntime) -> Result<(), Fail> {
     let alloc = rt.alloc();
-    let network = network(alloc, STEADY)?;
-    let order = order(alloc, STEADY, network.nodes())?;
-    let graph = close(alloc, &network, &order)?;
-    let arcs = EdgeArcs::of(alloc, &network, &order, &graph)?;
+    let ranked = Ranked::of(alloc, STEADY)?;
+    let graph = close(alloc, &ranked.network, &ranked.order)?;
+    let arcs = EdgeArcs::of(alloc, &ranked.network, &ranked.order, &graph)?;
     assert!(rt; graph.edges() == 3);
     let parts = Parts {
-        network: &network,
+        network: &ranked.network,
         graph: &graph,
         arcs: &arcs,
     };

@@ -1,10 +1,13 @@
 //! Way lists, and the roads of edges, that were worked by hand.
 
+ghost use Rattle.std.specs.Prelude.{◌≡◌, IfOk, length};
+
+use crate::ranked::Ranked;
 use cu_chordal::close;
 use cu_interval::{Dir, EdgeArcs, Entry, Way, WayList};
-use cu_model::Roads;
-use cu_samples::{RUSH_HOUR, Tables, network, order};
+use cu_samples::{RUSH_HOUR, Tables};
 use std::alloc::Global;
+use std::process::Abort;
 use std::test::Fail;
 
 fn list(alloc: Global, entries: &[(u32, Way)]) -> Result<Option<WayList>, Fail> {
@@ -18,41 +21,49 @@ fn list(alloc: Global, entries: &[(u32, Way)]) -> Result<Option<WayList>, Fail> 
     Ok(WayList::of(all))
 }
 
+const FIRST: (u32, Way) = (0, Way::Via(0));
+
+// Entries, and whether they are a way list.
+const LISTS: [(&[(u32, Way)], bool); 7] = [
+    (&[], true),
+    (&[FIRST], true),
+    (&[FIRST, (86_399, Way::Road(0))], true),
+    (&[(1, Way::Via(0))], false),
+    (&[FIRST, (5, Way::Via(0))], false),
+    (&[FIRST, (0, Way::Road(0))], false),
+    (&[FIRST, (86_400, Way::Road(0))], false),
+];
+
 #[test]
 fn takes_exactly_the_way_lists(rt: HostRuntime) -> Result<(), Fail> {
-    let first = (0, Way::Via(0));
-    let rows: [(&[(u32, Way)], bool); 7] = [
-        (&[], true),
-        (&[first], true),
-        (&[first, (86_399, Way::Road(0))], true),
-        (&[(1, Way::Via(0))], false),
-        (&[first, (5, Way::Via(0))], false),
-        (&[first, (0, Way::Road(0))], false),
-        (&[first, (86_400, Way::Road(0))], false),
-    ];
-    for (entries, is_list) in rows {
+    for (entries, is_list) in LISTS {
         assert_eq!(rt; list(rt.alloc(), entries)?.is_some(), is_list);
     }
     Ok(())
 }
 
+const THREE: [(u32, Way); 3] = [
+    (0, Way::Via(0)),
+    (28_740, Way::Road(2)),
+    (35_851, Way::Via(0)),
+];
+
+// A way list, and the way that it takes at a second.
+type InForce<'a> = (&'a [(u32, Way)], u64, Option<Way>);
+
+const IN_FORCE: [InForce<'static>; 7] = [
+    (&THREE, 0, Some(Way::Via(0))),
+    (&THREE, 28_739, Some(Way::Via(0))),
+    (&THREE, 28_740, Some(Way::Road(2))),
+    (&THREE, 35_850, Some(Way::Road(2))),
+    (&THREE, 86_400 + 35_851, Some(Way::Via(0))),
+    (&[(0, Way::Road(7))], 86_400, Some(Way::Road(7))),
+    (&[], 0, None),
+];
+
 #[test]
 fn takes_the_way_in_force_on_each_day(rt: HostRuntime) -> Result<(), Fail> {
-    let three = [
-        (0, Way::Via(0)),
-        (28_740, Way::Road(2)),
-        (35_851, Way::Via(0)),
-    ];
-    let rows: [(&[(u32, Way)], u64, Option<Way>); 7] = [
-        (&three, 0, Some(Way::Via(0))),
-        (&three, 28_739, Some(Way::Via(0))),
-        (&three, 28_740, Some(Way::Road(2))),
-        (&three, 35_850, Some(Way::Road(2))),
-        (&three, 86_400 + 35_851, Some(Way::Via(0))),
-        (&[(0, Way::Road(7))], 86_400, Some(Way::Road(7))),
-        (&[], 0, None),
-    ];
-    for (entries, second, way) in rows {
+    for (entries, second, way) in IN_FORCE {
         let ways = list(rt.alloc(), entries)?.expect(&rt, "a way list");
         assert_eq!(rt; ways.entries().len(), entries.len());
         assert_eq!(rt; ways.at(second), way, "at {second}");
@@ -67,19 +78,35 @@ const BESIDE: Tables<'static> = Tables {
     ..RUSH_HOUR
 };
 
-#[test]
-fn lists_the_roads_of_each_edge(rt: HostRuntime) -> Result<(), Fail> {
-    let alloc = rt.alloc();
-    let network = network(alloc, BESIDE)?;
-    let order = order(alloc, BESIDE, network.nodes())?;
-    let graph = close(alloc, &network, &order)?;
-    assert!(rt; graph.edges() == 3);
-    let arcs = EdgeArcs::of(alloc, &network, &order, &graph)?;
-    let lists: [(&[u32], &[u32]); 3] = [(&[], &[0, 4]), (&[1], &[]), (&[2], &[])];
+// The roads upwards and downwards of each edge.
+const BESIDE_ROADS: [(&[u32], &[u32]); 3] = [(&[], &[0, 4]), (&[1], &[]), (&[2], &[])];
+
+// Are these the roads of three edges?
+fn are_beside(rt: &impl Abort, arcs: &EdgeArcs)
+    requires { length arcs.now ≡ 6 }
+{
     for edge in 0..3u32 {
-        let (up, down) = lists[edge as usize];
+        let (up, down) = BESIDE_ROADS[edge as usize];
         assert_eq!(rt; arcs.arcs(edge, Dir::Up), up, "edge {edge} up");
         assert_eq!(rt; arcs.arcs(edge, Dir::Down), down, "edge {edge} down");
     }
+}
+
+// The roads of the edges of a ranked network's graph, which has three.
+fn three_edges(rt: &impl Abort, alloc: Global, ranked: &Ranked) -> Result<EdgeArcs, Fail>
+    requires same { length ranked.now.order.node_at ≡ ranked.now.network.nodes }
+    ensures three { IfOk result (λ arcs. length arcs ≡ 6) }
+{
+    let graph = close(alloc, &ranked.network, &ranked.order)?;
+    assert!(rt; graph.edges() == 3);
+    let arcs = EdgeArcs::of(alloc, &ranked.network, &ranked.order, &graph)?;
+    Ok(arcs)
+}
+
+#[test]
+fn lists_the_roads_of_each_edge(rt: HostRuntime) -> Result<(), Fail> {
+    let ranked = Ranked::of(rt.alloc(), BESIDE)?;
+    let arcs = three_edges(&rt, rt.alloc(), &ranked)?;
+    are_beside(&rt, &arcs);
     Ok(())
 }

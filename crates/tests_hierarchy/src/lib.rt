@@ -19,6 +19,8 @@ mod interval;
 #[cfg(test)]
 mod links;
 #[cfg(test)]
+mod ranked;
+#[cfg(test)]
 mod runs;
 #[cfg(test)]
 mod short;

@@ -5,9 +5,10 @@ ghost use Rattle.cu_arrival.specs.Runs.{rule_number};
 ghost use Rattle.cu_runs.specs.PackedRuns.{IsPackedFunction};
 
 use cu_model::NoMemory;
-use cu_runs::{DayFunction, Merger, PackedRun, Windows, function_of_run, link};
+use cu_runs::{DayFunction, Merger, PackedRun, WayRun, Windows, function_of_run, link};
 use cu_samples::{RUSH_HOUR, network};
 use std::alloc::Global;
+use std::process::Abort;
 use std::test::Fail;
 
 // Adds the function of one run, from which nobody goes anywhere else first, and gives the least.
@@ -57,16 +58,27 @@ fn composition_passes_midnight(rt: HostRuntime) -> Result<(), Fail> {
     Ok(())
 }
 
-#[test]
-fn three_candidates_are_merged(rt: HostRuntime) -> Result<(), Fail> {
-    let alloc = rt.alloc();
+// Adds the road or ferry and a road of 100 seconds, one behind the other: with the number 0 where the road is last, and otherwise
+// with 1.
+fn add_both(alloc: Global, merger: &mut Merger, is_last: bool) -> Result<(), NoMemory> {
     let both = road_or_ferry(alloc)?;
     let way = function_of_run(alloc, PackedRun::of(0, false, 100))?;
-    let mut merger = Merger::new(alloc)?;
-    assert!(rt; merger.is_empty());
-    merger.add(&both, &way, 0)?;
-    merger.add(&way, &both, 1)?;
-    let packed = least_with(alloc, &mut merger, PackedRun::of(0, true, 100_000), 2)?;
+    if is_last {
+        merger.add(&both, &way, 0)
+    } else {
+        merger.add(&way, &both, 1)
+    }
+}
+
+// The least of these two, and of the ferry alone with the number 2.
+fn merge_three(alloc: Global, merger: &mut Merger) -> Result<Vec<PackedRun>, NoMemory> {
+    add_both(alloc, merger, true)?;
+    add_both(alloc, merger, false)?;
+    least_with(alloc, merger, PackedRun::of(0, true, 100_000), 2)
+}
+
+// Is this the least of the three, in no more memory than it takes?
+fn is_least(rt: &impl Abort, packed: &Vec<PackedRun>) {
     let wanted = [
         PackedRun::of(0, false, 50_100),
         PackedRun::of(49_901, true, 100_000),
@@ -76,31 +88,39 @@ fn three_candidates_are_merged(rt: HostRuntime) -> Result<(), Fail> {
     for (run, expected) in packed.iter().zip(wanted) {
         assert_eq!(rt; *run, expected);
     }
-    let runs = merger.way_runs(alloc)?;
-    assert_eq!(rt; (runs.len(), runs.capacity()), (3, 3));
+}
+
+// Are these the seconds from which on each of the three is the least?
+fn are_ways(rt: &impl Abort, runs: &[WayRun]) {
+    assert_eq!(rt; runs.len(), 3);
     for (run, expected) in runs.iter().zip([(0, 0), (49_901, 1), (86_300, 2)]) {
         assert_eq!(rt; (run.from, run.way), expected);
     }
+}
+
+#[test]
+fn three_candidates_are_merged(rt: HostRuntime) -> Result<(), Fail> {
+    let mut merger = Merger::new(rt.alloc())?;
+    assert!(rt; merger.is_empty());
+    is_least(&rt, &merge_three(rt.alloc(), &mut merger)?);
+    let runs = merger.way_runs(rt.alloc())?;
+    assert_eq!(rt; runs.capacity(), 3);
+    are_ways(&rt, &runs);
     merger.clear();
     assert!(rt; merger.is_empty());
     Ok(())
 }
 
+// The same three, the other way round: each of the last two takes ties from the one added before it.
 #[test]
 fn a_tie_goes_to_the_lower_number(rt: HostRuntime) -> Result<(), Fail> {
     let alloc = rt.alloc();
-    let both = road_or_ferry(alloc)?;
-    let way = function_of_run(alloc, PackedRun::of(0, false, 100))?;
     let mut merger = Merger::new(alloc)?;
-    // The same three, the other way round: each of the last two takes ties from the one added before it.
     least_with(alloc, &mut merger, PackedRun::of(0, true, 100_000), 2)?;
-    merger.add(&way, &both, 1)?;
-    merger.add(&both, &way, 0)?;
+    add_both(alloc, &mut merger, false)?;
+    add_both(alloc, &mut merger, true)?;
     let runs = merger.way_runs(alloc)?;
-    assert_eq!(rt; runs.len(), 3);
-    for (run, expected) in runs.iter().zip([(0, 0), (49_901, 1), (86_300, 2)]) {
-        assert_eq!(rt; (run.from, run.way), expected);
-    }
+    are_ways(&rt, &runs);
     Ok(())
 }
 

@@ -49,69 +49,77 @@ fn makes(alloc: Global, words: &str, said: &[u8], front: &[u8]) -> bool {
     }
 }
 
+// Words, what is said, and the front of the text under the name `out`.
+const GRIDS: [(&str, &[u8], &[u8]); 4] = [
+    (
+        "make 0 1 1 a b out",
+        b"made 1 0 64\n",
+        b"profile,from,kind,value\n0,0,travel,27\n0,25200,travel,52\n0,32400,until,32452\n",
+    ),
+    (
+        "make 7 02 001 out b c",
+        b"made 2 2 64\n",
+        b"node,x,y\n0,0,0\n1,100,0\n",
+    ),
+    (
+        "make 7 2 1 a out c",
+        b"made 2 2 64\n",
+        b"arc,tail,head,profile\n0,0,1,17\n1,1,0,17\n",
+    ),
+    // Where two words are one name, the later text stands there.
+    (
+        "make 18446744073709551615 1 1 out b out",
+        b"made 1 0 64\n",
+        b"profile,from,kind,value\n",
+    ),
+];
+
 #[test]
 fn grids_are_stored(rt: HostRuntime) -> Result<(), Fail> {
-    let rows: [(&str, &[u8], &[u8]); 4] = [
-        (
-            "make 0 1 1 a b out",
-            b"made 1 0 64\n",
-            b"profile,from,kind,value\n0,0,travel,27\n0,25200,travel,52\n0,32400,until,32452\n",
-        ),
-        (
-            "make 7 02 001 out b c",
-            b"made 2 2 64\n",
-            b"node,x,y\n0,0,0\n1,100,0\n",
-        ),
-        (
-            "make 7 2 1 a out c",
-            b"made 2 2 64\n",
-            b"arc,tail,head,profile\n0,0,1,17\n1,1,0,17\n",
-        ),
-        // Where two words are one name, the later text stands there.
-        (
-            "make 18446744073709551615 1 1 out b out",
-            b"made 1 0 64\n",
-            b"profile,from,kind,value\n",
-        ),
-    ];
-    for (words, said, front) in rows {
-        assert!(rt; makes(rt.alloc(), words, said, front));
+    for (words, said, front) in &GRIDS {
+        assert!(rt; makes(rt.alloc(), *words, *said, *front));
     }
     Ok(())
 }
 
+// Words that no command takes.
+const OTHER_WORDS: [&str; 26] = [
+    "",
+    "serve",
+    "Serve nodes roads profiles identity",
+    "serve nodes roads profiles",
+    "serve nodes roads profiles identity out",
+    "order nodes roads profiles",
+    "order nodes roads profiles out out",
+    "ask",
+    "ask nodes out",
+    "edit nodes roads",
+    "edit nodes roads out out",
+    "migrate",
+    "migrate packed",
+    "migrate packed out out",
+    "Migrate packed out",
+    "make 7 1 1 a b",
+    "make 7 1 1 a b c d",
+    "make 18446744073709551616 1 1 a b c",
+    "make -1 1 1 a b c",
+    "make x 1 1 a b c",
+    "make  1 1 a b c",
+    "make 7 0 1 a b c",
+    "make 7 513 1 a b c",
+    "make 7 1 0 a b c",
+    "make 7 1 513 a b c",
+    "make 7 1 99999999999999999999999 a b c",
+];
+
 #[test]
 fn other_words_are_refused(rt: HostRuntime) -> Result<(), Fail> {
-    let rows = [
-        "",
-        "serve",
-        "Serve nodes roads profiles identity",
-        "serve nodes roads profiles",
-        "serve nodes roads profiles identity out",
-        "order nodes roads profiles",
-        "order nodes roads profiles out out",
-        "ask",
-        "ask nodes out",
-        "edit nodes roads",
-        "edit nodes roads out out",
-        "migrate",
-        "migrate packed",
-        "migrate packed out out",
-        "Migrate packed out",
-        "make 7 1 1 a b",
-        "make 7 1 1 a b c d",
-        "make 18446744073709551616 1 1 a b c",
-        "make -1 1 1 a b c",
-        "make x 1 1 a b c",
-        "make  1 1 a b c",
-        "make 7 0 1 a b c",
-        "make 7 513 1 a b c",
-        "make 7 1 0 a b c",
-        "make 7 1 513 a b c",
-        "make 7 1 99999999999999999999999 a b c",
-    ];
-    for words in rows {
-        assert!(rt; says(rt.alloc(), Run { words, ..PLAIN }, 2, b"words\n"));
+    for words in &OTHER_WORDS {
+        let asked = Run {
+            words: *words,
+            ..PLAIN
+        };
+        assert!(rt; says(rt.alloc(), asked, 2, b"words\n"));
     }
     Ok(())
 }
@@ -180,24 +188,36 @@ fn forty_lines(alloc: Global) -> Result<String, NoMemory> {
     Ok(format!(in alloc; "{JOURNEYS}{slower}{JOURNEYS}{back}{JOURNEYS}{others}")?)
 }
 
-// What `serve` says of the forty lines over a grid; and how it ends where the first read stops in the
-// middle of the twentieth line, and the second fails.
+// `serve` over a grid.
+const SERVE_GRID: Run<'static> = Run {
+    words: "serve nodes roads profiles dissect",
+    ..PLAIN
+};
+
+// What it says of the forty lines; and how it ends where the first read stops in the middle of the twentieth line, and the second
+// fails.
 fn served(alloc: Global) -> Result<(Vec<u8>, Ended), NoMemory> {
     let mut shelf = grid(alloc)?;
     let script = forty_lines(alloc)?;
     let asked = Run {
-        words: "serve nodes roads profiles dissect",
         script: script.as_str(),
-        ..PLAIN
+        ..SERVE_GRID
     };
-    let whole = perform_over(alloc, asked, &mut shelf)?;
+    served_whole_and_cut(alloc, asked, &mut shelf)
+}
+
+fn served_whole_and_cut(
+    alloc: Global,
+    asked: Run<'_>,
+    shelf: &mut MemoryShelf,
+) -> Result<(Vec<u8>, Ended), NoMemory> {
+    let whole = perform_over(alloc, asked, shelf)?.said;
     let cut = Run {
         most: 294,
         source: &[1],
         ..asked
     };
-    let cut = perform_over(alloc, cut, &mut shelf)?;
-    Ok((whole.said, cut))
+    Ok((whole, perform_over(alloc, cut, shelf)?))
 }
 
 // Whether a run ended at a fault of the source behind the first nineteen of these replies.
@@ -206,22 +226,37 @@ fn is_cut_short(alloc: Global, cut: &Ended, replies: &[u8]) -> Result<bool, NoMe
     Ok(cut.status == 7 && cut.said.as_slice() == nineteen.as_slice())
 }
 
+// Are the arrivals those of all journeys, slower between the two edits?
+fn are_arrivals(alloc: Global, replies: &[u8]) -> Result<bool, NoMemory> {
+    let arrivals = format!(in alloc;
+        "{ARRIVALS}done\n{LATER}done\n{ARRIVALS}arrive=2637\narrive=87645\n"
+    )?;
+    Ok(first_words(alloc, replies)?.as_slice() == arrivals.as_bytes())
+}
+
+// Are the lines of the replies from one number to before another the same as those between two other numbers?
+fn are_same(
+    alloc: Global,
+    replies: &[u8],
+    lines: [u32; 2],
+    others: [u32; 2],
+) -> Result<bool, NoMemory> {
+    let [from, to] = lines;
+    let lines = lines_between(alloc, replies, from, to)?;
+    let [from, to] = others;
+    let others = lines_between(alloc, replies, from, to)?;
+    Ok(lines.as_slice() == others.as_slice())
+}
+
+// With the old pieces the old routes are back, and the edit back touches what the first one touched.
 #[test]
 fn a_grid_is_served(rt: HostRuntime) -> Result<(), Fail> {
     let alloc = rt.alloc();
     let (replies, cut) = served(alloc)?;
-    let arrivals = format!(in alloc;
-        "{ARRIVALS}done\n{LATER}done\n{ARRIVALS}arrive=2637\narrive=87645\n"
-    )?;
-    let words = first_words(alloc, replies.as_slice())?;
-    assert_eq!(rt; words.as_slice(), arrivals.as_bytes());
-    // With the old pieces the old routes are back, and the edit back touches what the first one touched.
-    let routes = lines_between(alloc, replies.as_slice(), 0, 12)?;
-    let again = lines_between(alloc, replies.as_slice(), 26, 38)?;
-    assert_eq!(rt; again.as_slice(), routes.as_slice());
-    let done = lines_between(alloc, replies.as_slice(), 12, 13)?;
-    let undone = lines_between(alloc, replies.as_slice(), 25, 26)?;
-    assert_eq!(rt; undone.as_slice(), done.as_slice());
-    assert!(rt; is_cut_short(alloc, &cut, replies.as_slice())?);
+    let replies = replies.as_slice();
+    assert!(rt; are_arrivals(alloc, replies)?);
+    assert!(rt; are_same(alloc, replies, [26, 38], [0, 12])?);
+    assert!(rt; are_same(alloc, replies, [25, 26], [12, 13])?);
+    assert!(rt; is_cut_short(alloc, &cut, replies)?);
     Ok(())
 }

@@ -37,8 +37,8 @@ fn cut_files_and_other_versions_are_refused(rt: HostRuntime) -> Result<(), Fail>
         (&none, 6, b"file: version 0\n"),
         (&FIRST_VERSION, 0, b"arrive=28990 arcs=2\n"),
     ];
-    for (file, status, said) in rows {
-        assert!(rt; asks(rt.alloc(), file, status, said));
+    for (file, status, said) in &rows {
+        assert!(rt; asks(rt.alloc(), *file, *status, *said));
     }
     Ok(())
 }
@@ -82,19 +82,22 @@ fn first_flipped_line(place: usize) -> &'static str {
     }
 }
 
+// Whether `ask` says this of a file of which the lowest bit of one byte is changed.
+fn asks_flipped(alloc: Global, packed: &[u8], place: usize, said: &str) -> Result<bool, NoMemory> {
+    let mut file = Vec::from_slice(alloc, packed)?;
+    if let Some(flipped) = file.get_mut(place) {
+        *flipped ^= 1;
+    }
+    Ok(asks(alloc, &file, 6, said.as_bytes()))
+}
+
 #[test]
 fn each_changed_byte_is_refused(rt: HostRuntime) -> Result<(), Fail> {
     for place in 0..440usize {
-        let mut file = BUILT;
-        file[place] ^= 1;
-        let said = flipped_line(place);
-        assert!(rt; asks(rt.alloc(), &file, 6, said.as_bytes()));
+        assert!(rt; asks_flipped(rt.alloc(), &BUILT, place, flipped_line(place))?);
     }
     for place in 0..392usize {
-        let mut file = FIRST_VERSION;
-        file[place] ^= 1;
-        let said = first_flipped_line(place);
-        assert!(rt; asks(rt.alloc(), &file, 6, said.as_bytes()));
+        assert!(rt; asks_flipped(rt.alloc(), &FIRST_VERSION, place, first_flipped_line(place))?);
     }
     Ok(())
 }
@@ -323,8 +326,8 @@ const SEALED: [Sealed; 19] = [
     },
 ];
 
-// Whether `ask` over a sealed file has its status and says what it should.
-fn is_sealed(alloc: Global, row: Sealed) -> Result<bool, NoMemory> {
+// The file of a row, with its changes and its digest.
+fn file_of(alloc: Global, row: &Sealed) -> Result<Vec<u8>, NoMemory> {
     let mut file = Vec::from_slice(alloc, row.file)?;
     for (place, byte) in row.changes {
         if let Some(changed) = file.get_mut(*place) {
@@ -334,12 +337,18 @@ fn is_sealed(alloc: Global, row: Sealed) -> Result<bool, NoMemory> {
     let body = file.len().saturating_sub(32);
     file.truncate(body);
     file.extend_from_slice(&row.digest)?;
+    Ok(file)
+}
+
+// Whether `ask` over a sealed file has its status and says what it should.
+fn is_sealed(alloc: Global, row: &Sealed) -> Result<bool, NoMemory> {
+    let file = file_of(alloc, row)?;
     Ok(asks(alloc, &file, row.status, row.said))
 }
 
 #[test]
 fn sealed_files_are_checked(rt: HostRuntime) -> Result<(), Fail> {
-    for row in SEALED {
+    for row in &SEALED {
         assert!(rt; is_sealed(rt.alloc(), row)?);
     }
     Ok(())

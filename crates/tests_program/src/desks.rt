@@ -26,6 +26,16 @@ const CANCELLED: &str = "1,s,0,0,travel,200\nstep\n2,x\n1,x\n2,q,0,2,0\n70000,x\
 const CANCELLED_REPLIES: &[u8] =
     b"1 begun 2\nleft 1\n2 refused: none\n1 cancelled\n2 arrive=160 arcs=0 1\nrefused: client\nrefused: line\nstored 440\n";
 
+// Whether a desk over this file says so of a script, and stores these bytes.
+fn settles<'a>(alloc: Global, packed: &'a [u8], script: &'a str, said: &[u8], out: &[u8]) -> bool {
+    let asked = Run {
+        packed,
+        script,
+        ..DESK
+    };
+    leaves(alloc, asked, 0, said, out)
+}
+
 #[test]
 fn edits_are_published_by_steps_or_not_at_all(rt: HostRuntime) -> Result<(), Fail> {
     let slower = built_slower(rt.alloc())?;
@@ -40,107 +50,126 @@ fn edits_are_published_by_steps_or_not_at_all(rt: HostRuntime) -> Result<(), Fai
             &BUILT,
         ),
     ];
-    for (script, said, out) in rows {
-        let asked = Run { script, ..DESK };
-        assert!(rt; leaves(rt.alloc(), asked, 0, said, out));
-        let first = Run {
-            packed: &FIRST_VERSION,
-            ..asked
-        };
-        assert!(rt; leaves(rt.alloc(), first, 0, said, out));
+    for (script, said, out) in &rows {
+        assert!(rt; settles(rt.alloc(), &BUILT, *script, *said, *out));
+        assert!(rt; settles(rt.alloc(), &FIRST_VERSION, *script, *said, *out));
     }
     Ok(())
 }
 
-// Lines that are refused whoever asks, with what is refused of each.
+// Lines that are refused whoever asks.
+const OTHER_LINES: [&str; 28] = [
+    "\n",
+    "Step\n",
+    "step,\n",
+    "step \n",
+    "1,step\n",
+    "1\n",
+    "1,\n",
+    "1,,x\n",
+    ",x\n",
+    "x\n",
+    "-1,x\n",
+    "1 ,x\n",
+    "1,X\n",
+    "1,x,\n",
+    "1,x,1\n",
+    "1,xx\n",
+    "1,y\n",
+    "q,0,2,0\n",
+    "1,q\n",
+    "1,q,0,2\n",
+    "1,q,0,2,0,0\n",
+    "1,q,9,9,now\n",
+    "1,d,0,2\n",
+    "1,s,9\n",
+    "1,a,9\n",
+    "70000,q,9,9,now\n",
+    "70000,s,9,0,fly\n",
+    "70000,x,1\n",
+];
+
+// Lines whose client is refused, whatever else they say.
+const OTHER_CLIENTS: [&str; 10] = [
+    "70000,x\n",
+    "65536,x\n",
+    "65536,q,9,9,99999\n",
+    "65536,s,9,0,fly,1\n",
+    "65536,s,0,0,fly,1\n",
+    "65536,a,9,9\n",
+    "4294967297,x\n",
+    "18446744073709551617,x\n",
+    "1000000000000000000000000000000000000001,x\n",
+    "1000000000000000000000000000000000000001,q,0,2,0\n",
+];
+
 #[test]
 fn lines_are_refused_by_their_form_and_then_their_client(rt: HostRuntime) -> Result<(), Fail> {
-    let line = b"refused: line\nstored 440\n".as_slice();
-    let client = b"refused: client\nstored 440\n".as_slice();
-    let rows: [(&str, &[u8]); 38] = [
-        ("\n", line),
-        ("Step\n", line),
-        ("step,\n", line),
-        ("step \n", line),
-        ("1,step\n", line),
-        ("1\n", line),
-        ("1,\n", line),
-        ("1,,x\n", line),
-        (",x\n", line),
-        ("x\n", line),
-        ("-1,x\n", line),
-        ("1 ,x\n", line),
-        ("1,X\n", line),
-        ("1,x,\n", line),
-        ("1,x,1\n", line),
-        ("1,xx\n", line),
-        ("1,y\n", line),
-        ("q,0,2,0\n", line),
-        ("1,q\n", line),
-        ("1,q,0,2\n", line),
-        ("1,q,0,2,0,0\n", line),
-        ("1,q,9,9,now\n", line),
-        ("1,d,0,2\n", line),
-        ("1,s,9\n", line),
-        ("1,a,9\n", line),
-        ("70000,q,9,9,now\n", line),
-        ("70000,s,9,0,fly\n", line),
-        ("70000,x,1\n", line),
-        ("70000,x\n", client),
-        ("65536,x\n", client),
-        ("65536,q,9,9,99999\n", client),
-        ("65536,s,9,0,fly,1\n", client),
-        ("65536,s,0,0,fly,1\n", client),
-        ("65536,a,9,9\n", client),
-        ("4294967297,x\n", client),
-        ("18446744073709551617,x\n", client),
-        ("1000000000000000000000000000000000000001,x\n", client),
-        ("1000000000000000000000000000000000000001,q,0,2,0\n", client),
-    ];
-    for (script, said) in rows {
-        assert!(rt; leaves(rt.alloc(), Run { script, ..DESK }, 0, said, &BUILT));
+    for script in &OTHER_LINES {
+        assert!(rt;
+            settles(
+                rt.alloc(),
+                &BUILT,
+                *script,
+                b"refused: line\nstored 440\n",
+                &BUILT
+            )
+        );
+    }
+    for script in &OTHER_CLIENTS {
+        assert!(rt;
+            settles(
+                rt.alloc(),
+                &BUILT,
+                *script,
+                b"refused: client\nstored 440\n",
+                &BUILT
+            )
+        );
     }
     Ok(())
 }
+
+// Scripts and their replies.
+const REPLIES: [(&str, &[u8]); 16] = [
+    ("0,q,0,2,0\n", b"0 arrive=160 arcs=0 1\nstored 440\n"),
+    ("65535,q,2,0,0\r\n", b"65535 unreachable\nstored 440\n"),
+    (
+        "0000000000000000000000000000000000000012,q,1,1,5\n",
+        b"12 arrive=5 arcs=\nstored 440\n",
+    ),
+    ("007,x\n", b"7 refused: none\nstored 440\n"),
+    ("1,q,3,0,86400\n", b"1 refused: node\nstored 440\n"),
+    ("1,q,0,3,86400\n", b"1 refused: node\nstored 440\n"),
+    ("1,q,0,2,86400\n", b"1 refused: second\nstored 440\n"),
+    ("1,s,3,0,fly,1\n", b"1 refused: profile\nstored 440\n"),
+    ("1,s,0,0,fly,1\n", b"1 refused: kind\nstored 440\n"),
+    ("1,s,0,1,travel,1\n", b"1 refused: start\nstored 440\n"),
+    ("1,a,3,9\n", b"1 refused: arc\nstored 440\n"),
+    ("1,a,0,3\n", b"1 refused: profile\nstored 440\n"),
+    ("step\n", b"idle\nstored 440\n"),
+    // A check goes before that an edit is in work.
+    (
+        "1,a,0,0\n2,a,3,9\n2,a,0,0\n",
+        b"1 begun 2\n2 refused: arc\n2 busy 1\nstored 440\n",
+    ),
+    // Whose edit is in work may cancel it, once.
+    (
+        "1,a,0,0\n01,x\n1,x\n2,a,0,0\n",
+        b"1 begun 2\n1 cancelled\n1 refused: none\n2 begun 2\nstored 440\n",
+    ),
+    // What was settled of a cancelled edit isn't there for the next.
+    (
+        "1,a,0,0\nstep\n1,x\n1,a,0,0\nstep\nstep\nstep\n",
+        b"1 begun 2\nleft 1\n1 cancelled\n1 begun 2\nleft 1\npublished 1\nidle\nstored 440\n",
+    ),
+];
 
 // Lines that get a reply for their client, which is told by its value.
 #[test]
 fn replies_tell_their_client(rt: HostRuntime) -> Result<(), Fail> {
-    let rows: [(&str, &[u8]); 16] = [
-        ("0,q,0,2,0\n", b"0 arrive=160 arcs=0 1\nstored 440\n"),
-        ("65535,q,2,0,0\r\n", b"65535 unreachable\nstored 440\n"),
-        (
-            "0000000000000000000000000000000000000012,q,1,1,5\n",
-            b"12 arrive=5 arcs=\nstored 440\n",
-        ),
-        ("007,x\n", b"7 refused: none\nstored 440\n"),
-        ("1,q,3,0,86400\n", b"1 refused: node\nstored 440\n"),
-        ("1,q,0,3,86400\n", b"1 refused: node\nstored 440\n"),
-        ("1,q,0,2,86400\n", b"1 refused: second\nstored 440\n"),
-        ("1,s,3,0,fly,1\n", b"1 refused: profile\nstored 440\n"),
-        ("1,s,0,0,fly,1\n", b"1 refused: kind\nstored 440\n"),
-        ("1,s,0,1,travel,1\n", b"1 refused: start\nstored 440\n"),
-        ("1,a,3,9\n", b"1 refused: arc\nstored 440\n"),
-        ("1,a,0,3\n", b"1 refused: profile\nstored 440\n"),
-        ("step\n", b"idle\nstored 440\n"),
-        // A check goes before that an edit is in work.
-        (
-            "1,a,0,0\n2,a,3,9\n2,a,0,0\n",
-            b"1 begun 2\n2 refused: arc\n2 busy 1\nstored 440\n",
-        ),
-        // Whose edit is in work may cancel it, once.
-        (
-            "1,a,0,0\n01,x\n1,x\n2,a,0,0\n",
-            b"1 begun 2\n1 cancelled\n1 refused: none\n2 begun 2\nstored 440\n",
-        ),
-        // What was settled of a cancelled edit isn't there for the next.
-        (
-            "1,a,0,0\nstep\n1,x\n1,a,0,0\nstep\nstep\nstep\n",
-            b"1 begun 2\nleft 1\n1 cancelled\n1 begun 2\nleft 1\npublished 1\nidle\nstored 440\n",
-        ),
-    ];
-    for (script, said) in rows {
-        assert!(rt; leaves(rt.alloc(), Run { script, ..DESK }, 0, said, &BUILT));
+    for (script, said) in &REPLIES {
+        assert!(rt; settles(rt.alloc(), &BUILT, *script, *said, &BUILT));
     }
     Ok(())
 }
@@ -158,13 +187,19 @@ fn leaves_edited(
         ..asked
     };
     let edited = perform(alloc, edit)?;
+    leaves_behind(alloc, asked, replies, edited.out.as_slice())
+}
+
+// Whether it says these replies first, and leaves these bytes.
+fn leaves_behind(
+    alloc: Global,
+    asked: Run<'_>,
+    replies: &[u8],
+    out: &[u8],
+) -> Result<bool, NoMemory> {
     let ended = perform(alloc, asked)?;
     let said = ended.said.as_slice();
-    Ok(
-        ended.status == 0
-            && said.starts_with(replies)
-            && ended.out.as_slice() == edited.out.as_slice(),
-    )
+    Ok(ended.status == 0 && said.starts_with(replies) && ended.out.as_slice() == out)
 }
 
 // No road has the first profile once it is given the second: an edit of it touches no shortcut, and is there at once.
@@ -211,47 +246,42 @@ fn filled(alloc: Global, front: &str, noughts: u32) -> Result<String, NoMemory> 
     Ok(line)
 }
 
+// Whether a desk says this of a line that asks for a query at a second with so many noughts.
+fn asks_at(alloc: Global, noughts: u32, said: &[u8]) -> Result<bool, NoMemory> {
+    let line = filled(alloc, "1,q,0,2,", noughts)?;
+    Ok(settles(alloc, &BUILT, line.as_str(), said, &BUILT))
+}
+
+// Behind the eight bytes of the front the noughts make a line of 4,194,304 bytes, and one with a byte more.
 #[test]
 fn lines_have_at_most_four_megabytes(rt: HostRuntime) -> Result<(), Fail> {
-    let alloc = rt.alloc();
-    // Behind the eight bytes of the front these make a line of 4,194,304 bytes, and one with a byte more.
-    let most = filled(alloc, "1,q,0,2,", 4_194_296)?;
-    let more = filled(alloc, "1,q,0,2,", 4_194_297)?;
-    let rows: [(&str, &[u8]); 2] = [
-        (most.as_str(), b"1 arrive=160 arcs=0 1\nstored 440\n"),
-        (more.as_str(), b"refused: long\nstored 440\n"),
-    ];
-    for (script, said) in rows {
-        assert!(rt; leaves(alloc, Run { script, ..DESK }, 0, said, &BUILT));
-    }
+    let most = b"1 arrive=160 arcs=0 1\nstored 440\n";
+    let more = b"refused: long\nstored 440\n";
+    assert!(rt; asks_at(rt.alloc(), 4_194_296, most)?);
+    assert!(rt; asks_at(rt.alloc(), 4_194_297, more)?);
     Ok(())
 }
 
 // The published file is within the limit or past it, whatever the file was that it grew from.
+const SMALL: Run<'static> = Run {
+    packed: &FIRST_VERSION,
+    limit: 439,
+    ..DESK
+};
+
 #[test]
 fn larger_files_are_not_stored(rt: HostRuntime) -> Result<(), Fail> {
     let slower = built_slower(rt.alloc())?;
-    let small = Run {
-        packed: &FIRST_VERSION,
-        limit: 439,
-        ..DESK
-    };
-    assert!(rt; says(rt.alloc(), small, 13, b"too large 440\n"));
+    assert!(rt; says(rt.alloc(), SMALL, 13, b"too large 440\n"));
     let told = Run {
         script: "1,q,0,2,0\n",
-        ..small
+        ..SMALL
     };
-    assert!(rt;
-        says(
-            rt.alloc(),
-            told,
-            13,
-            b"1 arrive=160 arcs=0 1\ntoo large 440\n"
-        )
-    );
+    let said = b"1 arrive=160 arcs=0 1\ntoo large 440\n";
+    assert!(rt; says(rt.alloc(), told, 13, said));
     let shorter = Run {
         script: PUBLISHED,
-        ..small
+        ..SMALL
     };
     assert!(rt; leaves(rt.alloc(), shorter, 0, PUBLISHED_REPLIES, slower.as_slice()));
     Ok(())
@@ -278,35 +308,37 @@ fn other_words_and_files_are_refused(rt: HostRuntime) -> Result<(), Fail> {
         ),
         ("desk missing out", &BUILT, 3, b"shelf: fault hierarchy\n"),
     ];
-    for (words, packed, status, said) in rows {
+    for (words, packed, status, said) in &rows {
         let asked = Run {
-            words,
-            packed,
+            words: *words,
+            packed: *packed,
             script: "1,q,0,2,0\n",
             ..DESK
         };
-        assert!(rt; says(rt.alloc(), asked, status, said));
+        assert!(rt; says(rt.alloc(), asked, *status, *said));
     }
     Ok(())
 }
 
+// A call of the source that fails, and the replies before it.
+const READ_FAULTS: [(u64, &[u8]); 4] = [
+    (0, b""),
+    (1, b""),
+    (2, b"1 arrive=160 arcs=0 1\nidle\n"),
+    (3, b"1 arrive=160 arcs=0 1\nidle\n"),
+];
+
 // Where the source fails the lines whose end was taken are answered, and nothing is stored.
 #[test]
 fn reads_that_fail_end_the_run(rt: HostRuntime) -> Result<(), Fail> {
-    let rows: [(u64, &[u8]); 4] = [
-        (0, b""),
-        (1, b""),
-        (2, b"1 arrive=160 arcs=0 1\nidle\n"),
-        (3, b"1 arrive=160 arcs=0 1\nidle\n"),
-    ];
-    for (call, said) in rows {
+    for (call, said) in &READ_FAULTS {
         let asked = Run {
             script: "1,q,0,2,0\nstep\nstep",
             most: 8,
-            source: &[call],
+            source: &[*call],
             ..DESK
         };
-        assert!(rt; says(rt.alloc(), asked, 7, said));
+        assert!(rt; says(rt.alloc(), asked, 7, *said));
     }
     Ok(())
 }

@@ -65,43 +65,39 @@ fn edited_files_are_stored(rt: HostRuntime) -> Result<(), Fail> {
             &BUILT,
         ),
     ];
-    for (lines, said, out) in rows {
-        assert!(rt; edits(rt.alloc(), &BUILT, lines, PLAIN, 0, said, out));
-        assert!(rt; edits(rt.alloc(), &FIRST_VERSION, lines, PLAIN, 0, said, out));
+    for (lines, said, out) in &rows {
+        assert!(rt; edits(rt.alloc(), &BUILT, *lines, PLAIN, 0, *said, *out));
+        assert!(rt; edits(rt.alloc(), &FIRST_VERSION, *lines, PLAIN, 0, *said, *out));
     }
     Ok(())
 }
+
+const SMALL: Run<'static> = Run {
+    limit: 439,
+    ..PLAIN
+};
 
 // The file before the edits is within the limit, and the one after them isn't: by an edit, or in version 2 alone.
 #[test]
 fn larger_files_are_not_stored(rt: HostRuntime) -> Result<(), Fail> {
     let slower = built_slower(rt.alloc())?;
-    let small = Run {
-        limit: 439,
-        ..PLAIN
-    };
-    let rows: [(&[u8], &[u8], &[u8]); 2] = [
-        (
-            slower.as_slice(),
-            THERE_AND_BACK,
-            b"done 2\ndone 2\ntoo large 440\n",
-        ),
-        (&FIRST_VERSION, b"", b"too large 440\n"),
-    ];
-    for (file, lines, said) in rows {
-        assert!(rt; edits(rt.alloc(), file, lines, small, 13, said, b""));
-    }
+    let alloc = rt.alloc();
+    let built = slower.as_slice();
+    let said = b"done 2\ndone 2\ntoo large 440\n";
+    assert!(rt; edits(alloc, built, THERE_AND_BACK, SMALL, 13, said, b""));
     assert!(rt;
         edits(
-            rt.alloc(),
+            alloc,
             &FIRST_VERSION,
-            SLOW,
-            small,
-            0,
-            b"done 2\nstored 416\n",
-            slower.as_slice()
+            b"",
+            SMALL,
+            13,
+            b"too large 440\n",
+            b""
         )
     );
+    let said = b"done 2\nstored 416\n";
+    assert!(rt; edits(alloc, &FIRST_VERSION, SLOW, SMALL, 0, said, built));
     Ok(())
 }
 
@@ -116,9 +112,7 @@ fn untouched_ways_are_stored_as_they_were(rt: HostRuntime) -> Result<(), Fail> {
     after[644..].copy_from_slice(&SETTLED_DIGEST);
     let first = first_version(rt.alloc(), &FORGED)?;
     let said = b"done 1\nstored 676\n";
-    let rows: [&[u8]; 2] = [&FORGED, first.as_slice()];
-    for file in rows {
-        assert!(rt; edits(rt.alloc(), file, b"a,8,0\n", PLAIN, 0, said, &after));
-    }
+    assert!(rt; edits(rt.alloc(), &FORGED, b"a,8,0\n", PLAIN, 0, said, &after));
+    assert!(rt; edits(rt.alloc(), &first, b"a,8,0\n", PLAIN, 0, said, &after));
     Ok(())
 }

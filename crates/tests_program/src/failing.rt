@@ -1,6 +1,6 @@
 //! Loads, stores, reads and writes that fail, each in turn.
 
-use crate::runs::{PLAIN, Run, leaves, perform, perform_over, says, shelf_of};
+use crate::runs::{Ended, PLAIN, Run, leaves, perform, perform_over, says, shelf_of};
 use cu_io::{MemoryShelf, Shelf};
 use cu_model::NoMemory;
 use cu_samples::{BUILT, FIRST_VERSION};
@@ -41,81 +41,94 @@ fn holds_files(alloc: Global, asked: Run<'_>, shelf: &mut MemoryShelf) -> bool {
         && holds(alloc, shelf, "lines", asked.lines)
 }
 
-// Whether a run ends with status 3 and says this, stores nothing under the name `out`, and leaves
-// the files that were there.
+// Whether a run over a shelf ends with status 3 and says this, and stores nothing under the name `out`.
+fn stops_over(
+    alloc: Global,
+    asked: Run<'_>,
+    said: &[u8],
+    shelf: &mut MemoryShelf,
+) -> Result<bool, NoMemory> {
+    let ended = perform_over(alloc, asked, shelf)?;
+    Ok(ended.is(3, said, b""))
+}
+
+// Whether it does so, and leaves the files that were there.
 fn stops(alloc: Global, asked: Run<'_>, said: &[u8]) -> Result<bool, NoMemory> {
     let mut shelf = shelf_of(alloc, asked)?;
-    let ended = perform_over(alloc, asked, &mut shelf)?;
-    let is_said = ended.status == 3 && ended.said.as_slice() == said;
-    Ok(is_said && ended.out.is_empty() && holds_files(alloc, asked, &mut shelf))
+    let is_stopped = stops_over(alloc, asked, said, &mut shelf)?;
+    Ok(is_stopped && holds_files(alloc, asked, &mut shelf))
 }
+
+// Words, the call of the shelf that fails, and what is said of it.
+const SHELF_FAULTS: [(&str, u64, &[u8]); 23] = [
+    (SERVE, 0, b"shelf: fault nodes\n"),
+    (SERVE, 1, b"shelf: fault roads\n"),
+    (SERVE, 2, b"shelf: fault profiles\n"),
+    (SERVE_BY_FILE, 3, b"shelf: fault order\n"),
+    (BUILD, 0, b"shelf: fault nodes\n"),
+    (BUILD, 3, b"shelf: fault out\n"),
+    (BUILD_BY_FILE, 3, b"shelf: fault order\n"),
+    ("ask packed", 0, b"shelf: fault hierarchy\n"),
+    (EDIT, 0, b"shelf: fault hierarchy\n"),
+    (EDIT, 1, b"shelf: fault edits\n"),
+    (EDIT, 2, b"done 2\nshelf: fault out\n"),
+    (DESK, 0, b"shelf: fault hierarchy\n"),
+    (DESK, 1, b"refused: line\nshelf: fault out\n"),
+    (
+        "desk packed packed",
+        1,
+        b"refused: line\nshelf: fault out\n",
+    ),
+    (MIGRATE, 0, b"shelf: fault hierarchy\n"),
+    (MIGRATE, 1, b"shelf: fault out\n"),
+    ("verify packed", 0, b"shelf: fault hierarchy\n"),
+    (ORDER, 1, b"shelf: fault roads\n"),
+    (ORDER, 3, b"shelf: fault out\n"),
+    ("make 7 1 1 out b c", 0, b"shelf: fault nodes\n"),
+    ("make 7 1 1 a out c", 1, b"shelf: fault roads\n"),
+    ("make 7 1 1 a b out", 2, b"shelf: fault profiles\n"),
+    ("make 7 1 1 a b packed", 2, b"shelf: fault profiles\n"),
+];
 
 #[test]
 fn loads_and_stores_that_fail_end_the_run(rt: HostRuntime) -> Result<(), Fail> {
-    let rows: [(&str, u64, &[u8]); 23] = [
-        (SERVE, 0, b"shelf: fault nodes\n"),
-        (SERVE, 1, b"shelf: fault roads\n"),
-        (SERVE, 2, b"shelf: fault profiles\n"),
-        (SERVE_BY_FILE, 3, b"shelf: fault order\n"),
-        (BUILD, 0, b"shelf: fault nodes\n"),
-        (BUILD, 3, b"shelf: fault out\n"),
-        (BUILD_BY_FILE, 3, b"shelf: fault order\n"),
-        ("ask packed", 0, b"shelf: fault hierarchy\n"),
-        (EDIT, 0, b"shelf: fault hierarchy\n"),
-        (EDIT, 1, b"shelf: fault edits\n"),
-        (EDIT, 2, b"done 2\nshelf: fault out\n"),
-        (DESK, 0, b"shelf: fault hierarchy\n"),
-        (DESK, 1, b"refused: line\nshelf: fault out\n"),
-        (
-            "desk packed packed",
-            1,
-            b"refused: line\nshelf: fault out\n",
-        ),
-        (MIGRATE, 0, b"shelf: fault hierarchy\n"),
-        (MIGRATE, 1, b"shelf: fault out\n"),
-        ("verify packed", 0, b"shelf: fault hierarchy\n"),
-        (ORDER, 1, b"shelf: fault roads\n"),
-        (ORDER, 3, b"shelf: fault out\n"),
-        ("make 7 1 1 out b c", 0, b"shelf: fault nodes\n"),
-        ("make 7 1 1 a out c", 1, b"shelf: fault roads\n"),
-        ("make 7 1 1 a b out", 2, b"shelf: fault profiles\n"),
-        ("make 7 1 1 a b packed", 2, b"shelf: fault profiles\n"),
-    ];
-    for (words, call, said) in rows {
+    for (words, call, said) in &SHELF_FAULTS {
         let asked = Run {
-            words,
+            words: *words,
             packed: &BUILT,
             lines: SLOW,
             script: "q,0,2,0\n",
-            shelf: &[call],
+            shelf: &[*call],
             ..PLAIN
         };
-        assert!(rt; stops(rt.alloc(), asked, said)?);
+        assert!(rt; stops(rt.alloc(), asked, *said)?);
     }
     Ok(())
 }
 
+// Words, the most bytes of a file, and what is said of one that has more.
+const LONG_FILES: [(&str, u64, &[u8]); 8] = [
+    (SERVE, 30, b"shelf: long nodes\n"),
+    (SERVE, 45, b"shelf: long roads\n"),
+    (SERVE, 46, b"shelf: long profiles\n"),
+    ("ask packed", 439, b"shelf: long hierarchy\n"),
+    (EDIT, 439, b"shelf: long hierarchy\n"),
+    (DESK, 439, b"shelf: long hierarchy\n"),
+    (MIGRATE, 439, b"shelf: long hierarchy\n"),
+    ("verify packed", 439, b"shelf: long hierarchy\n"),
+];
+
 #[test]
 fn files_past_the_limit_end_the_run(rt: HostRuntime) -> Result<(), Fail> {
-    let rows: [(&str, u64, &[u8]); 8] = [
-        (SERVE, 30, b"shelf: long nodes\n"),
-        (SERVE, 45, b"shelf: long roads\n"),
-        (SERVE, 46, b"shelf: long profiles\n"),
-        ("ask packed", 439, b"shelf: long hierarchy\n"),
-        (EDIT, 439, b"shelf: long hierarchy\n"),
-        (DESK, 439, b"shelf: long hierarchy\n"),
-        (MIGRATE, 439, b"shelf: long hierarchy\n"),
-        ("verify packed", 439, b"shelf: long hierarchy\n"),
-    ];
-    for (words, limit, said) in rows {
+    for (words, limit, said) in &LONG_FILES {
         let asked = Run {
-            words,
+            words: *words,
             packed: &BUILT,
             lines: SLOW,
-            limit,
+            limit: *limit,
             ..PLAIN
         };
-        assert!(rt; says(rt.alloc(), asked, 3, said));
+        assert!(rt; says(rt.alloc(), asked, 3, *said));
     }
     Ok(())
 }
@@ -130,31 +143,38 @@ const STEADY: Run<'static> = Run {
 
 const REPLIES: &[u8; 64] = b"arrive=160 arcs=0 1\narrive=65 arcs=0\nunreachable\narrive=5 arcs=\n";
 
+// A call of the source that fails, the status, and the replies before it.
+const READ_FAULTS: [(u64, u8, &[u8]); 9] = [
+    (0, 7, b""),
+    (1, 7, b""),
+    (2, 7, b"arrive=160 arcs=0 1\n"),
+    (3, 7, b"arrive=160 arcs=0 1\n"),
+    (4, 7, b"arrive=160 arcs=0 1\narrive=65 arcs=0\n"),
+    (
+        5,
+        7,
+        b"arrive=160 arcs=0 1\narrive=65 arcs=0\nunreachable\n",
+    ),
+    (
+        6,
+        7,
+        b"arrive=160 arcs=0 1\narrive=65 arcs=0\nunreachable\n",
+    ),
+    (7, 7, REPLIES),
+    // The call isn't made.
+    (8, 0, REPLIES),
+];
+
 // Each read gives five bytes of the 32: the seventh the last two, and the eighth shows the end.
 #[test]
 fn reads_that_fail_end_the_run(rt: HostRuntime) -> Result<(), Fail> {
-    let one = b"arrive=160 arcs=0 1\n".as_slice();
-    let two = b"arrive=160 arcs=0 1\narrive=65 arcs=0\n".as_slice();
-    let three = b"arrive=160 arcs=0 1\narrive=65 arcs=0\nunreachable\n".as_slice();
-    let rows: [(u64, u8, &[u8]); 9] = [
-        (0, 7, b""),
-        (1, 7, b""),
-        (2, 7, one),
-        (3, 7, one),
-        (4, 7, two),
-        (5, 7, three),
-        (6, 7, three),
-        (7, 7, REPLIES.as_slice()),
-        // The call isn't made.
-        (8, 0, REPLIES.as_slice()),
-    ];
-    for (call, status, said) in rows {
+    for (call, status, said) in &READ_FAULTS {
         let asked = Run {
             most: 5,
-            source: &[call],
+            source: &[*call],
             ..STEADY
         };
-        assert!(rt; says(rt.alloc(), asked, status, said));
+        assert!(rt; says(rt.alloc(), asked, *status, *said));
     }
     Ok(())
 }
@@ -167,10 +187,16 @@ fn stops_at(alloc: Global, call: u64) -> Result<Option<bool>, NoMemory> {
         ..STEADY
     };
     let ended = perform(alloc, asked)?;
-    if ended.status == 0 && ended.said.as_slice() == REPLIES.as_slice() {
-        return Ok(None);
+    Ok(stopped(&ended))
+}
+
+// The same of a run that has ended.
+fn stopped(ended: &Ended) -> Option<bool> {
+    let said = ended.said.as_slice();
+    if ended.status == 0 && said == REPLIES.as_slice() {
+        return None;
     }
-    Ok(Some(ended.status == 8 && REPLIES.as_slice().starts_with(ended.said.as_slice())))
+    Some(ended.status == 8 && REPLIES.as_slice().starts_with(said))
 }
 
 // Whether each call of the sink that a run makes stops it when it fails. There are fewer than a

@@ -62,23 +62,30 @@ fn table_line(alloc: Global, first: &str, field: &str, count: u32) -> Result<Str
     Ok(line)
 }
 
+// Whether `serve` says this of a line with these first fields and so many more.
+fn asks_table(alloc: Global, first: &str, count: u32, said: &[u8]) -> Result<bool, AllocError> {
+    let line = table_line(alloc, first, ",0", count)?;
+    let asked = Run {
+        script: line.as_str(),
+        ..ASKED
+    };
+    Ok(says(alloc, asked, 0, said))
+}
+
+// The first fields of a line, how many more it has, and what is said.
+const LARGE_TABLES: [(&str, u32, &[u8]); 4] = [
+    ("t,0,1024", 2049, b"refused: limit\n"),
+    ("t,86400,1024", 2049, b"refused: second\n"),
+    // As many bytes as a line may have; and one more.
+    ("t,00,1", 2_097_149, b"refused: limit\n"),
+    ("t,000,1", 2_097_149, b"refused: long\n"),
+];
+
 #[test]
 fn large_tables_are_refused(rt: HostRuntime) -> Result<(), Fail> {
     let alloc = rt.alloc();
-    let rows: [(&str, u32, &[u8]); 4] = [
-        ("t,0,1024", 2049, b"refused: limit\n"),
-        ("t,86400,1024", 2049, b"refused: second\n"),
-        // As many bytes as a line may have; and one more.
-        ("t,00,1", 2_097_149, b"refused: limit\n"),
-        ("t,000,1", 2_097_149, b"refused: long\n"),
-    ];
-    for (first, count, said) in rows {
-        let line = table_line(alloc, first, ",0", count)?;
-        let asked = Run {
-            script: line.as_str(),
-            ..ASKED
-        };
-        assert!(rt; says(alloc, asked, 0, said));
+    for (first, count, said) in &LARGE_TABLES {
+        assert!(rt; asks_table(alloc, *first, *count, *said)?);
     }
     Ok(())
 }

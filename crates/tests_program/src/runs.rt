@@ -67,34 +67,69 @@ pub fn perform_over(
     asked: Run<'_>,
     shelf: &mut MemoryShelf,
 ) -> Result<Ended, NoMemory> {
-    let mut source = source_of(alloc, asked)?;
-    let mut sink = MemorySink::new(alloc, asked.room, Vec::from_slice(alloc, asked.sink)?)?;
-    let words = words_of(alloc, asked.words)?;
-    let status = run(alloc, &words, shelf, &mut source, &mut sink);
+    let mut sink = sink_of(alloc, asked)?;
+    let status = status_over(alloc, asked, shelf, &mut sink)?;
     let said = Vec::from_slice(alloc, sink.bytes())?;
-    let mut out = Vec::new(alloc);
-    let _outcome = shelf.load(alloc, "out", &mut out);
+    let out = stored(alloc, shelf);
     Ok(Ended { status, said, out })
 }
 
+// The status of a run over a shelf, which writes to this sink.
+fn status_over(
+    alloc: Global,
+    asked: Run<'_>,
+    shelf: &mut MemoryShelf,
+    sink: &mut MemorySink,
+) -> Result<u8, NoMemory> {
+    let words = words_of(alloc, asked.words)?;
+    let mut source = source_of(alloc, asked)?;
+    Ok(run(alloc, &words, shelf, &mut source, sink))
+}
+
+// What stands in a shelf under the name `out`, no bytes where nothing does.
+fn stored(alloc: Global, shelf: &mut MemoryShelf) -> Vec<u8> {
+    let mut out = Vec::new(alloc);
+    let _outcome = shelf.load(alloc, "out", &mut out);
+    out
+}
+
 pub fn shelf_of(alloc: Global, asked: Run<'_>) -> Result<MemoryShelf, NoMemory> {
+    let fails = fails_of(alloc, asked)?;
+    let mut shelf = MemoryShelf::new(alloc, asked.limit, fails);
+    if is_filled(alloc, asked, &mut shelf) {
+        Ok(shelf)
+    } else {
+        Err(NoMemory)
+    }
+}
+
+// The calls of a shelf that fail, counted from its first one.
+fn fails_of(alloc: Global, asked: Run<'_>) -> Result<Vec<u64>, NoMemory> {
     let mut fails = Vec::new(alloc);
     for call in asked.shelf {
         fails.push(call.saturating_add(FILES))?;
     }
-    let mut shelf = MemoryShelf::new(alloc, asked.limit, fails);
-    let is_filled = shelf.store(alloc, "nodes", asked.nodes).is_ok()
+    Ok(fails)
+}
+
+// Puts the six files into a shelf. Whether they are there.
+fn is_filled(alloc: Global, asked: Run<'_>, shelf: &mut MemoryShelf) -> bool {
+    shelf.store(alloc, "nodes", asked.nodes).is_ok()
         && shelf.store(alloc, "roads", asked.roads).is_ok()
         && shelf.store(alloc, "profiles", asked.profiles).is_ok()
         && shelf.store(alloc, "ranks", asked.ranks).is_ok()
         && shelf.store(alloc, "packed", asked.packed).is_ok()
-        && shelf.store(alloc, "lines", asked.lines).is_ok();
-    if is_filled { Ok(shelf) } else { Err(NoMemory) }
+        && shelf.store(alloc, "lines", asked.lines).is_ok()
+}
+
+fn sink_of(alloc: Global, asked: Run<'_>) -> Result<MemorySink, NoMemory> {
+    let fails = Vec::from_slice(alloc, asked.sink)?;
+    Ok(MemorySink::new(alloc, asked.room, fails)?)
 }
 
 fn source_of(alloc: Global, asked: Run<'_>) -> Result<MemorySource, NoMemory> {
-    let script = Vec::from_slice(alloc, asked.script.as_bytes())?;
     let fails = Vec::from_slice(alloc, asked.source)?;
+    let script = Vec::from_slice(alloc, asked.script.as_bytes())?;
     Ok(MemorySource::of(script, fails).cut(asked.most.max(1)))
 }
 
@@ -106,12 +141,17 @@ pub fn words_of(alloc: Global, words: &str) -> Result<Vec<String>, NoMemory> {
     Ok(asked)
 }
 
+impl Ended {
+    // Whether it has this status, writes this, and leaves these bytes under the name `out`.
+    pub fn is(&self, status: u8, said: &[u8], out: &[u8]) -> bool {
+        self.status == status && self.said.as_slice() == said && self.out.as_slice() == out
+    }
+}
+
 // Whether a run has this status, writes this, and leaves these bytes under the name `out`.
 pub fn leaves(alloc: Global, asked: Run<'_>, status: u8, said: &[u8], out: &[u8]) -> bool {
     match perform(alloc, asked) {
-        Ok(ended) => {
-            ended.status == status && ended.said.as_slice() == said && ended.out.as_slice() == out
-        }
+        Ok(ended) => ended.is(status, said, out),
         Err(NoMemory) => false,
     }
 }

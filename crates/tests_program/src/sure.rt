@@ -32,8 +32,8 @@ fn what_never_fails_ends_no_run(rt: HostRuntime) -> Result<(), Fail> {
         ("ask packed", 0),
         ("verify packed", 0),
     ];
-    for (words, status) in rows {
-        assert_eq!(rt; status_over(alloc, words, &mut shelf)?, status);
+    for (words, status) in &rows {
+        assert_eq!(rt; status_over(alloc, *words, &mut shelf)?, *status);
     }
     Ok(())
 }

@@ -1,6 +1,7 @@
 //! Measured profiles: `measure`, which stores those that stand for them, and `wait`, which answers over them.
 
 use crate::runs::{PLAIN, Run, leaves, says};
+use cu_samples::RUSH;
 use std::alloc::Global;
 use std::test::Fail;
 
@@ -25,32 +26,34 @@ fn waits<'a>(alloc: Global, profiles: &'a [u8], script: &'a str, status: u8, sai
     says(alloc, asked, status, said)
 }
 
+// Measured profiles, a script and its replies.
+const WAITS: [(&[u8], &str, &[u8]); 4] = [
+    (
+        FALLS,
+        "q,0,1,950\nq,0,1,0\nq,0,1,1000\nd,0,1\nq,1,0,0\nd,1,0\nq,1,1,7\n",
+        b"arrive=1020 arcs=0\narrive=100 arcs=0\narrive=1020 arcs=0\nday 0,travel,100 921,until,1020 1001,travel,20\nunreachable\nunreachable\narrive=7 arcs=\n",
+    ),
+    (
+        FALLS,
+        "s,0,0,travel,50\nq,0,1,950\nd,0,1\ns,1,0,travel,50\nq,2,0,0\ns,0,0,closed,0\nq,0,1,950\n",
+        b"done 1\narrive=1000 arcs=0\nday 0,travel,50\nrefused: profile\nrefused: node\ndone 1\nunreachable\n",
+    ),
+    (
+        b"profile,second,mode,travel\n0,0,step,100\n0,1000,step,20\n1,0,step,20\n1,86300,step,200\n",
+        "a,0,1\nq,0,1,86350\nd,0,1\na,0,0\nq,0,1,950\n",
+        b"done 1\narrive=86420 arcs=0\nday 0,travel,20 86300,until,86420\ndone 1\narrive=1020 arcs=0\n",
+    ),
+    (
+        b"profile,second,mode,travel\n0,0,line,10\n0,4,line,12\n",
+        "d,0,1\n",
+        b"day 0,travel,10 2,travel,11 4,until,16 6,travel,11 43203,travel,10\n",
+    ),
+];
+
 #[test]
 fn queries_wait_where_it_pays(rt: HostRuntime) -> Result<(), Fail> {
-    let rows: [(&[u8], &str, &[u8]); 4] = [
-        (
-            FALLS,
-            "q,0,1,950\nq,0,1,0\nq,0,1,1000\nd,0,1\nq,1,0,0\nd,1,0\nq,1,1,7\n",
-            b"arrive=1020 arcs=0\narrive=100 arcs=0\narrive=1020 arcs=0\nday 0,travel,100 921,until,1020 1001,travel,20\nunreachable\nunreachable\narrive=7 arcs=\n",
-        ),
-        (
-            FALLS,
-            "s,0,0,travel,50\nq,0,1,950\nd,0,1\ns,1,0,travel,50\nq,2,0,0\ns,0,0,closed,0\nq,0,1,950\n",
-            b"done 1\narrive=1000 arcs=0\nday 0,travel,50\nrefused: profile\nrefused: node\ndone 1\nunreachable\n",
-        ),
-        (
-            b"profile,second,mode,travel\n0,0,step,100\n0,1000,step,20\n1,0,step,20\n1,86300,step,200\n",
-            "a,0,1\nq,0,1,86350\nd,0,1\na,0,0\nq,0,1,950\n",
-            b"done 1\narrive=86420 arcs=0\nday 0,travel,20 86300,until,86420\ndone 1\narrive=1020 arcs=0\n",
-        ),
-        (
-            b"profile,second,mode,travel\n0,0,line,10\n0,4,line,12\n",
-            "d,0,1\n",
-            b"day 0,travel,10 2,travel,11 4,until,16 6,travel,11 43203,travel,10\n",
-        ),
-    ];
-    for (profiles, script, said) in rows {
-        assert!(rt; waits(rt.alloc(), profiles, script, 0, said));
+    for (profiles, script, said) in &WAITS {
+        assert!(rt; waits(rt.alloc(), *profiles, *script, 0, *said));
     }
     Ok(())
 }
@@ -71,101 +74,113 @@ fn waits_come_before_each_road(rt: HostRuntime) -> Result<(), Fail> {
     Ok(())
 }
 
+// Measured profiles that are refused, and what is said of them; the fourth are none, where a road has one.
+const REFUSED: [(&[u8], &[u8]); 5] = [
+    (
+        b"profile,from,kind,value\n0,0,travel,100\n",
+        b"measured: header\n",
+    ),
+    (
+        b"profile,second,mode,travel\n0,5,step,1\n",
+        b"measured: 0 start\n",
+    ),
+    (
+        b"profile,second,mode,travel\n0,0,jump,1\n",
+        b"measured: 0 mode\n",
+    ),
+    (
+        b"profile,second,mode,travel\n",
+        b"network: roads 0 profile\n",
+    ),
+    (
+        b"profile,second,mode,travel\n0,0,step,1\n0,0,step,2\n",
+        b"measured: 1 rising\n",
+    ),
+];
+
+// Words over the pair, measured profiles, the status and what is said: of two texts that are refused, of one, of a file that isn't
+// there, and of too few words.
+const REFUSED_WORDS: [(&str, &[u8], u8, &[u8]); 4] = [
+    (
+        "wait roads nodes profiles identity",
+        b"profile,second,mode,travel\n0,5,step,1\n",
+        4,
+        b"measured: 0 start\n",
+    ),
+    (
+        "wait roads nodes profiles identity",
+        FALLS,
+        4,
+        b"network: nodes header\n",
+    ),
+    (
+        "wait nodes roads other identity",
+        RUSH,
+        3,
+        b"shelf: fault profiles\n",
+    ),
+    ("wait nodes roads profiles", RUSH, 2, b"words\n"),
+];
+
 #[test]
 fn measured_texts_are_refused_before_others(rt: HostRuntime) -> Result<(), Fail> {
-    let rows: [(&[u8], &[u8]); 5] = [
-        (
-            b"profile,from,kind,value\n0,0,travel,100\n",
-            b"measured: header\n",
-        ),
-        (
-            b"profile,second,mode,travel\n0,5,step,1\n",
-            b"measured: 0 start\n",
-        ),
-        (
-            b"profile,second,mode,travel\n0,0,jump,1\n",
-            b"measured: 0 mode\n",
-        ),
-        (
-            b"profile,second,mode,travel\n",
-            b"network: roads 0 profile\n",
-        ),
-        (
-            b"profile,second,mode,travel\n0,0,step,1\n0,0,step,2\n",
-            b"measured: 1 rising\n",
-        ),
-    ];
-    for (profiles, said) in rows {
-        assert!(rt; waits(rt.alloc(), profiles, "q,0,1,0\n", 4, said));
+    for (profiles, said) in &REFUSED {
+        assert!(rt; waits(rt.alloc(), *profiles, "q,0,1,0\n", 4, *said));
     }
-    let bad_nodes = Run {
-        words: "wait roads nodes profiles identity",
-        ..PAIR
-    };
-    let both = Run {
-        profiles: b"profile,second,mode,travel\n0,5,step,1\n",
-        ..bad_nodes
-    };
-    let nodes = Run {
-        profiles: FALLS,
-        ..bad_nodes
-    };
-    let none = Run {
-        words: "wait nodes roads other identity",
-        ..PAIR
-    };
-    let few = Run {
-        words: "wait nodes roads profiles",
-        ..PAIR
-    };
-    assert!(rt; says(rt.alloc(), both, 4, b"measured: 0 start\n"));
-    assert!(rt; says(rt.alloc(), nodes, 4, b"network: nodes header\n"));
-    assert!(rt; says(rt.alloc(), none, 3, b"shelf: fault profiles\n"));
-    assert!(rt; says(rt.alloc(), few, 2, b"words\n"));
+    for (words, profiles, status, said) in &REFUSED_WORDS {
+        let asked = Run {
+            words: *words,
+            profiles: *profiles,
+            ..PAIR
+        };
+        assert!(rt; says(rt.alloc(), asked, *status, *said));
+    }
     Ok(())
 }
 
+// Measured profiles, the status, what is said, and the profiles that are stored for them.
+const MEASURED: [(&[u8], u8, &[u8], &[u8]); 5] = [
+    (
+        FALLS,
+        0,
+        b"measured 1\n",
+        b"profile,from,kind,value\n0,0,travel,100\n0,921,until,1020\n0,1001,travel,20\n",
+    ),
+    (
+        b"profile,second,mode,travel\n0,0,line,10\n0,4,line,12\n",
+        0,
+        b"measured 1\n",
+        b"profile,from,kind,value\n0,0,travel,10\n0,2,travel,11\n0,4,until,16\n0,6,travel,11\n0,43203,travel,10\n",
+    ),
+    (
+        b"profile,second,mode,travel\n0,0,step,20\n0,86300,step,200\n",
+        0,
+        b"measured 1\n",
+        b"profile,from,kind,value\n0,0,travel,20\n0,86300,until,86420\n",
+    ),
+    (
+        b"profile,second,mode,travel\n0,5,step,1\n",
+        4,
+        b"measured: 0 start\n",
+        b"",
+    ),
+    (
+        b"profile,second,mode,travel\n0,0,jump,1\n",
+        4,
+        b"measured: 0 mode\n",
+        b"",
+    ),
+];
+
 #[test]
 fn profiles_are_stored_for_measured_ones(rt: HostRuntime) -> Result<(), Fail> {
-    let rows: [(&[u8], u8, &[u8], &[u8]); 5] = [
-        (
-            FALLS,
-            0,
-            b"measured 1\n",
-            b"profile,from,kind,value\n0,0,travel,100\n0,921,until,1020\n0,1001,travel,20\n",
-        ),
-        (
-            b"profile,second,mode,travel\n0,0,line,10\n0,4,line,12\n",
-            0,
-            b"measured 1\n",
-            b"profile,from,kind,value\n0,0,travel,10\n0,2,travel,11\n0,4,until,16\n0,6,travel,11\n0,43203,travel,10\n",
-        ),
-        (
-            b"profile,second,mode,travel\n0,0,step,20\n0,86300,step,200\n",
-            0,
-            b"measured 1\n",
-            b"profile,from,kind,value\n0,0,travel,20\n0,86300,until,86420\n",
-        ),
-        (
-            b"profile,second,mode,travel\n0,5,step,1\n",
-            4,
-            b"measured: 0 start\n",
-            b"",
-        ),
-        (
-            b"profile,second,mode,travel\n0,0,jump,1\n",
-            4,
-            b"measured: 0 mode\n",
-            b"",
-        ),
-    ];
-    for (profiles, status, said, out) in rows {
+    for (profiles, status, said, out) in &MEASURED {
         let asked = Run {
             words: "measure profiles out",
-            profiles,
+            profiles: *profiles,
             ..PLAIN
         };
-        assert!(rt; leaves(rt.alloc(), asked, status, said, out));
+        assert!(rt; leaves(rt.alloc(), asked, *status, *said, *out));
     }
     Ok(())
 }

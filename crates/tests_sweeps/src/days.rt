@@ -4,10 +4,11 @@ ghost use Rattle.std.specs.Prelude.{◌≡◌};
 ghost use Rattle.cu_elimtree.specs.SweepArcs.{parents_in};
 ghost use Rattle.cu_interval.specs.Hierarchies.{graph_of};
 
-use cu_day::{DayRebuilt, day, write_day};
+use crate::written::written;
+use cu_arrival::Arrival;
+use cu_day::{DayRebuilt, day};
 use cu_elimtree::Tree;
 use cu_interval::{Hierarchy, Ways};
-use cu_io::MemorySink;
 use cu_model::Roads;
 use cu_samples::{RUSH_HOUR, hierarchy};
 use std::alloc::Global;
@@ -19,6 +20,19 @@ struct Row<'a> {
     from: u32,
     to: u32,
     text: Option<&'a [u8]>,
+}
+
+// Is this the text of a day? None is that of no day.
+fn is_written(
+    alloc: Global,
+    function: &Option<Arrival>,
+    text: Option<&[u8]>,
+) -> Result<bool, Fail> {
+    let Some(function) = function else {
+        return Ok(text.is_none());
+    };
+    let sink = written(alloc, function, 100)?;
+    Ok(text == Some(sink.bytes()))
 }
 
 // Is this the text of the day between two ranks?
@@ -33,15 +47,7 @@ fn is_right(alloc: Global, hierarchy: &Hierarchy, tree: &Tree, row: Row<'_>) -> 
     let _edges = hierarchy.edges();
     let mut functions = DayRebuilt::new(alloc, hierarchy)?;
     let function = day(alloc, tree, graph, &mut functions, row.from, row.to)?;
-    match (function, row.text) {
-        (None, None) => Ok(true),
-        (Some(function), Some(text)) => {
-            let mut sink = MemorySink::new(alloc, 100, Vec::new(alloc))?;
-            write_day(&function, &mut sink)?;
-            Ok(sink.bytes() == text)
-        }
-        _ => Ok(false),
-    }
+    is_written(alloc, &function, row.text)
 }
 
 // Nodes 0, 1 and 2 have the ranks 1, 0 and 2. From node 0 to node 2 the road of 250 seconds is the faster from the second at which

@@ -4,9 +4,10 @@ ghost use Rattle.std.specs.Prelude.{◌≡◌, ◌<◌};
 ghost use Rattle.cu_elimtree.specs.SweepArcs.{parents_in};
 ghost use Rattle.cu_interval.specs.Hierarchies.{IsHierarchyOf};
 
+use crate::written::written;
 use cu_arrival::Arrival;
 use cu_chordal::Chordal;
-use cu_day::{DayRebuilt, day, led_day, write_day};
+use cu_day::{DayRebuilt, day, led_day};
 use cu_elimtree::Tree;
 use cu_interval::{Leg, Ways};
 use cu_io::MemorySink;
@@ -18,14 +19,21 @@ use std::test::Fail;
 
 // The text of a day; nothing where there is none.
 fn text(alloc: Global, function: &Option<Arrival>) -> Result<MemorySink, Fail> {
-    let mut sink = MemorySink::new(alloc, 1_000, Vec::new(alloc))?;
     match function {
-        Some(function) => {
-            write_day(function, &mut sink)?;
-            Ok(sink)
-        }
-        None => Ok(sink),
+        Some(function) => written(alloc, function, 1_000),
+        None => Ok(MemorySink::new(alloc, 1_000, Vec::new(alloc))?),
     }
+}
+
+// Have two days the same text?
+fn are_same_texts(
+    alloc: Global,
+    one: &Option<Arrival>,
+    other: &Option<Arrival>,
+) -> Result<bool, Fail> {
+    let one = text(alloc, one)?;
+    let other = text(alloc, other)?;
+    Ok(one.bytes() == other.bytes())
 }
 
 // Is the day between two ranks the same, led or not?
@@ -44,7 +52,7 @@ fn is_same(
     let mut functions = DayRebuilt::new(alloc, view)?;
     let all = day(alloc, tree, graph, &mut functions, leg.from, leg.to)?;
     let led = led_day(alloc, tree, graph, &mut functions, &unpacker, leg)?;
-    Ok(text(alloc, &all)?.bytes() == text(alloc, &led)?.bytes())
+    are_same_texts(alloc, &all, &led)
 }
 
 // Are the days from a rank to all others?

@@ -10,3 +10,5 @@ mod led_days;
 mod sweep;
 #[cfg(test)]
 mod unpack;
+#[cfg(test)]
+mod written;

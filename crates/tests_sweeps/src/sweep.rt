@@ -1,9 +1,13 @@
 //! Queries that were worked by hand.
 
-ghost use Rattle.std.specs.Prelude.{◌≡◌, ◌<◌, false, IfOk, IfSome, OnOk};
+ghost use Rattle.std.specs.Prelude.{◌≡◌, ◌<◌, false, true, IfOk, IfSome, OnOk};
 ghost use Rattle.cu_model.specs.declared.limits.TheConstants.{DAY};
+ghost use Rattle.cu_elimtree.specs.SweepArcs.{parents_in};
+ghost use Rattle.cu_interval.specs.Hierarchies.{IsHierarchyOf};
+ghost use Rattle.cu_short.specs.Shortness.{NeverLong};
 ghost use Rattle.cu_sweep.specs.Desks.{AreArriving, HoldsFound};
 
+use cu_chordal::Chordal;
 use cu_elimtree::Tree;
 use cu_interval::{Call, Dir, Ways};
 use cu_io::MemorySink;
@@ -14,6 +18,7 @@ use cu_short::RoadCounts;
 use cu_sweep::{Found, Outlook, Question, SweepDesk, led_query, query, route};
 use cu_unpack::{Listed, Unpacker, Work};
 use std::alloc::Global;
+use std::process::Abort;
 use std::test::Fail;
 
 // A query between two ranks at a second, what it finds, its calls, the room for telling them, and the roads of its walk.
@@ -52,69 +57,90 @@ struct Asked {
     second: u32,
 }
 
+// The ways of a packed file with three nodes, their graph, and its tree.
+#[derive(Clone, Copy)]
+struct Swept<'a> {
+    view: &'a PackedView<'a>,
+    graph: &'a Chordal,
+    tree: &'a Tree,
+}
+
 // What the query finds by all its calls; none where it tells others than the row.
 fn ask_plainly(
     alloc: Global,
-    view: &PackedView<'_>,
+    swept: Swept<'_>,
     desk: &mut SweepDesk,
     asked: Asked,
     row: &Row<'_>,
 ) -> Result<Option<Found>, Fail>
     requires ranks { (asked.from < 3) × (asked.to < 3) }
     requires second { asked.second < DAY }
-    requires nodes { view.now.network.nodes ≡ 3 }
+    requires nodes { swept.graph.now.ranks ≡ 3 }
+    requires graph { IsHierarchyOf swept.graph.now swept.view.now }
+    requires tree { swept.tree.now ≡ parents_in swept.graph.now }
     requires desk { desk.old.nodes ≡ 3 }
     ensures desk { OnOk result (desk.new.nodes ≡ 3) }
-    ensures holds { IfOk result (λ found. IfSome found
-        (λ some. HoldsFound view.now asked.from asked.to asked.second some desk.new)) }
+    ensures holds { IfOk result (λ found. IfSome found (λ some.
+        HoldsFound swept.entry.view.now asked.from asked.to asked.second some desk.new)) }
 {
-    let _edges = view.edges();
-    let graph = chordal_of(alloc, view)?;
-    let tree = Tree::of(alloc, &graph)?;
-    let work = Work::new(alloc, 3)?;
-    let mut listed = Listed::new(alloc, Unpacker::new(view, work), row.room)?;
     let Asked { from, to, second } = asked;
-    let found = query(&tree, &graph, desk, &mut listed, from, to, second);
+    let unpacker = Unpacker::new(swept.view, Work::new(alloc, 3)?);
+    let mut listed = Listed::new(alloc, unpacker, row.room)?;
+    let found = query(swept.tree, swept.graph, desk, &mut listed, from, to, second);
     if are_told(listed.calls(), row.calls, row.room) {
         return Ok(Some(found));
     }
     Ok(None)
 }
 
+// Is no walk too long, by the counts of the roads of all lists?
+fn is_never_long(alloc: Global, view: &PackedView<'_>) -> Result<bool, Fail>
+    ensures { IfOk result (λ never. never ≡ true → NeverLong view.now) }
+{
+    let mut finder = view.halves_in_turn(alloc)?;
+    let roads = RoadCounts::of(alloc, view, &mut finder)?;
+    Ok(roads.is_some())
+}
+
 // What the query finds where it is led to its end; none where a walk may be too long.
 fn ask_led(
     alloc: Global,
-    view: &PackedView<'_>,
+    swept: Swept<'_>,
     desk: &mut SweepDesk,
     asked: Asked,
 ) -> Result<Option<Found>, Fail>
     requires ranks { (asked.from < 3) × (asked.to < 3) }
     requires second { asked.second < DAY }
-    requires nodes { view.now.network.nodes ≡ 3 }
+    requires nodes { swept.graph.now.ranks ≡ 3 }
+    requires graph { IsHierarchyOf swept.graph.now swept.view.now }
+    requires tree { swept.tree.now ≡ parents_in swept.graph.now }
     requires desk { desk.old.nodes ≡ 3 }
     ensures desk { OnOk result (desk.new.nodes ≡ 3) }
-    ensures holds { IfOk result (λ found. IfSome found
-        (λ some. HoldsFound view.now asked.from asked.to asked.second some desk.new)) }
+    ensures holds { IfOk result (λ found. IfSome found (λ some.
+        HoldsFound swept.entry.view.now asked.from asked.to asked.second some desk.new)) }
 {
-    let _edges = view.edges();
-    let mut finder = view.halves_in_turn(alloc)?;
-    let Some(_roads) = RoadCounts::of(alloc, view, &mut finder)? else {
-        return Ok(None);
-    };
-    let graph = chordal_of(alloc, view)?;
-    let tree = Tree::of(alloc, &graph)?;
-    let mut outlook = Outlook::new(alloc, 3)?;
-    let mut unpacker = Unpacker::new(view, Work::new(alloc, 3)?);
-    let Asked { from, to, second } = asked;
-    let question = Question { from, to, second };
-    let found = led_query(&tree, &graph, desk, &mut outlook, &mut unpacker, question);
-    Ok(Some(found))
+    let never_long = is_never_long(alloc, swept.view)?;
+    if never_long {
+        let Asked { from, to, second } = asked;
+        let mut outlook = Outlook::new(alloc, 3)?;
+        let mut unpacker = Unpacker::new(swept.view, Work::new(alloc, 3)?);
+        let found = led_query(
+            swept.tree,
+            swept.graph,
+            desk,
+            &mut outlook,
+            &mut unpacker,
+            Question { from, to, second },
+        );
+        return Ok(Some(found));
+    }
+    Ok(None)
 }
 
 // What the query finds, led to its end or by all its calls.
 fn ask(
     alloc: Global,
-    view: &PackedView<'_>,
+    swept: Swept<'_>,
     desk: &mut SweepDesk,
     asked: Asked,
     row: &Row<'_>,
@@ -122,16 +148,18 @@ fn ask(
 ) -> Result<Option<Found>, Fail>
     requires ranks { (asked.from < 3) × (asked.to < 3) }
     requires second { asked.second < DAY }
-    requires nodes { view.now.network.nodes ≡ 3 }
+    requires nodes { swept.graph.now.ranks ≡ 3 }
+    requires graph { IsHierarchyOf swept.graph.now swept.view.now }
+    requires tree { swept.tree.now ≡ parents_in swept.graph.now }
     requires desk { desk.old.nodes ≡ 3 }
     ensures desk { OnOk result (desk.new.nodes ≡ 3) }
-    ensures holds { IfOk result (λ found. IfSome found
-        (λ some. HoldsFound view.now asked.from asked.to asked.second some desk.new)) }
+    ensures holds { IfOk result (λ found. IfSome found (λ some.
+        HoldsFound swept.entry.view.now asked.from asked.to asked.second some desk.new)) }
 {
     if is_led {
-        return ask_led(alloc, view, desk, asked);
+        return ask_led(alloc, swept, desk, asked);
     }
-    ask_plainly(alloc, view, desk, asked, row)
+    ask_plainly(alloc, swept, desk, asked, row)
 }
 
 // Does the route write these roads?
@@ -156,12 +184,14 @@ fn writes(
 // Does the query find what the row says, tell its calls where it isn't led, and write its roads?
 fn is_right(
     alloc: Global,
-    view: &PackedView<'_>,
+    swept: Swept<'_>,
     desk: &mut SweepDesk,
     row: Row<'_>,
     is_led: bool,
 ) -> Result<bool, Fail>
-    requires nodes { view.now.network.nodes ≡ 3 }
+    requires nodes { swept.graph.now.ranks ≡ 3 }
+    requires graph { IsHierarchyOf swept.graph.now swept.view.now }
+    requires tree { swept.tree.now ≡ parents_in swept.graph.now }
     requires desk { desk.old.nodes ≡ 3 }
     ensures desk { OnOk result (desk.new.nodes ≡ 3) }
 {
@@ -173,7 +203,7 @@ fn is_right(
         to: row.to,
         second: row.second,
     };
-    let asked = ask(alloc, view, desk, query, &row, is_led)?;
+    let asked = ask(alloc, swept, desk, query, &row, is_led)?;
     let Some(found) = asked else {
         return Ok(false);
     };
@@ -181,7 +211,7 @@ fn is_right(
         return Ok(false);
     }
     match found {
-        Found::Arrive(_) => writes(alloc, view, desk, row.roads),
+        Found::Arrive(_) => writes(alloc, swept.view, desk, row.roads),
         _ => Ok(row.roads.is_empty()),
     }
 }
@@ -256,16 +286,37 @@ const ROWS: [Row<'static>; 7] = [
     },
 ];
 
+// Is every row right, by all calls and led, at one desk?
+fn all_right(rt: &impl Abort, alloc: Global, swept: Swept<'_>) -> Result<(), Fail>
+    requires nodes { swept.graph.now.ranks ≡ 3 }
+    requires graph { IsHierarchyOf swept.graph.now swept.view.now }
+    requires tree { swept.tree.now ≡ parents_in swept.graph.now }
+{
+    let mut desk = SweepDesk::new(alloc, 3)?;
+    'rows: for row in &ROWS {
+        assert!(rt; is_right(alloc, swept, &mut desk, *row, false)?);
+        assert!(rt; is_right(alloc, swept, &mut desk, *row, true)?);
+    }
+    Ok(())
+}
+
+// Is it over a packed file?
+fn all_right_over(rt: &impl Abort, alloc: Global, view: &PackedView<'_>) -> Result<(), Fail> {
+    assert!(rt; view.nodes() == 3);
+    let _edges = view.edges();
+    let graph = chordal_of(alloc, view)?;
+    let tree = Tree::of(alloc, &graph)?;
+    let swept = Swept {
+        view,
+        graph: &graph,
+        tree: &tree,
+    };
+    all_right(rt, alloc, swept)
+}
+
 #[test]
 fn finds_tells_and_writes(rt: HostRuntime) -> Result<(), Fail> {
     let alloc = rt.alloc();
     let bytes = packed(alloc, RUSH_HOUR)?;
-    let view = PackedView::open(alloc, &bytes)?;
-    assert!(rt; view.nodes() == 3);
-    let mut desk = SweepDesk::new(alloc, 3)?;
-    'rows: for row in &ROWS {
-        assert!(rt; is_right(alloc, &view, &mut desk, *row, false)?);
-        assert!(rt; is_right(alloc, &view, &mut desk, *row, true)?);
-    }
-    Ok(())
+    all_right_over(&rt, alloc, &PackedView::open(alloc, &bytes)?)
 }

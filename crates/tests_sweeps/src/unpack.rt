@@ -12,6 +12,7 @@ use cu_unpack::{
     relax_counted,
 };
 use std::alloc::Global;
+use std::process::Abort;
 use std::test::Fail;
 
 // Three roads, all of them closed.
@@ -20,6 +21,71 @@ const CLOSED: Tables<'static> = Tables {
     ..RANKED
 };
 
+// A list without ways, asked where steps are counted, takes one.
+fn takes_one_step(rt: &impl Abort, view: &PackedView<'_>, work: &mut Work)
+    requires edges { length view.now.edges ≡ 3 }
+    requires work { work.old ≡ view.now.network.nodes }
+    ensures { work.new ≡ work.old }
+{
+    let mut counted = Counted::of(view);
+    assert_eq!(rt;
+        relax_counted(&mut counted, work, 0, Dir::Up, 0),
+        Relaxed::NoWay
+    );
+    assert_eq!(rt; counted.steps(), 1);
+}
+
+// What two calls over lists without ways come to, in room for one: what they answer, and whether the first is told, and nothing once
+// there are two.
+#[derive(Clone, Copy)]
+struct TwoCalls {
+    least: u64,
+    first: Relaxed,
+    is_told: bool,
+    second: Relaxed,
+    is_full: bool,
+}
+
+// What is answered over an edge.
+fn answered<R: Relaxer>(relaxer: &mut R, edge: u32, dir: Dir, second: u32) -> Relaxed
+    requires { edge < length (R.hierarchy relaxer.old).edges }
+    ensures { R.hierarchy relaxer.new ≡ R.hierarchy relaxer.old }
+{
+    relaxer.relax(edge, dir, u64::from(second))
+}
+
+fn call_twice(alloc: Global, view: &PackedView<'_>, work: Work) -> Result<TwoCalls, Fail>
+    requires edges { length view.now.edges ≡ 3 }
+    requires work { work ≡ view.now.network.nodes }
+{
+    let mut listed = Listed::new(alloc, Unpacker::new(view, work), 1)?;
+    let least = listed.least(0, Dir::Up);
+    let first = answered(&mut listed, 0, Dir::Up, 5);
+    let call = Call {
+        edge: 0,
+        dir: Dir::Up,
+        second: 5,
+    };
+    let is_told = listed.calls() == Some([call].as_slice());
+    let second = answered(&mut listed, 2, Dir::Down, 7);
+    Ok(TwoCalls {
+        least,
+        first,
+        is_told,
+        second,
+        is_full: listed.calls().is_none(),
+    })
+}
+
+// Are no ways found, and as much told?
+fn tells_one(rt: &impl Abort, calls: TwoCalls) {
+    assert_eq!(rt; calls.least, 1 << 60);
+    assert_eq!(rt; calls.first, Relaxed::NoWay);
+    assert!(rt; calls.is_told);
+    assert_eq!(rt; calls.second, Relaxed::NoWay);
+    assert!(rt; calls.is_full);
+}
+
 #[test]
 fn asks_lists_without_ways(rt: HostRuntime) -> Result<(), Fail> {
     let alloc = rt.alloc();
@@ -27,24 +93,8 @@ fn asks_lists_without_ways(rt: HostRuntime) -> Result<(), Fail> {
     let view = PackedView::open(alloc, &bytes)?;
     assert!(rt; view.edges() == 3);
     let mut work = Work::new(alloc, view.nodes())?;
-    let mut counted = Counted::of(&view);
-    assert_eq!(rt;
-        relax_counted(&mut counted, &mut work, 0, Dir::Up, 0),
-        Relaxed::NoWay
-    );
-    assert_eq!(rt; counted.steps(), 1);
-    let unpacker = Unpacker::new(&view, work);
-    let mut listed = Listed::new(alloc, unpacker, 1)?;
-    assert_eq!(rt; listed.least(0, Dir::Up), 1 << 60);
-    assert_eq!(rt; listed.relax(0, Dir::Up, 5), Relaxed::NoWay);
-    let call = Call {
-        edge: 0,
-        dir: Dir::Up,
-        second: 5,
-    };
-    assert_eq!(rt; listed.calls(), Some([call].as_slice()));
-    assert_eq!(rt; listed.relax(2, Dir::Down, 7), Relaxed::NoWay);
-    assert_eq!(rt; listed.calls(), None);
+    takes_one_step(&rt, &view, &mut work);
+    tells_one(&rt, call_twice(alloc, &view, work)?);
     Ok(())
 }
 
@@ -86,22 +136,47 @@ fn learned(
     Ok(Some(function.value(second)))
 }
 
-#[test]
-fn rebuilds_and_learns_functions(rt: HostRuntime) -> Result<(), Fail> {
-    let alloc = rt.alloc();
-    let hierarchy = hierarchy(alloc, RANKED)?;
-    assert!(rt; hierarchy.edges() == 3);
-    for (edge, second, arrival) in [
-        (1, 28_799, 28_899),
-        (1, 28_800, 29_100),
-        (2, 28_739, 28_899),
-        (2, 28_740, 28_990),
-    ] {
+// Is this the arrival of both?
+fn arrives(
+    rt: &impl Abort,
+    alloc: Global,
+    hierarchy: &Hierarchy,
+    edge: u32,
+    second: u64,
+    arrival: u64,
+) -> Result<(), Fail>
+    requires edge { edge < length hierarchy.now.edges }
+    requires second { second ≤ 2 ^ 62 }
+{
+    let found = rebuilt(alloc, hierarchy, edge, second)?;
+    assert_eq!(rt; found, Some(arrival), "rebuilt at {second}");
+    let found = learned(alloc, hierarchy, edge, second)?;
+    assert_eq!(rt; found, Some(arrival), "learned at {second}");
+    Ok(())
+}
+
+// Edges, seconds, and the arrivals of both.
+const ARRIVALS: [(u32, u64, u64); 4] = [
+    (1, 28_799, 28_899),
+    (1, 28_800, 29_100),
+    (2, 28_739, 28_899),
+    (2, 28_740, 28_990),
+];
+
+// Are they the arrivals over a hierarchy with three edges?
+fn all_arrive(rt: &impl Abort, alloc: Global, hierarchy: &Hierarchy) -> Result<(), Fail>
+    requires { length hierarchy.now.edges ≡ 3 }
+{
+    for (edge, second, arrival) in ARRIVALS {
         assert!(rt; edge < 3 && second < 86_400);
-        let found = rebuilt(alloc, &hierarchy, edge, second)?;
-        assert_eq!(rt; found, Some(arrival), "rebuilt at {second}");
-        let found = learned(alloc, &hierarchy, edge, second)?;
-        assert_eq!(rt; found, Some(arrival), "learned at {second}");
+        arrives(rt, alloc, hierarchy, edge, second, arrival)?;
     }
     Ok(())
+}
+
+#[test]
+fn rebuilds_and_learns_functions(rt: HostRuntime) -> Result<(), Fail> {
+    let hierarchy = hierarchy(rt.alloc(), RANKED)?;
+    assert!(rt; hierarchy.edges() == 3);
+    all_arrive(&rt, rt.alloc(), &hierarchy)
 }

@@ -142,15 +142,20 @@ fn sure_sink_takes_each_piece(rt: HostRuntime) -> Result<(), Fail> {
     Ok(())
 }
 
+// Whether an empty shelf of files of at most two bytes holds what is stored.
+fn holds_what_was_stored(shelf: &mut SureShelf, alloc: Global) -> bool {
+    shelf.limit() == 2
+        && loads(shelf, alloc, "a", Ok(b""))
+        && shelf.store(alloc, "a", b"12").is_ok()
+        && shelf.store(alloc, "b", b"345").is_ok()
+        && loads(shelf, alloc, "a", Ok(b"12"))
+        && loads(shelf, alloc, "b", Err(LoadFailed::TooLong))
+        && loads(shelf, alloc, "c", Ok(b""))
+}
+
 #[test]
 fn sure_shelf_holds_what_was_stored(rt: HostRuntime) -> Result<(), Fail> {
-    let alloc = rt.alloc();
-    let mut shelf = SureShelf::new(alloc, 2);
-    assert_eq!(rt; shelf.limit(), 2);
-    assert!(rt; loads(&mut shelf, alloc, "a", Ok(b"")));
-    assert!(rt; shelf.store(alloc, "a", b"12").is_ok() && shelf.store(alloc, "b", b"345").is_ok());
-    assert!(rt; loads(&mut shelf, alloc, "a", Ok(b"12")));
-    assert!(rt; loads(&mut shelf, alloc, "b", Err(LoadFailed::TooLong)));
-    assert!(rt; loads(&mut shelf, alloc, "c", Ok(b"")));
+    let mut shelf = SureShelf::new(rt.alloc(), 2);
+    assert!(rt; holds_what_was_stored(&mut shelf, rt.alloc()));
     Ok(())
 }

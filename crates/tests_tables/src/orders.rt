@@ -16,57 +16,35 @@ fn refusal_of(alloc: Global, text: &[u8], nodes: u32) -> Option<OrderRefusal>
     }
 }
 
+// Texts, of how many nodes they are the order, and why they are refused.
+const ORDERS: [(&[u8], u32, Option<OrderRefusal>); 16] = [
+    (b"1\n0\n2\n", 3, None),
+    (b"0002\r\n\n\"1\"\n00", 3, None),
+    (b"", 0, None),
+    (b"\n\n", 0, None),
+    (b"", 3, Some(OrderRefusal::Count { rows: 0 })),
+    (b"1\n0\n", 3, Some(OrderRefusal::Count { rows: 2 })),
+    (b"0\n0\n2\n", 3, Some(OrderRefusal::Twice { row: 1 })),
+    (b"1\n2\n01\nx\n", 3, Some(OrderRefusal::Twice { row: 2 })),
+    (b"3\n", 3, Some(OrderRefusal::Range { row: 0 })),
+    (b"2\n4294967296\n", 3, Some(OrderRefusal::Range { row: 1 })),
+    (
+        b"100000000000000000000\n",
+        3,
+        Some(OrderRefusal::Range { row: 0 }),
+    ),
+    (b"0\n", 0, Some(OrderRefusal::Range { row: 0 })),
+    (b"x\n", 3, Some(OrderRefusal::Number { row: 0 })),
+    (b"0\n1,2\n", 3, Some(OrderRefusal::Number { row: 1 })),
+    (b" 1\n", 3, Some(OrderRefusal::Number { row: 0 })),
+    (b"1\n0\n2\n2\n", 3, Some(OrderRefusal::Twice { row: 3 })),
+];
+
 #[test]
 fn refuses_rows(rt: HostRuntime) {
-    let cases: [(&[u8], u32, Option<OrderRefusal>); 16] = [
-        (b"1\n0\n2\n".as_slice(), 3, None),
-        (b"0002\r\n\n\"1\"\n00".as_slice(), 3, None),
-        (b"".as_slice(), 0, None),
-        (b"\n\n".as_slice(), 0, None),
-        (b"".as_slice(), 3, Some(OrderRefusal::Count { rows: 0 })),
-        (
-            b"1\n0\n".as_slice(),
-            3,
-            Some(OrderRefusal::Count { rows: 2 }),
-        ),
-        (
-            b"0\n0\n2\n".as_slice(),
-            3,
-            Some(OrderRefusal::Twice { row: 1 }),
-        ),
-        (
-            b"1\n2\n01\nx\n".as_slice(),
-            3,
-            Some(OrderRefusal::Twice { row: 2 }),
-        ),
-        (b"3\n".as_slice(), 3, Some(OrderRefusal::Range { row: 0 })),
-        (
-            b"2\n4294967296\n".as_slice(),
-            3,
-            Some(OrderRefusal::Range { row: 1 }),
-        ),
-        (
-            b"100000000000000000000\n".as_slice(),
-            3,
-            Some(OrderRefusal::Range { row: 0 }),
-        ),
-        (b"0\n".as_slice(), 0, Some(OrderRefusal::Range { row: 0 })),
-        (b"x\n".as_slice(), 3, Some(OrderRefusal::Number { row: 0 })),
-        (
-            b"0\n1,2\n".as_slice(),
-            3,
-            Some(OrderRefusal::Number { row: 1 }),
-        ),
-        (b" 1\n".as_slice(), 3, Some(OrderRefusal::Number { row: 0 })),
-        (
-            b"1\n0\n2\n2\n".as_slice(),
-            3,
-            Some(OrderRefusal::Twice { row: 3 }),
-        ),
-    ];
-    for (text, nodes, refusal) in cases {
-        if nodes <= 3 {
-            assert!(rt; refusal_of(rt.alloc(), text, nodes) == refusal);
+    for (text, nodes, refusal) in &ORDERS {
+        if *nodes <= 3 {
+            assert!(rt; refusal_of(rt.alloc(), *text, *nodes) == *refusal);
         }
     }
 }

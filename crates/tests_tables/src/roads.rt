@@ -1,9 +1,13 @@
 //! Texts of networks, and grids.
 
-use cu_model::{NoMemory, RoadArc, Roads};
+use cu_model::{Network, NoMemory, RoadArc, Roads};
 use cu_profile::ProfileRefusal;
-use cu_roads::{Draws, File, Place, RoadRefusal, grid, read_network};
+use cu_roads::{Draws, File, GridTexts, Place, Places, RoadRefusal, grid, read_network};
 use std::alloc::Global;
+
+const NODES: File = File::Nodes;
+
+const ROADS: File = File::Roads;
 
 // Why a network of these nodes and roads, and of one profile, is refused.
 fn refusal(alloc: Global, nodes: &[u8], roads: &[u8]) -> Option<RoadRefusal> {
@@ -11,123 +15,173 @@ fn refusal(alloc: Global, nodes: &[u8], roads: &[u8]) -> Option<RoadRefusal> {
     read_network(alloc, nodes, roads, profiles).err()
 }
 
+// Texts of nodes, and why they are refused.
+const REFUSED_NODES: [(&[u8], RoadRefusal); 17] = [
+    (b"", RoadRefusal::Header { file: NODES }),
+    (b"node,x\n", RoadRefusal::Header { file: NODES }),
+    (b"node,x,y,z\n", RoadRefusal::Header { file: NODES }),
+    (b"node,y,x\n", RoadRefusal::Header { file: NODES }),
+    (b"0,0,0\n", RoadRefusal::Header { file: NODES }),
+    (
+        b"node,x,y\n0,0\n",
+        RoadRefusal::Fields {
+            file: NODES,
+            row: 0,
+        },
+    ),
+    (
+        b"node,x,y\n0,0,0\n\n1,0,0,\n",
+        RoadRefusal::Fields {
+            file: NODES,
+            row: 1,
+        },
+    ),
+    (
+        b"node,x,y\n+0,0,0\n",
+        RoadRefusal::Number {
+            file: NODES,
+            row: 0,
+        },
+    ),
+    (
+        b"node,x,y\n0, 1,0\n",
+        RoadRefusal::Number {
+            file: NODES,
+            row: 0,
+        },
+    ),
+    (
+        b"node,x,y\n0,0,\n",
+        RoadRefusal::Number {
+            file: NODES,
+            row: 0,
+        },
+    ),
+    (
+        b"node,x,y\n0,0,1000000001\n",
+        RoadRefusal::Number {
+            file: NODES,
+            row: 0,
+        },
+    ),
+    (
+        b"node,x,y\n0,1000000001,0\n",
+        RoadRefusal::Number {
+            file: NODES,
+            row: 0,
+        },
+    ),
+    (
+        b"node,x,y\n0,100000000000000000000000000000,0\n",
+        RoadRefusal::Number {
+            file: NODES,
+            row: 0,
+        },
+    ),
+    (
+        b"node,x,y\n7,a,0\n",
+        RoadRefusal::Number {
+            file: NODES,
+            row: 0,
+        },
+    ),
+    (
+        b"node,x,y\n1,0,0\n",
+        RoadRefusal::Sequence {
+            file: NODES,
+            row: 0,
+        },
+    ),
+    (
+        b"node,x,y\n0,0,0\n0,0,0\n",
+        RoadRefusal::Sequence {
+            file: NODES,
+            row: 1,
+        },
+    ),
+    (
+        b"node,x,y\n100000000000000000000000000000,0,0\n",
+        RoadRefusal::Sequence {
+            file: NODES,
+            row: 0,
+        },
+    ),
+];
+
 #[test]
 fn refuses_nodes(rt: HostRuntime) {
-    let file = File::Nodes;
-    let cases: [(&[u8], RoadRefusal); 17] = [
-        (b"".as_slice(), RoadRefusal::Header { file }),
-        (b"node,x\n".as_slice(), RoadRefusal::Header { file }),
-        (b"node,x,y,z\n".as_slice(), RoadRefusal::Header { file }),
-        (b"node,y,x\n".as_slice(), RoadRefusal::Header { file }),
-        (b"0,0,0\n".as_slice(), RoadRefusal::Header { file }),
-        (
-            b"node,x,y\n0,0\n".as_slice(),
-            RoadRefusal::Fields { file, row: 0 },
-        ),
-        (
-            b"node,x,y\n0,0,0\n\n1,0,0,\n".as_slice(),
-            RoadRefusal::Fields { file, row: 1 },
-        ),
-        (
-            b"node,x,y\n+0,0,0\n".as_slice(),
-            RoadRefusal::Number { file, row: 0 },
-        ),
-        (
-            b"node,x,y\n0, 1,0\n".as_slice(),
-            RoadRefusal::Number { file, row: 0 },
-        ),
-        (
-            b"node,x,y\n0,0,\n".as_slice(),
-            RoadRefusal::Number { file, row: 0 },
-        ),
-        (
-            b"node,x,y\n0,0,1000000001\n".as_slice(),
-            RoadRefusal::Number { file, row: 0 },
-        ),
-        (
-            b"node,x,y\n0,1000000001,0\n".as_slice(),
-            RoadRefusal::Number { file, row: 0 },
-        ),
-        (
-            b"node,x,y\n0,100000000000000000000000000000,0\n".as_slice(),
-            RoadRefusal::Number { file, row: 0 },
-        ),
-        (
-            b"node,x,y\n7,a,0\n".as_slice(),
-            RoadRefusal::Number { file, row: 0 },
-        ),
-        (
-            b"node,x,y\n1,0,0\n".as_slice(),
-            RoadRefusal::Sequence { file, row: 0 },
-        ),
-        (
-            b"node,x,y\n0,0,0\n0,0,0\n".as_slice(),
-            RoadRefusal::Sequence { file, row: 1 },
-        ),
-        (
-            b"node,x,y\n100000000000000000000000000000,0,0\n".as_slice(),
-            RoadRefusal::Sequence { file, row: 0 },
-        ),
-    ];
-    for (nodes, expected) in cases {
-        assert!(rt; refusal(rt.alloc(), nodes, b"".as_slice()) == Some(expected));
+    for (nodes, expected) in &REFUSED_NODES {
+        assert!(rt; refusal(rt.alloc(), *nodes, b"".as_slice()) == Some(*expected));
     }
 }
 
+// Texts of roads between two nodes, and why they are refused.
+const REFUSED_ROADS: [(&[u8], RoadRefusal); 13] = [
+    (b"", RoadRefusal::Header { file: ROADS }),
+    (b"arc,tail,head\n", RoadRefusal::Header { file: ROADS }),
+    (
+        b"arc,tail,head,profile\n0,0,1\n",
+        RoadRefusal::Fields {
+            file: ROADS,
+            row: 0,
+        },
+    ),
+    (
+        b"arc,tail,head,profile\n0,0,1,\n",
+        RoadRefusal::Number {
+            file: ROADS,
+            row: 0,
+        },
+    ),
+    (
+        b"arc,tail,head,profile\n5,a,9,9\n",
+        RoadRefusal::Number {
+            file: ROADS,
+            row: 0,
+        },
+    ),
+    (
+        b"arc,tail,head,profile\n5,9,9,9\n",
+        RoadRefusal::Sequence {
+            file: ROADS,
+            row: 0,
+        },
+    ),
+    (
+        b"arc,tail,head,profile\n0,0,1,0\n1,1,9,1\n",
+        RoadRefusal::NodeRange { row: 1 },
+    ),
+    (
+        b"arc,tail,head,profile\n0,2,0,0\n",
+        RoadRefusal::NodeRange { row: 0 },
+    ),
+    (
+        b"arc,tail,head,profile\n0,0,2,0\n",
+        RoadRefusal::NodeRange { row: 0 },
+    ),
+    (
+        b"arc,tail,head,profile\n0,0,100000000000000000000000000000,0\n",
+        RoadRefusal::NodeRange { row: 0 },
+    ),
+    (
+        b"arc,tail,head,profile\n0,0,1,1\n",
+        RoadRefusal::ProfileRange { row: 0 },
+    ),
+    (
+        b"arc,tail,head,profile\n0,0,1,4294967296\n",
+        RoadRefusal::ProfileRange { row: 0 },
+    ),
+    (
+        b"arc,tail,head,profile\n0,1,1,0\n1,0,1,7\nx\n",
+        RoadRefusal::ProfileRange { row: 1 },
+    ),
+];
+
 #[test]
 fn refuses_roads(rt: HostRuntime) {
-    let file = File::Roads;
     let nodes = b"node,x,y\n0,0,0\n1,5,5\n".as_slice();
-    let cases: [(&[u8], RoadRefusal); 13] = [
-        (b"".as_slice(), RoadRefusal::Header { file }),
-        (b"arc,tail,head\n".as_slice(), RoadRefusal::Header { file }),
-        (
-            b"arc,tail,head,profile\n0,0,1\n".as_slice(),
-            RoadRefusal::Fields { file, row: 0 },
-        ),
-        (
-            b"arc,tail,head,profile\n0,0,1,\n".as_slice(),
-            RoadRefusal::Number { file, row: 0 },
-        ),
-        (
-            b"arc,tail,head,profile\n5,a,9,9\n".as_slice(),
-            RoadRefusal::Number { file, row: 0 },
-        ),
-        (
-            b"arc,tail,head,profile\n5,9,9,9\n".as_slice(),
-            RoadRefusal::Sequence { file, row: 0 },
-        ),
-        (
-            b"arc,tail,head,profile\n0,0,1,0\n1,1,9,1\n".as_slice(),
-            RoadRefusal::NodeRange { row: 1 },
-        ),
-        (
-            b"arc,tail,head,profile\n0,2,0,0\n".as_slice(),
-            RoadRefusal::NodeRange { row: 0 },
-        ),
-        (
-            b"arc,tail,head,profile\n0,0,2,0\n".as_slice(),
-            RoadRefusal::NodeRange { row: 0 },
-        ),
-        (
-            b"arc,tail,head,profile\n0,0,100000000000000000000000000000,0\n".as_slice(),
-            RoadRefusal::NodeRange { row: 0 },
-        ),
-        (
-            b"arc,tail,head,profile\n0,0,1,1\n".as_slice(),
-            RoadRefusal::ProfileRange { row: 0 },
-        ),
-        (
-            b"arc,tail,head,profile\n0,0,1,4294967296\n".as_slice(),
-            RoadRefusal::ProfileRange { row: 0 },
-        ),
-        (
-            b"arc,tail,head,profile\n0,1,1,0\n1,0,1,7\nx\n".as_slice(),
-            RoadRefusal::ProfileRange { row: 1 },
-        ),
-    ];
-    for (roads, expected) in cases {
-        assert!(rt; refusal(rt.alloc(), nodes, roads) == Some(expected));
+    for (roads, expected) in &REFUSED_ROADS {
+        assert!(rt; refusal(rt.alloc(), nodes, *roads) == Some(*expected));
     }
 }
 
@@ -136,6 +190,32 @@ fn reads_profiles_before_roads(rt: HostRuntime) {
     let nodes = b"node,x,y\n".as_slice();
     let read = read_network(rt.alloc(), nodes, b"".as_slice(), b"profile\n".as_slice());
     assert!(rt; read.err() == Some(RoadRefusal::Profiles(ProfileRefusal::Header)));
+}
+
+// Are these its nodes' places, in the order of the nodes?
+fn are_places(places: &Places, wanted: &[Place]) -> bool {
+    places.places.as_slice() == wanted
+}
+
+// Has a network so many nodes and profiles, and these roads?
+fn is_network(network: &Network, nodes: u32, profiles: u32, roads: &[RoadArc]) -> bool {
+    if network.nodes() != nodes || network.profiles() != profiles {
+        return false;
+    }
+    for arc in 0..network.arcs() {
+        if roads.get(arc as usize) != Some(&network.arc(arc)) {
+            return false;
+        }
+    }
+    network.arcs() as usize == roads.len()
+}
+
+fn road(tail: u32, head: u32, profile: u32) -> RoadArc {
+    RoadArc {
+        tail,
+        head,
+        profile,
+    }
 }
 
 #[test]
@@ -149,29 +229,13 @@ fn reads_networks(rt: HostRuntime) {
     let Ok((network, places)) = read_network(rt.alloc(), nodes, roads, profiles) else {
         panic!(rt; "a network")
     };
-    let expected = [
-        Place {
-            x: 1_000_000_000,
-            y: 0,
-        },
-        Place { x: 7, y: 8 },
-    ];
-    assert!(rt; places.places.as_slice() == expected.as_slice());
-    assert_eq!(rt; network.nodes(), 2);
-    assert_eq!(rt; network.profiles(), 3);
+    let far = Place {
+        x: 1_000_000_000,
+        y: 0,
+    };
+    assert!(rt; are_places(&places, &[far, Place { x: 7, y: 8 }]));
     let roads = [road(0, 1, 1), road(1, 1, 0), road(0, 1, 1)];
-    assert_eq!(rt; network.arcs(), 3);
-    for arc in 0..network.arcs() {
-        assert!(rt; roads.get(arc as usize) == Some(&network.arc(arc)));
-    }
-}
-
-fn road(tail: u32, head: u32, profile: u32) -> RoadArc {
-    RoadArc {
-        tail,
-        head,
-        profile,
-    }
+    assert!(rt; is_network(&network, 2, 3, &roads));
 }
 
 #[test]
@@ -182,9 +246,8 @@ fn reads_a_network_of_nothing(rt: HostRuntime) {
     let Ok((network, places)) = read_network(rt.alloc(), nodes, roads, profiles) else {
         panic!(rt; "a network")
     };
-    assert!(rt; places.places.is_empty());
-    assert_eq!(rt; network.nodes(), 0);
-    assert_eq!(rt; network.arcs(), 0);
+    assert!(rt; are_places(&places, &[]));
+    assert!(rt; is_network(&network, 0, 0, &[]));
 }
 
 #[test]
@@ -196,16 +259,23 @@ fn draws_numbers(rt: HostRuntime) {
     assert_eq!(rt; wrapped.next(u32::MAX), 1_574_552_488);
 }
 
+// Are these the texts of its nodes and roads, and does that of its profiles begin so?
+fn is_written(texts: &GridTexts, nodes: &[u8], roads: &[u8], profiles: &[u8]) -> bool {
+    texts.nodes.as_slice() == nodes
+        && texts.roads.as_slice() == roads
+        && texts.profiles.starts_with(profiles)
+}
+
 #[test]
 fn writes_a_grid_of_one_node(rt: HostRuntime) -> Result<(), NoMemory> {
     let texts = grid(rt.alloc(), &mut Draws::new(0), 1, 1)?;
-    assert!(rt; texts.nodes.as_slice() == b"node,x,y\n0,0,0\n".as_slice());
-    assert!(rt; texts.roads.as_slice() == b"arc,tail,head,profile\n".as_slice());
+    let nodes = b"node,x,y\n0,0,0\n".as_slice();
+    let roads = b"arc,tail,head,profile\n".as_slice();
     let first_days = b"profile,from,kind,value\n\
         0,0,travel,27\n0,25200,travel,52\n0,32400,until,32452\n0,32425,travel,27\n\
         1,0,travel,57\n1,25200,travel,494\n1,32400,until,32894\n1,32837,travel,57\n"
         .as_slice();
-    assert!(rt; texts.profiles.starts_with(first_days));
+    assert!(rt; is_written(&texts, nodes, roads, first_days));
     Ok(())
 }
 
@@ -214,30 +284,30 @@ fn writes_a_grid_with_roads(rt: HostRuntime) -> Result<(), NoMemory> {
     let mut draws = Draws::new(7);
     let texts = grid(rt.alloc(), &mut draws, 3, 2)?;
     let nodes = b"node,x,y\n0,0,0\n1,100,0\n2,200,0\n3,0,100\n4,100,100\n5,200,100\n".as_slice();
-    assert!(rt; texts.nodes.as_slice() == nodes);
     let roads = b"arc,tail,head,profile\n\
         0,0,1,17\n1,1,0,17\n2,0,3,42\n3,3,0,37\n4,1,2,55\n5,2,1,33\n6,1,4,49\n\
         7,4,1,7\n8,2,5,25\n9,5,2,19\n10,3,4,57\n11,4,3,26\n12,4,5,8\n13,5,4,4\n"
         .as_slice();
-    assert!(rt; texts.roads.as_slice() == roads);
+    assert!(rt; is_written(&texts, nodes, roads, b"".as_slice()));
     assert_eq!(rt; draws.next(100), 84);
     Ok(())
+}
+
+// Is a network read from these texts, with a place for each node? How many nodes, roads and profiles it has.
+fn sizes(alloc: Global, texts: &GridTexts) -> Option<(usize, u32, u32, u32)> {
+    let read = read_network(alloc, &texts.nodes, &texts.roads, &texts.profiles);
+    let (network, places) = read.ok()?;
+    Some((
+        places.places.len(),
+        network.nodes(),
+        network.arcs(),
+        network.profiles(),
+    ))
 }
 
 #[test]
 fn reads_a_grid(rt: HostRuntime) -> Result<(), NoMemory> {
     let texts = grid(rt.alloc(), &mut Draws::new(7), 2, 2)?;
-    let Ok((network, places)) = read_network(
-        rt.alloc(),
-        &texts.nodes,
-        &texts.roads,
-        &texts.profiles,
-    ) else {
-        panic!(rt; "a network")
-    };
-    assert_eq!(rt; places.places.len(), 4);
-    assert_eq!(rt; network.nodes(), 4);
-    assert_eq!(rt; network.arcs(), 8);
-    assert_eq!(rt; network.profiles(), 64);
+    assert_eq!(rt; sizes(rt.alloc(), &texts), Some((4, 4, 8, 64)));
     Ok(())
 }

@@ -42,67 +42,55 @@ impl TakesRows for Shown {
     }
 }
 
+// Whether a text is shown so, to this answer.
+fn shows(alloc: Global, text: &[u8], shown: &[u8], answer: Result<(), Refusal>) -> bool {
+    let mut taker = Shown {
+        text: Vec::new(alloc),
+    };
+    each_row(alloc, text, &mut taker) == Ok(answer) && taker.text.as_slice() == shown
+}
+
+// Texts, how they are shown, and the answer.
+const TEXTS: [(&[u8], &[u8], Result<(), Refusal>); 6] = [
+    (b"", b"", Ok(())),
+    (b"a,b\r\n\n\nc\n", b"a|b|;c|;", Ok(())),
+    (b"\xef\xbb\xbfa\n1,,2", b"a|;1||2|;", Ok(())),
+    (b"\"a,b\",\"c\"\"d\"\n", b"a,b|c\"d|;", Ok(())),
+    (b" a , b\n", b" a | b|;", Ok(())),
+    (b"a\nstop\nb\n", b"a|;", Err(Refusal::Stop)),
+];
+
 #[test]
 fn goes_through_rows(rt: HostRuntime) {
-    let cases: [(&[u8], &[u8], Result<(), Refusal>); 6] = [
-        (b"".as_slice(), b"".as_slice(), Ok(())),
-        (b"a,b\r\n\n\nc\n".as_slice(), b"a|b|;c|;".as_slice(), Ok(())),
-        (
-            b"\xef\xbb\xbfa\n1,,2".as_slice(),
-            b"a|;1||2|;".as_slice(),
-            Ok(()),
-        ),
-        (
-            b"\"a,b\",\"c\"\"d\"\n".as_slice(),
-            b"a,b|c\"d|;".as_slice(),
-            Ok(()),
-        ),
-        (b" a , b\n".as_slice(), b" a | b|;".as_slice(), Ok(())),
-        (
-            b"a\nstop\nb\n".as_slice(),
-            b"a|;".as_slice(),
-            Err(Refusal::Stop),
-        ),
-    ];
-    for (text, shown, answer) in cases {
-        let mut taker = Shown {
-            text: Vec::new(rt.alloc()),
-        };
-        assert!(rt; each_row(rt.alloc(), text, &mut taker) == Ok(answer));
-        assert!(rt; taker.text.as_slice() == shown);
+    for (text, shown, answer) in &TEXTS {
+        assert!(rt; shows(rt.alloc(), *text, *shown, *answer));
     }
 }
 
+// Whether a text whose first row has to be this header is shown so below it, to this answer.
+fn shows_below(alloc: Global, text: &[u8], shown: &[u8], answer: Result<(), Refusal>) -> bool {
+    let header = [b"x".as_slice(), b"y".as_slice()];
+    let mut taker = Shown {
+        text: Vec::new(alloc),
+    };
+    let found = each_row_below(alloc, &header, Refusal::Header, text, &mut taker);
+    found == Ok(answer) && taker.text.as_slice() == shown
+}
+
+// The same of texts below a header.
+const TEXTS_BELOW_A_HEADER: [(&[u8], &[u8], Result<(), Refusal>); 6] = [
+    (b"", b"", Err(Refusal::Header)),
+    (b"x,z\n1,2\n", b"", Err(Refusal::Header)),
+    (b"x\n1\n", b"", Err(Refusal::Header)),
+    (b"x,y\n", b"", Ok(())),
+    (b"x,\"y\"\n1,2\nx,y\n", b"1|2|;x|y|;", Ok(())),
+    (b"x,y\n1\nstop\n", b"1|;", Err(Refusal::Stop)),
+];
+
 #[test]
 fn goes_through_rows_below_a_header(rt: HostRuntime) {
-    let header = [b"x".as_slice(), b"y".as_slice()];
-    let cases: [(&[u8], &[u8], Result<(), Refusal>); 6] = [
-        (b"".as_slice(), b"".as_slice(), Err(Refusal::Header)),
-        (
-            b"x,z\n1,2\n".as_slice(),
-            b"".as_slice(),
-            Err(Refusal::Header),
-        ),
-        (b"x\n1\n".as_slice(), b"".as_slice(), Err(Refusal::Header)),
-        (b"x,y\n".as_slice(), b"".as_slice(), Ok(())),
-        (
-            b"x,\"y\"\n1,2\nx,y\n".as_slice(),
-            b"1|2|;x|y|;".as_slice(),
-            Ok(()),
-        ),
-        (
-            b"x,y\n1\nstop\n".as_slice(),
-            b"1|;".as_slice(),
-            Err(Refusal::Stop),
-        ),
-    ];
-    for (text, shown, answer) in cases {
-        let mut taker = Shown {
-            text: Vec::new(rt.alloc()),
-        };
-        let found = each_row_below(rt.alloc(), &header, Refusal::Header, text, &mut taker);
-        assert!(rt; found == Ok(answer));
-        assert!(rt; taker.text.as_slice() == shown);
+    for (text, shown, answer) in &TEXTS_BELOW_A_HEADER {
+        assert!(rt; shows_below(rt.alloc(), *text, *shown, *answer));
     }
 }
 

@@ -53,8 +53,9 @@ pub fn desk<H: Shelf, S: Source, K: Sink>(
     let bytes = open_file(alloc, asked.hierarchy, shelf)?;
     let router = Router::new(alloc, bytes)?;
     let mut desk = Desk::over(router);
-    answer_lines(alloc, &mut desk, source, sink)?;
+    let answered = answer_lines(alloc, &mut desk, source, sink);
     let packed = desk.into_file();
+    answered?;
     let bytes = packed.as_slice();
     let length = bytes.len() as u64;
     if length > shelf.limit() {

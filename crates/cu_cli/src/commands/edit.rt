@@ -52,8 +52,9 @@ pub fn edit<H: Shelf, K: Sink>(
 {
     let file = open_edited(alloc, asked.hierarchy, asked.edits, shelf)?;
     let mut router = Router::new(alloc, file.hierarchy)?;
-    answer_edits(alloc, &mut router, &file.edits, sink)?;
+    let answered = answer_edits(alloc, &mut router, &file.edits, sink);
     let packed = router.into_file();
+    answered?;
     let bytes = packed.as_slice();
     let length = bytes.len() as u64;
     if length > shelf.limit() {

@@ -73,6 +73,25 @@ pub fn trial<K: Sink>(alloc: Global, asked: TrialWords, sink: &mut K) -> Result<
 {
     let mut draws = Draws::new(asked.grid.start);
     let mut router = build_grid(alloc, &mut draws, asked.grid)?;
+    try_grid(alloc, &mut router, draws, asked, sink)
+}
+
+// Takes the turns over the packed hierarchy of a grid, and says what they came to.
+fn try_grid<K: Sink>(
+    alloc: Global,
+    router: &mut Router,
+    draws: Draws,
+    asked: TrialWords,
+    sink: &mut K,
+) -> Result<(), Stop>
+    requires network { router.old.network ≡ (grid_read (grid_asked asked.grid)).network }
+    requires order { IsGridOrder (grid_asked asked.grid) router.old.order }
+    requires built { IsBuilt router.old }
+    requires behind { draws ≡ behind_grid asked.grid.start asked.grid.width asked.grid.height }
+    ensures works { (shelf : ShelfState) (source : SourceState) →
+        Works (trial_asked asked) (stop_of result) (world_of shelf source (K.state sink.old))
+        (world_of shelf source (K.state sink.new)) }
+{
     let mut tally = Tally {
         draws,
         reached: 0,
@@ -80,7 +99,7 @@ pub fn trial<K: Sink>(alloc: Global, asked: TrialWords, sink: &mut K) -> Result<
         edits: 0,
         touched: 0,
     };
-    take_turns(alloc, &mut router, &mut tally, asked.turns)?;
+    take_turns(alloc, router, &mut tally, asked.turns)?;
     let view = router.view();
     say_tried(sink, &view, asked.turns, &tally)?;
     Ok(())

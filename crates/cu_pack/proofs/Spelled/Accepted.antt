@@ -27,7 +27,8 @@ use Rattle.cu_pack.specs.declared.refusals.Field.{Field}
 use Rattle.cu_pack.specs.declared.refusals.Field.TheVariants as field
 use Rattle.cu_pack.specs.declared.refusals.PackRefusal.{PackRefusal}
 use Rattle.cu_pack.specs.declared.refusals.PackRefusal.TheVariants as refused
-use Rattle.cu_pack.specs.Checks.{AreEntriesWrong, ArePiecesWrong, HasWays, HasWrongWay, IsFirstWrong, IsGraph, IsPastLimit, IsRefused, IsRefusedIn, IsSized, IsWrongBound, IsWrongArc, IsWrongList, IsWrongProfile, IsWrongRank, IsWrongRankUp, NoneWrong}
+use Rattle.cu_pack.specs.Checks.{AreEntriesWrong, ArePiecesWrong, HasWays, HasWrongWay, IsFirstWrong, IsGraph, IsPastLimit, IsRefused}
+use Rattle.cu_pack.specs.Checks.{IsRefusedIn, IsSized, IsWrongBound, IsWrongArc, IsWrongList, IsWrongProfile, IsWrongRank, IsWrongRankUp, NoneWrong}
 use Rattle.cu_pack.specs.Layouts.{AreInLimits, bounds_at, file_length, rank_of_at}
 use Rattle.cu_pack.specs.Places.{ReadsRule, ReadsWay, long_at, short_at}
 use Rattle.cu_pack.specs.Reading.{arc_in, bound_in, counts_in, decoded, edge_starts_in, entry_kind, node_at_in, order_in, piece_kind, profile_start, rank_of_in, uppers_in, way_start}

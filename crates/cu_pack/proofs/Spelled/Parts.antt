@@ -1,5 +1,6 @@
 -- Where the parts of a packed file stand, and how long it is.
-use Rattle.std.proofs.Common.{◌≡◌, ◌≤◌, ◌+◌, ◌-◌, ◌*◌, ◌∙◌, ◌==◌, Bool, true, false, if◌then◌else◌, ℕ, zero, suc, List, [], ◌∷◌, ◌++◌, Some, length, take, map, flat_map, refl, ap, sym, subst, arith, append_assoc, length-append}
+use Rattle.std.proofs.Common.{◌≡◌, ◌≤◌, ◌+◌, ◌-◌, ◌*◌, ◌∙◌, ◌==◌, Bool, true, false, if◌then◌else◌, ℕ, zero, suc, List}
+use Rattle.std.proofs.Common.{[], ◌∷◌, ◌++◌, Some, length, take, map, flat_map, refl, ap, sym, subst, arith, append_assoc, length-append}
 use Rattle.std.specs.Prelude.{slice_get}
 use Rattle.std.proofs.lemmas.List.{drop_at, length-map, take_at}
 use Rattle.std.proofs.lemmas.List.FromFn.{length-map-range_with_len}

@@ -14,7 +14,8 @@ use Rattle.cu_pack.specs.declared.layout.Counts.{Counts}
 use Rattle.cu_pack.specs.Checks.{IsGraph, IsSized, IsWrongBound, IsWrongList, NoneWrong, Spells, SpellsIn, body_in}
 use Rattle.cu_pack.specs.Layouts.{arcs_at, bounds_at, digest_at, edge_starts_at, entries_at, file_length, pieces_at, profile_starts_at, rank_of_at, uppers_at, way_starts_at}
 use Rattle.cu_pack.specs.Places.{long_at, short_at}
-use Rattle.cu_pack.specs.Reading.{arc_in, bound_in, counts_in, decoded, entry_from, entry_place, list_in, network_in, order_in, piece_from, piece_place, profile_in, profile_start, way_start, shorts_in}
+use Rattle.cu_pack.specs.Reading.{arc_in, bound_in, counts_in, decoded, entry_from, entry_place, list_in}
+use Rattle.cu_pack.specs.Reading.{network_in, order_in, piece_from, piece_place, profile_in, profile_start, way_start, shorts_in}
 use Rattle.cu_pack.specs.Spelling.{arcs_section, body, bounds_section, counts_of, edge_starts, edges_section, entry_bytes, header, long, order_section, piece_bytes, profiles_section, spelling_in}
 use Rattle.cu_pack.specs.Spelling.{total, ways_section, short}
 use Rattle.cu_pack.specs.Steps.Fronts.{SpellsSections, front}

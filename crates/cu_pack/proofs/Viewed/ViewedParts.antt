@@ -10,7 +10,8 @@ use Rattle.cu_pack.specs.Spelling.{arc_bytes, counts_of, edge_starts, edges_sect
 use Rattle.cu_pack.specs.Steps.Fronts.{SpellsSections, front, parts}
 use Rattle.cu_pack.proofs.Spelled.Again.{placed, profile_start_said, way_start_said}
 use Rattle.cu_pack.proofs.Spelled.Parts.{arc_long, arcs_stand, edge_starts_long, edge_starts_stand, entries_stand, entry_long, nodes_long, nodes_stand, piece_long, pieces_long}
-use Rattle.cu_pack.proofs.Spelled.Parts.{front_long, header_long, pieces_stand, profile_starts_long, profile_starts_stand, ranks_long, ranks_stand, starts_long, uppers_long, uppers_stand, way_starts_stand}
+use Rattle.cu_pack.proofs.Spelled.Parts.{front_long, header_long, pieces_stand, profile_starts_long, profile_starts_stand}
+use Rattle.cu_pack.proofs.Spelled.Parts.{ranks_long, ranks_stand, starts_long, uppers_long, uppers_stand, way_starts_stand}
 use Rattle.cu_pack.proofs.Read.Standing.{stands_second}
 use Rattle.cu_pack.proofs.Numbering.Slices.{part_then}
 use Rattle.cu_pack.proofs.Numbering.Stretches.{stretch_even, stretch_lists, stretch_of}

@@ -13,6 +13,7 @@ use Rattle.cu_recall.specs.declared.pending.Half.TheVariants as half
 use Rattle.cu_recall.specs.declared.pending.Pending.{Pending}
 use Rattle.cu_recall.specs.declared.pending.Spot.{Spot}
 use Rattle.cu_recall.specs.Spans.{IsListFrom, WalkTakes}
+use Rattle.cu_recall.specs.Steps.Looks.{HoldsSeen}
 use Rattle.cu_recall.specs.Windows.{HoldsDriven, IsDriven, IsNear, IsWindow}
 
 -- a list from u to v, parted at a middle that is in force near the second at which it is asked
@@ -23,14 +24,15 @@ pub record IsParted (h : HierarchyValue) (p : Pending) (u v middle : ℕ) : Type
 
 -- its half in work leads from x to y and is asked at this second: the first, or, where the first took so much, the second
 abbrev pub IsHalf : HierarchyValue → Pending → Half → (u v middle x y second : ℕ) → Type 0
-IsHalf h p (half.First rest) u v middle x y second = (x ≡ u) × (y ≡ middle) × (second ≡ p.asked.second) × IsListFrom h rest middle v
+IsHalf h p (half.First rest seen) u v middle x y second =
+    (x ≡ u) × (y ≡ middle) × (second ≡ p.asked.second) × IsListFrom h rest middle v × HoldsSeen h rest seen
 IsHalf h p (half.Second travel roads) u v middle x y second =
     (x ≡ middle) × (y ≡ v) × (second ≡ (p.asked.second + travel) % day)
     × ((t : ℕ) → IsNear p.asked.second p.back p.ahead t → WalkTakes h u middle t travel roads)
 
 -- how many roads were driven before it
 abbrev pub roads_before : Half → ℕ
-roads_before (half.First rest) = 0
+roads_before (half.First rest seen) = 0
 roads_before (half.Second travel roads) = roads
 
 -- of so many lists in work the last one's half in work leads from x to y and is asked at this second, so many roads after the start
@@ -45,6 +47,7 @@ pub record IsAt (h : HierarchyValue) (pending : List Pending) (spot : Spot) (x y
   pub list : IsListFrom h spot.next.list x y
   pub some : list_from h x y ≢ []
   pub early : spot.next.second < day
+  pub seen : HoldsSeen h spot.next.list spot.seen
   pub below : AreInWork h spot.whole pending spot.depth x y spot.next.second spot.roads
 
 abbrev pub IsSomewhere : HierarchyValue → List Pending → Spot → Type 0

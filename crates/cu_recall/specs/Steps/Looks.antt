@@ -9,11 +9,16 @@ use Rattle.cu_recall.specs.declared.pending.Asked.{Asked}
 use Rattle.cu_recall.specs.declared.pending.Found.{Found}
 use Rattle.cu_recall.specs.declared.pending.Found.TheVariants as found
 use Rattle.cu_recall.specs.declared.pending.Parted.{Parted}
+use Rattle.cu_recall.specs.declared.pending.Seen.{Seen}
 use Rattle.cu_recall.specs.declared.spans.Met.{Met}
 use Rattle.cu_recall.specs.declared.spans.Parts.{Parts}
 use Rattle.cu_recall.specs.declared.spans.Parts.TheVariants as part
-use Rattle.cu_recall.specs.Spans.{AreHalvesAt, HoldsMet, IsListFrom}
+use Rattle.cu_recall.specs.Spans.{AreHalvesAt, HoldsMet, HoldsSpan, IsListFrom, met_of}
 use Rattle.cu_recall.specs.Windows.{HoldsDriven, IsNear, IsWindow}
+
+-- what was read of a list is so
+abbrev pub HoldsSeen : HierarchyValue → ℕ → Seen → Type 0
+HoldsSeen h list seen = HoldsSpan h list seen.widest × HoldsMet h list (met_of seen.met)
 
 -- a list that is there and isn't empty, asked at a second of the day
 abbrev pub IsAsked : HierarchyValue → Asked → Type 0

@@ -17,9 +17,9 @@ use Rattle.cu_recall.specs.Steps.Looks.{IsAsked}
 abbrev pub IsShortWalk : HierarchyValue → Asked → Type 0
 IsShortWalk h asked = IsAsked h asked × ((u v : ℕ) → IsListFrom h asked.list u v → length (unpacked_walk h u v asked.second) < h.network.nodes)
 
--- what was read of a list is so
+-- what was read of a list, and of one below it, is so
 abbrev pub HoldsGlance : HierarchyValue → Glance → Type 0
-HoldsGlance h glance = HoldsMet h glance.list (met_of glance.met)
+HoldsGlance h glance = HoldsMet h glance.list (met_of glance.met) × HoldsMet h glance.below (met_of glance.below_met)
 
 -- this list is next, at this second, and so many wait
 abbrev pub IsNext : ℕ → ℕ → ℕ → WalkSpot → Type 0

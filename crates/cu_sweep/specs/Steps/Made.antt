@@ -11,7 +11,7 @@ use Rattle.cu_interval.specs.Hierarchies.{HierarchyValue, graph_of, number_from}
 use Rattle.cu_interval.specs.LeastBounds.{least_bound}
 use Rattle.cu_sweep.specs.Desks.{AreArriving}
 use Rattle.cu_sweep.specs.Labels.{Label, earliest, label_over, start_label}
-use Rattle.cu_sweep.specs.Places.{calls_between, dir_between, second_at}
+use Rattle.cu_sweep.specs.Places.{AreKept, calls_between, dir_between, second_at}
 use Rattle.cu_sweep.specs.Sweeps.{below, call_at, call_unless, second_of}
 use Rattle.cu_sweep.specs.Swept.{IsPassed, IsReachedAs, IsSource, LabelsValue, Sweep}
 
@@ -94,10 +94,10 @@ abbrev pub IsLinkedLabelMade : HierarchyValue → Led → List (Option (ℕ × �
 IsLinkedLabelMade h q links place None = Unit {0}
 IsLinkedLabelMade h q links place (Some label) = ((link_at links place ≡ None) × (label.calls ≡ [])) ⊎ IsLinkedMade h q links place label
 
--- a place has a label: its second, and the link of its last call
+-- a place has a label: its second, and the link of its last call, where links are kept
 pub record HoldsMade (h : HierarchyValue) (q : Led) (labels : List (Option ℕ)) (links : List (Option (ℕ × ℕ))) (place : ℕ) (label : Option Label) : Type 0 where
   pub second : second_at labels place ≡ second_of label
-  pub linked : IsLinkedLabelMade h q links place label
+  pub linked : AreKept links → IsLinkedLabelMade h q links place label
 
 -- the calls from a rank to its higher neighbours that may be made, where these are reached so before them
 abbrev pub rows_up : HierarchyValue → (ℕ → ℕ → Bool) → ℕ → Option ℕ → (ℕ → Option ℕ) → List Call

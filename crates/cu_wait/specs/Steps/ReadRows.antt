@@ -1,5 +1,6 @@
 -- How a reader of measured profiles goes from row to row.
-use Rattle.std.specs.Prelude.{ℕ, List, [], ◌∷◌, ◌++◌, Bool, true, not, Option, Some, None, Result, Ok, Err, ◌≡◌, ◌≢◌, ◌+◌, ◌<◌, ◌≤◌, ◌&&◌, All, IfErr, IfOk, IfSome, nat_le, nat_lt, length, option_to_list, if◌then◌else◌}
+use Rattle.std.specs.Prelude.{ℕ, List, [], ◌∷◌, ◌++◌, Bool, true, not, Option, Some, None, Result, Ok, Err}
+use Rattle.std.specs.Prelude.{◌≡◌, ◌≢◌, ◌+◌, ◌<◌, ◌≤◌, ◌&&◌, All, IfErr, IfOk, IfSome, nat_le, nat_lt, length, option_to_list, if◌then◌else◌}
 use Rattle.std.specs.List.{filter_map}
 use Rattle.std.specs.Option.{option_map, option_or}
 use Rattle.cu_model.specs.declared.limits.TheConstants.{MAX_TRAVEL}

@@ -188,37 +188,88 @@ fn loads_scripted(rt: &HostRuntime, script: &Script, wanted: Result<&[u8], LoadF
     loaded == wanted
 }
 
+// A script of what files answer; and what a load over it has to answer, after how many reads.
+#[derive(Clone, Copy)]
+struct ScriptedLoad {
+    length: u64,
+    gives: &'static [usize],
+    fails_at: usize,
+    loaded: Result<&'static [u8], LoadFailed>,
+    reads: usize,
+}
+
+const LOADS: [ScriptedLoad; 6] = [
+    ScriptedLoad {
+        length: 0,
+        gives: &[],
+        fails_at: NEVER,
+        loaded: Ok(b""),
+        reads: 1,
+    },
+    ScriptedLoad {
+        length: 0,
+        gives: &[1, 2],
+        fails_at: NEVER,
+        loaded: Ok(b"aaa"),
+        reads: 3,
+    },
+    ScriptedLoad {
+        length: TOO_LONG - 1,
+        gives: &[3],
+        fails_at: NEVER,
+        loaded: Ok(b"aaa"),
+        reads: 2,
+    },
+    ScriptedLoad {
+        length: TOO_LONG,
+        gives: &[3],
+        fails_at: 0,
+        loaded: Err(LoadFailed::TooLong),
+        reads: 0,
+    },
+    ScriptedLoad {
+        length: 0,
+        gives: &[3],
+        fails_at: 0,
+        loaded: Err(LoadFailed::Fault),
+        reads: 1,
+    },
+    ScriptedLoad {
+        length: 0,
+        gives: &[3],
+        fails_at: 1,
+        loaded: Err(LoadFailed::Fault),
+        reads: 2,
+    },
+];
+
+// Whether a load does so.
+fn is_loaded(rt: &HostRuntime, load: ScriptedLoad) -> bool {
+    let script = Script::of(load.length, load.gives, load.fails_at);
+    loads_scripted(rt, &script, load.loaded) && script.reads.get() == load.reads
+}
+
 #[test]
 fn a_load_faults_where_the_system_fails_and_nowhere_else(rt: HostRuntime) -> Result<(), Fail> {
     fs::write(&rt, "scripted", "")?;
-    let rows: [(Script, Result<&[u8], LoadFailed>, usize); 6] = [
-        (Script::of(0, &[], NEVER), Ok(b""), 1),
-        (Script::of(0, &[1, 2], NEVER), Ok(b"aaa"), 3),
-        (Script::of(TOO_LONG - 1, &[3], NEVER), Ok(b"aaa"), 2),
-        (Script::of(TOO_LONG, &[3], 0), Err(LoadFailed::TooLong), 0),
-        (Script::of(0, &[3], 0), Err(LoadFailed::Fault), 1),
-        (Script::of(0, &[3], 1), Err(LoadFailed::Fault), 2),
-    ];
-    for (script, loaded, reads) in rows {
-        assert!(rt; loads_scripted(&rt, &script, loaded));
-        assert_eq!(rt; script.reads.get(), reads);
+    for load in &LOADS {
+        assert!(rt; is_loaded(&rt, *load));
     }
     fs::remove_file(&rt, "scripted")?;
     Ok(())
 }
 
+// Whether a file of more bytes than a load takes is called too long.
+fn is_too_long(rt: &HostRuntime) -> Result<bool, Fail> {
+    let file = fs::create(rt, "long")?;
+    file.set_len(TOO_LONG)?;
+    let mut shelf = DiskShelf::new(rt);
+    Ok(loads(&mut shelf, rt.alloc(), "long", Err(LoadFailed::TooLong)))
+}
+
 #[test]
 fn a_file_past_the_limit_is_not_read(rt: HostRuntime) -> Result<(), Fail> {
-    let file = fs::create(&rt, "long")?;
-    file.set_len(TOO_LONG)?;
-    assert!(rt;
-        loads(
-            &mut DiskShelf::new(&rt),
-            rt.alloc(),
-            "long",
-            Err(LoadFailed::TooLong)
-        )
-    );
+    assert!(rt; is_too_long(&rt)?);
     fs::remove_file(&rt, "long")?;
     Ok(())
 }
@@ -241,32 +292,45 @@ fn is_there(rt: &HostRuntime, name: &str) -> bool {
     fs::symlink_metadata(rt, name).is_ok()
 }
 
-#[test]
-fn a_store_removes_what_killed_ones_left(rt: HostRuntime) -> Result<(), Fail> {
-    fs::create_dir(&rt, "left")?;
+// Leaves files, a folder and a link where a store makes its fresh files, and one file whose name isn't one of theirs.
+fn leave(rt: &HostRuntime) -> Result<(), Fail> {
+    fs::create_dir(rt, "left")?;
     for name in [
         "left/.catchup-stored-0",
         "left/.catchup-stored-7",
         "left/.stored-0",
     ] {
-        fs::write(&rt, name, "left")?;
+        fs::write(rt, name, "left")?;
     }
-    fs::create_dir(&rt, "left/.catchup-stored-1")?;
+    fs::create_dir(rt, "left/.catchup-stored-1")?;
     rt.symlink(".stored-0", "left/.catchup-stored-2")?;
-    let busy = fs::create(&rt, "left/.catchup-stored-3")?;
-    assert!(rt; busy.lock_if_free() == Lock::Held);
-    assert!(rt; stored(&rt) == Some(Lock::Busy));
-    for name in ["left/.catchup-stored-0", "left/.catchup-stored-7"] {
-        assert!(rt; !is_there(&rt, name));
+    Ok(())
+}
+
+// Whether a store beside a fresh file that another process holds finds its own held by itself.
+fn is_stored_beside_another(rt: &HostRuntime) -> Result<bool, Fail> {
+    let busy = fs::create(rt, "left/.catchup-stored-3")?;
+    Ok(busy.lock_if_free() == Lock::Held && stored(rt) == Some(Lock::Busy))
+}
+
+const REMOVED: [&str; 2] = ["left/.catchup-stored-0", "left/.catchup-stored-7"];
+
+const KEPT: [&str; 4] = [
+    "left/.catchup-stored-1",
+    "left/.catchup-stored-2",
+    "left/.catchup-stored-3",
+    "left/.stored-0",
+];
+
+#[test]
+fn a_store_removes_what_killed_ones_left(rt: HostRuntime) -> Result<(), Fail> {
+    leave(&rt)?;
+    assert!(rt; is_stored_beside_another(&rt)?);
+    for name in &REMOVED {
+        assert!(rt; !is_there(&rt, *name));
     }
-    for number in [
-        "catchup-stored-1",
-        "catchup-stored-2",
-        "catchup-stored-3",
-        "stored-0",
-    ] {
-        let name = format!(in rt.alloc(); "left/.{number}")?;
-        assert!(rt; is_there(&rt, name.as_str()));
+    for name in &KEPT {
+        assert!(rt; is_there(&rt, *name));
     }
     fs::remove_dir_all(&rt, "left")?;
     Ok(())

@@ -68,14 +68,16 @@ impl Write for Device {
     }
 }
 
+const READ: [Turn; 4] = [
+    Turn::Interrupts,
+    Turn::Moves(1),
+    Turn::Fails,
+    Turn::Moves(9),
+];
+
 #[test]
 fn source_reads_again_after_interrupts(rt: HostRuntime) -> Result<(), Fail> {
-    let turns = vec![in rt.alloc();
-        Turn::Interrupts,
-        Turn::Moves(1),
-        Turn::Fails,
-        Turn::Moves(9),
-    ]?;
+    let turns = Vec::from_slice(rt.alloc(), &READ)?;
     let mut source = StdSource::new(Device::new(turns, Vec::new(rt.alloc())));
     let wanted = [
         (Ok(1), *b"a\0"),
@@ -87,18 +89,20 @@ fn source_reads_again_after_interrupts(rt: HostRuntime) -> Result<(), Fail> {
     Ok(())
 }
 
+const WRITTEN: [Turn; 8] = [
+    Turn::Moves(3),
+    Turn::Interrupts,
+    Turn::Moves(2),
+    Turn::Moves(9),
+    Turn::Interrupts,
+    Turn::Moves(0),
+    Turn::Fails,
+    Turn::Moves(1),
+];
+
 #[test]
 fn sink_writes_on_after_interrupts_and_short_writes(rt: HostRuntime) -> Result<(), Fail> {
-    let turns = vec![in rt.alloc();
-        Turn::Moves(3),
-        Turn::Interrupts,
-        Turn::Moves(2),
-        Turn::Moves(9),
-        Turn::Interrupts,
-        Turn::Moves(0),
-        Turn::Fails,
-        Turn::Moves(1),
-    ]?;
+    let turns = Vec::from_slice(rt.alloc(), &WRITTEN)?;
     let mut device = Device::new(turns, Vec::new(rt.alloc()));
     assert!(rt; takes_once(&mut StdSink::new(&mut device), b"catchup", b"!?"));
     assert_eq!(rt; device.written.as_slice(), b"catchup!".as_slice());

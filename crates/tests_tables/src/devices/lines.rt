@@ -93,47 +93,47 @@ fn reads_in_any_cut(
     Ok(true)
 }
 
+// Bytes, how many of them are taken, and what a reader answers.
+const LINES: [(&[u8], u64, &[u8]); 8] = [
+    (b"123456789\nab", 100, b"ltab|e"),
+    (b"ab\ncdef", 5, b"tab|s"),
+    (b"ab\ncdef", 7, b"tab|s"),
+    (b"ab\ncdef", 8, b"tab|tcdef|e"),
+    (b"", 8, b"e"),
+    (
+        b"\n\r\na\rb\r\r\n12345678\nc\r",
+        100,
+        b"t|t|ta\rb\r|t12345678|tc|e",
+    ),
+    (
+        b"12345678\r\n\n123456789012345678901234567890",
+        100,
+        b"lt|le",
+    ),
+    (b"1234567890123", 12, b"s"),
+];
+
 #[test]
 fn lines_are_those_of_the_bytes(rt: HostRuntime) -> Result<(), Fail> {
-    let rows = [
-        (b"123456789\nab".as_slice(), 100, b"ltab|e".as_slice()),
-        (b"ab\ncdef", 5, b"tab|s"),
-        (b"ab\ncdef", 7, b"tab|s"),
-        (b"ab\ncdef", 8, b"tab|tcdef|e"),
-        (b"", 8, b"e"),
-        (
-            b"\n\r\na\rb\r\r\n12345678\nc\r",
-            100,
-            b"t|t|ta\rb\r|t12345678|tc|e",
-        ),
-        (
-            b"12345678\r\n\n123456789012345678901234567890",
-            100,
-            b"lt|le",
-        ),
-        (b"1234567890123", 12, b"s"),
-    ];
-    for (text, take, wanted) in rows {
-        assert!(rt; reads_in_any_cut(rt.alloc(), text, take, wanted)?);
+    for (text, take, wanted) in &LINES {
+        assert!(rt; reads_in_any_cut(rt.alloc(), *text, *take, *wanted)?);
     }
     Ok(())
 }
 
-// Whether it answers so where these reads fail.
+// Whether it answers so where these reads of a text fail.
 fn reads_to_a_fault(alloc: Global, fails: &[u64], wanted: &[u8]) -> Result<bool, AllocError> {
     let mut source = source_of(alloc, b"a\n123456789\n\n", fails)?.cut(7);
     Ok(reads(&mut source, alloc, 100, wanted))
 }
 
+// A read that fails, and what a reader answers.
+const FAULTS: [(u64, &[u8]); 4] = [(0, b"f"), (2, b"ta|f"), (3, b"ta|lt|f"), (4, b"ta|lt|e")];
+
 #[test]
 fn lines_end_at_a_fault(rt: HostRuntime) -> Result<(), Fail> {
-    for (fails, wanted) in [
-        ([0], b"f".as_slice()),
-        ([2], b"ta|f"),
-        ([3], b"ta|lt|f"),
-        ([4], b"ta|lt|e"),
-    ] {
-        assert!(rt; reads_to_a_fault(rt.alloc(), fails.as_slice(), wanted)?);
+    for (fails, wanted) in &FAULTS {
+        assert!(rt; reads_to_a_fault(rt.alloc(), &[*fails], *wanted)?);
     }
     Ok(())
 }

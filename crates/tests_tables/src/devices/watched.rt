@@ -222,35 +222,44 @@ fn removes(rt: &HostRuntime, names: &[&str]) -> bool {
     true
 }
 
+// What fails, what is stored then, what that asks for, and how it ends.
+type Store = (u64, &'static [u8], u64, Result<(), StoreFailed>);
+
+const STORES: [Store; 5] = [
+    (0, b"old", 11134514, Ok(())),
+    (0, b"new", 111234514, Ok(())),
+    (RENAME, b"lost", 11123456, Err(StoreFailed::Fault)),
+    (WRITE, b"lost", 111236, Err(StoreFailed::Fault)),
+    (OPEN, b"lost", 11, Err(StoreFailed::Fault)),
+];
+
 #[test]
 fn store_asks_in_this_order(rt: HostRuntime) {
     assert!(rt; fs::write(&rt, ".catchup-stored-0", "a name that is taken").is_ok());
-    let rows = [
-        (0, b"old".as_slice(), 11134514, Ok(())),
-        (0, b"new", 111234514, Ok(())),
-        (RENAME, b"lost", 11123456, Err(StoreFailed::Fault)),
-        (WRITE, b"lost", 111236, Err(StoreFailed::Fault)),
-        (OPEN, b"lost", 11, Err(StoreFailed::Fault)),
-    ];
-    for (fails, text, asked, answer) in rows {
-        assert!(rt; asks(&rt, fails, text, asked, answer));
+    for (fails, text, asked, answer) in &STORES {
+        assert!(rt; asks(&rt, *fails, *text, *asked, *answer));
     }
     assert!(rt; holds(&rt, "file", b"new"));
     assert!(rt; matches!(fs::exists(&rt, ".catchup-stored-1"), Ok(false)));
     assert!(rt; removes(&rt, &[".catchup-stored-0", "file"]));
 }
 
+// Whether a longer and then a shorter text are kept under each of these names, and none where there is no folder or one stands; and
+// whether the files are then removed.
+fn keeps_files(rt: &HostRuntime, names: &[&str]) -> bool {
+    for name in names {
+        if !keeps(rt, name, b"longer text") || !keeps(rt, name, b"text") {
+            return false;
+        }
+    }
+    refuses(rt, "absent/disk") && refuses(rt, "folder") && removes(rt, names)
+}
+
 #[test]
 fn disk_keeps_whole_files(rt: HostRuntime) -> Result<(), Fail> {
     let long = "n".repeat(rt.alloc(), 255)?;
     fs::create_dir(&rt, "folder")?;
-    for name in ["disk", "folder/disk", long.as_str()] {
-        assert!(rt; keeps(&rt, name, b"longer text"));
-        assert!(rt; keeps(&rt, name, b"text"));
-    }
-    assert!(rt; refuses(&rt, "absent/disk"));
-    assert!(rt; refuses(&rt, "folder"));
-    assert!(rt; removes(&rt, &["disk", "folder/disk", long.as_str()]));
+    assert!(rt; keeps_files(&rt, &["disk", "folder/disk", long.as_str()]));
     fs::remove_dir(&rt, "folder")?;
     Ok(())
 }
@@ -274,11 +283,16 @@ fn leftovers_of_crashes_keep_no_file_out(rt: HostRuntime) -> Result<(), Fail> {
     Ok(())
 }
 
-// Whether a store under a link leaves the link, and replaces what it leads to, which keeps its mode.
-fn follows_link(rt: &HostRuntime) -> io::Result<bool> {
+// Makes a link to a file with a mode of its own.
+fn make_link(rt: &HostRuntime) -> io::Result<()> {
     fs::write(rt, "target", "old")?;
     fs::set_permissions(rt, "target", Permissions::from_mode(0o100640))?;
-    rt.symlink("target", "link")?;
+    rt.symlink("target", "link")
+}
+
+// Whether a store under a link leaves the link, and replaces what it leads to, which keeps its mode.
+fn follows_link(rt: &HostRuntime) -> io::Result<bool> {
+    make_link(rt)?;
     if !keeps(rt, "link", b"new") || !holds(rt, "target", b"new") {
         return Ok(false);
     }

@@ -1,7 +1,6 @@
-use Rattle.std.proofs.Common.{◌≡◌, ◌∙◌, List, ap}
+use Rattle.std.proofs.Common.{◌∙◌, List, ap}
 use Rattle.std.specs.Prelude.{Ok}
 use Rattle.cu_model.specs.declared.profiles.Piece.{Piece}
-use Rattle.cu_profile.specs.ProfileTexts.{profiles_of_text}
 use Rattle.cu_wait.specs.MeasuredTexts.{measured_of_text}
 use Rattle.cu_cli.specs.declared.stops.Stop.TheVariants as stop
 use Rattle.cu_cli.specs.Steps.Outcomes.{stop_of_measured}

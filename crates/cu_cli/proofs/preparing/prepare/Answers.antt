@@ -1,4 +1,4 @@
-use Rattle.std.proofs.Common.{◌++◌, inl, inr}
+use Rattle.std.proofs.Common.{inl}
 use Rattle.std.specs.Prelude.{Some, None}
 use Rattle.cu_cli.specs.Steps.Asks.{order_asked, tables_asked}
 use Rattle.cu_cli.specs.Steps.Loading.{order_texts, table_texts}

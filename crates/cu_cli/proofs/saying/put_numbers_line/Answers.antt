@@ -1,7 +1,6 @@
-use Rattle.std.proofs.Common.{◌≡◌, ◌<◌, ◌+◌, ◌∙◌, ◌++◌, ℕ, List, ap, arith, length, sym, take}
+use Rattle.std.proofs.Common.{◌<◌, ◌+◌, ◌∙◌, ◌++◌, ℕ, List, ap, arith, length, sym}
 use Rattle.std.proofs.lemmas.List.{append-nil, take_all}
 use Rattle.cu_io.proofs.Appending.{line_same, line_then, wrote_ok, wrote_same, wrote_then}
-use Rattle.cu_cli.specs.Stops.{numbers_text}
 use Rattle.cu_cli.proofs.SayingLaws.{numbers_first, numbers_more}
 use Rattle.cu_cli.proofs.StopLaws.{line_breaks}
 use Rattle.cu_cli.proofs.saying.put_numbers_line.Goals as goal

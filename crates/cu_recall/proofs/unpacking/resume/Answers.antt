@@ -3,7 +3,9 @@ use Rattle.cu_model.specs.Days.{day}
 use Rattle.cu_recall.specs.declared.pending.Asked.{Asked}
 use Rattle.cu_recall.specs.declared.pending.Half.TheVariants as half
 use Rattle.cu_recall.specs.declared.pending.Pending.{Pending}
+use Rattle.cu_recall.specs.declared.pending.Seen.{Seen}
 use Rattle.cu_recall.specs.declared.pending.Spot.{Spot}
+use Rattle.cu_recall.specs.declared.kept.Kept.TheVariants as kept
 use Rattle.cu_recall.specs.Steps.InWork.{IsDone}
 use Rattle.cu_recall.proofs.ListEnds.{list_inside}
 use Rattle.cu_recall.proofs.Parting.{part_room}
@@ -12,10 +14,10 @@ use Rattle.cu_recall.proofs.Turning.{done_next, done_whole, first_done, second_d
 use Rattle.cu_recall.proofs.unpacking.resume.Goals as goal
 
 abbrev none : Pending
-none = record { asked = record { list = 0; second = 0 }; back = 0; ahead = 0; half = half.First 0 }
+none = record { asked = record { list = 0; second = 0 }; back = 0; ahead = 0; half = half.First 0 (record { widest = record { from = 0; seconds = 0; roads = 0; travel = 0 }; met = kept.Road 0 0 0 }) }
 
-abbrev at_spot : Asked → ℕ → ℕ → ℕ → ℕ → Spot
-at_spot whole list second depth roads = record { whole = whole; next = record { list = list; second = second }; depth = depth; roads = roads }
+abbrev at_spot : Asked → Seen → ℕ → ℕ → ℕ → ℕ → Spot
+at_spot whole seen list second depth roads = record { whole = whole; next = record { list = list; second = second }; seen = seen; depth = depth; roads = roads }
 
 pub joins-init : goal.joins-init
 joins-init c =
@@ -45,10 +47,10 @@ returns-in-First-clause-follows c =
     let top = done_last h whole c.joins.pending c.joins.depth total c.joins.driven none c.joins-test.true c.joins.invariant.done in
     let one : c.joins.depth ≡ suc (c.joins.depth - 1) = omega (arith, c.joins-test.true) in
     let next = first_done h c.requires.sound whole c.joins.pending (c.joins.depth - 1) total c.joins.driven (get_or c.joins.pending (c.joins.depth - 1) none)
-    top c.in-First.rest c.in-First.is c.second_next.result c.second_next.ensures
-    (record { whole = whole; next = record { list = c.in-First.rest; second = c.later.result }; depth = c.joins.depth; roads = total })
-    (ap (λ (n : ℕ). at_spot whole c.in-First.rest n c.joins.depth total) c.later.ensures
-    ∙ ap (λ (n : ℕ). at_spot whole c.in-First.rest (((get_or c.joins.pending (c.joins.depth - 1) none).asked.second + c.joins.driven.travel) % day) n total) one) in
+    top c.in-First.rest c.in-First.seen c.in-First.is c.second_next.result c.second_next.ensures
+    (record { whole = whole; next = record { list = c.in-First.rest; second = c.later.result }; seen = c.in-First.seen; depth = c.joins.depth; roads = total })
+    (ap (λ (n : ℕ). at_spot whole c.in-First.seen c.in-First.rest n c.joins.depth total) c.later.ensures
+    ∙ ap (λ (n : ℕ). at_spot whole c.in-First.seen c.in-First.rest (((get_or c.joins.pending (c.joins.depth - 1) none).asked.second + c.joins.driven.travel) % day) n total) one) in
     (next, refl, refl)
 
 pub joined-driven-requires-clause-travel : goal.joined-driven-requires-clause-travel

@@ -1,8 +1,27 @@
-use Rattle.std.proofs.Common.{◌∙◌, arith, subst}
+use Rattle.std.proofs.Common.{◌∙◌, ap, arith, subst, sym}
 use Rattle.cu_recall.specs.declared.pending.Asked.{Asked}
 use Rattle.cu_recall.specs.Windows.{HoldsDriven}
+use Rattle.cu_recall.specs.declared.pending.Spot.{Spot}
+use Rattle.cu_recall.specs.Steps.InWork.{IsSomewhere}
+use Rattle.cu_recall.proofs.Parting.{begun}
 use Rattle.cu_recall.proofs.Unpacks.{some_roads, whole_long}
 use Rattle.cu_recall.proofs.unpacking.unpack.Goals as goal
+
+pub parts-init : goal.parts-init
+parts-init c =
+    let h = c.args.view.now in
+    let is = c.start-spot.ensures in
+    let none = ap (λ (spot : Spot). spot.roads) is in
+    let nodes = c.nodes-nodes.ensures.count in
+    let at = begun h c.requires.sound c.args.pending.now c.args.whole c.see.result c.requires.asked (c.see.ensures.holds h c.requires.knows) in
+    record {
+      sound = c.requires.sound;
+      nodes = nodes;
+      somewhere = subst (λ (spot : Spot). IsSomewhere h c.args.pending.now spot) (sym is) at.0;
+      whole = ap (λ (spot : Spot). spot.whole) is;
+      few = omega (arith, at.1, none, nodes);
+      knows = c.requires.knows;
+    }
 
 pub returns-then-driven-nodes-clause-unpacks : goal.returns-then-driven-nodes-clause-unpacks
 returns-then-driven-nodes-clause-unpacks c u v is =

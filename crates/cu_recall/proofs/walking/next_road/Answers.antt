@@ -67,8 +67,9 @@ parts-preserved c =
       second = c.part-spot.ensures.next.1 ∙ c.parts.invariant.second;
       knows = knows;
       went = λ leg legs is.
+          let (other, others, at) = went_somewhere h c.args.waiting.now c.parts.waiting c.args.spot c.parts.spot c.parts.spot.second c.requires.somewhere c.parts.invariant.went in
           subst (λ (t : ℕ). WentDown h leg legs t moved next) (sym c.part-spot.ensures.next.1)
           (went_part h c.requires.sound c.parts.waiting c.parts.spot c.entry_at-met.result c.entry_at-met.ensures.met
           c.in-Halves.first c.in-Halves.second c.in-Halves.is leg legs
-          c.entry_at-met.new.rows moved next long (c.parts.invariant.went leg legs is) knows c.part-spot.ensures.next (c.part-spot.ensures.holds h knows) c.part-spot.ensures.waits);
+          c.entry_at-met.new.rows moved next long (c.parts.invariant.went leg legs is) knows c.part-spot.ensures.next (c.part-spot.ensures.holds h knows at.holds) c.part-spot.ensures.waits);
     }

@@ -15,6 +15,7 @@ use Rattle.cu_sweep.proofs.Ancestry.{ancestors_ranks, ancestors_rising, ancestor
 use Rattle.cu_sweep.proofs.GoalLaws.{IsPlaced}
 use Rattle.cu_sweep.proofs.Passing.{tree_long}
 use Rattle.cu_sweep.proofs.Placed.{found_in_time, holds_in_time, if_some_then, placed}
+use Rattle.cu_sweep.proofs.Readying.{chain_keeps}
 use Rattle.cu_sweep.proofs.Rows.{no_call}
 use Rattle.cu_sweep.proofs.leading.sweep_in_time.Goals as goal
 
@@ -116,5 +117,5 @@ returns-clause-holds g c =
     (λ arrival. HoldsFound h p.from p.to p.second (Arrive arrival) (desk_of labels (labels.nodes + p.to)))
     (λ arrival both.
     holds_in_time h sound c.requires.short q closed p.to by (ahead_of up down) at member labels reached arrival (sym c.second.ensures ∙ both.0) both.1
-    c.fall.ensures.unturned)
+    (c.fall.ensures.kept chain_keeps) c.fall.ensures.unturned)
     c.in_time.ensures

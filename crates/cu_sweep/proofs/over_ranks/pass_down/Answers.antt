@@ -26,7 +26,7 @@ ranks-init g c =
       unturned = c.requires.unturned;
       stays = refl;
       swept = λ q same al sw.
-          subst (λ (xs : List ℕ). IsDownSwept h q xs c.args.labels.now c.args.chain.now.links × (first_long h (down_calls_of h q xs) ≡ None) × AddsAll a a (down_calls_of h q xs)) none
+          subst (λ (xs : List ℕ). IsDownSwept h q xs c.args.labels.now (g.K.Linking.links c.args.chain.now) × (first_long h (down_calls_of h q xs) ≡ None) × AddsAll a a (down_calls_of h q xs)) none
           (sw, refl, adds_none a);
     }
 
@@ -62,18 +62,18 @@ ranks-preserved g c =
       stays = row.ensures.stays ∙ i.stays;
       swept = λ q same al sw.
           let (swept0, quiet0, told0) = i.swept q same al sw in
-          let swept : IsDownSwept h q done labels c.ranks.chain.links = subst (λ (n : ℕ). IsDownSwept h q (reverse (drop n path)) labels c.ranks.chain.links) next swept0 in
+          let swept : IsDownSwept h q done labels (g.K.Linking.links c.ranks.chain) = subst (λ (n : ℕ). IsDownSwept h q (reverse (drop n path)) labels (g.K.Linking.links c.ranks.chain)) next swept0 in
           let quiet : first_long h (down_calls_of h q done) ≡ None = subst (λ (n : ℕ). first_long h (down_calls_of h q (reverse (drop n path))) ≡ None) next quiet0 in
           let before_told : AddsAll a b (down_calls_of h q done) = subst (λ (n : ℕ). AddsAll a b (down_calls_of h q (reverse (drop n path)))) next told0 in
           let passed : IsPassed h (sweep_of q) x =
           (within, inr (subst (λ (xs : List ℕ). Contains xs x) same (member_here path k lt))) in
           let f = down_made_to h q in
-          let over = subst (λ (v : HierarchyValue). (p : Led) (ds : List ℕ) → IsDownSwept v p ds labels c.ranks.chain.links → IsPassed v (sweep_of p) x
+          let over = subst (λ (v : HierarchyValue). (p : Led) (ds : List ℕ) → IsDownSwept v p ds labels (g.K.Linking.links c.ranks.chain) → IsPassed v (sweep_of p) x
           → ((y : ℕ) → HasEdge c.args.graph.now.edges x y → Contains ds y) → p.allows ≡ allows
-          → IsRankDown v p x ds b d row.new.labels row.new.chain.links row.result) i.stays row.ensures.over in
+          → IsRankDown v p x ds b d row.new.labels (g.K.Linking.links row.new.chain) row.result) i.stays row.ensures.over in
           let rank_done = over q done swept passed higher al in
           let more = sweep_more h f done x a b d quiet before_told (sym none ∙ rank_done.ended) rank_done.told in
-          subst (λ (xs : List ℕ). IsDownSwept h q xs row.new.labels row.new.chain.links × (first_long h (down_calls_of h q xs) ≡ None) × AddsAll a d (down_calls_of h q xs)) (sym turned)
+          subst (λ (xs : List ℕ). IsDownSwept h q xs row.new.labels (g.K.Linking.links row.new.chain) × (first_long h (down_calls_of h q xs) ≡ None) × AddsAll a d (down_calls_of h q xs)) (sym turned)
           (rank_done.swept none, more.0, more.1);
     }
 
@@ -104,15 +104,15 @@ returns-then-is_some-clause-over g c =
     let (rest, cut) = turned_cut path k lt in
     λ q same al sw.
     let (swept0, quiet0, told0) = i.swept q same al sw in
-    let swept : IsDownSwept h q done labels c.ranks.chain.links = subst (λ (n : ℕ). IsDownSwept h q (reverse (drop n path)) labels c.ranks.chain.links) next swept0 in
+    let swept : IsDownSwept h q done labels (g.K.Linking.links c.ranks.chain) = subst (λ (n : ℕ). IsDownSwept h q (reverse (drop n path)) labels (g.K.Linking.links c.ranks.chain)) next swept0 in
     let quiet : first_long h (down_calls_of h q done) ≡ None = subst (λ (n : ℕ). first_long h (down_calls_of h q (reverse (drop n path))) ≡ None) next quiet0 in
     let before_told : AddsAll a b (down_calls_of h q done) = subst (λ (n : ℕ). AddsAll a b (down_calls_of h q (reverse (drop n path)))) next told0 in
     let passed : IsPassed h (sweep_of q) x =
     (within, inr (subst (λ (xs : List ℕ). Contains xs x) same (member_here path k lt))) in
     let f = down_made_to h q in
-    let over = subst (λ (v : HierarchyValue). (p : Led) (ds : List ℕ) → IsDownSwept v p ds labels c.ranks.chain.links → IsPassed v (sweep_of p) x
+    let over = subst (λ (v : HierarchyValue). (p : Led) (ds : List ℕ) → IsDownSwept v p ds labels (g.K.Linking.links c.ranks.chain) → IsPassed v (sweep_of p) x
     → ((y : ℕ) → HasEdge c.args.graph.now.edges x y → Contains ds y) → p.allows ≡ allows
-    → IsRankDown v p x ds b d row.new.labels row.new.chain.links row.result) i.stays row.ensures.over in
+    → IsRankDown v p x ds b d row.new.labels (g.K.Linking.links row.new.chain) row.result) i.stays row.ensures.over in
     let rank_done = over q done swept passed higher al in
     let ends = sweep_ends h f done x rest (reverse path) call a b d cut quiet before_told (sym rank_done.ended ∙ is) rank_done.told in
     record { ended = is ∙ sym ends.0; told = ends.1; swept = λ none. absurd (cc (none, is)) }
@@ -126,6 +126,6 @@ returns-clause-over g c =
     let b = g.R.Relaxer.calls c.ranks.relaxer in
     let zero : c.ranks.left ≡ 0 = omega (arith, c.ranks-test.false) in
     λ q same al sw.
-    subst (λ (n : ℕ). IsDownOver h q (reverse (drop n path)) a b c.ranks.labels c.ranks.chain.links None) zero
+    subst (λ (n : ℕ). IsDownOver h q (reverse (drop n path)) a b c.ranks.labels (g.K.Linking.links c.ranks.chain) None) zero
     (let (swept, quiet, told) = i.swept q same al sw in
     record { ended = sym quiet; told = subst (AddsAll a b) (sym (until_none h (down_calls_of h q (reverse (drop c.ranks.left path))) quiet)) told; swept = λ e. swept })

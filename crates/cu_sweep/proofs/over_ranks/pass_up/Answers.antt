@@ -95,12 +95,13 @@ ranks-preserved g c =
           let f = up_made_from h q in
           let same_row : rows_up h allows x (second_at c.ranks.labels x) (second_at c.ranks.labels) ≡ f x =
           ap (λ (each : ℕ → ℕ → Bool). rows_up h each x (second_at c.ranks.labels x) (second_at c.ranks.labels)) (sym al)
-          ∙ row_up_same h c.requires.graph.1 q before x behind c.ranks.labels c.ranks.chain.links anc rising swept second in
+          ∙ row_up_same h c.requires.graph.1 q before x behind c.ranks.labels (g.K.Linking.links c.ranks.chain) anc rising swept second in
           let told_row = subst (λ (cs : List Call). AddsAll (g.R.Relaxer.calls c.ranks.relaxer) (g.R.Relaxer.calls row.new.relaxer) (until_long h cs)) same_row told in
           let more = sweep_more h f before x (g.R.Relaxer.calls c.args.relaxer.now) (g.R.Relaxer.calls c.ranks.relaxer) (g.R.Relaxer.calls row.new.relaxer) quiet before_told
           (sym none ∙ long_eq ∙ ap (first_long h) same_row) told_row in
-          let kept = subst (λ (v : HierarchyValue). (p : Led) (done : List ℕ) → IsUpSwept v p done c.ranks.labels c.ranks.chain.links → IsPassed v (sweep_of p) x
-          → made_up_after v p done x ≡ up_made v p x → p.allows ≡ allows → row.result ≡ None → IsUpSwept v p (done ++ (x ∷ [])) row.new.labels row.new.chain.links) i.stays row.ensures.swept in
+          let kept = subst (λ (v : HierarchyValue). (p : Led) (done : List ℕ) → IsUpSwept v p done c.ranks.labels (g.K.Linking.links c.ranks.chain) → IsPassed v (sweep_of p) x
+          → made_up_after v p done x ≡ up_made v p x → p.allows ≡ allows → row.result ≡ None → IsUpSwept v p (done ++ (x ∷ [])) row.new.labels (g.K.Linking.links row.new.chain))
+          i.stays row.ensures.swept in
           (kept q before swept passed final al none, more.0, more.1);
     }
 
@@ -142,7 +143,7 @@ returns-then-is_some-clause-over g c =
     let f = up_made_from h q in
     let same_row : rows_up h allows x (second_at c.ranks.labels x) (second_at c.ranks.labels) ≡ f x =
     ap (λ (each : ℕ → ℕ → Bool). rows_up h each x (second_at c.ranks.labels x) (second_at c.ranks.labels)) (sym al)
-    ∙ row_up_same h c.requires.graph.1 q before x behind c.ranks.labels c.ranks.chain.links anc rising swept second in
+    ∙ row_up_same h c.requires.graph.1 q before x behind c.ranks.labels (g.K.Linking.links c.ranks.chain) anc rising swept second in
     let told_row = subst (λ (cs : List Call). AddsAll (g.R.Relaxer.calls c.ranks.relaxer) (g.R.Relaxer.calls row.new.relaxer) (until_long h cs)) same_row told in
     let named_all : ancestors_in c.args.graph.now c.args.from ≡ before ++ (x ∷ behind) = ap (λ (ps : List (Option ℕ)). ancestors_of ps c.args.from) (sym c.requires.tree) ∙ all in
     let ends = sweep_ends h f before x behind (ancestors_in c.args.graph.now c.args.from) call (g.R.Relaxer.calls c.args.relaxer.now) (g.R.Relaxer.calls c.ranks.relaxer)
@@ -162,7 +163,7 @@ returns-clause-over g c =
     let named_all : ancestors_in c.args.graph.now c.args.from ≡ before = ap (λ (ps : List (Option ℕ)). ancestors_of ps c.args.from) (sym c.requires.tree) ∙ all in
     λ q same al sw.
     let (swept, quiet, told) = i.swept q same al sw in
-    subst (λ (xs : List ℕ). IsUpOver h q xs (g.R.Relaxer.calls c.args.relaxer.now) (g.R.Relaxer.calls c.ranks.relaxer) c.ranks.labels c.ranks.chain.links None) (sym named_all)
+    subst (λ (xs : List ℕ). IsUpOver h q xs (g.R.Relaxer.calls c.args.relaxer.now) (g.R.Relaxer.calls c.ranks.relaxer) c.ranks.labels (g.K.Linking.links c.ranks.chain) None) (sym named_all)
     (record {
       ended = sym quiet;
       told = subst (AddsAll (g.R.Relaxer.calls c.args.relaxer.now) (g.R.Relaxer.calls c.ranks.relaxer))

@@ -2,7 +2,7 @@
 use Rattle.std.proofs.Common.{◌≡◌, [], None, false}
 use Rattle.cu_sweep.specs.Sweeps.{AddsAll, first_long}
 use Rattle.cu_sweep.specs.Steps.Made.{Led, up_calls_of}
-use Rattle.cu_sweep.specs.Steps.Ready.{IsReady}
+use Rattle.cu_sweep.specs.Steps.Ready.{IsReadyBy}
 use Rattle.cu_sweep.specs.Steps.Sweeping.{IsUpSwept}
 use Rattle.cu_sweep.proofs.over_ranks.pass_up.Given as goal
 
@@ -10,10 +10,10 @@ abbrev pub invariant-ranks : goal.invariant-ranks
 invariant-ranks g l =
     let h = g.R.Relaxer.hierarchy l.fn.relaxer in
     record {
-      ready : IsReady l.fn.graph.ranks l.labels l.chain;
-      unturned : l.chain.turned ≡ false;
+      ready : IsReadyBy g.K.Linking.links g.K.Linking.turned l.fn.graph.ranks l.labels l.chain;
+      unturned : g.K.Linking.turned l.chain ≡ false;
       stays : g.R.Relaxer.hierarchy l.relaxer ≡ h;
-      swept : (q : Led) → q.from ≡ l.fn.from → q.allows ≡ g.L.Limits.allows l.fn.limits → IsUpSwept h q [] l.fn.labels l.fn.chain.links
-          → IsUpSwept h q l.yielded l.labels l.chain.links × (first_long h (up_calls_of h q l.yielded) ≡ None)
+      swept : (q : Led) → q.from ≡ l.fn.from → q.allows ≡ g.L.Limits.allows l.fn.limits → IsUpSwept h q [] l.fn.labels (g.K.Linking.links l.fn.chain)
+          → IsUpSwept h q l.yielded l.labels (g.K.Linking.links l.chain) × (first_long h (up_calls_of h q l.yielded) ≡ None)
           × AddsAll (g.R.Relaxer.calls l.fn.relaxer) (g.R.Relaxer.calls l.relaxer) (up_calls_of h q l.yielded);
     }

@@ -12,6 +12,7 @@ use Rattle.cu_sweep.specs.Steps.Sweeping.{answer_by}
 use Rattle.cu_sweep.proofs.Ancestry.{ancestors_ranks, ancestors_rising, ancestors_upwards, own_ancestor}
 use Rattle.cu_sweep.proofs.Ending.{down_made, ends_down, ends_found, ends_up, holds_found}
 use Rattle.cu_sweep.proofs.Passing.{tree_long}
+use Rattle.cu_sweep.proofs.Readying.{chain_keeps}
 use Rattle.cu_sweep.proofs.querying.sweep.Goals as goal
 
 pub begin-requires-clause-from : goal.begin-requires-clause-from
@@ -204,4 +205,4 @@ returns-clause-holds g c =
     let answer : c.answer_of.result ≡ answer_by (second_of (down_label h p.from p.second p.to)) =
     c.answer_of.ensures ∙ ap answer_by (c.second.ensures ∙ reached.second) in
     let over = ends_found h p.from p.to p.second a b d c.answer_of.result up done answer in
-    holds_found h p.from p.to p.second c.sweep_down.new.self c.answer_of.result over.found reached c.sweep_down.ensures.unturned
+    holds_found h p.from p.to p.second c.sweep_down.new.self c.answer_of.result over.found reached (c.sweep_down.ensures.kept chain_keeps) c.sweep_down.ensures.unturned

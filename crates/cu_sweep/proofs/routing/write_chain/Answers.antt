@@ -9,8 +9,12 @@ use Rattle.cu_unpack.specs.Texts.{walk_text}
 use Rattle.cu_unpack.proofs.Texts.{first_after}
 use Rattle.cu_sweep.specs.Desks.{AreArriving, roads_of}
 use Rattle.cu_sweep.specs.Places.{calls_of_some}
+use Rattle.cu_sweep.proofs.Readying.{chain_keeps}
 use Rattle.cu_sweep.proofs.Turned.{begun_within, route_begun, route_next, route_on, route_over, route_stops}
 use Rattle.cu_sweep.proofs.routing.write_chain.Goals as goal
+
+pub reverse_from-place-requires-clause-place : goal.reverse_from-place-requires-clause-place
+reverse_from-place-requires-clause-place g c = let places = c.requires.ready.places chain_keeps in omega (arith, places, c.requires.end)
 
 pub links-init : goal.links-init
 links-init g c =
@@ -28,7 +32,7 @@ links-init g c =
     }
 
 pub follow-requires-clause-place : goal.follow-requires-clause-place
-follow-requires-clause-place g c = omega (arith, c.links.invariant.within, c.requires.ready.places, c.reverse_from-place.ensures.places)
+follow-requires-clause-place g c = let places = c.requires.ready.places chain_keeps in omega (arith, c.links.invariant.within, places, c.reverse_from-place.ensures.places)
 
 pub call_of-call-requires-clause-from : goal.call_of-call-requires-clause-from
 call_of-call-requires-clause-from g c = omega (arith, c.links.invariant.within, c.requires.ready.long)

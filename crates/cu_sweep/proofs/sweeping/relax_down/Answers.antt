@@ -17,10 +17,10 @@ use Rattle.cu_interval.specs.Calls.{IfAt}
 use Rattle.cu_interval.specs.Hierarchies.{HierarchyValue, number_from}
 use Rattle.cu_sweep.specs.Sweeps.{AddsAll, below, call_at, call_unless, first_long, second_of}
 use Rattle.cu_sweep.specs.Places.{calls_of_some, second_at}
-use Rattle.cu_sweep.specs.Steps.Ready.{IsReady}
+use Rattle.cu_sweep.specs.Steps.Ready.{IsReadyBy}
 use Rattle.cu_sweep.specs.Steps.Made.{call_if, down_call, down_made, made_down_after}
 use Rattle.cu_sweep.specs.Steps.Sweeping.{IfSecond, answer_in, begun_links, call_into, links_after, seconds_after}
-use Rattle.cu_sweep.proofs.Readying.{apart, near_at, relaxed_ready, time_left, turn_down}
+use Rattle.cu_sweep.proofs.Readying.{apart, keeps_links, near_at, relaxed_ready, time_left, turn_down}
 use Rattle.cu_sweep.proofs.Passing.{below_taken, cut_at, take_full}
 use Rattle.cu_sweep.proofs.Rows.{IsRow, no_call, row_edge, row_ends, row_more, row_none, row_whole, some_call}
 use Rattle.cu_sweep.proofs.Holding.{seconds_other}
@@ -36,16 +36,16 @@ edges-init g c =
     let nodes : c.ranks-nodes.result ≡ m = c.ranks-nodes.ensures.count ∙ ranks in
     let same : c.args.graph.now.edges ≡ h.edges = ap (λ (v : ChordalValue). v.edges) c.requires.graph.0 in
     let labels = c.args.labels.now in
-    let links = c.args.chain.now.links in
+    let links = g.K.Linking.links c.args.chain.now in
     let begun = c.begin_down in
     let labels_eq : begun.new.labels ≡ slice_set labels (m + x) (second_at labels x) = subst (λ (n : ℕ). begun.new.labels ≡ slice_set labels (n + x) (second_at labels x)) nodes begun.ensures.labels in
-    let links_eq : begun.new.chain.links ≡ begun_links links x (m + x) (second_at labels x) =
-    subst (λ (n : ℕ). begun.new.chain.links ≡ begun_links links x (n + x) (second_at labels x)) nodes begun.ensures.links in
+    let links_eq : g.K.Linking.links begun.new.chain ≡ begun_links links x (m + x) (second_at labels x) =
+    subst (λ (n : ℕ). (g.K.Linking.links begun.new.chain) ≡ begun_links links x (n + x) (second_at labels x)) nodes begun.ensures.links in
     let rank = c.requires.rank in
     let long = c.requires.ready.long in
     let places = c.requires.ready.places in
     record {
-      ready = subst (λ (n : ℕ). IsReady n begun.new.labels begun.new.chain) nodes begun.ensures.ready;
+      ready = subst (λ (n : ℕ). IsReadyBy g.K.Linking.links g.K.Linking.turned n begun.new.labels begun.new.chain) nodes begun.ensures.ready;
       unturned = begun.ensures.unturned;
       stays = refl;
       highers = c.up-highers.ensures.exact ∙ ap (λ (es : List Ends). up_of es x) same;
@@ -53,9 +53,10 @@ edges-init g c =
       nodes = nodes;
       source = λ y ne. ap (λ (ls : List (Option ℕ)). second_at ls (m + y)) labels_eq ∙ get_or-set_other labels (m + x) (m + y) (second_at labels x) None (λ e. ne (omega (arith, e)));
       swept = λ q done sw p all al. (
-        subst (λ (ls : List (Option ℕ)). IsDownPart h q done x [] ls begun.new.chain.links) (sym labels_eq)
+        subst (λ (ls : List (Option ℕ)). IsDownPart h q done x [] ls (g.K.Linking.links begun.new.chain)) (sym labels_eq)
             (subst (λ (ks : List (Option (ℕ × ℕ))). IsDownPart h q done x [] (slice_set labels (m + x) (second_at labels x)) ks) (sym links_eq)
-            (down_begun h q done x labels links sw p (omega (arith, rank, ranks, long)) (omega (arith, rank, ranks, places)))),
+            (down_begun h q done x labels links sw p (omega (arith, rank, ranks, long))
+            (λ kept. let all = places (keeps_links g.K.Linking.links c.args.chain.now kept) in omega (arith, rank, ranks, all)))),
         row_none h (λ z. down_call h q x z (number_from 0 h.edges x z)) (g.R.Relaxer.calls c.args.relaxer.now),
       );
     }
@@ -77,7 +78,7 @@ overflow_add-leg g c =
     let up = facts.2 in
     let within = facts.3 in
     let labels = c.edges.labels in
-    let links = c.edges.chain.links in
+    let links = g.K.Linking.links c.edges.chain in
     let edge = c.edges.edge in
     let number : number_from 0 h.edges x y ≡ Some edge = facts.0 ∙ ap (λ (j : ℕ). Some j) (sym i.edge) in
     let there_ : edge < length h.edges = subst (λ (j : ℕ). j < length h.edges) (sym i.edge) facts.1 in
@@ -101,7 +102,7 @@ relax_into-long-requires-clause-edge g c =
     let up = facts.2 in
     let within = facts.3 in
     let labels = c.edges.labels in
-    let links = c.edges.chain.links in
+    let links = g.K.Linking.links c.edges.chain in
     let edge = c.edges.edge in
     let number : number_from 0 h.edges x y ≡ Some edge = facts.0 ∙ ap (λ (j : ℕ). Some j) (sym i.edge) in
     let there_ : edge < length h.edges = subst (λ (j : ℕ). j < length h.edges) (sym i.edge) facts.1 in
@@ -124,7 +125,7 @@ relax_into-long-requires-clause-from g c =
     let up = facts.2 in
     let within = facts.3 in
     let labels = c.edges.labels in
-    let links = c.edges.chain.links in
+    let links = g.K.Linking.links c.edges.chain in
     let edge = c.edges.edge in
     let number : number_from 0 h.edges x y ≡ Some edge = facts.0 ∙ ap (λ (j : ℕ). Some j) (sym i.edge) in
     let there_ : edge < length h.edges = subst (λ (j : ℕ). j < length h.edges) (sym i.edge) facts.1 in
@@ -148,7 +149,7 @@ relax_into-long-requires-clause-apart g c =
     let up = facts.2 in
     let within = facts.3 in
     let labels = c.edges.labels in
-    let links = c.edges.chain.links in
+    let links = g.K.Linking.links c.edges.chain in
     let edge = c.edges.edge in
     let number : number_from 0 h.edges x y ≡ Some edge = facts.0 ∙ ap (λ (j : ℕ). Some j) (sym i.edge) in
     let there_ : edge < length h.edges = subst (λ (j : ℕ). j < length h.edges) (sym i.edge) facts.1 in
@@ -172,7 +173,7 @@ edges-preserved g c =
     let up = facts.2 in
     let within = facts.3 in
     let labels = c.edges.labels in
-    let links = c.edges.chain.links in
+    let links = g.K.Linking.links c.edges.chain in
     let edge = c.edges.edge in
     let number : number_from 0 h.edges x y ≡ Some edge = facts.0 ∙ ap (λ (j : ℕ). Some j) (sym i.edge) in
     let there_ : edge < length h.edges = subst (λ (j : ℕ). j < length h.edges) (sym i.edge) facts.1 in
@@ -198,9 +199,9 @@ edges-preserved g c =
     subst (λ (n : ℕ). call.new.labels ≡ seconds_after labels (n + x) (answer_in h (allows (n + x)) edge Down (second_at labels (n + y)))) nodes
     (subst (λ (v : HierarchyValue). call.new.labels ≡ seconds_after labels (c.ranks-nodes.result + x)
     (answer_in v (allows (c.ranks-nodes.result + x)) edge Down (second_at labels (c.ranks-nodes.result + y)))) i.stays call.ensures.labels) in
-    let links_eq : call.new.chain.links ≡ links_after labels links (m + y) edge (m + x) answer =
-    subst (λ (n : ℕ). call.new.chain.links ≡ links_after labels links (n + y) edge (n + x) (answer_in h (allows (n + x)) edge Down (second_at labels (n + y)))) nodes
-    (subst (λ (v : HierarchyValue). call.new.chain.links ≡ links_after labels links (c.ranks-nodes.result + y) edge (c.ranks-nodes.result + x)
+    let links_eq : g.K.Linking.links call.new.chain ≡ links_after labels links (m + y) edge (m + x) answer =
+    subst (λ (n : ℕ). (g.K.Linking.links call.new.chain) ≡ links_after labels links (n + y) edge (n + x) (answer_in h (allows (n + x)) edge Down (second_at labels (n + y)))) nodes
+    (subst (λ (v : HierarchyValue). (g.K.Linking.links call.new.chain) ≡ links_after labels links (c.ranks-nodes.result + y) edge (c.ranks-nodes.result + x)
     (answer_in v (allows (c.ranks-nodes.result + x)) edge Down (second_at labels (c.ranks-nodes.result + y)))) i.stays call.ensures.links) in
     let none : call.result ≡ None = no_call call.result (search rules) in
     let near = subst (λ (n : ℕ). IfSecond (second_at labels (n + y)) (λ at. IfAt (answer_in h (allows (n + x)) edge Down (Some at)) (λ (arrival : ℕ). arrival ≤ at + 2 ^ 38))) nodes
@@ -210,13 +211,14 @@ edges-preserved g c =
     let into_m : m + x < 2 * m = omega (arith, up, within) in
     let few : length h.edges ≤ MAX_EDGES = c.requires.graph.1.graph.few_edges in
     let small : edge < MAX_EDGES = omega (arith, few, there_) in
-    let ready = relaxed_ready m labels c.edges.chain call.new.chain (m + y) edge (m + x) answer i.ready i.unturned from_m into_m small (turn_down m x y up within)
+    let ready = relaxed_ready m labels links (g.K.Linking.links call.new.chain) (g.K.Linking.turned c.edges.chain) (g.K.Linking.turned call.new.chain) i.ready
+    (m + y) edge (m + x) answer i.unturned from_m into_m small (turn_down m x y up within)
     (near_at h allowed edge Down (second_at labels (m + y)) near) links_eq in
     let more : take (k + 1) highers ≡ take k highers ++ (y ∷ []) = take_more highers k 0 lt in
     let long_labels = i.ready.long in
     let long_links = i.ready.places in
     record {
-      ready = subst (λ (ls : List (Option ℕ)). IsReady m ls call.new.chain) (sym labels_eq) ready;
+      ready = subst (λ (ls : List (Option ℕ)). IsReadyBy g.K.Linking.links g.K.Linking.turned m ls call.new.chain) (sym labels_eq) ready;
       unturned = call.ensures.unturned;
       stays = call.ensures.stays ∙ i.stays;
       highers = i.highers;
@@ -244,13 +246,14 @@ edges-preserved g c =
           let at_y : f y ≡ o = ap (down_call h q x y) number in
           let same_answer : answer_in h (q.allows (m + x)) edge Down (second_at labels (m + y)) ≡ answer =
           ap (λ (each : ℕ → ℕ → Bool). answer_in h (each (m + x)) edge Down (second_at labels (m + y))) al in
-          let part0 = down_more h q done x y edge (take k highers) labels links before (omega (arith, into_m, long_labels)) (omega (arith, into_m, long_links)) number there_
-          s_q (time_left m labels c.edges.chain (m + y) (second_at labels (m + y)) i.ready from_m refl) in
+          let part0 = down_more h q done x y edge (take k highers) labels links before (omega (arith, into_m, long_labels))
+          (λ kept. let all = long_links (keeps_links g.K.Linking.links c.edges.chain kept) in omega (arith, into_m, all)) number there_
+          s_q (time_left m labels (m + y) (second_at labels (m + y)) i.ready.few i.ready.near from_m refl) in
           let part = subst (λ (r : Relaxed). IsDownPart h q done x (take k highers ++ (y ∷ []))
           (seconds_after labels (m + x) r) (links_after labels links (m + y) edge (m + x) r)) same_answer part0 in
           let next = row_more h f (take k highers) a b d y o row at_y told (sym long_q ∙ none) in (
-            subst (λ (xs : List ℕ). IsDownPart h q done x xs call.new.labels call.new.chain.links) (sym more)
-                (subst (λ (ls : List (Option ℕ)). IsDownPart h q done x (take k highers ++ (y ∷ [])) ls call.new.chain.links) (sym labels_eq)
+            subst (λ (xs : List ℕ). IsDownPart h q done x xs call.new.labels (g.K.Linking.links call.new.chain)) (sym more)
+                (subst (λ (ls : List (Option ℕ)). IsDownPart h q done x (take k highers ++ (y ∷ [])) ls (g.K.Linking.links call.new.chain)) (sym labels_eq)
                 (subst (λ (ks : List (Option (ℕ × ℕ))). IsDownPart h q done x (take k highers ++ (y ∷ [])) (seconds_after labels (m + x) answer) ks) (sym links_eq) part)),
             subst (λ (xs : List ℕ). IsRow h f xs a d) (sym more) next,
           );
@@ -274,7 +277,7 @@ returns-then-is_some-clause-ready g c =
     let up = facts.2 in
     let within = facts.3 in
     let labels = c.edges.labels in
-    let links = c.edges.chain.links in
+    let links = g.K.Linking.links c.edges.chain in
     let edge = c.edges.edge in
     let there_ : edge < length h.edges = subst (λ (j : ℕ). j < length h.edges) (sym i.edge) facts.1 in
     let call = c.relax_into-long in
@@ -284,9 +287,9 @@ returns-then-is_some-clause-ready g c =
     subst (λ (n : ℕ). call.new.labels ≡ seconds_after labels (n + x) (answer_in h (allows (n + x)) edge Down (second_at labels (n + y)))) nodes
     (subst (λ (v : HierarchyValue). call.new.labels ≡ seconds_after labels (c.ranks-nodes.result + x)
     (answer_in v (allows (c.ranks-nodes.result + x)) edge Down (second_at labels (c.ranks-nodes.result + y)))) i.stays call.ensures.labels) in
-    let links_eq : call.new.chain.links ≡ links_after labels links (m + y) edge (m + x) answer =
-    subst (λ (n : ℕ). call.new.chain.links ≡ links_after labels links (n + y) edge (n + x) (answer_in h (allows (n + x)) edge Down (second_at labels (n + y)))) nodes
-    (subst (λ (v : HierarchyValue). call.new.chain.links ≡ links_after labels links (c.ranks-nodes.result + y) edge (c.ranks-nodes.result + x)
+    let links_eq : g.K.Linking.links call.new.chain ≡ links_after labels links (m + y) edge (m + x) answer =
+    subst (λ (n : ℕ). (g.K.Linking.links call.new.chain) ≡ links_after labels links (n + y) edge (n + x) (answer_in h (allows (n + x)) edge Down (second_at labels (n + y)))) nodes
+    (subst (λ (v : HierarchyValue). (g.K.Linking.links call.new.chain) ≡ links_after labels links (c.ranks-nodes.result + y) edge (c.ranks-nodes.result + x)
     (answer_in v (allows (c.ranks-nodes.result + x)) edge Down (second_at labels (c.ranks-nodes.result + y)))) i.stays call.ensures.links) in
     let near = subst (λ (n : ℕ). IfSecond (second_at labels (n + y)) (λ at. IfAt (answer_in h (allows (n + x)) edge Down (Some at)) (λ (arrival : ℕ). arrival ≤ at + 2 ^ 38))) nodes
     (subst (λ (v : HierarchyValue). IfSecond (second_at labels (c.ranks-nodes.result + y))
@@ -295,9 +298,11 @@ returns-then-is_some-clause-ready g c =
     let into_m : m + x < 2 * m = omega (arith, up, within) in
     let few : length h.edges ≤ MAX_EDGES = c.requires.graph.1.graph.few_edges in
     let small : edge < MAX_EDGES = omega (arith, few, there_) in
-    let ready = relaxed_ready m labels c.edges.chain call.new.chain (m + y) edge (m + x) answer i.ready i.unturned from_m into_m small (turn_down m x y up within)
+    let ready = relaxed_ready m labels links (g.K.Linking.links call.new.chain) (g.K.Linking.turned c.edges.chain) (g.K.Linking.turned call.new.chain) i.ready
+    (m + y) edge (m + x) answer i.unturned from_m into_m small (turn_down m x y up within)
     (near_at h allowed edge Down (second_at labels (m + y)) near) links_eq in
-    subst (λ (n : ℕ). IsReady n call.new.labels call.new.chain) (sym ranks) (subst (λ (ls : List (Option ℕ)). IsReady m ls call.new.chain) (sym labels_eq) ready)
+    subst (λ (n : ℕ). IsReadyBy g.K.Linking.links g.K.Linking.turned n call.new.labels call.new.chain) (sym ranks)
+    (subst (λ (ls : List (Option ℕ)). IsReadyBy g.K.Linking.links g.K.Linking.turned m ls call.new.chain) (sym labels_eq) ready)
 
 pub returns-then-is_some-clause-over : goal.returns-then-is_some-clause-over
 returns-then-is_some-clause-over g c =
@@ -317,7 +322,7 @@ returns-then-is_some-clause-over g c =
     let up = facts.2 in
     let within = facts.3 in
     let labels = c.edges.labels in
-    let links = c.edges.chain.links in
+    let links = g.K.Linking.links c.edges.chain in
     let edge = c.edges.edge in
     let number : number_from 0 h.edges x y ≡ Some edge = facts.0 ∙ ap (λ (j : ℕ). Some j) (sym i.edge) in
     let there_ : edge < length h.edges = subst (λ (j : ℕ). j < length h.edges) (sym i.edge) facts.1 in
@@ -373,10 +378,10 @@ returns-clause-over g c =
     λ q done sw p higher al.
     let (part0, row0) = i.swept q done sw p (subst (λ (es : List Ends). (y : ℕ) → HasEdge es x y → Contains done y) same higher) al in
     let f = λ (z : ℕ). down_call h q x z (number_from 0 h.edges x z) in
-    let part = subst (λ (xs : List ℕ). IsDownPart h q done x xs c.edges.labels c.edges.chain.links) whole part0 in
+    let part = subst (λ (xs : List ℕ). IsDownPart h q done x xs c.edges.labels (g.K.Linking.links c.edges.chain)) whole part0 in
     let row = subst (λ (xs : List ℕ). IsRow h f xs a b) whole row0 in
     record {
       ended = sym row.short;
       told = row_whole h f (up_of h.edges x) a b row;
-      swept = λ none. down_done h c.requires.graph.1 q done x c.edges.labels c.edges.chain.links p part;
+      swept = λ none. down_done h c.requires.graph.1 q done x c.edges.labels (g.K.Linking.links c.edges.chain) p part;
     }

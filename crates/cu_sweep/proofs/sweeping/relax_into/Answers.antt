@@ -46,7 +46,7 @@ returns-clause-links g c =
     let may : allowed (second + least_bound h c.args.leg.edge c.args.leg.dir) ≡ true =
     ap (λ (n : ℕ). allowed (second + n)) (sym c.least.ensures.bound) ∙ sym c.allow.ensures.allowed ∙ c.if-not-allow.false in
     let answer : answer_in h allowed c.args.leg.edge c.args.leg.dir (Some second) ≡ relaxed h c.args.leg.edge c.args.leg.dir second = rw may refl in
-    c.give.ensures.links ∙ ap (links_after c.args.labels.now c.args.chain.now.links c.args.leg.from c.args.leg.edge c.args.leg.into)
+    c.give.ensures.links ∙ ap (links_after c.args.labels.now (g.K.Linking.links c.args.chain.now) c.args.leg.from c.args.leg.edge c.args.leg.into)
     (c.relax-answer.ensures.answer ∙ sym answer ∙ ap (answer_in h allowed c.args.leg.edge c.args.leg.dir) (sym c.in-Some.is))
 
 pub returns-clause-long : goal.returns-clause-long
@@ -121,7 +121,7 @@ returns-then-is_reached_by-clause-links g c =
     let by : is_by reached (second + least_bound h c.args.leg.edge c.args.leg.dir) ≡ true =
     ap (λ (n : ℕ). is_by reached (second + n)) (sym c.least.ensures.bound) ∙ sym c.is_reached_by.ensures ∙ c.if-is_reached_by.true in
     let late = relaxed_takes h c.requires.sound c.args.leg.edge c.args.leg.dir second in
-    let links = c.args.chain.now.links in
+    let links = g.K.Linking.links c.args.chain.now in
     subst (λ (o : Option ℕ). links ≡ links_after c.args.labels.now links c.args.leg.from c.args.leg.edge c.args.leg.into (answer_in h allowed c.args.leg.edge c.args.leg.dir o)) (sym c.in-Some.is)
     (subst (λ (r : Relaxed). links ≡ links_after c.args.labels.now links c.args.leg.from c.args.leg.edge c.args.leg.into r) (sym answer)
     (sym (links_left c.args.labels.now c.args.leg.into (second + least_bound h c.args.leg.edge c.args.leg.dir) by links c.args.leg.from c.args.leg.edge

@@ -13,10 +13,10 @@ use Rattle.cu_interval.specs.Calls.{IfAt}
 use Rattle.cu_interval.specs.Hierarchies.{HierarchyValue, number_from}
 use Rattle.cu_sweep.specs.Sweeps.{AddsAll, call_at, call_unless, first_long, second_of}
 use Rattle.cu_sweep.specs.Places.{calls_of_some, second_at}
-use Rattle.cu_sweep.specs.Steps.Ready.{IsReady}
+use Rattle.cu_sweep.specs.Steps.Ready.{IsReadyBy}
 use Rattle.cu_sweep.specs.Steps.Made.{call_if}
 use Rattle.cu_sweep.specs.Steps.Sweeping.{IfSecond, answer_in, call_into, links_after, seconds_after}
-use Rattle.cu_sweep.proofs.Readying.{apart, near_at, relaxed_ready, time_left, turn_up}
+use Rattle.cu_sweep.proofs.Readying.{apart, keeps_links, near_at, relaxed_ready, time_left, turn_up}
 use Rattle.cu_sweep.proofs.Passing.{cut_at, not_yet, take_full}
 use Rattle.cu_sweep.proofs.Rows.{IsRow, row_edge, row_ends, row_more, row_none, row_whole, some_call, no_call}
 use Rattle.cu_sweep.proofs.Holding.{seconds_other}
@@ -37,7 +37,7 @@ edges-init g c =
       source = refl;
       rest = λ z none. refl;
       row = row_none h (λ y. call_into h allows c.args.labels.now (number_from 0 h.edges c.args.rank y) Up c.args.rank y) (g.R.Relaxer.calls c.args.relaxer.now);
-      swept = λ q done f p e al. up_begun h q done c.args.rank c.args.labels.now c.args.chain.now.links f;
+      swept = λ q done f p e al. up_begun h q done c.args.rank c.args.labels.now (g.K.Linking.links c.args.chain.now) f;
     }
 
 pub relax_into-long-requires-clause-apart : goal.relax_into-long-requires-clause-apart
@@ -53,7 +53,7 @@ relax_into-long-requires-clause-apart g c =
     let nodes : c.args.graph.now.ranks ≡ h.network.nodes = ap (λ (v : ChordalValue). v.ranks) c.requires.graph.0 in
     let up = facts.2 in
     let within = facts.3 in
-    apart c.args.graph.now.ranks c.edges.chain.links c.args.rank y (i.ready.rises i.unturned) (turn_up c.args.graph.now.ranks c.args.rank y up (omega (arith, within, nodes)))
+    apart c.args.graph.now.ranks (g.K.Linking.links c.edges.chain) c.args.rank y (i.ready.rises i.unturned) (turn_up c.args.graph.now.ranks c.args.rank y up (omega (arith, within, nodes)))
 
 pub edges-preserved : goal.edges-preserved
 edges-preserved g c =
@@ -75,7 +75,7 @@ edges-preserved g c =
     let x_n : x < 2 * n = omega (arith, up, within_n) in
     let edge = c.edges.edge in
     let labels = c.edges.labels in
-    let links = c.edges.chain.links in
+    let links = g.K.Linking.links c.edges.chain in
     let number : number_from 0 h.edges x y ≡ Some edge = facts.0 ∙ ap (λ (m : ℕ). Some m) (sym i.edge) in
     let there_ : edge < length h.edges = subst (λ (m : ℕ). m < length h.edges) (sym i.edge) facts.1 in
     let call = c.relax_into-long in
@@ -83,13 +83,14 @@ edges-preserved g c =
     let answer = answer_in h allowed edge Up (second_at labels x) in
     let labels_eq : call.new.labels ≡ seconds_after labels y answer =
     subst (λ (v : HierarchyValue). call.new.labels ≡ seconds_after labels y (answer_in v allowed edge Up (second_at labels x))) i.stays call.ensures.labels in
-    let links_eq : call.new.chain.links ≡ links_after labels links x edge y answer =
-    subst (λ (v : HierarchyValue). call.new.chain.links ≡ links_after labels links x edge y (answer_in v allowed edge Up (second_at labels x))) i.stays call.ensures.links in
+    let links_eq : g.K.Linking.links call.new.chain ≡ links_after labels links x edge y answer =
+    subst (λ (v : HierarchyValue). (g.K.Linking.links call.new.chain) ≡ links_after labels links x edge y (answer_in v allowed edge Up (second_at labels x))) i.stays call.ensures.links in
     let none : call.result ≡ None = no_call call.result (search rules) in
     let near = subst (λ (v : HierarchyValue). IfSecond (second_at labels x) (λ at. IfAt (answer_in v allowed edge Up (Some at)) (λ (arrival : ℕ). arrival ≤ at + 2 ^ 38))) i.stays call.ensures.near in
     let few : length h.edges ≤ MAX_EDGES = c.requires.graph.1.graph.few_edges in
     let small : edge < MAX_EDGES = omega (arith, few, there_) in
-    let ready = relaxed_ready n labels c.edges.chain call.new.chain x edge y answer i.ready i.unturned x_n (omega (arith, within_n)) small (turn_up n x y up within_n)
+    let ready = relaxed_ready n labels links (g.K.Linking.links call.new.chain) (g.K.Linking.turned c.edges.chain) (g.K.Linking.turned call.new.chain) i.ready
+    x edge y answer i.unturned x_n (omega (arith, within_n)) small (turn_up n x y up within_n)
     (near_at h allowed edge Up (second_at labels x) near) links_eq in
     let apart_ : x ≢ y = λ same. absurd (omega (arith, same, up)) in
     let s = second_at c.args.labels.now x in
@@ -114,7 +115,7 @@ edges-preserved g c =
     let long_labels = i.ready.long in
     let long_links = i.ready.places in
     record {
-      ready = subst (λ (ls : List (Option ℕ)). IsReady n ls call.new.chain) (sym labels_eq) ready;
+      ready = subst (λ (ls : List (Option ℕ)). IsReadyBy g.K.Linking.links g.K.Linking.turned n ls call.new.chain) (sym labels_eq) ready;
       unturned = call.ensures.unturned;
       stays = call.ensures.stays ∙ i.stays;
       highers = i.highers;
@@ -129,11 +130,11 @@ edges-preserved g c =
       swept = λ q done sw p fin al.
           let same_answer : answer_in h (q.allows y) edge Up (second_at labels x) ≡ answer = ap (λ (each : ℕ → ℕ → Bool). answer_in h (each y) edge Up (second_at labels x)) al in
           let part0 = up_more h q done x y edge (take k highers) labels links (i.swept q done sw p fin al) new up within (omega (arith, within_n, long_labels))
-          (omega (arith, within_n, long_links)) number there_
-          (i.source ∙ (sw x p).second ∙ ap second_of fin) (time_left n labels c.edges.chain x (second_at labels x) i.ready x_n refl) p in
+          (λ kept. let all = long_links (keeps_links g.K.Linking.links c.edges.chain kept) in omega (arith, within_n, all)) number there_
+          (i.source ∙ (sw x p).second ∙ ap second_of fin) (time_left n labels x (second_at labels x) i.ready.few i.ready.near x_n refl) p in
           let part = subst (λ (r : Relaxed). IsUpPart h q done x (take k highers ++ (y ∷ [])) (seconds_after labels y r) (links_after labels links x edge y r)) same_answer part0 in
-          subst (λ (xs : List ℕ). IsUpPart h q done x xs call.new.labels call.new.chain.links) (sym more)
-          (subst (λ (ls : List (Option ℕ)). IsUpPart h q done x (take k highers ++ (y ∷ [])) ls call.new.chain.links) (sym labels_eq)
+          subst (λ (xs : List ℕ). IsUpPart h q done x xs call.new.labels (g.K.Linking.links call.new.chain)) (sym more)
+          (subst (λ (ls : List (Option ℕ)). IsUpPart h q done x (take k highers ++ (y ∷ [])) ls (g.K.Linking.links call.new.chain)) (sym labels_eq)
           (subst (λ (ks : List (Option (ℕ × ℕ))). IsUpPart h q done x (take k highers ++ (y ∷ [])) (seconds_after labels y answer) ks) (sym links_eq) part));
     }
 
@@ -153,8 +154,8 @@ returns-clause-swept g c =
     let i = c.edges.invariant in
     let all : take c.edges.higher-index c.up-highers.result.now ≡ up_of h.edges c.args.rank = take_full c.up-highers.result.now c.edges.higher-index (omega arith) ∙ i.highers in
     λ q done sw p fin al none.
-    up_done h c.requires.graph.1 q done c.args.rank c.edges.labels c.edges.chain.links
-    (subst (λ (part : List ℕ). IsUpPart h q done c.args.rank part c.edges.labels c.edges.chain.links) all (i.swept q done sw p fin al))
+    up_done h c.requires.graph.1 q done c.args.rank c.edges.labels (g.K.Linking.links c.edges.chain)
+    (subst (λ (part : List ℕ). IsUpPart h q done c.args.rank part c.edges.labels (g.K.Linking.links c.edges.chain)) all (i.swept q done sw p fin al))
 
 pub returns-then-is_some-clause-long : goal.returns-then-is_some-clause-long
 returns-then-is_some-clause-long g c =
@@ -250,7 +251,7 @@ returns-then-is_some-clause-ready g c =
     let x_n : x < 2 * n = omega (arith, up, within_n) in
     let edge = c.edges.edge in
     let labels = c.edges.labels in
-    let links = c.edges.chain.links in
+    let links = g.K.Linking.links c.edges.chain in
     let number : number_from 0 h.edges x y ≡ Some edge = facts.0 ∙ ap (λ (m : ℕ). Some m) (sym i.edge) in
     let there_ : edge < length h.edges = subst (λ (m : ℕ). m < length h.edges) (sym i.edge) facts.1 in
     let call = c.relax_into-long in
@@ -258,11 +259,12 @@ returns-then-is_some-clause-ready g c =
     let answer = answer_in h allowed edge Up (second_at labels x) in
     let labels_eq : call.new.labels ≡ seconds_after labels y answer =
     subst (λ (v : HierarchyValue). call.new.labels ≡ seconds_after labels y (answer_in v allowed edge Up (second_at labels x))) i.stays call.ensures.labels in
-    let links_eq : call.new.chain.links ≡ links_after labels links x edge y answer =
-    subst (λ (v : HierarchyValue). call.new.chain.links ≡ links_after labels links x edge y (answer_in v allowed edge Up (second_at labels x))) i.stays call.ensures.links in
+    let links_eq : g.K.Linking.links call.new.chain ≡ links_after labels links x edge y answer =
+    subst (λ (v : HierarchyValue). (g.K.Linking.links call.new.chain) ≡ links_after labels links x edge y (answer_in v allowed edge Up (second_at labels x))) i.stays call.ensures.links in
     let near = subst (λ (v : HierarchyValue). IfSecond (second_at labels x) (λ at. IfAt (answer_in v allowed edge Up (Some at)) (λ (arrival : ℕ). arrival ≤ at + 2 ^ 38))) i.stays call.ensures.near in
     let few : length h.edges ≤ MAX_EDGES = c.requires.graph.1.graph.few_edges in
     let small : edge < MAX_EDGES = omega (arith, few, there_) in
-    let ready = relaxed_ready n labels c.edges.chain call.new.chain x edge y answer i.ready i.unturned x_n (omega (arith, within_n)) small (turn_up n x y up within_n)
+    let ready = relaxed_ready n labels links (g.K.Linking.links call.new.chain) (g.K.Linking.turned c.edges.chain) (g.K.Linking.turned call.new.chain) i.ready
+    x edge y answer i.unturned x_n (omega (arith, within_n)) small (turn_up n x y up within_n)
     (near_at h allowed edge Up (second_at labels x) near) links_eq in
-    subst (λ (ls : List (Option ℕ)). IsReady n ls call.new.chain) (sym labels_eq) ready
+    subst (λ (ls : List (Option ℕ)). IsReadyBy g.K.Linking.links g.K.Linking.turned n ls call.new.chain) (sym labels_eq) ready

@@ -6,7 +6,7 @@ use Rattle.tests_sweeps.proofs.sweep.is_right.Goals as goal
 
 pub writes-requires-clause-arriving : goal.writes-requires-clause-arriving
 writes-requires-clause-arriving c =
-    let h = c.args.view.now in
+    let h = c.args.swept.view.now in
     let desk = c.ask.new.desk in
     let row = c.args.row in
     let some = subst (λ (o : Option Found). IfSome o (λ found. HoldsFound h row.from row.to row.second found desk)) c.in-Some.is c.in_ok-asked.ensures.holds in

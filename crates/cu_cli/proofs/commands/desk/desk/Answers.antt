@@ -1,11 +1,7 @@
 use Rattle.std.proofs.Common.{◌≡◌, ◌∙◌, ◌<◌, ◌≤◌, ◌∷◌, [], ℕ, List, length, ap, arith, inl, true}
-use Rattle.std.specs.Prelude.{Option, Some, None}
-use Rattle.cu_interval.specs.Hierarchies.{HierarchyValue}
+use Rattle.std.specs.Prelude.{Option}
 use Rattle.cu_pack.specs.Spelling.{spelling}
-use Rattle.cu_session.specs.declared.stops.SessionStop.{SessionStop}
-use Rattle.cu_session.specs.Sessions.{EndsLines}
 use Rattle.cu_session.proofs.SessionLaws.{err_is}
-use Rattle.cu_desk.specs.HeldDesks.{HeldDesk, IsHeldDeskText, desk_over}
 use Rattle.cu_cli.specs.declared.commands.desk.DeskWords.{DeskWords}
 use Rattle.cu_cli.specs.declared.stops.Stop.{Stop}
 use Rattle.cu_cli.specs.declared.stops.Stop.TheVariants as stop
@@ -46,27 +42,27 @@ returns-in_err-router g c =
           (desk_stopped _ _ _ _ c.args.asked.hierarchy.now c.args.asked.out.now stop.NoMemory (only_refused stop.NoMemory tt c.in_ok-bytes.ensures.loads) (inl (inl tt)) tt);
     })
 
-pub returns-in_err-answer_lines : goal.returns-in_err-answer_lines
-returns-in_err-answer_lines g c =
+pub returns-in_err-answered : goal.returns-in_err-answered
+returns-in_err-answered g c =
     let (first, opened, spells) = c.in_ok-bytes.ensures.ok in
     let h = c.in_ok-router.router in
     let opens : Opens (g.H.Shelf.state c.args.shelf.now) (hierarchy_file c.args.asked.hierarchy.now ∷ []) h [] =
     opens_held (g.H.Shelf.state c.args.shelf.now) (hierarchy_file c.args.asked.hierarchy.now ∷ []) [] opened spells c.in_ok-router.ensures.held in
-    let done = rw c.over-desk.ensures.over at c.in_err-answer_lines.ensures.ended in
-    rw (stop_is c.from_residual-in_err-answer_lines.result _ c.from_residual-in_err-answer_lines.ensures.1)
+    let done = rw c.over-desk.ensures.over at c.in_err-answered.ensures.ended in
+    rw (stop_is c.from_residual-in_err-answered.result _ c.from_residual-in_err-answered.ensures.1)
     (record {
       works = desk_works c.args.asked
-          (desk_early _ _ _ _ _ _ c.args.asked.hierarchy.now c.args.asked.out.now h c.answer_lines.new.answerer c.in_ok-bytes.ensures.loads opens c.in_err-answer_lines.field-0.0 done);
+          (desk_early _ _ _ _ _ _ c.args.asked.hierarchy.now c.args.asked.out.now h c.answer_lines-answered.new.answerer c.in_ok-bytes.ensures.loads opens c.in_err-answered.field-0.0 done);
     })
 
 pub returns-then-length-limit : goal.returns-then-length-limit
 returns-then-length-limit g c =
     let (first, opened, spells) = c.in_ok-bytes.ensures.ok in
     let h = c.in_ok-router.router in
-    let desk = c.answer_lines.new.answerer in
+    let desk = c.answer_lines-answered.new.answerer in
     let opens : Opens (g.H.Shelf.state c.args.shelf.now) (hierarchy_file c.args.asked.hierarchy.now ∷ []) h [] =
     opens_held (g.H.Shelf.state c.args.shelf.now) (hierarchy_file c.args.asked.hierarchy.now ∷ []) [] opened spells c.in_ok-router.ensures.held in
-    let done = rw c.over-desk.ensures.over at c.in_ok-answer_lines.ensures.ended in
+    let done = rw c.over-desk.ensures.over at c.in_ok-answered.ensures.ended in
     let file : c.as_slice-bytes.result.now ≡ spelling desk.published = c.as_slice-bytes.ensures.value ∙ c.into_file-packed.ensures.spelled.spelled in
     let same : length c.as_slice-bytes.result.now ≡ length (spelling desk.published) = ap (λ (bytes : List ℕ). length bytes) file in
     let large : (g.H.Shelf.state c.args.shelf.now).most < length (spelling desk.published) = omega (arith, same, c.limit.ensures, c.in_ok-bytes.ensures.loads.most, c.if-length-limit.true) in
@@ -79,10 +75,10 @@ pub returns-in_err-store_file : goal.returns-in_err-store_file
 returns-in_err-store_file g c =
     let (first, opened, spells) = c.in_ok-bytes.ensures.ok in
     let h = c.in_ok-router.router in
-    let desk = c.answer_lines.new.answerer in
+    let desk = c.answer_lines-answered.new.answerer in
     let opens : Opens (g.H.Shelf.state c.args.shelf.now) (hierarchy_file c.args.asked.hierarchy.now ∷ []) h [] =
     opens_held (g.H.Shelf.state c.args.shelf.now) (hierarchy_file c.args.asked.hierarchy.now ∷ []) [] opened spells c.in_ok-router.ensures.held in
-    let done = rw c.over-desk.ensures.over at c.in_ok-answer_lines.ensures.ended in
+    let done = rw c.over-desk.ensures.over at c.in_ok-answered.ensures.ended in
     let file : c.as_slice-bytes.result.now ≡ spelling desk.published = c.as_slice-bytes.ensures.value ∙ c.into_file-packed.ensures.spelled.spelled in
     let same : length c.as_slice-bytes.result.now ≡ length (spelling desk.published) = ap (λ (bytes : List ℕ). length bytes) file in
     let few : length (spelling desk.published) ≤ (g.H.Shelf.state c.args.shelf.now).most = omega (arith, same, c.limit.ensures, c.in_ok-bytes.ensures.loads.most, c.if-length-limit.false) in
@@ -99,10 +95,10 @@ pub returns-in_err-put_numbers_line : goal.returns-in_err-put_numbers_line
 returns-in_err-put_numbers_line g c =
     let (first, opened, spells) = c.in_ok-bytes.ensures.ok in
     let h = c.in_ok-router.router in
-    let desk = c.answer_lines.new.answerer in
+    let desk = c.answer_lines-answered.new.answerer in
     let opens : Opens (g.H.Shelf.state c.args.shelf.now) (hierarchy_file c.args.asked.hierarchy.now ∷ []) h [] =
     opens_held (g.H.Shelf.state c.args.shelf.now) (hierarchy_file c.args.asked.hierarchy.now ∷ []) [] opened spells c.in_ok-router.ensures.held in
-    let done = rw c.over-desk.ensures.over at c.in_ok-answer_lines.ensures.ended in
+    let done = rw c.over-desk.ensures.over at c.in_ok-answered.ensures.ended in
     let file : c.as_slice-bytes.result.now ≡ spelling desk.published = c.as_slice-bytes.ensures.value ∙ c.into_file-packed.ensures.spelled.spelled in
     let same : length c.as_slice-bytes.result.now ≡ length (spelling desk.published) = ap (λ (bytes : List ℕ). length bytes) file in
     let few : length (spelling desk.published) ≤ (g.H.Shelf.state c.args.shelf.now).most = omega (arith, same, c.limit.ensures, c.in_ok-bytes.ensures.loads.most, c.if-length-limit.false) in
@@ -120,10 +116,10 @@ pub returns : goal.returns
 returns g c =
     let (first, opened, spells) = c.in_ok-bytes.ensures.ok in
     let h = c.in_ok-router.router in
-    let desk = c.answer_lines.new.answerer in
+    let desk = c.answer_lines-answered.new.answerer in
     let opens : Opens (g.H.Shelf.state c.args.shelf.now) (hierarchy_file c.args.asked.hierarchy.now ∷ []) h [] =
     opens_held (g.H.Shelf.state c.args.shelf.now) (hierarchy_file c.args.asked.hierarchy.now ∷ []) [] opened spells c.in_ok-router.ensures.held in
-    let done = rw c.over-desk.ensures.over at c.in_ok-answer_lines.ensures.ended in
+    let done = rw c.over-desk.ensures.over at c.in_ok-answered.ensures.ended in
     let file : c.as_slice-bytes.result.now ≡ spelling desk.published = c.as_slice-bytes.ensures.value ∙ c.into_file-packed.ensures.spelled.spelled in
     let same : length c.as_slice-bytes.result.now ≡ length (spelling desk.published) = ap (λ (bytes : List ℕ). length bytes) file in
     let few : length (spelling desk.published) ≤ (g.H.Shelf.state c.args.shelf.now).most = omega (arith, same, c.limit.ensures, c.in_ok-bytes.ensures.loads.most, c.if-length-limit.false) in

@@ -40,29 +40,29 @@ returns-in_err-router g c =
           (only_refused stop.NoMemory tt c.in_ok-file.ensures.loads) (inl (inl tt)) tt);
     })
 
-pub returns-in_err-answer_edits : goal.returns-in_err-answer_edits
-returns-in_err-answer_edits g c =
+pub returns-in_err-answered : goal.returns-in_err-answered
+returns-in_err-answered g c =
     let (first, opened, spells) = c.in_ok-file.ensures.ok in
     let h = c.in_ok-router.router in
     let text = c.in_ok-file.file.edits.items in
     let opens : Opens (g.H.Shelf.state c.args.shelf.now) (editing_files c.args.asked.hierarchy.now c.args.asked.edits.now) h (text ∷ []) =
     opens_held (g.H.Shelf.state c.args.shelf.now) (editing_files c.args.asked.hierarchy.now c.args.asked.edits.now) (text ∷ []) opened spells c.in_ok-router.ensures.held in
-    let done = rw c.deref.ensures.value at c.in_err-answer_edits.ensures.ended in
-    rw (stop_is c.from_residual-in_err-answer_edits.result _ c.from_residual-in_err-answer_edits.ensures.1)
+    let done = rw c.deref.ensures.value at c.in_err-answered.ensures.ended in
+    rw (stop_is c.from_residual-in_err-answered.result _ c.from_residual-in_err-answered.ensures.1)
     (record {
-      works = λ source. edit_works c.args.asked (edits_stopped _ _ source _ c.args.asked.hierarchy.now c.args.asked.edits.now c.args.asked.out.now _ h c.answer_edits.new.router
-          text c.in_ok-file.ensures.loads opens c.in_err-answer_edits.field-0.0 done);
+      works = λ source. edit_works c.args.asked (edits_stopped _ _ source _ c.args.asked.hierarchy.now c.args.asked.edits.now c.args.asked.out.now _ h c.answer_edits-answered.new.router
+          text c.in_ok-file.ensures.loads opens c.in_err-answered.field-0.0 done);
     })
 
 pub returns-then-length-limit : goal.returns-then-length-limit
 returns-then-length-limit g c =
     let (first, opened, spells) = c.in_ok-file.ensures.ok in
     let h = c.in_ok-router.router in
-    let after = c.answer_edits.new.router in
+    let after = c.answer_edits-answered.new.router in
     let text = c.in_ok-file.file.edits.items in
     let opens : Opens (g.H.Shelf.state c.args.shelf.now) (editing_files c.args.asked.hierarchy.now c.args.asked.edits.now) h (text ∷ []) =
     opens_held (g.H.Shelf.state c.args.shelf.now) (editing_files c.args.asked.hierarchy.now c.args.asked.edits.now) (text ∷ []) opened spells c.in_ok-router.ensures.held in
-    let done = rw c.deref.ensures.value at c.in_ok-answer_edits.ensures.ended in
+    let done = rw c.deref.ensures.value at c.in_ok-answered.ensures.ended in
     let file : c.as_slice-bytes.result.now ≡ spelling after = c.as_slice-bytes.ensures.value ∙ c.into_file-packed.ensures.spelled.spelled in
     let same : length c.as_slice-bytes.result.now ≡ length (spelling after) = ap (λ (bytes : List ℕ). length bytes) file in
     let large : (g.H.Shelf.state c.args.shelf.now).most < length (spelling after) = omega (arith, same, c.limit.ensures, c.in_ok-file.ensures.loads.most, c.if-length-limit.true) in
@@ -75,11 +75,11 @@ pub returns-in_err-store_file : goal.returns-in_err-store_file
 returns-in_err-store_file g c =
     let (first, opened, spells) = c.in_ok-file.ensures.ok in
     let h = c.in_ok-router.router in
-    let after = c.answer_edits.new.router in
+    let after = c.answer_edits-answered.new.router in
     let text = c.in_ok-file.file.edits.items in
     let opens : Opens (g.H.Shelf.state c.args.shelf.now) (editing_files c.args.asked.hierarchy.now c.args.asked.edits.now) h (text ∷ []) =
     opens_held (g.H.Shelf.state c.args.shelf.now) (editing_files c.args.asked.hierarchy.now c.args.asked.edits.now) (text ∷ []) opened spells c.in_ok-router.ensures.held in
-    let done = rw c.deref.ensures.value at c.in_ok-answer_edits.ensures.ended in
+    let done = rw c.deref.ensures.value at c.in_ok-answered.ensures.ended in
     let file : c.as_slice-bytes.result.now ≡ spelling after = c.as_slice-bytes.ensures.value ∙ c.into_file-packed.ensures.spelled.spelled in
     let same : length c.as_slice-bytes.result.now ≡ length (spelling after) = ap (λ (bytes : List ℕ). length bytes) file in
     let few : length (spelling after) ≤ (g.H.Shelf.state c.args.shelf.now).most = omega (arith, same, c.limit.ensures, c.in_ok-file.ensures.loads.most, c.if-length-limit.false) in
@@ -96,11 +96,11 @@ pub returns-in_err-put_numbers_line : goal.returns-in_err-put_numbers_line
 returns-in_err-put_numbers_line g c =
     let (first, opened, spells) = c.in_ok-file.ensures.ok in
     let h = c.in_ok-router.router in
-    let after = c.answer_edits.new.router in
+    let after = c.answer_edits-answered.new.router in
     let text = c.in_ok-file.file.edits.items in
     let opens : Opens (g.H.Shelf.state c.args.shelf.now) (editing_files c.args.asked.hierarchy.now c.args.asked.edits.now) h (text ∷ []) =
     opens_held (g.H.Shelf.state c.args.shelf.now) (editing_files c.args.asked.hierarchy.now c.args.asked.edits.now) (text ∷ []) opened spells c.in_ok-router.ensures.held in
-    let done = rw c.deref.ensures.value at c.in_ok-answer_edits.ensures.ended in
+    let done = rw c.deref.ensures.value at c.in_ok-answered.ensures.ended in
     let file : c.as_slice-bytes.result.now ≡ spelling after = c.as_slice-bytes.ensures.value ∙ c.into_file-packed.ensures.spelled.spelled in
     let same : length c.as_slice-bytes.result.now ≡ length (spelling after) = ap (λ (bytes : List ℕ). length bytes) file in
     let few : length (spelling after) ≤ (g.H.Shelf.state c.args.shelf.now).most = omega (arith, same, c.limit.ensures, c.in_ok-file.ensures.loads.most, c.if-length-limit.false) in
@@ -118,11 +118,11 @@ pub returns : goal.returns
 returns g c =
     let (first, opened, spells) = c.in_ok-file.ensures.ok in
     let h = c.in_ok-router.router in
-    let after = c.answer_edits.new.router in
+    let after = c.answer_edits-answered.new.router in
     let text = c.in_ok-file.file.edits.items in
     let opens : Opens (g.H.Shelf.state c.args.shelf.now) (editing_files c.args.asked.hierarchy.now c.args.asked.edits.now) h (text ∷ []) =
     opens_held (g.H.Shelf.state c.args.shelf.now) (editing_files c.args.asked.hierarchy.now c.args.asked.edits.now) (text ∷ []) opened spells c.in_ok-router.ensures.held in
-    let done = rw c.deref.ensures.value at c.in_ok-answer_edits.ensures.ended in
+    let done = rw c.deref.ensures.value at c.in_ok-answered.ensures.ended in
     let file : c.as_slice-bytes.result.now ≡ spelling after = c.as_slice-bytes.ensures.value ∙ c.into_file-packed.ensures.spelled.spelled in
     let same : length c.as_slice-bytes.result.now ≡ length (spelling after) = ap (λ (bytes : List ℕ). length bytes) file in
     let few : length (spelling after) ≤ (g.H.Shelf.state c.args.shelf.now).most = omega (arith, same, c.limit.ensures, c.in_ok-file.ensures.loads.most, c.if-length-limit.false) in

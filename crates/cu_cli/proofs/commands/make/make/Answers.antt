@@ -1,4 +1,4 @@
-use Rattle.std.proofs.Common.{◌≡◌, [], inl, inr, refl, false}
+use Rattle.std.proofs.Common.{[], inl, inr, false}
 use Rattle.std.specs.Prelude.{Option}
 use Rattle.cu_io.specs.Shelves.{ShelfState}
 use Rattle.cu_io.specs.Sinks.{SinkState}

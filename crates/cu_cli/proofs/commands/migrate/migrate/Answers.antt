@@ -10,10 +10,10 @@ use Rattle.cu_cli.specs.declared.stops.Stop.{Stop}
 use Rattle.cu_cli.specs.declared.stops.Stop.TheVariants as stop
 use Rattle.cu_cli.specs.Commands.Migrate.{EndsMigrate, migrated_text, migrating}
 use Rattle.cu_cli.specs.Endings.{packed_file}
-use Rattle.cu_cli.specs.Opening.{Opens, StopsOpening}
+use Rattle.cu_cli.specs.Opening.{Opens}
 use Rattle.cu_cli.specs.Steps.Asks.{migrate_asked}
 use Rattle.cu_cli.specs.Steps.Loading.{OnlyLoads}
-use Rattle.cu_cli.specs.Steps.Outcomes.{Did, IsBeforeScript, Works, World, world_of}
+use Rattle.cu_cli.specs.Steps.Outcomes.{Did, Works, World, world_of}
 use Rattle.cu_cli.specs.Words.{hierarchy_file}
 use Rattle.cu_session.proofs.SessionLaws.{err_is}
 use Rattle.cu_cli.proofs.Completeness.{IsComplete, opening_stops, packing_stops, works}

@@ -1,4 +1,4 @@
-use Rattle.std.proofs.Common.{inl, inr}
+use Rattle.std.proofs.Common.{inl}
 use Rattle.cu_cli.specs.declared.stops.Stop.TheVariants as stop
 use Rattle.cu_cli.specs.Steps.Asks.{order_asked, tables_asked}
 use Rattle.cu_session.proofs.SessionLaws.{err_is}

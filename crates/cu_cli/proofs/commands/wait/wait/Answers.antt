@@ -1,4 +1,4 @@
-use Rattle.std.proofs.Common.{◌≡◌, inl, inr, refl, subst, true}
+use Rattle.std.proofs.Common.{inl, inr, refl, subst, true}
 use Rattle.std.specs.Prelude.{Option, Some, None}
 use Rattle.cu_interval.specs.Hierarchies.{IsBuilt}
 use Rattle.cu_pack.proofs.Spelled.Again.{same_hierarchy}

@@ -2,7 +2,7 @@ use Rattle.std.proofs.Common.{◌≡◌, ◌∙◌, ℕ, List, Option, ap, subst
 use Rattle.cu_sweep.specs.Desks.{AreArriving}
 use Rattle.cu_sweep.specs.Places.{calls_found}
 use Rattle.cu_sweep.specs.Swept.{LabelsValue}
-use Rattle.cu_sweep.proofs.labels.Labels.write_to.Goals as goal
+use Rattle.cu_sweep.proofs.routing.Labels+Chain.write_to.Goals as goal
 
 pub write_chain-requires-clause-arriving : goal.write_chain-requires-clause-arriving
 write_chain-requires-clause-arriving g c =
