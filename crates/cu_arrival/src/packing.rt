@@ -15,14 +15,14 @@ use std::alloc::Global;
 use std::marker::Model;
 
 // A run: the second of the day from which it holds, and the number of its rule doubled, and one more where that is fixed.
-#[derive(Clone, Copy, Debug)]
+#[derive(Clone, Copy)]
 struct KeptRun {
     from: u32,
     bits: u64,
 }
 
 /// A list of runs. Contracts see it as such.
-#[derive(Debug, Drop)]
+#[derive(Drop)]
 pub struct RunList {
     packed: Vec<KeptRun>,
 }

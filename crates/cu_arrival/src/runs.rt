@@ -14,7 +14,7 @@ use std::alloc::Global;
 use std::marker::Model;
 
 /// What a run does with a departure.
-#[derive(Clone, Copy, Debug, PartialEq, Eq)]
+#[derive(Clone, Copy, PartialEq, Eq)]
 pub enum RunRule {
     /// Arrives this many seconds after the departure, 0 to 2^62.
     Shift(u64),
@@ -23,7 +23,7 @@ pub enum RunRule {
 }
 
 /// A rule, and the second of the day, 0 to 86,399, from which it holds.
-#[derive(Clone, Copy, Debug, PartialEq, Eq)]
+#[derive(Clone, Copy, PartialEq, Eq)]
 pub struct Run {
     pub from: u32,
     pub rule: RunRule,
@@ -31,14 +31,14 @@ pub struct Run {
 
 /// Which of two functions is the earlier from this second of the day on, 0 to 86,399: the second one, or the first,
 /// which also takes a tie.
-#[derive(Clone, Copy, Debug, PartialEq, Eq)]
+#[derive(Clone, Copy, PartialEq, Eq)]
 pub struct Choice {
     pub from: u32,
     pub second: bool,
 }
 
 /// A rule, and the second before which it holds, 1 to 86,400.
-#[derive(Clone, Copy, Debug, PartialEq, Eq)]
+#[derive(Clone, Copy, PartialEq, Eq)]
 pub struct Stretch {
     pub rule: RunRule,
     pub end: u32,
@@ -46,7 +46,7 @@ pub struct Stretch {
 
 /// An arrival function: when a road or shortcut arrives, at each second of a day that repeats. Contracts see it as its
 /// list of runs.
-#[derive(Debug, Drop)]
+#[derive(Drop)]
 pub struct Arrival {
     runs: RunList,
 }

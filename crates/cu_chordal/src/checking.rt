@@ -12,7 +12,7 @@ use cu_model::{MAX_NODES, NoMemory, Order, Roads};
 use std::alloc::Global;
 
 // The children of the ranks whose parts were found right, and the stamps of these ranks.
-#[derive(Debug, Drop)]
+#[derive(Drop)]
 struct Checking {
     children: Children,
     stamps: Vec<u32>,

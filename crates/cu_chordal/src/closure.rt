@@ -62,14 +62,14 @@ impl<T: Drop> From<AllocFailed<T>> for CloseRefusal {
 
 // The children of each rank so far, linked from the latest to the one before: a rank's parent is its lowest higher
 // neighbour.
-#[derive(Debug, Drop)]
+#[derive(Drop)]
 pub struct Children {
     pub latest: Vec<Option<u32>>,
     pub before: Vec<Option<u32>>,
 }
 
 // The edges of the ranks so far, and what the next ranks need.
-#[derive(Debug, Drop)]
+#[derive(Drop)]
 struct Closing {
     table: EdgeTable,
     children: Children,
@@ -207,7 +207,7 @@ impl Children {
 }
 
 // The ends of each road by rank, the lower and the higher.
-#[derive(Debug, Drop)]
+#[derive(Drop)]
 struct RankEnds {
     lows: Vec<u32>,
     highs: Vec<u32>,

@@ -17,7 +17,7 @@ use std::marker::Model;
 pub const MAX_EDGES: u32 = 16_777_216;
 
 /// The ends of an edge, by rank.
-#[derive(Clone, Copy, Debug, PartialEq, Eq)]
+#[derive(Clone, Copy, PartialEq, Eq)]
 pub struct Ends {
     pub low: u32,
     pub high: u32,
@@ -25,7 +25,7 @@ pub struct Ends {
 
 /// A chordal graph on ranks: any two higher neighbours of one rank are joined by an edge. Its edges are numbered from 0,
 /// by lower rank and then by higher rank. Contracts see the number of ranks and the list of edges.
-#[derive(Debug, Drop)]
+#[derive(Drop)]
 pub struct Chordal {
     ranks: u32,
     table: EdgeTable,

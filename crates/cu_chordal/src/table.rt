@@ -12,7 +12,7 @@ use std::alloc::{AllocError, Global};
 
 // The lower and the higher ends of the edges by number, and where the edges of each lower end start; after the last
 // start comes their end.
-#[derive(Debug, Drop)]
+#[derive(Drop)]
 pub struct EdgeTable {
     pub lows: Vec<u32>,
     pub starts: Vec<u32>,

@@ -20,7 +20,7 @@ use cu_session::SessionStop;
 use cu_wait::MeasuredRefusal;
 
 /// Whose word of a command names a file.
-#[derive(Clone, Copy, Debug, PartialEq, Eq)]
+#[derive(Clone, Copy, PartialEq, Eq)]
 pub enum Role {
     Nodes,
     Roads,
@@ -49,7 +49,7 @@ impl Role {
 
 /// Where a hierarchy first differs from the built one: in the list of this edge in this direction, from this second of the day on,
 /// at which it takes the way `stored` and the built one the way `built`; none where the list is empty.
-#[derive(Clone, Copy, Debug, PartialEq, Eq)]
+#[derive(Clone, Copy, PartialEq, Eq)]
 pub struct Difference {
     pub edge: u32,
     pub dir: Dir,
@@ -59,7 +59,7 @@ pub struct Difference {
 }
 
 /// Why a run stops before all is done.
-#[derive(Clone, Copy, Debug, PartialEq, Eq)]
+#[derive(Clone, Copy, PartialEq, Eq)]
 pub enum Stop {
     /// The words are no command's.
     Words,

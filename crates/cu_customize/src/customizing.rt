@@ -33,7 +33,7 @@ struct Parts<'a> {
 
 // The functions and the lists of the first shortcuts, by list number; no function where there is none or where no later
 // list needs it.
-#[derive(Debug, Drop)]
+#[derive(Drop)]
 struct Building {
     functions: Vec<Option<DayFunction>>,
     lists: Vec<WayList>,

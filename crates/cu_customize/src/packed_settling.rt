@@ -23,7 +23,7 @@ use cu_runs::{LayeredFunctions, MAX_NUMBER, Windows, staying};
 use std::alloc::Global;
 
 /// What settles one shortcut after the other by packed runs, with its room.
-#[derive(Debug, Drop)]
+#[derive(Drop)]
 pub struct PackedSettling {
     triangles: Vec<Triangle>,
     gatherer: Gatherer,

@@ -20,7 +20,7 @@ use std::alloc::Global;
 const MANY: usize = 5;
 
 /// What settling a shortcut by packed runs gives: the list of its ways, and their function; None where it has no way.
-#[derive(Debug, Drop)]
+#[derive(Drop)]
 pub struct SettledRuns {
     pub ways: WayList,
     pub function: Option<DayFunction>,

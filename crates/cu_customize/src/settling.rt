@@ -26,7 +26,7 @@ use cu_model::NoMemory;
 use std::alloc::Global;
 
 /// What settling a shortcut gives: the list of its ways, and their function; None where it has no way.
-#[derive(Debug, Drop)]
+#[derive(Drop)]
 pub struct Settled {
     pub ways: WayList,
     pub function: Option<Arrival>,

@@ -10,7 +10,7 @@ use cu_model::{Number, cut_field, parse_number};
 use thiserror::Error;
 
 /// A whole day asked, from one node to another.
-#[derive(Clone, Copy, Debug, PartialEq, Eq)]
+#[derive(Clone, Copy, PartialEq, Eq)]
 pub struct DayAsked {
     pub from: u32,
     pub to: u32,

@@ -1,7 +1,7 @@
 //! What the beginning of an edit did.
 
 /// What the beginning of an edit did.
-#[derive(Clone, Copy, Debug, PartialEq, Eq)]
+#[derive(Clone, Copy, PartialEq, Eq)]
 pub enum Begun {
     /// It touches no edge, and was published.
     Done,

@@ -1,7 +1,7 @@
 //! What a step did.
 
 /// What a step of an edit in work did.
-#[derive(Clone, Copy, Debug, PartialEq, Eq)]
+#[derive(Clone, Copy, PartialEq, Eq)]
 pub enum Stepped {
     /// No edit is in work.
     Idle,

@@ -20,7 +20,7 @@ use std::alloc::Global;
 const UNSPLIT: usize = 8;
 
 /// The order and the splits so far, and marks of nodes, all clear between two parts.
-#[derive(Debug, Drop)]
+#[derive(Drop)]
 struct Dissection {
     order: Vec<u32>,
     splits: Vec<Split>,

@@ -47,7 +47,7 @@ impl Extent {
 }
 
 /// What the nodes of a part are sorted by: the coordinate that it is cut across, the other one, and the node.
-#[derive(Clone, Copy, Debug, PartialEq, Eq, PartialOrd, Ord)]
+#[derive(Clone, Copy, PartialEq, Eq, PartialOrd, Ord)]
 pub(crate) struct SortKey {
     first: u32,
     second: u32,
@@ -55,7 +55,7 @@ pub(crate) struct SortKey {
 }
 
 /// The two halves of a part, each by rising number.
-#[derive(Debug, Drop)]
+#[derive(Drop)]
 pub(crate) struct Halves {
     pub(crate) left: Vec<u32>,
     pub(crate) rest: Vec<u32>,

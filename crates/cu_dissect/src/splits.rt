@@ -4,7 +4,7 @@ use std::marker::Model;
 
 /// A part of a network, split into two sides and what separates them: three lists of nodes, each by rising number. No road
 /// joins the sides. Contracts see the three lists.
-#[derive(Debug, Drop)]
+#[derive(Drop)]
 pub struct Split {
     pub left: Vec<u32>,
     pub right: Vec<u32>,

@@ -13,7 +13,7 @@ use cu_roads::Place;
 use std::alloc::Global;
 
 /// A network with the places and the neighbours of its nodes.
-#[derive(Debug, Drop)]
+#[derive(Drop)]
 pub(crate) struct Map<'a> {
     pub(crate) network: &'a Network,
     pub(crate) places: &'a [Place],
@@ -21,7 +21,7 @@ pub(crate) struct Map<'a> {
 }
 
 /// The ends of each road, and opposite to each the other end.
-#[derive(Debug, Drop)]
+#[derive(Drop)]
 struct RoadEnds {
     near: Vec<u32>,
     far: Vec<u32>,
@@ -86,7 +86,7 @@ fn is_beside(map: &Map<'_>, marks: &[bool], node: u32) -> bool
 }
 
 /// The nodes with a marked neighbour, and the others.
-#[derive(Debug, Drop)]
+#[derive(Drop)]
 struct Sides {
     beside: Vec<u32>,
     others: Vec<u32>,

@@ -12,7 +12,7 @@ use std::marker::Model;
 
 /// Which edges of a hierarchy are known to be customized: their lists are what customization makes of the lists below them.
 /// Contracts see a mark for each edge.
-#[derive(Debug, Drop)]
+#[derive(Drop)]
 pub struct CustomizedEdges {
     marks: Vec<bool>,
 }

@@ -14,7 +14,7 @@ use std::alloc::Global;
 use std::marker::Model;
 
 /// The functions of an edge upwards and downwards; None where it has no way.
-#[derive(Debug, Drop)]
+#[derive(Drop)]
 pub struct EdgeFunctions {
     pub up: Option<Arrival>,
     pub down: Option<Arrival>,

@@ -22,7 +22,7 @@ use std::marker::Model;
 
 /// Functions of lists of a hierarchy, as packed runs, and the room that settling by them takes. An edit hands them on to the next,
 /// so that a function which is known needn't be rebuilt. Contracts see which lists are known, and their functions.
-#[derive(Debug, Drop)]
+#[derive(Drop)]
 pub struct Learned {
     functions: PackedFunctions,
     settling: PackedSettling,

@@ -20,7 +20,7 @@ use cu_unpack::PackedFunctions;
 use std::alloc::Global;
 
 /// Of which middles halves are learned: of any, or of those alone of which a half was moved.
-#[derive(Clone, Copy, Debug)]
+#[derive(Clone, Copy)]
 pub enum Middles {
     Any,
     Moved,

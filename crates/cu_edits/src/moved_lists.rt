@@ -17,7 +17,7 @@ use std::marker::Model;
 
 /// Lists whose ways an edit changed, or when these arrive, with their functions after it. Contracts see where the function
 /// of each list stands, and the functions.
-#[derive(Debug, Drop)]
+#[derive(Drop)]
 pub struct MovedLists {
     // By list number: 0, or one more than where the function stands.
     places: Vec<u32>,

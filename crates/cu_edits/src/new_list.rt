@@ -4,7 +4,7 @@ use cu_interval::WayList;
 use cu_runs::DayFunction;
 
 /// What became of a list.
-#[derive(Debug, Drop)]
+#[derive(Drop)]
 pub enum Outcome {
     /// Its ways are those of before, and so is when they arrive.
     Stands,
@@ -13,7 +13,7 @@ pub enum Outcome {
 }
 
 /// A list after an edit, and what became of it.
-#[derive(Debug, Drop)]
+#[derive(Drop)]
 pub struct NewList {
     pub ways: WayList,
     pub outcome: Outcome,

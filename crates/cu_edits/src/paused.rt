@@ -13,7 +13,7 @@ use std::marker::Model;
 
 /// What a settler keeps from one step to the next, apart from what it borrows. Contracts see the edges settled, with their lists,
 /// and the functions that are held.
-#[derive(Debug, Drop)]
+#[derive(Drop)]
 pub struct PausedSettler {
     pub(crate) settled: Vec<TouchedEdge>,
     pub(crate) state: SettlerState,

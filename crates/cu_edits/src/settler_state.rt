@@ -7,7 +7,7 @@ use cu_customize::PackedSettling;
 use cu_unpack::{PackedFunctions, Rebuilt};
 
 /// Functions of the hierarchy before the edit as packed runs, the lists that the edit moved, and the room that settling takes.
-#[derive(Debug, Drop)]
+#[derive(Drop)]
 pub struct PackedState {
     pub functions: PackedFunctions,
     pub moved: MovedLists,
@@ -16,7 +16,7 @@ pub struct PackedState {
 
 /// Plain functions: those that were rebuilt of lists before the edit, and those of edges whose lists won't change any more, as
 /// far as they are known.
-#[derive(Debug, Drop)]
+#[derive(Drop)]
 pub struct PlainState {
     pub rebuilt: Rebuilt,
     pub known: Vec<Option<EdgeFunctions>>,
@@ -24,7 +24,7 @@ pub struct PlainState {
 
 /// What a settler holds: before it settles an edge what was learned earlier, then packed runs, and plain functions once a way takes
 /// longer than packed runs can say.
-#[derive(Debug, Drop)]
+#[derive(Drop)]
 pub enum SettlerState {
     Nothing(Option<Learned>),
     Packed(PackedState),

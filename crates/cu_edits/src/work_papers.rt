@@ -10,7 +10,7 @@ use std::marker::Model;
 
 /// Whose edit is in work, the edges that it touches, and the lists of those settled, with room for all of them. Contracts see
 /// these three.
-#[derive(Debug, Drop)]
+#[derive(Drop)]
 pub struct WorkPapers {
     client: u32,
     edges: Vec<u32>,

@@ -13,7 +13,7 @@ use std::marker::Model;
 
 /// The elimination tree of a chordal graph; a graph that isn't connected has several roots. Contracts see the parent of
 /// each rank.
-#[derive(Debug, Drop)]
+#[derive(Drop)]
 pub struct Tree {
     parents: Vec<Option<u32>>,
 }
@@ -88,7 +88,7 @@ impl Tree {
 }
 
 /// The ancestors of a rank, from itself upwards. Contracts see the list of those that are left.
-#[derive(Debug, Drop)]
+#[derive(Drop)]
 pub struct Ancestors<'a> {
     parents: &'a [Option<u32>],
     fuel: usize,

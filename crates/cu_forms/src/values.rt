@@ -6,7 +6,7 @@ ghost use Rattle.cu_model.specs.DayForms.{IsKept};
 ghost use Rattle.cu_model.specs.declared.limits.TheConstants.{DAY};
 
 /// What a function does with a departure on a stretch of the day.
-#[derive(Clone, Copy, Debug, PartialEq, Eq)]
+#[derive(Clone, Copy, PartialEq, Eq)]
 pub enum DayRule {
     /// Arrives this many seconds after the departure.
     Travel(u64),
@@ -15,7 +15,7 @@ pub enum DayRule {
 }
 
 /// A rule, and the second of the day before which it holds.
-#[derive(Clone, Copy, Debug, PartialEq, Eq)]
+#[derive(Clone, Copy, PartialEq, Eq)]
 pub struct Stretch {
     pub rule: DayRule,
     pub end: u32,

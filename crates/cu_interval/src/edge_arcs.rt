@@ -18,7 +18,7 @@ use std::marker::Model;
 
 /// For each edge and direction the roads that join its ends in that direction. Contracts see them by list number: the
 /// roads of an edge upwards as list 2 * edge, downwards as list 2 * edge + 1.
-#[derive(Debug, Drop)]
+#[derive(Drop)]
 pub struct EdgeArcs {
     lists: Groups,
 }
@@ -68,7 +68,7 @@ impl EdgeArcs {
 }
 
 // The roads that are no loops, and the number of the list of each.
-#[derive(Debug, Drop)]
+#[derive(Drop)]
 struct Listing {
     numbers: Vec<u32>,
     arcs: Vec<u32>,

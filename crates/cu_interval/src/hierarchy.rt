@@ -85,7 +85,7 @@ pub trait BoundedWays: Ways {
 }
 
 /// A hierarchy in memory. It keeps no travel times but the profiles.
-#[derive(Debug, Drop)]
+#[derive(Drop)]
 pub struct Hierarchy {
     network: Network,
     order: Order,

@@ -19,7 +19,7 @@ pub enum Relaxed {
 }
 
 /// A call of a relaxation: the edge, its direction, and the second.
-#[derive(Clone, Copy, Debug, PartialEq, Eq)]
+#[derive(Clone, Copy, PartialEq, Eq)]
 pub struct Call {
     pub edge: u32,
     pub dir: Dir,

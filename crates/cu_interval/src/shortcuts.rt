@@ -10,7 +10,7 @@ use crate::ways::Dir;
 use cu_chordal::{Chordal, Ends};
 
 /// A shortcut: the number of an edge, and a direction.
-#[derive(Clone, Copy, Debug, PartialEq, Eq)]
+#[derive(Clone, Copy, PartialEq, Eq)]
 pub struct Shortcut {
     pub edge: u32,
     pub dir: Dir,
@@ -29,7 +29,7 @@ impl Shortcut {
 }
 
 /// The ranks that a shortcut leads from and to.
-#[derive(Clone, Copy, Debug, PartialEq, Eq)]
+#[derive(Clone, Copy, PartialEq, Eq)]
 pub struct Leg {
     pub from: u32,
     pub to: u32,

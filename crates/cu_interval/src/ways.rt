@@ -34,13 +34,13 @@ pub struct Entry {
 }
 
 /// A list of ways: empty, or from second 0 on, each entry from a later second than the one before and with another way.
-#[derive(Debug, Drop)]
+#[derive(Drop)]
 pub struct WayList {
     kept: Kept,
 }
 
 // The entries of a list. One alone, as most lists have, needs no vector.
-#[derive(Debug, Drop)]
+#[derive(Drop)]
 enum Kept {
     One(Entry),
     Many(Vec<Entry>),
@@ -60,7 +60,7 @@ impl Model for WayList {
 }
 
 /// An edge and its lists after an edit.
-#[derive(Debug, Drop)]
+#[derive(Drop)]
 pub struct TouchedEdge {
     pub edge: u32,
     pub up: WayList,

@@ -5,7 +5,7 @@ use std::fs::{File, OpenFile, TryLockError};
 use std::io::{Read, Seek, Write};
 
 /// What came of locking an opened file.
-#[derive(Clone, Copy, Debug, PartialEq, Eq)]
+#[derive(Clone, Copy, PartialEq, Eq)]
 pub enum Lock {
     /// It is locked until it is closed, which the end of its process does too.
     Held,

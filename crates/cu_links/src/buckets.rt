@@ -10,7 +10,7 @@ use std::alloc::Global;
 use std::marker::Model;
 
 /// How an edge stands since the last clear.
-#[derive(Clone, Copy, Debug)]
+#[derive(Clone, Copy)]
 pub enum EdgeState {
     /// It wasn't added.
     Free,
@@ -22,7 +22,7 @@ pub enum EdgeState {
 
 /// Edges, each held at one rank. Those of one rank come out in any order. Contracts see the number of ranks, the state of
 /// each edge, and the last rank popped since the last clear.
-#[derive(Debug, Drop)]
+#[derive(Drop)]
 pub struct RankBuckets {
     // The first edge held at each rank, and the one held behind each.
     firsts: Vec<Option<u32>>,

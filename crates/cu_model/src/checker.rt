@@ -13,7 +13,7 @@ use crate::profiles::{Piece, PieceFault, Rule};
 /// Checks the pieces of a day profile one by one, and keeps none of them but the first and the last. Takes time by the
 /// number of pieces, however many seconds they hold: an arrival before its departure begins inside an `until` piece, and
 /// a later departure overtakes only where a piece ends.
-#[derive(Clone, Copy, Debug)]
+#[derive(Clone, Copy)]
 pub struct PieceChecker {
     count: u32,
     ends: Option<Ends>,
@@ -28,7 +28,7 @@ pub struct PieceChecker {
 }
 
 // The first piece and the last.
-#[derive(Clone, Copy, Debug)]
+#[derive(Clone, Copy)]
 struct Ends {
     first: Piece,
     last: Piece,

@@ -8,7 +8,7 @@ ghost use Rattle.cu_model.specs.Numbers.{as_number, number_of, number_value};
 use std::str;
 
 /// The value of a number word of any length: itself, or only that it is 2^64 or more.
-#[derive(Clone, Copy, Debug, PartialEq, Eq)]
+#[derive(Clone, Copy, PartialEq, Eq)]
 pub enum Number {
     Value(u64),
     Huge,

@@ -11,7 +11,7 @@ use std::marker::Model;
 
 /// An order of the nodes. Ranks and nodes are both numbered from 0; each node has one rank and each rank one node.
 /// Contracts see its two tables.
-#[derive(Debug, Drop)]
+#[derive(Drop)]
 pub struct Order {
     node_at: Vec<u32>,
     rank_of: Vec<u32>,

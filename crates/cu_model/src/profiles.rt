@@ -85,7 +85,7 @@ pub enum PieceRefusal {
 }
 
 /// A day profile. Contracts see it as its list of pieces.
-#[derive(Clone, Debug, Drop)]
+#[derive(Clone, Drop)]
 pub struct Profile {
     pieces: Vec<Piece>,
 }

@@ -11,7 +11,7 @@ use crate::numbers::{Number, parse_number};
 use thiserror::Error;
 
 /// A query: from one node to another, leaving at a second of the day, 0 to 86,399.
-#[derive(Clone, Copy, Debug, PartialEq, Eq)]
+#[derive(Clone, Copy, PartialEq, Eq)]
 pub struct Query {
     pub from: u32,
     pub to: u32,

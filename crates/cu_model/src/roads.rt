@@ -10,7 +10,7 @@ use crate::profiles::{Piece, Profile};
 use std::marker::Model;
 
 /// A road from one node to another, and the number of its profile.
-#[derive(Clone, Copy, Debug, PartialEq, Eq)]
+#[derive(Clone, Copy, PartialEq, Eq)]
 pub struct RoadArc {
     pub tail: u32,
     pub head: u32,
@@ -18,7 +18,7 @@ pub struct RoadArc {
 }
 
 /// A change of a network's travel times; its topology stays.
-#[derive(Debug, Drop)]
+#[derive(Drop)]
 pub enum Edit {
     /// Gives a profile these pieces.
     Set { profile: u32, pieces: Profile },
@@ -84,7 +84,7 @@ pub trait Roads {
 }
 
 /// A road network in memory. Contracts see its number of nodes, its roads and its profiles.
-#[derive(Clone, Debug, Drop)]
+#[derive(Clone, Drop)]
 pub struct Network {
     nodes: u32,
     arcs: Vec<RoadArc>,

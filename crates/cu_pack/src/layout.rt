@@ -4,7 +4,7 @@ ghost use Rattle.std.specs.Prelude.{◌≡◌};
 ghost use Rattle.cu_pack.specs.Layouts.{AreInLimits, bounds_length, layout_of};
 
 /// The version of a packed file, and how many of each it has.
-#[derive(Clone, Copy, Debug, PartialEq, Eq)]
+#[derive(Clone, Copy, PartialEq, Eq)]
 pub struct Counts {
     /// The version, 1 or 2: the second keeps the least bounds too.
     pub version: u32,
@@ -21,7 +21,7 @@ pub struct Counts {
 /// Where each section of a packed file starts, in bytes from its begin. They follow each other without gaps, in this
 /// order, behind a header of 52 bytes; behind the last one stand the 32 bytes of the digest. All numbers are
 /// little-endian: of 4 bytes, but of 8 in the bounds and in both sections of starts whose entries may be many.
-#[derive(Clone, Copy, Debug, PartialEq, Eq)]
+#[derive(Clone, Copy, PartialEq, Eq)]
 pub struct Layout {
     /// The node at each rank: 4 bytes each.
     pub node_at: u64,

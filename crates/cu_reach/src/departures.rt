@@ -18,7 +18,7 @@ pub const MOST_QUERIES: u32 = 20;
 
 /// The greatest second of the day from which a query arrives in time, with its arrival; that second 0 is too late; that there
 /// is no walk; or a relaxation whose walk was too long.
-#[derive(Clone, Copy, Debug, PartialEq, Eq)]
+#[derive(Clone, Copy, PartialEq, Eq)]
 pub enum Departure {
     Depart { second: u64, arrive: u64 },
     TooLate,
@@ -27,7 +27,7 @@ pub enum Departure {
 }
 
 // Two ranks, and the second by which to come from the one to the other.
-#[derive(Clone, Copy, Debug)]
+#[derive(Clone, Copy)]
 struct Journey {
     from: u32,
     to: u32,

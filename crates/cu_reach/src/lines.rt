@@ -18,14 +18,14 @@ pub const MAX_TABLE: u32 = 1_048_576;
 pub const LATEST_BY: u64 = 1_099_511_627_776;
 
 /// All nodes asked from one, leaving at a second of the day.
-#[derive(Clone, Copy, Debug, PartialEq, Eq)]
+#[derive(Clone, Copy, PartialEq, Eq)]
 pub struct ReachAsked {
     pub from: u32,
     pub second: u32,
 }
 
 /// The latest departure asked from one node that arrives at another by a second, at most `LATEST_BY`.
-#[derive(Clone, Copy, Debug, PartialEq, Eq)]
+#[derive(Clone, Copy, PartialEq, Eq)]
 pub struct LatestAsked {
     pub from: u32,
     pub to: u32,

@@ -18,7 +18,7 @@ use std::alloc::Global;
 use std::marker::Model;
 
 /// That every rank has its label, or a relaxation whose walk was too long.
-#[derive(Clone, Copy, Debug, PartialEq, Eq)]
+#[derive(Clone, Copy, PartialEq, Eq)]
 pub enum Reached {
     Done,
     Long { edge: u32, dir: Dir, second: u64 },

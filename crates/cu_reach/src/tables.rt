@@ -15,7 +15,7 @@ use std::marker::Model;
 
 /// Nodes of a line, by their numbers as they are written there, which are read one by one and without memory. Contracts see the
 /// list of those that are left.
-#[derive(Debug, Drop)]
+#[derive(Drop)]
 pub struct NodeFields<'a> {
     // The line from the next number on; none behind its last field.
     line: Option<&'a [u8]>,
@@ -65,7 +65,7 @@ fn node_of(word: &[u8]) -> u32
 }
 
 // The fields from the next number of a line on, and how many of them are read.
-#[derive(Clone, Copy, Debug)]
+#[derive(Clone, Copy)]
 struct Part<'a> {
     line: Option<&'a [u8]>,
     count: usize,
@@ -89,7 +89,7 @@ struct TableFields<'a> {
 
 /// A table asked: from each source to each target, leaving at a second of the day. Sources and targets stay in the line.
 /// Contracts see the second and both lists.
-#[derive(Debug, Drop)]
+#[derive(Drop)]
 pub struct TableAsked<'a> {
     second: u32,
     sources: Part<'a>,

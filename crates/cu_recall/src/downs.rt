@@ -19,7 +19,7 @@ use std::mem::size_of;
 /// An edge has one in each of three tables, for the passes that leave in one third of the day: those that leave at other times
 /// drive most lists at seconds so far away that they would only write over its span. A pass over all edges reads one for each, in
 /// 16 bytes, where a row of all that is known has 64 and the file's bound 8 more.
-#[derive(Clone, Copy, Debug, PartialEq, Eq)]
+#[derive(Clone, Copy, PartialEq, Eq)]
 pub struct DownSpan {
     pub least: u32,
     pub from: u32,
@@ -31,7 +31,7 @@ pub struct DownSpan {
 pub const NO_BOUND: u32 = 4_294_967_295;
 
 /// An edge by its number, and its place in one of the three tables.
-#[derive(Clone, Copy, Debug)]
+#[derive(Clone, Copy)]
 pub struct DownPlace {
     pub edge: u32,
     pub place: usize,

@@ -11,7 +11,7 @@ use cu_model::DAY;
 /// there are none it says nothing.
 ///
 /// Counted by twos the seconds of a day fit 16 bits. With the tag they fill the first four bytes, so that it has 16 in all.
-#[derive(Clone, Copy, Debug, PartialEq, Eq)]
+#[derive(Clone, Copy, PartialEq, Eq)]
 pub enum Kept {
     Road {
         pairs: u16,

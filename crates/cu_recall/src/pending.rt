@@ -4,7 +4,7 @@ use crate::kept::Kept;
 use crate::spans::{Driven, Span};
 
 /// A list that is asked at a second of the day.
-#[derive(Clone, Copy, Debug, PartialEq, Eq)]
+#[derive(Clone, Copy, PartialEq, Eq)]
 pub struct Asked {
     pub list: u32,
     pub second: u32,
@@ -12,7 +12,7 @@ pub struct Asked {
 
 /// What was read of a list's row before the list is asked: the widest span of a third of the day, and the entry met last. Those
 /// of both halves are read when a list is parted, so that the processor fetches both rows at once.
-#[derive(Clone, Copy, Debug, PartialEq, Eq)]
+#[derive(Clone, Copy, PartialEq, Eq)]
 pub struct Seen {
     pub widest: Span,
     pub met: Kept,
@@ -28,7 +28,7 @@ impl Seen {
 
 /// The half of a parted list that is in work: the first, where the list of the second one waits, with what was read of it;
 /// or the second, where the first took this.
-#[derive(Clone, Copy, Debug, PartialEq, Eq)]
+#[derive(Clone, Copy, PartialEq, Eq)]
 pub enum Half {
     First { rest: u32, seen: Seen },
     Second { travel: u64, roads: u32 },
@@ -36,7 +36,7 @@ pub enum Half {
 
 /// A list that was parted at its middle, for how many seconds before and from the second on that it is asked its halves take
 /// the same, as far as they are known, and the half that is in work.
-#[derive(Clone, Copy, Debug, PartialEq, Eq)]
+#[derive(Clone, Copy, PartialEq, Eq)]
 pub struct Pending {
     pub asked: Asked,
     pub back: u32,
@@ -46,7 +46,7 @@ pub struct Pending {
 
 /// Where an unpacking stands: the list that is unpacked, the one that is next, what was read of it, how many are in work below
 /// it, and how many roads were driven.
-#[derive(Clone, Copy, Debug, PartialEq, Eq)]
+#[derive(Clone, Copy, PartialEq, Eq)]
 pub struct Spot {
     pub whole: Asked,
     pub next: Asked,
@@ -56,7 +56,7 @@ pub struct Spot {
 }
 
 /// A list parted at the middle in force, over so many seconds before and from the second on: the lists of its halves.
-#[derive(Clone, Copy, Debug, PartialEq, Eq)]
+#[derive(Clone, Copy, PartialEq, Eq)]
 pub struct Parted {
     pub back: u32,
     pub ahead: u32,
@@ -65,14 +65,14 @@ pub struct Parted {
 }
 
 /// What is found of a list: what driving it takes, or its halves.
-#[derive(Clone, Copy, Debug, PartialEq, Eq)]
+#[derive(Clone, Copy, PartialEq, Eq)]
 pub enum Found {
     Driven(Driven),
     Parted(Parted),
 }
 
 /// What follows when a list was driven: the whole was, or a half that waited is next.
-#[derive(Clone, Copy, Debug, PartialEq, Eq)]
+#[derive(Clone, Copy, PartialEq, Eq)]
 pub enum After {
     Whole(Driven),
     Next(Spot),

@@ -22,7 +22,7 @@ use std::marker::Model;
 /// written when the first query comes, and the tables when the first pass goes down over many ranks, so that opening a file
 /// costs none. Contracts see for how many nodes it was made, the rows, of which those that aren't written say nothing, and what
 /// is kept of the lists downwards.
-#[derive(Debug, Drop)]
+#[derive(Drop)]
 pub struct Room {
     pub(crate) lists: usize,
     pub(crate) rows: Vec<Row>,

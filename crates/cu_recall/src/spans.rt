@@ -10,7 +10,7 @@ use std::mem::size_of;
 
 /// Seconds of the day, `seconds` of them from `from` on, at each of which a list's walk takes `travel` seconds over `roads`
 /// roads. Where there are none it says nothing.
-#[derive(Clone, Copy, Debug, PartialEq, Eq)]
+#[derive(Clone, Copy, PartialEq, Eq)]
 pub struct Span {
     pub from: u32,
     pub seconds: u16,
@@ -19,7 +19,7 @@ pub struct Span {
 }
 
 /// What a way consists of: one road, by its number, or two halves, by the numbers of their lists, in the order driven.
-#[derive(Clone, Copy, Debug, PartialEq, Eq)]
+#[derive(Clone, Copy, PartialEq, Eq)]
 pub enum Parts {
     Road(u32),
     Halves { first: u32, second: u32 },
@@ -27,7 +27,7 @@ pub enum Parts {
 
 /// The parts of the way in force at each second of the day from `from` until before `until`. Where there is no such second
 /// it says nothing.
-#[derive(Clone, Copy, Debug, PartialEq, Eq)]
+#[derive(Clone, Copy, PartialEq, Eq)]
 pub struct Met {
     pub from: u32,
     pub until: u32,
@@ -38,7 +38,7 @@ pub struct Met {
 ///
 /// It has as many bytes as a line of the processor's cache. The C library lets a large table begin 16 bytes behind the start
 /// of a line, so the spans, which most calls need alone, come first: all four are then on one line.
-#[derive(Clone, Copy, Debug, PartialEq, Eq)]
+#[derive(Clone, Copy, PartialEq, Eq)]
 pub struct Row {
     pub latest: Span,
     pub early: Span,
@@ -49,7 +49,7 @@ pub struct Row {
 
 /// What driving a list from a second of the day takes, and for how many seconds before it, and how many from it on, that
 /// stays the same.
-#[derive(Clone, Copy, Debug, PartialEq, Eq)]
+#[derive(Clone, Copy, PartialEq, Eq)]
 pub struct Driven {
     pub back: u32,
     pub ahead: u32,

@@ -24,7 +24,7 @@ use itoa::write_digits;
 
 /// A list, with the entry that its row met last, and a list below it with what its row met. When a list is parted the rows of both
 /// halves are read, and the row of the second half's own first half, so that the processor fetches all three at once.
-#[derive(Clone, Copy, Debug)]
+#[derive(Clone, Copy)]
 pub struct Glance {
     pub list: u32,
     pub met: Kept,
@@ -33,7 +33,7 @@ pub struct Glance {
 }
 
 /// Where a walk stands: the list that is next, the second of the day at which it is asked, and how many wait behind it.
-#[derive(Clone, Copy, Debug)]
+#[derive(Clone, Copy)]
 pub struct WalkSpot {
     pub next: Glance,
     pub second: u32,
@@ -41,7 +41,7 @@ pub struct WalkSpot {
 }
 
 /// The next road of a walk, how long it takes, and how many lists wait behind it.
-#[derive(Clone, Copy, Debug)]
+#[derive(Clone, Copy)]
 pub struct NextRoad {
     pub road: u32,
     pub travel: u64,

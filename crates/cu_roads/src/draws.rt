@@ -11,7 +11,7 @@ pub const MULTIPLIER: u64 = 6_364_136_223_846_793_005;
 pub const INCREMENT: u64 = 1_442_695_040_888_963_407;
 
 /// Numbers drawn one after the other. From one start they are always the same. Contracts see it as its state of 64 bits.
-#[derive(Clone, Copy, Debug)]
+#[derive(Clone, Copy)]
 pub struct Draws {
     state: u64,
 }

@@ -40,7 +40,7 @@ pub const FREE_RANGE: u32 = 100;
 pub const EXTRA_RANGE: u32 = 600;
 
 /// The three texts of a grid network. Contracts see three lists of bytes.
-#[derive(Debug, Drop)]
+#[derive(Drop)]
 pub struct GridTexts {
     pub nodes: Vec<u8>,
     pub roads: Vec<u8>,

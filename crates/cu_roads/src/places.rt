@@ -6,14 +6,14 @@ use std::marker::Model;
 pub const MAX_COORDINATE: u32 = 1_000_000_000;
 
 /// Where a node lies: its x and y, each 0 to 1,000,000,000.
-#[derive(Clone, Copy, Debug, PartialEq, Eq)]
+#[derive(Clone, Copy, PartialEq, Eq)]
 pub struct Place {
     pub x: u32,
     pub y: u32,
 }
 
 /// The place of each node, by node number. Contracts see it as its list of places.
-#[derive(Debug, Drop)]
+#[derive(Drop)]
 pub struct Places {
     pub places: Vec<Place>,
 }

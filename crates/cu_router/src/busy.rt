@@ -5,7 +5,7 @@ use cu_model::Edit;
 
 /// An edit in work: the edit; whose it is, with the edges that it touches and the lists of those settled; and its settler, put
 /// aside. It borrows nothing, so queries are answered while it is kept.
-#[derive(Debug, Drop)]
+#[derive(Drop)]
 pub struct Busy {
     pub edit: Edit,
     pub papers: WorkPapers,

@@ -21,7 +21,7 @@ use std::alloc::Global;
 
 /// What an edit needs beside a hierarchy: the roads of each edge, and buckets for the edges that it touches; and what earlier
 /// edits learned of the functions of lists.
-#[derive(Debug, Drop)]
+#[derive(Drop)]
 pub(crate) struct EditRoom {
     pub(crate) arcs: EdgeArcs,
     pub(crate) buckets: RankBuckets,

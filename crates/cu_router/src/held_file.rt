@@ -39,7 +39,7 @@ pub struct HeldFile {
 }
 
 // What is known of a hierarchy's walks: that it is built, that none is too long, by the most roads of each list, or nothing.
-#[derive(Debug, Drop)]
+#[derive(Drop)]
 pub(crate) enum Known {
     Built,
     Short(RoadCounts),

@@ -24,7 +24,7 @@ use cu_recall::{Recall, SweepRecall};
 use cu_sweep::{Found, SweepDesk};
 
 // The ranks of the nodes between which a departure is asked.
-#[derive(Clone, Copy, Debug)]
+#[derive(Clone, Copy)]
 struct Ranks {
     from: u32,
     to: u32,

@@ -18,7 +18,7 @@ use std::marker::Model;
 
 /// When a shortcut arrives, leaving at each second of the day, with its least and its greatest travel time, and maybe
 /// with such bounds for each of some windows of the day. Contracts see it as its list of runs.
-#[derive(Debug, Drop)]
+#[derive(Drop)]
 pub struct DayFunction {
     packed: Vec<PackedRun>,
     least: u64,

@@ -15,7 +15,7 @@ use std::marker::Model;
 
 /// What merges candidates, with its room. Contracts see it as the runs of the least arrivals so far, each beside the
 /// number of its candidate.
-#[derive(Debug, Drop)]
+#[derive(Drop)]
 pub struct Merger {
     parts: PartMerger,
 }

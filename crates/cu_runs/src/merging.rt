@@ -47,7 +47,7 @@ pub const MOST: u64 = 70_368_744_177_663;
 const END: u64 = DAY as u64;
 
 /// The number of a candidate, and the second of the day, 0 to 86,399, from which it is the least.
-#[derive(Clone, Copy, Debug, PartialEq, Eq)]
+#[derive(Clone, Copy, PartialEq, Eq)]
 pub struct WayRun {
     pub from: u32,
     pub way: u32,
@@ -55,7 +55,7 @@ pub struct WayRun {
 
 // The least arrivals of the candidates so far, and beside each run which of them it is: at each second the lowest
 // number of those that arrive then. Both lists have one entry more, which ends them.
-#[derive(Debug, Drop)]
+#[derive(Drop)]
 struct Least {
     packed: Vec<PackedRun>,
     ways: Vec<u32>,
@@ -63,7 +63,7 @@ struct Least {
 
 // The same with one candidate more, as far as it is known: at all seconds below `done`. The run of the old list at
 // `index` begins no later than `done`.
-#[derive(Debug, Drop)]
+#[derive(Drop)]
 struct Next {
     packed: Vec<PackedRun>,
     ways: Vec<u32>,
@@ -104,7 +104,7 @@ struct Windowed<'a> {
 /// What merges candidates, each maybe only in parts of the day, with its room. Contracts see it as the runs of the least
 /// arrivals so far, each beside the number of its candidate. Where candidates are left out a later departure may arrive
 /// earlier.
-#[derive(Debug, Drop)]
+#[derive(Drop)]
 pub struct PartMerger {
     least: Least,
     next: Next,

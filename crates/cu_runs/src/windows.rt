@@ -58,13 +58,13 @@ const END: u64 = DAY as u64;
 
 /// The windows of a day: how many seconds each begins behind the one before, none of them behind the end of the day.
 /// The last one ends with the day. Some may be empty.
-#[derive(Clone, Copy, Debug, PartialEq, Eq)]
+#[derive(Clone, Copy, PartialEq, Eq)]
 pub struct Windows {
     widths: [u16; WIDTHS],
 }
 
 /// How long a function takes from one second until another: at least, and at most where that is below 65,535.
-#[derive(Clone, Copy, Debug, PartialEq, Eq)]
+#[derive(Clone, Copy, PartialEq, Eq)]
 pub struct Span {
     pub least: u16,
     pub most: u16,
@@ -77,7 +77,7 @@ pub struct Span {
 /// the window of 32 less and the next three, as far as the day has them, and 64 is the whole day. So what a second
 /// function takes behind a first one is looked up at one place, whichever windows those are. The least and the most
 /// stand side by side there, as both are read.
-#[derive(Debug, Drop)]
+#[derive(Drop)]
 pub struct Bounds {
     windows: Windows,
     own: [Span; WINDOWS],

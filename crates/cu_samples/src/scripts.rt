@@ -3,7 +3,7 @@
 use crate::files::{BUILT, FORGED};
 
 /// A script over a packed file, and its replies.
-#[derive(Clone, Copy, Debug)]
+#[derive(Clone, Copy)]
 pub struct Script {
     /// The packed file.
     pub file: &'static [u8],

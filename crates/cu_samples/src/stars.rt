@@ -6,7 +6,7 @@ use std::alloc::Global;
 
 /// The tables of a star: roads from node 0 to each leaf and back, of the first profile. The roads of leaf i are 2i - 2, to it, and
 /// 2i - 1, from it. Each node is its own rank.
-#[derive(Debug, Drop)]
+#[derive(Drop)]
 pub struct Star {
     nodes: String,
     roads: String,

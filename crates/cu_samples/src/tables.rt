@@ -1,7 +1,7 @@
 //! Tables of networks, and orders of their nodes.
 
 /// The texts of a network's tables and of an order of its nodes.
-#[derive(Clone, Copy, Debug)]
+#[derive(Clone, Copy)]
 pub struct Tables<'a> {
     /// The table `node,x,y`.
     pub nodes: &'a [u8],

@@ -40,7 +40,7 @@ pub enum EditRefusal {
 }
 
 // What a line changes, its pieces still as they are written. A number too wide for 32 bits is the widest.
-#[derive(Clone, Copy, Debug)]
+#[derive(Clone, Copy)]
 enum Change<'a> {
     Set { profile: u32, pieces: &'a [u8] },
     Assign { arc: u32, profile: u32 },
@@ -48,7 +48,7 @@ enum Change<'a> {
 
 /// An edit line that has passed its checks. Contracts see the line, and the numbers of roads and profiles that it was
 /// checked against.
-#[derive(Debug, Drop)]
+#[derive(Drop)]
 pub struct EditLine<'a> {
     line: &'a [u8],
     arcs: u32,

@@ -7,7 +7,7 @@ use cu_io::SinkFailed;
 use cu_model::NoMemory;
 
 /// Why the answering of lines stops before the last of them.
-#[derive(Clone, Copy, Debug, PartialEq, Eq)]
+#[derive(Clone, Copy, PartialEq, Eq)]
 pub enum SessionStop {
     /// The source failed.
     Source,

@@ -16,7 +16,7 @@ use std::marker::Model;
 
 /// The most roads of each list of a hierarchy that is short: each list has fewer roads, whichever ways are taken, than there are
 /// nodes. Contracts see the counts by the number of their list.
-#[derive(Debug, Drop)]
+#[derive(Drop)]
 pub struct RoadCounts {
     counts: Vec<u32>,
 }

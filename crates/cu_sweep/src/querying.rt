@@ -21,7 +21,7 @@ use cu_interval::{Call, Relaxer};
 use cu_links::Chain;
 
 /// A query's ranks, and the second of a day at which it leaves.
-#[derive(Clone, Copy, Debug)]
+#[derive(Clone, Copy)]
 pub struct Question {
     pub from: u32,
     pub to: u32,

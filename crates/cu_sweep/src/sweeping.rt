@@ -19,7 +19,7 @@ use cu_chordal::Chordal;
 use cu_interval::{Call, Dir, Relaxed, Relaxer};
 
 // An edge in a direction, with the places that it leads from and into.
-#[derive(Clone, Copy, Debug)]
+#[derive(Clone, Copy)]
 struct Leg {
     edge: u32,
     dir: Dir,

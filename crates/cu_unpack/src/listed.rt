@@ -89,7 +89,7 @@ impl<R: Relaxer + Drop> Relaxer for Listed<R> {
 }
 
 // Calls, as long as they find room.
-#[derive(Debug, Drop)]
+#[derive(Drop)]
 struct CallList {
     calls: Vec<Call>,
     room: usize,

@@ -21,7 +21,7 @@ use std::marker::Model;
 
 /// Functions of lists as packed runs, by list number: rebuilt from their ways, or put in. Contracts see which lists are
 /// known, and their functions.
-#[derive(Debug, Drop)]
+#[derive(Drop)]
 pub struct PackedFunctions {
     table: PackedTable,
     room: Room,

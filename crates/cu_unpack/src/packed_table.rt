@@ -15,7 +15,7 @@ use std::alloc::Global;
 use std::marker::Model;
 
 /// Which lists are known, by number, with the functions of these.
-#[derive(Debug, Drop)]
+#[derive(Drop)]
 pub struct PackedTable {
     known: Vec<bool>,
     functions: Vec<Option<DayFunction>>,

@@ -20,7 +20,7 @@ use std::marker::Model;
 
 /// Functions of shortcuts, rebuilt from their ways and kept. Contracts see, for each list by number, the runs of its function
 /// where it is kept.
-#[derive(Debug, Drop)]
+#[derive(Drop)]
 pub struct Rebuilt {
     kept: Vec<Option<Arrival>>,
 }

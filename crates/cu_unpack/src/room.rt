@@ -22,7 +22,7 @@ use std::marker::Model;
 const MOST_TOGETHER: u64 = MAX_NUMBER - DAY as u64;
 
 /// What merges the ways of a list, with its room. Contracts see what the merger holds.
-#[derive(Debug, Drop)]
+#[derive(Drop)]
 pub struct Room {
     merger: Merger,
     road: Vec<PackedRun>,

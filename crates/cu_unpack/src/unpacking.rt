@@ -20,7 +20,7 @@ use cu_io::{Sink, SinkFailed, put_all, put_number};
 
 // Where an unpacking stands: the shortcut that is next, the second at which it is asked, and how many wait behind it, all of
 // which lead upwards.
-#[derive(Clone, Copy, Debug)]
+#[derive(Clone, Copy)]
 struct Spot {
     edge: u32,
     dir: Dir,
@@ -29,7 +29,7 @@ struct Spot {
 }
 
 // A road that was driven, when it arrived, and where the unpacking stands then. None where it is over.
-#[derive(Clone, Copy, Debug)]
+#[derive(Clone, Copy)]
 struct Driven {
     road: u32,
     arrival: u64,

@@ -7,7 +7,7 @@ use std::alloc::Global;
 use std::marker::Model;
 
 /// Room for the shortcuts that wait while one is unpacked, made once. Contracts see for how many nodes it was made.
-#[derive(Debug, Drop)]
+#[derive(Drop)]
 pub struct Work {
     pub(crate) pending: Vec<u32>,
 }

@@ -10,7 +10,7 @@ ghost use Rattle.cu_wait.specs.Steps.Listed.{course_value};
 use crate::stretches::{Course, Stretch};
 
 // From a second of the day until before another, the travel times go from one to another on a straight line.
-#[derive(Clone, Copy, Debug)]
+#[derive(Clone, Copy)]
 pub(crate) struct Leg {
     pub from: u32,
     pub until: u32,

@@ -9,7 +9,7 @@ use cu_model::{DAY, NoMemory};
 use std::alloc::Global;
 
 /// How travel times go on behind a point.
-#[derive(Clone, Copy, Debug, PartialEq, Eq)]
+#[derive(Clone, Copy, PartialEq, Eq)]
 pub enum Mode {
     /// On a straight line to the next point, rounded down to whole seconds.
     Line,
@@ -18,7 +18,7 @@ pub enum Mode {
 }
 
 /// A second of the day, 0 to 86,399, how long it takes to drive leaving then, 0 to 604,800 seconds, and how it goes on.
-#[derive(Clone, Copy, Debug, PartialEq, Eq)]
+#[derive(Clone, Copy, PartialEq, Eq)]
 pub struct Point {
     pub second: u32,
     pub mode: Mode,

@@ -6,7 +6,7 @@ ghost use Rattle.cu_model.specs.declared.limits.TheConstants.{DAY};
 use cu_model::Piece;
 
 // How arrivals go on from one second to the next.
-#[derive(Clone, Copy, Debug)]
+#[derive(Clone, Copy)]
 pub(crate) enum Course {
     // Who leaves a second later arrives a second later.
     Rises,
@@ -15,7 +15,7 @@ pub(crate) enum Course {
 }
 
 // When one arrives leaving at a second of the day, and how that goes on until before another.
-#[derive(Clone, Copy, Debug)]
+#[derive(Clone, Copy)]
 pub(crate) struct Stretch {
     pub arrival: u32,
     pub course: Course,

@@ -5,7 +5,7 @@ use cu_script::{EditRefusal, MAX_EDIT_LINE, check_edit};
 use std::alloc::Global;
 
 // An edit, with the first of the pieces that it sets.
-#[derive(Clone, Copy, Debug, PartialEq, Eq)]
+#[derive(Clone, Copy, PartialEq, Eq)]
 enum Shown {
     Set { profile: u32, first: Option<Piece> },
     Assign { arc: u32, profile: u32 },

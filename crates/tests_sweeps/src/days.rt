@@ -15,7 +15,7 @@ use std::alloc::Global;
 use std::test::Fail;
 
 // Two ranks, and the text of the day from one to the other; none where no walk leads there.
-#[derive(Clone, Copy, Debug)]
+#[derive(Clone, Copy)]
 struct Row<'a> {
     from: u32,
     to: u32,

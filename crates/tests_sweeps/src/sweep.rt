@@ -22,7 +22,7 @@ use std::process::Abort;
 use std::test::Fail;
 
 // A query between two ranks at a second, what it finds, its calls, the room for telling them, and the roads of its walk.
-#[derive(Clone, Copy, Debug)]
+#[derive(Clone, Copy)]
 struct Row<'a> {
     from: u32,
     to: u32,
@@ -50,7 +50,7 @@ fn are_told(calls: Option<&[Call]>, wanted: &[(u32, Dir, u64)], room: u32) -> bo
 }
 
 // A query between two ranks at a second.
-#[derive(Clone, Copy, Debug)]
+#[derive(Clone, Copy)]
 struct Asked {
     from: u32,
     to: u32,

@@ -6,7 +6,7 @@ use cu_tables::{RowWriter, TakesRows, each_row, each_row_below, field, number_at
 use std::alloc::Global;
 
 // Why a text isn't shown whole.
-#[derive(Clone, Copy, Debug, PartialEq, Eq)]
+#[derive(Clone, Copy, PartialEq, Eq)]
 enum Refusal {
     Header,
     Stop,

@@ -9,7 +9,7 @@ use crate::cutting::Sections;
 use cu_model::{DAY, Rule};
 
 /// A rule, and the seconds of the day at which a road has it: from `from` until before `until`.
-#[derive(Clone, Copy, Debug, PartialEq, Eq)]
+#[derive(Clone, Copy, PartialEq, Eq)]
 pub struct RuleInForce {
     pub rule: Rule,
     pub from: u32,

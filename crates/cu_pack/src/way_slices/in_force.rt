@@ -10,7 +10,7 @@ use cu_interval::Way;
 use cu_model::DAY;
 
 /// A way, and the seconds of the day at which a list takes it: from `from` until before `until`.
-#[derive(Clone, Copy, Debug, PartialEq, Eq)]
+#[derive(Clone, Copy, PartialEq, Eq)]
 pub struct WayInForce {
     pub way: Way,
     pub from: u32,
