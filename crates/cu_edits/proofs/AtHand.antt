@@ -1,7 +1,9 @@
 -- What is found over the graph of a hierarchy, said of the hierarchy.
-use Rattle.std.proofs.Common.{◌≡◌, ℕ, Bool, List, Some, ap, subst, inl, inr, true}
+use Rattle.std.proofs.Common.{◌≡◌, ◌<◌, ◌*◌, ℕ, Bool, List, Some, ap, length, subst, sym, inl, inr, true}
 use Rattle.std.specs.Prelude.{All, slice_get}
+use Rattle.std.proofs.lemmas.Option.{slice_get_within}
 use Rattle.cu_model.specs.declared.roads.Edit.{Edit}
+use Rattle.cu_model.proofs.RoadLaws.{all_at}
 use Rattle.cu_chordal.specs.declared.graph.Ends.{Ends}
 use Rattle.cu_chordal.specs.Graphs.{ChordalValue}
 use Rattle.cu_interval.specs.declared.ways.Dir.{Dir}
@@ -9,7 +11,8 @@ use Rattle.cu_interval.specs.declared.ways.Dir.TheVariants.{Up, Down}
 use Rattle.cu_interval.specs.declared.ways.Entry.{Entry}
 use Rattle.cu_interval.specs.declared.ways.Way.{Way}
 use Rattle.cu_interval.specs.declared.ways.Way.TheVariants.{Road, Via}
-use Rattle.cu_interval.specs.Hierarchies.{HierarchyValue, IsHierarchyOf, list_number, list_of}
+use Rattle.cu_interval.specs.Hierarchies.{HierarchyValue, IsHierarchyOf, IsWellFormed, end_of, list_number, list_of, start_of}
+use Rattle.cu_interval.proofs.EndsLaws.{number_within}
 use Rattle.cu_interval.specs.Touching.{IsChanged}
 use Rattle.cu_unpack.specs.RebuiltRuns.{PackedValue}
 use Rattle.cu_edits.specs.Steps.Packed.{AreAtHandIfMoved, AreCandidatesAtHand, IsAtHand, IsWayAtHand, LearnsPacked}
@@ -71,3 +74,15 @@ module _ (h : HierarchyValue) (graph : ChordalValue) (of : IsHierarchyOf graph h
           (λ given there k d lt. still_at_hand packed learnt learns graph.edges given _ (ways given there k d lt)),
       of_ends (λ es given. (middle : ℕ) → AreAtHandIfMoved moved learnt es given dir middle) edge ends at halves,
     )
+
+-- the way of an entry of a list of the hierarchy, whose edge has these ends in the graph
+pub entry_formed : (h : HierarchyValue) (graph : ChordalValue) → IsHierarchyOf graph h → (edge : ℕ) (ends : Ends) (dir : Dir) (index : ℕ) (entry : Entry)
+    → slice_get graph.edges edge ≡ Some ends → slice_get (list_of h edge dir) index ≡ Some entry → IsWellFormed h (start_of ends dir) (end_of ends dir) entry.way
+entry_formed h graph of edge ends dir index entry at there =
+    let here = subst (λ (es : List Ends). slice_get es edge ≡ Some ends) (same_edges h graph of) at in
+    all_at (λ (e : Entry). IsWellFormed h (start_of ends dir) (end_of ends dir) e.way) (list_of h edge dir) index entry (of.1.formed edge dir ends here) there
+
+-- it is told of both lists of an edge whether they were moved
+pub told_of : (moved : MovedValue) (edges : List Ends) (edge : ℕ) (ends : Ends) (dir : Dir) → length moved.places ≡ 2 * length edges → slice_get edges edge ≡ Some ends
+    → list_number edge dir < length moved.places
+told_of moved edges edge ends dir long at = subst (λ (n : ℕ). list_number edge dir < n) (sym long) (number_within edge (length edges) dir (slice_get_within edges edge ends at))

@@ -1,6 +1,6 @@
 -- Functions that are learnt one edge after the other.
 use Rattle.std.proofs.Common.{◌≡◌, ◌<◌, ◌+◌, ◌∙◌, ℕ, List, Option, Some, None, ap, sym, subst, arith, inl, inr, length, get_or}
-use Rattle.std.specs.Prelude.{Err, Ok, OnOk, Result, slice_get, slice_set}
+use Rattle.std.specs.Prelude.{Err, Ok, OnErr, OnOk, Result, slice_get, slice_set}
 use Rattle.std.specs.List.{Contains}
 use Rattle.std.proofs.lemmas.Bool.{cases_eq}
 use Rattle.std.proofs.lemmas.List.{get_or_default, length-set}
@@ -87,6 +87,10 @@ module _ (h : HierarchyValue) (edges : List Ends) (ends : Ends) (ranks : List �
 pub on_ok : {T E : Type 0} {P Q : Type 0} (r : Result T E) → (P → Q) → OnOk r P → OnOk r Q
 on_ok (Ok x) f p = f p
 on_ok (Err e) f p = p
+
+pub on_err : {T E : Type 0} {P : Type 0} (r : Result T E) → P → OnErr r P
+on_err (Ok x) p = tt
+on_err (Err e) p = p
 
 -- both edges over a rank are sides, and no others are
 pub first_side : (edges : List Ends) (ends : Ends) (rank first second e : ℕ) → slice_get edges first ≡ Some (record { low = rank; high = ends.low })

@@ -1,6 +1,6 @@
 -- One edge more is settled by packed runs, or none.
-use Rattle.std.proofs.Common.{◌≡◌, ◌≢◌, ◌≤◌, ◌<◌, ◌+◌, ◌++◌, ◌*◌, ◌∙◌, ℕ, suc, Bool, List, [], ◌∷◌, Option, Some, None, ap, sym, subst, arith, inl, inr, length}
-use Rattle.std.specs.Prelude.{IfSome, slice_get, slice_set}
+use Rattle.std.proofs.Common.{◌≡◌, ◌≢◌, ◌≤◌, ◌<◌, ◌+◌, ◌++◌, ◌*◌, ◌∙◌, ℕ, suc, Bool, List, [], ◌∷◌, Option, Some, None, refl, ap, sym, subst, arith, inl, inr, length}
+use Rattle.std.specs.Prelude.{All, IfSome, slice_get, slice_set}
 use Rattle.std.proofs.lemmas.Option.{slice_get_within}
 use Rattle.cu_model.specs.declared.roads.Edit.{Edit}
 use Rattle.cu_model.specs.Edits.{edited}
@@ -26,12 +26,13 @@ use Rattle.cu_edits.specs.declared.new_list.NewList.{NewList}
 use Rattle.cu_edits.specs.Customized.{AreCustomized}
 use Rattle.cu_edits.specs.Settling.{IsResettledEdge, SettlingValue, list_in, settled_so_far}
 use Rattle.cu_edits.specs.Steps.Packed.{AreCandidatesAtHand, IsPackedList, IsSettlingPacked, LearnsPacked}
+use Rattle.cu_edits.specs.Steps.Frames.{IsFrame}
 use Rattle.cu_edits.specs.Steps.Holding.{IsNext, settling_of}
-use Rattle.cu_edits.specs.Steps.Moving.{IsOutcome, IsOutcomeOf, IsNewList, KeepsOutcome, MayStand, MovedValue, SayValue}
+use Rattle.cu_edits.specs.Steps.Moving.{IsOutcome, IsOutcomeOf, IsNewList, KeepsMore, KeepsOutcome, MayStand, MovedValue, SayValue, StandingPair}
 use Rattle.cu_edits.specs.Steps.Settled.{AreSettled}
 use Rattle.cu_edits.proofs.AtHand.{same_edges}
 use Rattle.cu_edits.proofs.NewLists as new
-use Rattle.cu_edits.proofs.Placing.{before_last, behind_all, outcome_in, keeping_places, placed_both}
+use Rattle.cu_edits.proofs.Placing.{outcome_in, placed_both}
 use Rattle.cu_edits.proofs.SettledFrames.{settled_with}
 use Rattle.cu_edits.proofs.SettledOnce as once
 use Rattle.cu_edits.proofs.StandingLists.{ArePlaced, moves_more, stands_more}
@@ -125,6 +126,11 @@ module _ (s : SettlingValue) (graph : ChordalValue) (arcs : List (List ℕ)) (pa
       outcome = λ ends at. subst (λ (ways : List Entry). IsOutcome s moved edge dir ends ways list.outcome) (sym same) (outcome_of ends at list.outcome outcome);
     }
 
+-- what holds of whatever an option has
+pub if_some : {A : Type 0} (o : Option A) (P : A → Type 0) → ((x : A) → o ≡ Some x → P x) → IfSome o P
+if_some None P holds = tt
+if_some (Some x) P holds = holds x refl
+
 -- one edge more was settled
 pub record IsOneMore (h : HierarchyValue) (edit : Edit) (before after : List TouchedEdge) (graph : ChordalValue) (arcs : List (List ℕ)) (packed : PackedValue)
     (moved : MovedValue) (t : TouchedEdge) : Type 0 where
@@ -200,32 +206,31 @@ packed_one h edit before after graph arcs packed moved one two last t copy up do
     }
 
 -- functions that are only kept change nothing
-pub packed_kept : (s : SettlingValue) (graph : ChordalValue) (arcs : List (List ℕ)) (packed : PackedValue) (old new : MovedValue) (outcome : Outcome) (place : ℕ) → KeepsOutcome old new outcome place
+pub packed_kept : (s : SettlingValue) (graph : ChordalValue) (arcs : List (List ℕ)) (packed : PackedValue) (old new : MovedValue) → KeepsMore old new
     → IsSettlingPacked s graph arcs packed old → IsSettlingPacked s graph arcs packed new
-packed_kept s graph arcs packed old new Stands place (none, same) holds = subst (IsSettlingPacked s graph arcs packed) (sym same) holds
-packed_kept s graph arcs packed old new (Moves function) place (here, same) holds =
-    let longer = behind_all old.functions function in
-    subst (IsSettlingPacked s graph arcs packed) (sym same) (record {
+packed_kept s graph arcs packed old new more holds =
+    let inside : All (λ (k : ℕ). k ≤ length new.functions) old.places = λ k d lt. (let le = holds.inside k d lt in let longer = more.longer in omega (arith, le, longer)) in
+    record {
       are = holds.are;
       parts = holds.parts;
       known = holds.known;
-      places = holds.places;
-      inside = λ k d lt. let le = holds.inside k d lt in omega (arith, le, longer);
-      stands = holds.stands;
+      places = ap length more.places ∙ holds.places;
+      inside = subst (All (λ (k : ℕ). k ≤ length new.functions)) (sym more.places) inside;
+      stands = subst (λ (ps : List ℕ). IsFrame s.before (settled_so_far s) (StandingPair s (record { places = ps; functions = old.functions }))) (sym more.places) holds.stands;
       moves = λ e d given (p, at, there).
-          let le = all_at (λ (k : ℕ). k ≤ length old.functions) old.places (list_number e d) (suc p) holds.inside at in
-          holds.moves e d given (p, at, sym (before_last old.functions function p (omega (arith, le))) ∙ there);
-    })
+          let before : slice_get old.places (list_number e d) ≡ Some (suc p) = ap (λ (ps : List ℕ). slice_get ps (list_number e d)) (sym more.places) ∙ at in
+          let le = all_at (λ (k : ℕ). k ≤ length old.functions) old.places (list_number e d) (suc p) holds.inside before in
+          holds.moves e d given (p, before, sym (more.still p (omega (arith, le))) ∙ there);
+    }
 
 -- there is a place for both lists of the next edge
-pub place_within : (s : SettlingValue) (graph : ChordalValue) (arcs : List (List ℕ)) (packed : PackedValue) (moved one two : MovedValue) (edge : ℕ) (up down : Outcome) (upwards downwards : ℕ)
-    → IsSettlingPacked s graph arcs packed moved → IsNext s edge → KeepsOutcome moved one up upwards → KeepsOutcome one two down downwards → 2 * edge + 1 < length two.places
-place_within s graph arcs packed moved one two edge up down upwards downwards holds asked first second =
+pub place_within : (s : SettlingValue) (graph : ChordalValue) (arcs : List (List ℕ)) (packed : PackedValue) (moved : MovedValue) (edge : ℕ)
+    → IsSettlingPacked s graph arcs packed moved → IsNext s edge → 2 * edge + 1 < length moved.places
+place_within s graph arcs packed moved edge holds asked =
     let (ends, at, is) = asked.touched in
     let inside = slice_get_within s.before.edges edge ends at in
     let long = holds.places in
-    let same : length two.places ≡ length moved.places = ap length (keeping_places one two down downwards second ∙ keeping_places moved one up upwards first) in
-    omega (arith, inside, long, same)
+    omega (arith, inside, long)
 
 -- what became of a list, where the moved lists are those of before
 pub new_list_over : (s : SettlingValue) (moved kept : MovedValue) (edge : ℕ) (dir : Dir) (found : Option NewList) (list : NewList) → found ≡ Some list → kept ≡ moved

@@ -9,7 +9,7 @@ use Rattle.cu_interval.specs.declared.ways.Dir.TheVariants.{Up, Down}
 use Rattle.cu_interval.specs.Hierarchies.{list_number}
 use Rattle.cu_edits.specs.declared.new_list.Outcome.{Outcome}
 use Rattle.cu_edits.specs.declared.new_list.Outcome.TheVariants.{Stands, Moves}
-use Rattle.cu_edits.specs.Steps.Moving.{KeepsOutcome, MovedValue}
+use Rattle.cu_edits.specs.Steps.Moving.{KeepsBoth, KeepsMore, KeepsOutcome, MovedValue}
 use Rattle.cu_edits.proofs.Replaced.{numbers_apart}
 use Rattle.cu_edits.proofs.StandingLists.{ArePlaced, IsPlacedAs}
 use Rattle.cu_edits.proofs.EditedNetworks.{all_set}
@@ -62,6 +62,35 @@ grows_then old mid new first second = record {
   longer = let one = first.longer in let two = second.longer in omega (arith, one, two);
   still = λ p lt. let one = first.longer in second.still p (omega (arith, lt, one)) ∙ first.still p lt;
 }
+
+-- so nothing that was kept before is another
+pub more_none : (old new : MovedValue) → new ≡ old → KeepsMore old new
+more_none old new same = subst (KeepsMore old) (sym same) (record { places = refl; longer = omega arith; still = λ p lt. refl })
+
+pub keeping_more : (old new : MovedValue) (outcome : Outcome) (place : ℕ) → KeepsOutcome old new outcome place → KeepsMore old new
+keeping_more old new outcome place keeps =
+    let grows = keeping_grows old new outcome place keeps in
+    record { places = keeping_places old new outcome place keeps; longer = grows.longer; still = grows.still }
+
+-- both outcomes of an edge are kept
+module _ (old new : MovedValue) (up down : Outcome) (upwards downwards : ℕ) (both : KeepsBoth old new up down upwards downwards) where
+  pub both_more : KeepsMore old new
+  both_more =
+      let grows = grows_then old.functions both.mid.functions new.functions (keeping_grows old both.mid up upwards both.upper) (keeping_grows both.mid new down downwards both.lower) in
+      record {
+        places = keeping_places both.mid new down downwards both.lower ∙ keeping_places old both.mid up upwards both.upper;
+        longer = grows.longer;
+        still = grows.still;
+      }
+
+  pub upper_inside : upwards ≤ length new.functions
+  upper_inside =
+      let le = keeping_inside old both.mid up upwards both.upper in
+      let longer = (keeping_grows both.mid new down downwards both.lower).longer in
+      omega (arith, le, longer)
+
+  pub lower_inside : downwards ≤ length new.functions
+  lower_inside = keeping_inside both.mid new down downwards both.lower
 
 -- what is kept at a place stays there
 placed_as : (old mid new : MovedValue) (edge : ℕ) (dir : Dir) (outcome : Outcome) (place : ℕ) → KeepsOutcome old mid outcome place → Grows mid.functions new.functions

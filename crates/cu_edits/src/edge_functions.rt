@@ -1,6 +1,6 @@
 //! The functions that settling an edge asks for, all of them known beforehand.
 
-ghost use Rattle.std.specs.Prelude.{◌≡◌, All, IfOk, None, Option, length};
+ghost use Rattle.std.specs.Prelude.{◌≡◌, ◌<◌, All, IfOk, None, Option, Some, length, slice_set};
 ghost use Rattle.cu_edits.specs.declared.edge_functions.EdgeFunctions.{EdgeFunctions};
 ghost use Rattle.cu_customize.specs.Functions.{IsFunction};
 ghost use Rattle.cu_edits.specs.Steps.Known.{function_in, functions_of, values_of};
@@ -101,4 +101,12 @@ pub fn nothing_known(alloc: Global, edges: u32) -> Result<Vec<Option<EdgeFunctio
         known.push(None)?;
     }
     Ok(known)
+}
+
+/// The functions of an edge, below the number of edges, are known. Takes no memory.
+pub fn know(known: &mut [Option<EdgeFunctions>], edge: u32, functions: EdgeFunctions)
+    requires { edge < length known.old }
+    ensures { known.new ≡ slice_set known.old edge (Some functions) }
+{
+    known[edge as usize] = Some(functions);
 }

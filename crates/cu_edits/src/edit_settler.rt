@@ -1,6 +1,6 @@
 //! The settler of an edit: it settles an edge by the functions of the edges settled before it and of those that stay.
 
-ghost use Rattle.std.specs.Prelude.{◌≡◌, ◌<◌, ◌++◌, ◌∷◌, [], ℕ, List, IfNone, IfOk, IfSome, OnErr, OnOk, length};
+ghost use Rattle.std.specs.Prelude.{◌≡◌, ◌<◌, ◌*◌, ◌++◌, ◌∷◌, [], ℕ, List, All, IfNone, IfOk, IfSome, OnErr, OnOk, length};
 ghost use Rattle.cu_model.specs.Edits.{IsEditInRange, edited};
 ghost use Rattle.cu_interval.specs.declared.ways.TouchedEdge.{TouchedEdge};
 ghost use Rattle.cu_interval.specs.EdgeArcs.{AreEdgeArcs};
@@ -15,8 +15,8 @@ ghost use Rattle.cu_edits.specs.Steps.Holding.{IsNext, IsSettledEdge, IsSettling
 ghost use Rattle.cu_edits.specs.Steps.Known.{HasFunctions, functions_of};
 ghost use Rattle.cu_edits.specs.Steps.Parts.{settling_over};
 
-use crate::copied_lists::copy_touched;
-use crate::edge_functions::{EdgeFunctions, KnownFunctions};
+use crate::copied_lists::push_copy;
+use crate::edge_functions::{EdgeFunctions, KnownFunctions, know};
 use crate::edit_parts::EditParts;
 use crate::learned::Learned;
 use crate::learning::learn_sides;
@@ -33,6 +33,7 @@ use cu_model::{Edit, NoMemory};
 use cu_unpack::Rebuilt;
 use std::alloc::Global;
 use std::marker::Model;
+use std::mem;
 
 /// Settles the edges that an edit touches, by the roads of the edited network and by the functions of lower edges: of those
 /// that it settled, and of those whose lists stand, whose functions it rebuilds from their ways as they are needed. They
@@ -216,11 +217,40 @@ fn hold_packed<W: Ways>(
         → HoldsOver parts.now settled state.old → HoldsOver parts.now settled state.new }
 {
     if let SettlerState::Nothing(learned) = state {
-        let learned = begin(alloc, parts, learned.take())?;
-        let moved = MovedLists::new(alloc, parts.edges())?;
-        *state = SettlerState::Packed(learned.packed_with(moved));
+        let packed = begin_packed(alloc, parts, learned.take())?;
+        set_state(state, SettlerState::Packed(packed));
     }
     Ok(())
+}
+
+// Puts what is state next in the place of what was.
+fn set_state(state: &mut SettlerState, next: SettlerState)
+    ensures { state.new ≡ next }
+{
+    drop(mem::replace(state, next));
+}
+
+// Packed runs by what was learned earlier, or else room for what will be; none was moved yet.
+fn begin_packed<W: Ways>(
+    alloc: Global,
+    parts: &EditParts<'_, W>,
+    earlier: Option<Learned>,
+) -> Result<PackedState, NoMemory>
+    ensures functions { IfOk result (λ packed. (h : HierarchyValue)
+        → length h.edges ≡ length parts.now.graph.edges
+        → IfSome earlier (ArePackedOf h) → ArePackedOf h packed.functions) }
+    ensures long { IfOk result (λ packed.
+        length packed.moved.places ≡ 2 * length parts.now.graph.edges) }
+    ensures none { IfOk result (λ packed. All (λ place. place ≡ 0) packed.moved.places) }
+{
+    let learned = begin(alloc, parts, earlier)?;
+    match MovedLists::new(alloc, parts.edges()) {
+        Ok(moved) => Ok(learned.packed_with(moved)),
+        Err(refused) => {
+            drop(learned);
+            Err(refused)
+        }
+    }
 }
 
 // What was learned earlier, or else room for what will be.
@@ -282,7 +312,7 @@ fn turn_plain<W: Ways>(
         return Ok(());
     };
     let plain = plain_of_packed(alloc, parts, settled, &packed.moved)?;
-    *state = SettlerState::Plain(plain);
+    set_state(state, SettlerState::Plain(plain));
     Ok(())
 }
 
@@ -337,9 +367,8 @@ fn settle_next<W: Ways>(
     let ends = parts.ends(edge);
     learn_sides(alloc, parts, ends, rebuilt, known)?;
     let (lists, functions) = settle_edge(alloc, parts, known, edge)?;
-    let copy = copy_touched(alloc, &lists)?;
-    settled.push(copy)?;
-    known[edge as usize] = Some(functions);
+    push_copy(alloc, settled, &lists)?;
+    know(known, edge, functions);
     Ok(lists)
 }
 

@@ -125,16 +125,27 @@ impl Learned {
         ensures { IfOk result (λ learned. HasTaken state.moved state.functions learned edges) }
     {
         let PackedState {
-            functions,
+            mut functions,
             moved,
             settling,
         } = state;
-        let mut functions = functions;
-        take_moved(alloc, &moved, edges, &mut functions)?;
-        Ok(Learned {
-            functions,
-            settling,
-        })
+        match take_moved(alloc, &moved, edges, &mut functions) {
+            Ok(()) => {
+                drop(moved);
+                Ok(Learned {
+                    functions,
+                    settling,
+                })
+            }
+            Err(refused) => {
+                drop(PackedState {
+                    functions,
+                    moved,
+                    settling,
+                });
+                Err(refused)
+            }
+        }
     }
 }
 

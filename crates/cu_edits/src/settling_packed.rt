@@ -1,14 +1,16 @@
 //! Settling the touched edges of an edit by packed runs.
 
-ghost use Rattle.std.specs.Prelude.{◌≡◌, ◌<◌, ◌++◌, ◌∷◌, [], IfNone, IfOk, IfSome, OnErr, length, true};
+ghost use Rattle.std.specs.Prelude.{◌≡◌, ◌<◌, ◌*◌, ◌++◌, ◌∷◌, [], IfNone, IfOk, IfSome, OnErr, OnOk, length, true};
+ghost use Rattle.cu_model.specs.Edits.{edited};
 ghost use Rattle.cu_interval.specs.declared.ways.Dir.TheVariants.{Up, Down};
-ghost use Rattle.cu_interval.specs.Hierarchies.{list_of};
+ghost use Rattle.cu_interval.specs.Hierarchies.{list_number, list_of};
+ghost use Rattle.cu_customize.specs.Functions.{kept_state};
 ghost use Rattle.cu_edits.specs.Settling.{IsResettledEdge, settled_so_far};
 ghost use Rattle.cu_edits.specs.Learned.{ArePackedOf};
-ghost use Rattle.cu_edits.specs.Steps.Packed.{AreCandidatesAtHand, IfNear, LearnsPacked};
+ghost use Rattle.cu_edits.specs.Steps.Packed.{AreCandidatesAtHand, IfNear, IsPackedList, LearnsPacked};
 ghost use Rattle.cu_edits.specs.Steps.SettlerStates.{HoldsPacked, SettlesList};
 ghost use Rattle.cu_edits.specs.Steps.Holding.{IsNext};
-ghost use Rattle.cu_edits.specs.Steps.Moving.{AreWaysUnmoved, IsOutcomeOf, IsNewList, KeepsWays, MayStand};
+ghost use Rattle.cu_edits.specs.Steps.Moving.{AreWaysUnmoved, IsOutcomeOf, IsNewList, KeepsBoth, KeepsMore, KeepsWays, MayStand, PlacesBoth};
 ghost use Rattle.cu_edits.specs.Steps.Parts.{FitTogether, TellsLists, settling_over};
 
 use crate::copied_lists::copy_touched;
@@ -20,9 +22,10 @@ use crate::settler_state::PackedState;
 use crate::unchanged_lists::{
     are_halves_unmoved, are_old_entries, are_roads_unchanged, are_ways_unmoved, copy_old_list,
 };
-use cu_customize::SettledRuns;
+use cu_customize::{PackedSettling, SettledRuns};
 use cu_interval::{Dir, Entry, TouchedEdge, Ways};
 use cu_model::NoMemory;
+use cu_runs::LayeredFunctions;
 use cu_unpack::PackedFunctions;
 use std::alloc::Global;
 
@@ -108,12 +111,42 @@ fn keep_lists<W: Ways>(
         up: up.ways,
         down: down.ways,
     };
-    let copy = copy_touched(alloc, &lists)?;
-    let upwards = state.moved.keep(up.outcome)?;
-    let downwards = state.moved.keep(down.outcome)?;
-    settled.push(copy)?;
-    state.moved.place(edge, upwards, downwards);
+    let moved = &mut state.moved;
+    keep_settled(alloc, moved, settled, &lists, up.outcome, down.outcome)?;
     Ok(lists)
+}
+
+// Keeps both lists of an edge, and what became of them.
+fn keep_settled(
+    alloc: Global,
+    moved: &mut MovedLists,
+    settled: &mut Vec<TouchedEdge>,
+    lists: &TouchedEdge,
+    up: Outcome,
+    down: Outcome,
+) -> Result<(), NoMemory>
+    requires { list_number lists.now.edge Down < length moved.old.places }
+    ensures settled { OnOk result (settled.new.items ≡ settled.old.items ++ lists.now ∷ []) }
+    ensures kept { OnErr result (settled.new.items ≡ settled.old.items) }
+    ensures places { OnOk result (PlacesBoth moved.old moved.new lists.now.edge up down) }
+    ensures more { OnErr result (KeepsMore moved.old moved.new) }
+{
+    let copy = copy_touched(alloc, lists)?;
+    let (upwards, downwards) = keep_both(moved, up, down)?;
+    settled.push(copy)?;
+    moved.place(lists.edge, upwards, downwards);
+    Ok(())
+}
+
+// Keeps what became of both lists of an edge. Answers where.
+fn keep_both(moved: &mut MovedLists, up: Outcome, down: Outcome) -> Result<(u32, u32), NoMemory>
+    ensures kept { IfOk result (λ (upwards, downwards).
+        KeepsBoth moved.old moved.new up down upwards downwards) }
+    ensures more { OnErr result (KeepsMore moved.old moved.new) }
+{
+    let upwards = moved.keep(up)?;
+    let downwards = moved.keep(down)?;
+    Ok((upwards, downwards))
 }
 
 // The list of the edge that is settled next in a direction. None where a way takes longer than packed runs can say.
@@ -181,14 +214,32 @@ fn settle_list<W: Ways>(
         return Ok(None);
     }
     let functions = moved.over(state.functions.functions());
+    match settle_runs(alloc, parts, functions, &mut state.settling, edge, dir)? {
+        None => Ok(None),
+        Some(found) => Ok(Some(new_list(parts, moved, edge, dir, found))),
+    }
+}
+
+// Settles the list of an edge in a direction by these functions. None where a way takes longer than packed runs can say.
+fn settle_runs<W: Ways>(
+    alloc: Global,
+    parts: &EditParts<'_, W>,
+    functions: LayeredFunctions<'_>,
+    settling: &mut PackedSettling,
+    edge: u32,
+    dir: Dir,
+) -> Result<Option<SettledRuns>, NoMemory>
+    requires edge { edge < length parts.now.graph.edges }
+    requires functions { length functions ≡ 2 * length parts.now.graph.edges }
+    ensures { IfOk result (λ found. IfSome found (IsPackedList parts.now.before.edges
+        parts.now.arcs (kept_state (edited parts.now.before.network parts.now.edit)
+        functions.entry) edge dir)) }
+{
     let roads = parts.edited_roads();
     let graph = parts.graph();
     let arcs = parts.edge_arcs();
-    let settling = &mut state.settling;
-    let Some(found) = settling.settle(alloc, &roads, graph, arcs, functions, edge, dir)? else {
-        return Ok(None);
-    };
-    Ok(Some(new_list(parts, moved, edge, dir, found)))
+    let found = settling.settle(alloc, &roads, graph, arcs, functions, edge, dir)?;
+    Ok(found)
 }
 
 // Learns the halves of the candidates that a list of an edge may be made of after the edit: of all, or, where its ways are as

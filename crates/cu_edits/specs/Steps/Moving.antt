@@ -1,5 +1,5 @@
 -- Lists that an edit moves, and lists that stand: their ways are those of before, and so is when they arrive.
-use Rattle.std.specs.Prelude.{ℕ, suc, List, [], ◌∷◌, ◌++◌, Bool, true, Option, Some, None, ◌≡◌, ◌≢◌, ◌<◌, All, length, slice_get}
+use Rattle.std.specs.Prelude.{ℕ, suc, List, [], ◌∷◌, ◌++◌, Bool, true, Option, Some, None, ◌≡◌, ◌≢◌, ◌≤◌, ◌<◌, All, length, slice_get, slice_set}
 use Rattle.cu_model.specs.declared.roads.Edit.{Edit}
 use Rattle.cu_model.specs.Days.{day, IsOnward}
 use Rattle.cu_model.specs.Networks.{NetworkValue}
@@ -94,3 +94,24 @@ IsOutcomeOf h edit moved edge dir settled (Moves function) = function ≡ settle
 abbrev pub KeepsOutcome : MovedValue → MovedValue → Outcome → ℕ → Type 0
 KeepsOutcome old new Stands place = (place ≡ 0) × (new ≡ old)
 KeepsOutcome old new (Moves function) place = (place ≡ suc (length old.functions)) × (new ≡ record old { functions = old.functions ++ (function ∷ []) })
+
+-- what became of both lists of an edge is kept at these places, one after the other
+pub record KeepsBoth (old new : MovedValue) (up down : Outcome) (upwards downwards : ℕ) : Type 0 where
+  pub mid : MovedValue
+  pub upper : KeepsOutcome old mid up upwards
+  pub lower : KeepsOutcome mid new down downwards
+
+-- and then put in their places
+pub record PlacesBoth (old new : MovedValue) (edge : ℕ) (up down : Outcome) : Type 0 where
+  pub kept : MovedValue
+  pub upwards : ℕ
+  pub downwards : ℕ
+  pub both : KeepsBoth old kept up down upwards downwards
+  pub places : new.places ≡ slice_set (slice_set kept.places (list_number edge Up) upwards) (list_number edge Down) downwards
+  pub functions : new.functions ≡ kept.functions
+
+-- no place is another, and functions are kept behind those before
+pub record KeepsMore (old new : MovedValue) : Type 0 where
+  pub places : new.places ≡ old.places
+  pub longer : length old.functions ≤ length new.functions
+  pub still : (place : ℕ) → place < length old.functions → slice_get new.functions place ≡ slice_get old.functions place

@@ -1,6 +1,7 @@
-use Rattle.std.proofs.Common.{refl}
+use Rattle.std.proofs.Common.{ap, arith, length, refl}
 use Rattle.cu_edits.specs.Steps.Parts.{settling_over}
 use Rattle.cu_edits.proofs.SettlingNext.{ends_within, lower_sides, next_none, next_one, next_within}
+use Rattle.cu_chordal.specs.Graphs.{ChordalValue}
 use Rattle.cu_edits.proofs.edit_settler.settle_next.Goals as goal
 
 pub ends-ends-requires : goal.ends-ends-requires
@@ -41,38 +42,42 @@ returns-in_err-lists-clause-holds g c =
     next_none c.args.parts.now.before c.args.parts.now.edit list list c.args.parts.now.graph c.args.parts.now.arcs c.args.rebuilt.now c.learn_sides.new.rebuilt c.args.known.now c.learn_sides.new.known
     c.args.edge c.ends-ends.result c.requires.holds c.requires.asked c.ends-ends.ensures.there c.learn_sides.ensures.learns c.learn_sides.ensures.size c.learn_sides.ensures.keeps refl
 
-pub returns-in_err-copy-clause-holds : goal.returns-in_err-copy-clause-holds
-returns-in_err-copy-clause-holds g c =
-    let list = c.args.settled.now.items in
-    next_none c.args.parts.now.before c.args.parts.now.edit list list c.args.parts.now.graph c.args.parts.now.arcs c.args.rebuilt.now c.learn_sides.new.rebuilt c.args.known.now c.learn_sides.new.known
-    c.args.edge c.ends-ends.result c.requires.holds c.requires.asked c.ends-ends.ensures.there c.learn_sides.ensures.learns c.learn_sides.ensures.size c.learn_sides.ensures.keeps refl
-
-pub returns-in_err-push-clause-holds : goal.returns-in_err-push-clause-holds
-returns-in_err-push-clause-holds g c =
-    next_none c.args.parts.now.before c.args.parts.now.edit c.args.settled.now.items c.push.new.self.items c.args.parts.now.graph c.args.parts.now.arcs c.args.rebuilt.now c.learn_sides.new.rebuilt
+pub returns-in_err-push_copy-clause-holds : goal.returns-in_err-push_copy-clause-holds
+returns-in_err-push_copy-clause-holds g c =
+    next_none c.args.parts.now.before c.args.parts.now.edit c.args.settled.now.items c.push_copy.new.settled.items c.args.parts.now.graph c.args.parts.now.arcs
+    c.args.rebuilt.now c.learn_sides.new.rebuilt
     c.args.known.now c.learn_sides.new.known c.args.edge c.ends-ends.result c.requires.holds c.requires.asked c.ends-ends.ensures.there c.learn_sides.ensures.learns c.learn_sides.ensures.size
-    c.learn_sides.ensures.keeps c.in_err-push.ensures.items
+    c.learn_sides.ensures.keeps c.in_err-push_copy.ensures.kept
 
 pub returns-clause-edge : goal.returns-clause-edge
 returns-clause-edge g c = c.in_ok-lists.ensures.number
 
 pub returns-clause-settled : goal.returns-clause-settled
-returns-clause-settled g c =
-    (next_one c.args.parts.now.before c.args.parts.now.edit c.args.settled.now.items c.push.new.self.items c.args.parts.now.graph c.args.parts.now.arcs c.args.rebuilt.now c.learn_sides.new.rebuilt
-    c.args.known.now c.learn_sides.new.known _ c.args.edge c.ends-ends.result c.in_ok-lists.lists c.in_ok-copy.copy c.in_ok-lists.functions c.requires.holds c.requires.asked c.ends-ends.ensures.there
-    c.learn_sides.ensures.learns c.learn_sides.ensures.size c.learn_sides.ensures.keeps c.in_ok-learn_sides.ensures.sides c.in_ok-lists.ensures
-    c.in_ok-copy.ensures c.in_ok-push.ensures.items refl).list
+returns-clause-settled g c = c.in_ok-push_copy.ensures.added
 
 pub returns-clause-resettled : goal.returns-clause-resettled
 returns-clause-resettled g c =
-    (next_one c.args.parts.now.before c.args.parts.now.edit c.args.settled.now.items c.push.new.self.items c.args.parts.now.graph c.args.parts.now.arcs c.args.rebuilt.now c.learn_sides.new.rebuilt
-    c.args.known.now c.learn_sides.new.known _ c.args.edge c.ends-ends.result c.in_ok-lists.lists c.in_ok-copy.copy c.in_ok-lists.functions c.requires.holds c.requires.asked c.ends-ends.ensures.there
-    c.learn_sides.ensures.learns c.learn_sides.ensures.size c.learn_sides.ensures.keeps c.in_ok-learn_sides.ensures.sides c.in_ok-lists.ensures c.in_ok-copy.ensures c.in_ok-push.ensures.items
-    refl).resettled
+    (next_one c.args.parts.now.before c.args.parts.now.edit c.args.settled.now.items c.push_copy.new.settled.items c.args.parts.now.graph c.args.parts.now.arcs
+    c.args.rebuilt.now c.learn_sides.new.rebuilt
+    c.args.known.now c.learn_sides.new.known c.know.new.known c.args.edge c.ends-ends.result c.in_ok-lists.lists c.in_ok-lists.lists c.in_ok-lists.functions
+    c.requires.holds c.requires.asked c.ends-ends.ensures.there
+    c.learn_sides.ensures.learns c.learn_sides.ensures.size c.learn_sides.ensures.keeps c.in_ok-learn_sides.ensures.sides c.in_ok-lists.ensures refl c.in_ok-push_copy.ensures.added
+    c.know.ensures).resettled
 
 pub returns-clause-holds : goal.returns-clause-holds
 returns-clause-holds g c =
-    (next_one c.args.parts.now.before c.args.parts.now.edit c.args.settled.now.items c.push.new.self.items c.args.parts.now.graph c.args.parts.now.arcs c.args.rebuilt.now c.learn_sides.new.rebuilt
-    c.args.known.now c.learn_sides.new.known _ c.args.edge c.ends-ends.result c.in_ok-lists.lists c.in_ok-copy.copy c.in_ok-lists.functions c.requires.holds c.requires.asked c.ends-ends.ensures.there
+    (next_one c.args.parts.now.before c.args.parts.now.edit c.args.settled.now.items c.push_copy.new.settled.items c.args.parts.now.graph c.args.parts.now.arcs
+    c.args.rebuilt.now c.learn_sides.new.rebuilt
+    c.args.known.now c.learn_sides.new.known c.know.new.known c.args.edge c.ends-ends.result c.in_ok-lists.lists c.in_ok-lists.lists c.in_ok-lists.functions
+    c.requires.holds c.requires.asked c.ends-ends.ensures.there
     c.learn_sides.ensures.learns c.learn_sides.ensures.size c.learn_sides.ensures.keeps c.in_ok-learn_sides.ensures.sides c.in_ok-lists.ensures
-    c.in_ok-copy.ensures c.in_ok-push.ensures.items refl).holds
+    refl c.in_ok-push_copy.ensures.added c.know.ensures).holds
+
+pub know-requires : goal.know-requires
+know-requires g c =
+    let inside = next_within (settling_over c.args.parts.now c.args.settled.now.items) c.args.parts.now.graph c.args.parts.now.arcs c.args.rebuilt.now c.args.known.now c.args.edge
+    c.requires.holds c.requires.asked in
+    let count = c.requires.holds.count in
+    let long = c.learn_sides.ensures.learns.long in
+    let graph = ap (λ (k : ChordalValue). length k.edges) c.requires.holds.hierarchy.0 in
+    omega (arith, inside, count, long, graph)

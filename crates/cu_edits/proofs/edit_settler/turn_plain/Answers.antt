@@ -25,4 +25,5 @@ returns-clause-holds g c =
     let s = settling_over c.args.parts.now c.args.settled.now in
     let packed : IsSettlingPacked s c.args.parts.now.graph c.args.parts.now.arcs c.in-Packed.packed.functions c.in-Packed.packed.moved =
     subst (Holds s c.args.parts.now.graph c.args.parts.now.arcs) c.in-Packed.is c.requires.holds in
-    gone_over s c.args.parts.now.graph c.args.parts.now.arcs c.in-Packed.packed.functions c.in-Packed.packed.moved c.in_ok-plain.plain packed c.in_ok-plain.ensures
+    subst (Holds s c.args.parts.now.graph c.args.parts.now.arcs) (sym c.set_state.ensures)
+    (gone_over s c.args.parts.now.graph c.args.parts.now.arcs c.in-Packed.packed.functions c.in-Packed.packed.moved c.in_ok-plain.plain packed c.in_ok-plain.ensures)

@@ -6,6 +6,8 @@ use Rattle.cu_interval.specs.Hierarchies.{list_of}
 use Rattle.cu_edits.specs.Steps.Packed.{IsWayAtHand}
 use Rattle.cu_edits.proofs.FirstOnes.{all_next, all_of_first}
 use Rattle.cu_edits.proofs.LearntPacked.{learns_then, ways_still}
+use Rattle.cu_edits.proofs.SettlingNext.{ends_within}
+use Rattle.cu_edits.proofs.AtHand.{entry_formed}
 use Rattle.cu_edits.proofs.learning_packed.learn_ways.Goals as goal
 
 pub loop-index-preserved : goal.loop-index-preserved
@@ -35,3 +37,25 @@ returns-clause-known g c is ends at =
     let known = all_of_first (λ (entry : Entry). IsWayAtHand moved c.loop-index.packed edges c.ends-ends.result c.args.dir entry.way) list c.loop-index.index
     (omega (arith, long, c.loop-index-test.false)) c.loop-index.invariant.known in
     subst (λ (e : Ends). All (λ (entry : Entry). IsWayAtHand moved c.loop-index.packed edges e c.args.dir entry.way) list) same known
+
+pub learn_way-requires-clause-formed : goal.learn_way-requires-clause-formed
+learn_way-requires-clause-formed g c =
+    entry_formed c.args.parts.now.before c.args.parts.now.graph c.ends-ends.ensures.fit.0.hierarchy c.args.edge c.ends-ends.result c.args.dir c.loop-index.index c.entry-entry.result
+    c.ends-ends.ensures.there c.entry-entry.ensures.there
+
+pub learn_way-requires-clause-ranks : goal.learn_way-requires-clause-ranks
+learn_way-requires-clause-ranks g c = ends_within c.args.parts.now.graph c.args.edge c.ends-ends.result c.ends-ends.ensures.sound c.ends-ends.ensures.there
+
+pub learn_way-requires-clause-packed : goal.learn_way-requires-clause-packed
+learn_way-requires-clause-packed g c = c.loop-index.invariant.learns.packed
+
+pub returns-in_err-learn_way-clause-learns : goal.returns-in_err-learn_way-clause-learns
+returns-in_err-learn_way-clause-learns g c =
+    learns_then c.args.parts.now.before c.args.packed.now c.loop-index.packed c.learn_way.new.packed c.loop-index.invariant.learns c.learn_way.ensures.learns
+
+pub returns-then-not-branch-clause-learns : goal.returns-then-not-branch-clause-learns
+returns-then-not-branch-clause-learns g c =
+    learns_then c.args.parts.now.before c.args.packed.now c.loop-index.packed c.learn_way.new.packed c.loop-index.invariant.learns c.learn_way.ensures.learns
+
+pub returns-clause-learns : goal.returns-clause-learns
+returns-clause-learns g c = c.loop-index.invariant.learns

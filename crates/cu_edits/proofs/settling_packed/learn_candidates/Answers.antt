@@ -2,6 +2,7 @@ use Rattle.std.proofs.Common.{Bool}
 use Rattle.std.proofs.lemmas.Result.{IfOk-weaker}
 use Rattle.cu_edits.proofs.AtHand.{all_at_hand, some_at_hand}
 use Rattle.cu_edits.proofs.SettlingNext.{ends_within}
+use Rattle.cu_edits.proofs.LearntPacked.{learns_then}
 use Rattle.cu_edits.proofs.settling_packed.learn_candidates.Goals as goal
 
 pub learn_middles-requires-2-clause-ranks : goal.learn_middles-requires-2-clause-ranks
@@ -19,3 +20,13 @@ returns-clause-known g c =
     (λ (is_near : Bool) known near. some_at_hand c.args.parts.now.before c.args.parts.now.graph c.ends-ends.ensures.fit.0.hierarchy c.args.parts.now.edit
     c.args.parts.now.customized c.args.moved.now c.args.edge c.args.dir c.learn_ways.new.packed c.learn_middles-2.new.packed c.ends-ends.result c.ends-ends.ensures.there
     (c.keeps_its_ways.ensures c.if-not-keeps_its_ways.false) (c.in_ok-learn_ways.ensures.known c.if-not-branch.false) c.learn_middles-2.ensures.learns (known near)) c.learn_middles-2.ensures.known
+
+pub learn_middles-requires-clause-ranks : goal.learn_middles-requires-clause-ranks
+learn_middles-requires-clause-ranks g c = (ends_within c.args.parts.now.graph c.args.edge c.ends-ends.result c.ends-ends.ensures.sound c.ends-ends.ensures.there).0
+
+pub learn_middles-requires-2-clause-packed : goal.learn_middles-requires-2-clause-packed
+learn_middles-requires-2-clause-packed g c = c.learn_ways.ensures.learns.packed
+
+pub returns-clause-learns : goal.returns-clause-learns
+returns-clause-learns g c =
+    learns_then c.args.parts.now.before c.args.packed.now c.learn_ways.new.packed c.learn_middles-2.new.packed c.learn_ways.ensures.learns c.learn_middles-2.ensures.learns

@@ -1,6 +1,9 @@
-use Rattle.cu_interval.specs.declared.ways.Dir.TheVariants.{Down}
+use Rattle.std.proofs.Common.{◌*◌, ◌∙◌, ap, length, sym}
+use Rattle.cu_chordal.specs.Graphs.{ChordalValue}
+use Rattle.cu_interval.specs.declared.ways.Dir.TheVariants.{Down, Up}
 use Rattle.cu_edits.specs.Steps.Parts.{settling_over}
 use Rattle.cu_edits.proofs.PackedNext.{edge_inside, new_list_over, packed_still}
+use Rattle.cu_edits.specs.Steps.Moving.{MovedValue}
 use Rattle.cu_edits.proofs.settling_packed.next_lists.Goals as goal
 
 pub next_list-requires-2-clause-edge : goal.next_list-requires-2-clause-edge
@@ -56,3 +59,24 @@ returns-clause-holds g c =
     (packed_still s graph arcs c.args.state.now.functions c.next_list.new.state.functions c.args.state.now.moved c.next_list.new.state.moved c.requires.holds c.next_list.ensures.learns
     c.next_list.ensures.moved)
     c.next_list-2.ensures.learns c.next_list-2.ensures.moved
+
+pub next_list-requires-clause-moved : goal.next_list-requires-clause-moved
+next_list-requires-clause-moved g c = c.requires.holds.places ∙ ap (λ (k : ChordalValue). 2 * length k.edges) (sym c.requires.holds.parts.hierarchy.0)
+
+pub next_list-requires-clause-edge : goal.next_list-requires-clause-edge
+next_list-requires-clause-edge g c =
+    edge_inside (settling_over c.args.parts.now c.args.settled.now) c.args.parts.now.graph c.args.edge
+    c.requires.holds.parts.hierarchy c.requires.asked
+
+pub next_list-requires-2-clause-packed : goal.next_list-requires-2-clause-packed
+next_list-requires-2-clause-packed g c = c.next_list.ensures.learns.packed
+
+pub next_list-requires-2-clause-moved : goal.next_list-requires-2-clause-moved
+next_list-requires-2-clause-moved g c =
+    ap (λ (m : MovedValue). length m.places) c.next_list.ensures.moved ∙ c.requires.holds.places
+    ∙ ap (λ (k : ChordalValue). 2 * length k.edges) (sym c.requires.holds.parts.hierarchy.0)
+
+pub returns-clause-up : goal.returns-clause-up
+returns-clause-up g c =
+    new_list_over (settling_over c.args.parts.now c.args.settled.now) c.args.state.now.moved c.next_list-2.new.state.moved c.args.edge Up c.in_ok-up.field-0 c.in-Some.up c.in-Some.is
+    (c.next_list-2.ensures.moved ∙ c.next_list.ensures.moved) (c.in_ok-up.ensures.list c.args.settled.now c.requires.holds c.requires.asked)

@@ -1,0 +1,37 @@
+use Rattle.std.proofs.Common.{List, Option, subst, sym}
+use Rattle.std.specs.Prelude.{IfSome}
+use Rattle.cu_interval.specs.declared.ways.Dir.TheVariants.{Down, Up}
+use Rattle.cu_interval.specs.declared.ways.TouchedEdge.{TouchedEdge}
+use Rattle.cu_edits.specs.declared.new_list.NewList.{NewList}
+use Rattle.cu_edits.specs.Steps.Holding.{IsNext}
+use Rattle.cu_edits.specs.Steps.Moving.{IsNewList}
+use Rattle.cu_edits.specs.Steps.Parts.{settling_over}
+use Rattle.cu_edits.specs.Steps.SettlerStates.{HoldsPacked}
+use Rattle.cu_edits.proofs.settling_packed.settle_packed.Goals as goal
+
+pub next_lists-requires-clause-holds : goal.next_lists-requires-clause-holds
+next_lists-requires-clause-holds g c = subst (λ (done : List TouchedEdge). HoldsPacked c.args.parts.now done c.args.state.now) (sym c.deref.ensures.value) c.requires.holds
+
+pub next_lists-requires-clause-asked : goal.next_lists-requires-clause-asked
+next_lists-requires-clause-asked g c = subst (λ (done : List TouchedEdge). IsNext (settling_over c.args.parts.now done) c.args.edge) (sym c.deref.ensures.value) c.requires.asked
+
+pub keep_lists-requires-clause-holds : goal.keep_lists-requires-clause-holds
+keep_lists-requires-clause-holds g c = subst (λ (done : List TouchedEdge). HoldsPacked c.args.parts.now done c.next_lists.new.state) c.deref.ensures.value c.next_lists.ensures.holds
+
+pub keep_lists-requires-clause-up : goal.keep_lists-requires-clause-up
+keep_lists-requires-clause-up g c =
+    subst (λ (done : List TouchedEdge). IsNewList (settling_over c.args.parts.now done) c.next_lists.new.state.moved c.args.edge Up c.in-Some.up) c.deref.ensures.value
+    (subst (λ (o : Option (NewList × NewList)). IfSome o (λ lists. IsNewList (settling_over c.args.parts.now c.deref.result.now) c.next_lists.new.state.moved c.args.edge Up lists.0))
+    c.in-Some.is c.in_ok-up.ensures.up)
+
+pub keep_lists-requires-clause-down : goal.keep_lists-requires-clause-down
+keep_lists-requires-clause-down g c =
+    subst (λ (done : List TouchedEdge). IsNewList (settling_over c.args.parts.now done) c.next_lists.new.state.moved c.args.edge Down c.in-Some.down) c.deref.ensures.value
+    (subst (λ (o : Option (NewList × NewList)). IfSome o (λ lists. IsNewList (settling_over c.args.parts.now c.deref.result.now) c.next_lists.new.state.moved c.args.edge Down lists.1))
+    c.in-Some.is c.in_ok-up.ensures.down)
+
+pub returns-in_err-up-clause-holds : goal.returns-in_err-up-clause-holds
+returns-in_err-up-clause-holds g c = subst (λ (done : List TouchedEdge). HoldsPacked c.args.parts.now done c.next_lists.new.state) c.deref.ensures.value c.next_lists.ensures.holds
+
+pub returns-in_default-clause-holds : goal.returns-in_default-clause-holds
+returns-in_default-clause-holds g c = subst (λ (done : List TouchedEdge). HoldsPacked c.args.parts.now done c.next_lists.new.state) c.deref.ensures.value c.next_lists.ensures.holds
