@@ -1,18 +1,18 @@
 //! Whole days over a held file.
 
-ghost use Rattle.std.specs.Prelude.{◌<◌, IfOk, IfSome};
+ghost use Rattle.std.specs.Prelude.{◌≡◌, ◌<◌, IfOk, IfSome};
 ghost use Rattle.cu_edits.specs.Learned.{ArePackedOf};
 ghost use Rattle.cu_interval.specs.Hierarchies.{HierarchyValue};
 ghost use Rattle.cu_router.specs.Days.{IsHeldDay};
-ghost use Rattle.cu_router.specs.Steps.Rooms.{FitsEdits};
+ghost use Rattle.cu_router.specs.Steps.Rooms.{FitsEdits, HasEditRoom};
 
-use crate::edit_room::{EditRoom, make_edit_room};
+use crate::edit_room::{EditRoom, fill_edit_room};
 use crate::held_file::HeldFile;
 use crate::learned_days::DayLearned;
 use cu_arrival::Arrival;
-use cu_day::{DayAsked, led_day};
+use cu_day::{DayAsked, DayFunctions, led_day};
 use cu_edits::Learned;
-use cu_interval::{Leg, Ways};
+use cu_interval::{BoundedWays, Leg, Ways};
 use cu_model::NoMemory;
 use cu_unpack::{Unpacker, Work};
 use std::alloc::Global;
@@ -32,43 +32,53 @@ pub(crate) fn find_day(
     ensures found { IfOk result (IsHeldDay held.now query) }
     ensures editing { FitsEdits held.now editing.new }
 {
-    let mut room = make_edit_room(alloc, held, editing.take())?;
-    let found = find_by(alloc, held, &mut room.learned, query);
-    *editing = Some(room);
-    found
+    fill_edit_room(alloc, held, editing)?;
+    let Some(room) = editing else { unreachable!() };
+    find_by(alloc, held, room, query)
 }
 
-// The same by the functions that are known, if any are; those that it learns are known behind it.
+// The same by the functions that are known in this room, if any are; those that it learns are known behind it.
 fn find_by(
     alloc: Global,
     held: &HeldFile,
-    known: &mut Option<Learned>,
+    room: &mut EditRoom,
     query: DayAsked,
 ) -> Result<Option<Arrival>, NoMemory>
     requires from { query.from < held.now.network.nodes }
     requires to { query.to < held.now.network.nodes }
-    requires known { IfSome known.old (ArePackedOf held.now) }
+    requires room { HasEditRoom held.now room.old }
     ensures found { IfOk result (IsHeldDay held.now query) }
-    ensures known { IfSome known.new (ArePackedOf held.now) }
+    ensures room { HasEditRoom held.now room.new }
 {
     let view = held.view();
-    let from = view.rank(query.from);
-    let to = view.rank(query.to);
-    let work = Work::new(alloc, held.graph().ranks())?;
-    let unpacker = Unpacker::new(&view, work);
-    let learned = take_learned(alloc, &view, known.take())?;
+    let learned = take_learned(alloc, &view, room.learned.take())?;
     let mut functions = DayLearned::new(alloc, &view, learned);
-    let leg = Leg { from, to };
-    let found = led_day(
-        alloc,
-        held.tree(),
-        held.graph(),
-        &mut functions,
-        &unpacker,
-        leg,
-    );
-    *known = Some(functions.into_learned());
+    let found = find_over(alloc, held, &view, &mut functions, query);
+    room.learned = Some(functions.into_learned());
     found
+}
+
+// The same over these ways by these functions of theirs.
+fn find_over<W: BoundedWays, F: DayFunctions>(
+    alloc: Global,
+    held: &HeldFile,
+    ways: &W,
+    functions: &mut F,
+    query: DayAsked,
+) -> Result<Option<Arrival>, NoMemory>
+    requires ways { W.hierarchy ways.now ≡ held.now }
+    requires functions { F.hierarchy functions.old ≡ W.hierarchy ways.now }
+    requires from { query.from < held.now.network.nodes }
+    requires to { query.to < held.now.network.nodes }
+    ensures found { IfOk result (IsHeldDay held.now query) }
+    ensures stays { F.hierarchy functions.new ≡ F.hierarchy functions.old }
+{
+    let from = ways.rank(query.from);
+    let to = ways.rank(query.to);
+    let (tree, graph) = (held.tree(), held.graph());
+    let work = Work::new(alloc, graph.ranks())?;
+    let unpacker = Unpacker::new(ways, work);
+    led_day(alloc, tree, graph, functions, &unpacker, Leg { from, to })
 }
 
 // Functions that are known of these ways, if there are any, or none yet.

@@ -1,21 +1,24 @@
 //! What edits need beside a held file.
 
-ghost use Rattle.std.specs.Prelude.{◌≡◌, IfOk, length, map};
+ghost use Rattle.std.specs.Prelude.{◌≡◌, IfOk, IsSome, OnErr, OnOk};
 ghost use Rattle.cu_model.specs.Edits.{IsEditInRange};
 ghost use Rattle.cu_edits.specs.Settling.{numbers_of};
-ghost use Rattle.cu_interval.specs.Hierarchies.{IsHierarchy};
+ghost use Rattle.cu_interval.specs.EdgeArcs.{AreEdgeArcs};
+ghost use Rattle.cu_interval.specs.Hierarchies.{IsHierarchy, graph_of};
 ghost use Rattle.cu_interval.specs.Replacing.{hierarchy_with};
 ghost use Rattle.cu_interval.specs.Resettling.{IsResettled};
 ghost use Rattle.cu_interval.specs.Touching.{NumbersTouched};
+ghost use Rattle.cu_pack.specs.Checks.{Spells, sealed};
 ghost use Rattle.cu_recall.specs.Spans.{Knows};
 ghost use Rattle.cu_router.specs.Steps.Rooms.{FitsEdits, HasEditRoom};
 
 use crate::held_file::HeldFile;
+use cu_chordal::Chordal;
 use cu_edits::{Learned, Touched, touch_over};
 use cu_interval::{EdgeArcs, Ways};
 use cu_links::RankBuckets;
 use cu_model::{Edit, NoMemory, Roads};
-use cu_pack::order_of;
+use cu_pack::{PackedView, order_of};
 use cu_recall::{RecalledWays, Row};
 use std::alloc::Global;
 
@@ -28,23 +31,29 @@ pub(crate) struct EditRoom {
     pub(crate) learned: Option<Learned>,
 }
 
-// Room for the edits of a hierarchy: what was kept, else made anew.
-pub(crate) fn make_edit_room(
+/// Makes the room for the edits of a hierarchy, unless it is there.
+pub(crate) fn fill_edit_room(
     alloc: Global,
     held: &HeldFile,
-    kept: Option<EditRoom>,
-) -> Result<EditRoom, NoMemory>
-    requires kept { FitsEdits held.now kept }
+    editing: &mut Option<EditRoom>,
+) -> Result<(), NoMemory>
+    requires fits { FitsEdits held.now editing.old }
+    ensures there { OnOk result (IsSome editing.new) }
+    ensures fits { FitsEdits held.now editing.new }
+{
+    if editing.is_none() {
+        *editing = Some(make_edit_room(alloc, held)?);
+    }
+    Ok(())
+}
+
+// Room for the edits of a hierarchy, which knows no functions of lists.
+fn make_edit_room(alloc: Global, held: &HeldFile) -> Result<EditRoom, NoMemory>
     ensures room { IfOk result (HasEditRoom held.now) }
 {
-    if let Some(room) = kept {
-        return Ok(room);
-    }
     let view = held.view();
-    let edges = view.edges();
-    let order = order_of(alloc, &view)?;
-    let arcs = EdgeArcs::of(alloc, &view, &order, held.graph())?;
-    let buckets = RankBuckets::new(alloc, view.nodes(), edges)?;
+    let arcs = arcs_of(alloc, &view, held.graph())?;
+    let buckets = RankBuckets::new(alloc, view.nodes(), view.edges())?;
     Ok(EditRoom {
         arcs,
         buckets,
@@ -52,9 +61,83 @@ pub(crate) fn make_edit_room(
     })
 }
 
+// The roads of each edge of a hierarchy, whose graph this is.
+fn arcs_of(alloc: Global, view: &PackedView<'_>, graph: &Chordal) -> Result<EdgeArcs, NoMemory>
+    requires graph { graph.now ≡ graph_of view.now }
+    requires sound { IsHierarchy view.now }
+    ensures listed { IfOk result
+        (AreEdgeArcs view.now.network view.now.order view.now.edges) }
+{
+    let order = order_of(alloc, view)?;
+    EdgeArcs::of(alloc, view, &order, graph)
+}
+
+/// The edges that an edit touches, whose numbers are in range, with their lists after it, and the packed bytes, but for their digest,
+/// of the hierarchy after it; these rows say what is so of the one before. The room for edits fits the hierarchy after the edit, and
+/// is made if there is none; where memory runs out it is let go of.
+pub(crate) fn edit_held(
+    alloc: Global,
+    held: &HeldFile,
+    rows: &[Row],
+    edit: Edit,
+    editing: &mut Option<EditRoom>,
+) -> Result<(Vec<u8>, Touched), NoMemory>
+    requires range { IsEditInRange held.now.network edit }
+    requires knows { Knows held.now rows.now }
+    requires editing { FitsEdits held.now editing.old }
+    ensures held { IfOk result (λ _. IsHierarchy held.now) }
+    ensures touched { IfOk result
+        (λ made. NumbersTouched held.now edit (numbers_of made.1.lists.items)) }
+    ensures resettled { IfOk result (λ made. IsResettled held.now edit
+        (hierarchy_with held.now edit made.1.lists.items)) }
+    ensures sound { IfOk result
+        (λ made. IsHierarchy (hierarchy_with held.now edit made.1.lists.items)) }
+    ensures spelled { IfOk result (λ made. Spells (sealed made.0.items)
+        (hierarchy_with held.now edit made.1.lists.items)) }
+    ensures editing { IfOk result
+        (λ made. FitsEdits (hierarchy_with held.now edit made.1.lists.items) editing.new) }
+    ensures kept { OnErr result (FitsEdits held.now editing.new) }
+{
+    fill_edit_room(alloc, held, editing)?;
+    let Some(room) = editing else { unreachable!() };
+    let Ok(made) = repack_held(alloc, held, rows, edit, room) else {
+        drop(editing.take());
+        return Err(NoMemory);
+    };
+    Ok(made)
+}
+
+// The same in room that is there.
+fn repack_held(
+    alloc: Global,
+    held: &HeldFile,
+    rows: &[Row],
+    edit: Edit,
+    room: &mut EditRoom,
+) -> Result<(Vec<u8>, Touched), NoMemory>
+    requires range { IsEditInRange held.now.network edit }
+    requires knows { Knows held.now rows.now }
+    requires room { HasEditRoom held.now room.old }
+    ensures held { IfOk result (λ _. IsHierarchy held.now) }
+    ensures touched { IfOk result
+        (λ made. NumbersTouched held.now edit (numbers_of made.1.lists.items)) }
+    ensures resettled { IfOk result (λ made. IsResettled held.now edit
+        (hierarchy_with held.now edit made.1.lists.items)) }
+    ensures sound { IfOk result
+        (λ made. IsHierarchy (hierarchy_with held.now edit made.1.lists.items)) }
+    ensures spelled { IfOk result (λ made. Spells (sealed made.0.items)
+        (hierarchy_with held.now edit made.1.lists.items)) }
+    ensures room { IfOk result
+        (λ made. HasEditRoom (hierarchy_with held.now edit made.1.lists.items) room.new) }
+{
+    let touched = touch_held(alloc, held, rows, edit, room)?;
+    let bytes = held.repacked(alloc, &touched.edit, touched.lists.as_slice())?;
+    Ok((bytes, touched))
+}
+
 // The edges that an edit touches, whose numbers are in range, with their lists after it; these rows say what is so of the
 // hierarchy. The room fits the hierarchy after the edit.
-pub(crate) fn touch_held(
+fn touch_held(
     alloc: Global,
     held: &HeldFile,
     rows: &[Row],

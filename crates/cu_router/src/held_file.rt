@@ -1,6 +1,6 @@
 //! The packed bytes of a hierarchy, and what is kept of it beside them.
 
-ghost use Rattle.std.specs.Prelude.{◌≡◌, ◌<◌, All, IfOk, IsTrue, length};
+ghost use Rattle.std.specs.Prelude.{◌≡◌, ◌≤◌, ◌<◌, All, IfOk, IsTrue, length, true};
 ghost use Rattle.std.specs.List.Sorted.{IsStrictlyIncreasing};
 ghost use Rattle.cu_model.specs.Edits.{IsEditInRange};
 ghost use Rattle.cu_edits.specs.Settling.{numbers_of};
@@ -98,8 +98,7 @@ impl HeldFile {
         requires walks { (h : HierarchyValue) → Spells bytes.items h → IsKnown h known }
         ensures held { IfOk result (λ file. Spells bytes.items file) }
     {
-        let graph = chordal_of(alloc, &PackedView::adopt(&bytes))?;
-        let tree = Tree::of(alloc, &graph)?;
+        let (graph, tree) = graph_and_tree(alloc, &PackedView::adopt(&bytes))?;
         Ok(HeldFile {
             bytes,
             has_digest: true,
@@ -184,12 +183,8 @@ impl HeldFile {
     pub fn into_file(self) -> Vec<u8>
         ensures spelled { Spells result.items self }
     {
-        if self.has_digest {
-            return self.bytes;
-        }
-        let mut bytes = self.bytes;
-        seal(bytes.as_mut_slice());
-        bytes
+        let has_digest = self.has_digest;
+        with_digest(self.bytes, has_digest)
     }
 }
 
@@ -211,6 +206,30 @@ impl Known {
             *self = Known::Nothing;
         }
     }
+}
+
+// The packed file that these bytes are, but for its digest where they have none.
+fn with_digest(bytes: Vec<u8>, has_digest: bool) -> Vec<u8>
+    requires long { 32 ≤ length bytes.items }
+    requires digest { has_digest ≡ true → sealed bytes.items ≡ bytes.items }
+    ensures sealed { result.items ≡ sealed bytes.items }
+{
+    if has_digest {
+        return bytes;
+    }
+    let mut bytes = bytes;
+    seal(bytes.as_mut_slice());
+    bytes
+}
+
+// The graph of a hierarchy, and its elimination tree.
+fn graph_and_tree(alloc: Global, view: &PackedView<'_>) -> Result<(Chordal, Tree), NoMemory>
+    ensures graph { IfOk result (λ made. made.0 ≡ graph_of view.now) }
+    ensures tree { IfOk result (λ made. made.1 ≡ parents_in (graph_of view.now)) }
+{
+    let graph = chordal_of(alloc, view)?;
+    let tree = Tree::of(alloc, &graph)?;
+    Ok((graph, tree))
 }
 
 // What is known of the walks of the hierarchy that these bytes are the packed file of, once it is asked.

@@ -87,6 +87,27 @@ impl QueryRoom {
         if targets.next().is_none() {
             return Ok(());
         }
+        self.put_table_rows(held, desk, asked, sink)
+    }
+
+    // Writes the rows of a table that has targets.
+    fn put_table_rows<K: Sink>(
+        &mut self,
+        held: &HeldFile,
+        desk: &mut ReachDesk,
+        asked: &TableAsked<'_>,
+        sink: &mut K,
+    ) -> Result<(), SinkFailed>
+        requires fits { Fits held.now self.old }
+        requires desk { length desk.old ≡ held.now.network.nodes }
+        requires sources { All (λ node. node < held.now.network.nodes) asked.now.sources }
+        requires targets { All (λ node. node < held.now.network.nodes) asked.now.targets }
+        requires second { asked.now.second < DAY }
+        ensures wrote { Wrote (K.state sink.old) (K.state sink.new) result
+            (table_rows held.now asked.now.second asked.now.targets asked.now.sources) }
+        ensures fits { Fits held.now self.new }
+        ensures desk { length desk.new ≡ length desk.old }
+    {
         let Some(room) = self.room.take() else {
             unreachable!()
         };

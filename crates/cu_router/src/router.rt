@@ -10,6 +10,7 @@ ghost use Rattle.cu_interval.specs.Touching.{NumbersTouched};
 ghost use Rattle.cu_pack.specs.Checks.{Spells};
 ghost use Rattle.cu_reach.specs.Departures.{latest_by};
 ghost use Rattle.cu_reach.specs.ReachTexts.{reach_reply, table_reply};
+ghost use Rattle.cu_recall.specs.Rooms.{Fits};
 ghost use Rattle.cu_router.specs.Answers.{FindsArrival, IsHeldAnswer};
 ghost use Rattle.cu_router.specs.Days.{IsHeldDay};
 ghost use Rattle.cu_router.specs.Edited.{IsEdited};
@@ -19,7 +20,7 @@ ghost use Rattle.cu_router.specs.Working.{FitsBusy, edges_left};
 
 use crate::busy::Busy;
 use crate::days::find_day;
-use crate::edit_room::{EditRoom, make_edit_room, touch_held};
+use crate::edit_room::{EditRoom, edit_held, fill_edit_room};
 use crate::held_file::HeldFile;
 use crate::query_room::QueryRoom;
 use crate::working::{begin_held, finish, give_back, plan_held, settle_next};
@@ -83,11 +84,7 @@ impl Router {
     fn over(alloc: Global, held: HeldFile) -> Result<Router, NoMemory>
         ensures same { IfOk result (λ router. router ≡ held) }
     {
-        let view = held.view();
-        let nodes = view.nodes();
-        let edges = view.edges();
-        let queries = QueryRoom::new(alloc, nodes, edges)?;
-        let reaches = ReachDesk::new(alloc, nodes)?;
+        let (queries, reaches) = rooms_over(alloc, &held)?;
         Ok(Router {
             held,
             queries,
@@ -204,13 +201,11 @@ impl Router {
         ensures edited { IfOk result (IsEdited self.old edit self.new) }
         ensures kept { OnErr result (self.new ≡ self.old) }
     {
-        let mut room = make_edit_room(alloc, &self.held, self.editing.take())?;
-        let touched = touch_held(alloc, &self.held, self.queries.rows(), edit, &mut room)?;
+        let rows = self.queries.rows();
+        let (bytes, touched) = edit_held(alloc, &self.held, rows, edit, &mut self.editing)?;
         let lists = touched.lists.as_slice();
-        let bytes = self.held.repacked(alloc, &touched.edit, lists)?;
         self.held.change_over(bytes, lists);
         self.queries.forget();
-        self.editing = Some(room);
         Ok(lists.len())
     }
 
@@ -221,10 +216,11 @@ impl Router {
         ensures few { IfOk result (λ edges. length edges.items ≤ MAX_EDGES) }
         ensures stays { self.new ≡ self.old }
     {
-        let mut room = make_edit_room(alloc, &self.held, self.editing.take())?;
-        let edges = plan_held(alloc, &self.held, edit, &mut room);
-        self.editing = Some(room);
-        edges
+        fill_edit_room(alloc, &self.held, &mut self.editing)?;
+        let Some(room) = &mut self.editing else {
+            unreachable!()
+        };
+        plan_held(alloc, &self.held, edit, room)
     }
 
     /// Begins an edit of a client, whose numbers are in range and which touches these edges. None of them is settled yet, and nothing
@@ -244,10 +240,11 @@ impl Router {
             ≡ record { client = client; edges = edges.items; lists = [] }) }
         ensures stays { self.new ≡ self.old }
     {
-        let mut room = make_edit_room(alloc, &self.held, self.editing.take())?;
-        let busy = begin_held(alloc, &self.held, &mut room, client, edges, edit);
-        self.editing = Some(room);
-        busy
+        fill_edit_room(alloc, &self.held, &mut self.editing)?;
+        let Some(room) = &mut self.editing else {
+            unreachable!()
+        };
+        begin_held(alloc, &self.held, room, client, edges, edit)
     }
 
     /// Settles the next edge of an edit in work, if one is left, and answers how many are left then. Where memory runs out none is
@@ -263,12 +260,13 @@ impl Router {
         ensures kept { OnErr result.1 (result.0.papers.lists ≡ busy.papers.lists) }
         ensures stays { self.new ≡ self.old }
     {
-        let Ok(room) = make_edit_room(alloc, &self.held, self.editing.take()) else {
+        let Ok(()) = fill_edit_room(alloc, &self.held, &mut self.editing) else {
             return (busy, Err(NoMemory));
         };
-        let stepped = settle_next(alloc, &self.held, self.queries.rows(), &room, busy);
-        self.editing = Some(room);
-        stepped
+        let Some(room) = &self.editing else {
+            unreachable!()
+        };
+        settle_next(alloc, &self.held, self.queries.rows(), room, busy)
     }
 
     /// Makes an edit in work, none of whose edges is left. Where memory runs out it is handed back as it was, and nothing has
@@ -281,17 +279,18 @@ impl Router {
         ensures kept { OnErr result (self.new ≡ self.old) }
         ensures same { IfErr result (λ back. back ≡ busy) }
     {
-        let Ok(room) = make_edit_room(alloc, &self.held, self.editing.take()) else {
+        let Ok(()) = fill_edit_room(alloc, &self.held, &mut self.editing) else {
             return Err(busy);
         };
         let Ok(bytes) = self.held.repacked(alloc, &busy.edit, busy.papers.lists()) else {
-            self.editing = Some(room);
             return Err(busy);
         };
-        let (papers, room) = finish(alloc, &self.held, self.queries.rows(), room, busy);
+        let Some(room) = &mut self.editing else {
+            unreachable!()
+        };
+        let papers = finish(alloc, &self.held, self.queries.rows(), room, busy);
         self.held.change_over(bytes, papers.lists());
         self.queries.forget();
-        self.editing = Some(room);
         Ok(())
     }
 
@@ -303,4 +302,16 @@ impl Router {
         let Busy { settler, .. } = busy;
         give_back(&mut self.editing, settler);
     }
+}
+
+// Room for the queries and the reaches of a held file.
+fn rooms_over(alloc: Global, held: &HeldFile) -> Result<(QueryRoom, ReachDesk), NoMemory>
+    ensures fits { IfOk result (λ rooms. Fits held.now rooms.0) }
+    ensures nodes { IfOk result (λ rooms. length rooms.1 ≡ held.now.network.nodes) }
+{
+    let view = held.view();
+    let (nodes, edges) = (view.nodes(), view.edges());
+    let reaches = ReachDesk::new(alloc, nodes)?;
+    let queries = QueryRoom::new(alloc, nodes, edges)?;
+    Ok((queries, reaches))
 }

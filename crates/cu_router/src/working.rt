@@ -131,40 +131,34 @@ fn step_if_left<S: Settler + Drop>(alloc: Global, work: &mut InWork<S>) -> Resul
     work.step(alloc)
 }
 
-/// The lists of an edit in work, none of whose edges is left, and room for the edits of the hierarchy after it; these rows say what
-/// is so of the one before.
+/// The lists of an edit in work, none of whose edges is left; the room for edits is made to fit the hierarchy after it. These rows
+/// say what is so of the one before.
 pub(crate) fn finish(
     alloc: Global,
     held: &HeldFile,
     rows: &[Row],
-    room: EditRoom,
+    room: &mut EditRoom,
     busy: Busy,
-) -> (WorkPapers, EditRoom)
+) -> WorkPapers
     requires knows { Knows held.now rows.now }
-    requires room { HasEditRoom held.now room }
+    requires room { HasEditRoom held.now room.old }
     requires fits { FitsBusy held.now busy }
     requires none { edges_left busy ≡ 0 }
-    ensures papers { result.0 ≡ busy.papers }
-    ensures room { HasEditRoom (hierarchy_with held.now busy.edit busy.papers.lists) result.1 }
+    ensures papers { result ≡ busy.papers }
+    ensures room { HasEditRoom (hierarchy_with held.now busy.edit busy.papers.lists) room.new }
 {
     let Busy {
         edit,
         papers,
         settler,
     } = busy;
-    let EditRoom { arcs, buckets, .. } = room;
     let view = held.view();
     let graph = held.graph();
     let ways = RecalledWays::new(&view, graph, rows);
     let marks = held.customized().marks();
-    let settler = EditSettler::resume(&ways, &edit, graph, &arcs, marks, settler);
-    let learned = settler.into_learned(alloc);
-    let room = EditRoom {
-        arcs,
-        buckets,
-        learned,
-    };
-    (papers, room)
+    let settler = EditSettler::resume(&ways, &edit, graph, &room.arcs, marks, settler);
+    room.learned = settler.into_learned(alloc);
+    papers
 }
 
 /// Gives what is known of the hierarchy before an edit that isn't made back to the room for edits, if there is one. Takes no memory.

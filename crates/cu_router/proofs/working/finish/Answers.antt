@@ -27,8 +27,8 @@ resume-settler-requires-clause-fits c =
     let same = c.new-ways.ensures.view ∙ c.view-view.ensures.same in
     subst (λ (h : HierarchyValue). FitsPaused h c.args.busy.edit c.args.busy.settler) (sym same) c.requires.fits.fits
 
-pub into_learned-learned-requires : goal.into_learned-learned-requires
-into_learned-learned-requires c =
+pub into_learned-requires : goal.into_learned-requires
+into_learned-requires c =
     let busy = c.args.busy in
     let same = c.new-ways.ensures.view ∙ c.view-view.ensures.same in
     let settler = c.resume-settler.ensures ∙ ap (λ (h : HierarchyValue). busy_state h busy) same in
@@ -40,7 +40,7 @@ returns-clause-room c =
     let held = c.args.held.now in
     let same = c.new-ways.ensures.view ∙ c.view-view.ensures.same in
     let settler = c.resume-settler.ensures ∙ ap (λ (h : HierarchyValue). busy_state h busy) same in
-    let settled = subst (λ (s : SettlingValue). IfSome c.into_learned-learned.result (ArePackedOf (settled_so_far s))) settler c.into_learned-learned.ensures in
-    let learned = subst (λ (lists : List TouchedEdge). IfSome c.into_learned-learned.result (ArePackedOf (hierarchy_with held busy.edit lists))) (sym c.requires.fits.lists) settled in
-    edits_after held (hierarchy_with held busy.edit busy.papers.lists) busy.edit (ready_resettled held busy c.requires.fits c.requires.none) c.args.room c.args.room.buckets
-    c.into_learned-learned.result c.requires.room refl refl learned
+    let settled = subst (λ (s : SettlingValue). IfSome c.into_learned.result (ArePackedOf (settled_so_far s))) settler c.into_learned.ensures in
+    let learned = subst (λ (lists : List TouchedEdge). IfSome c.into_learned.result (ArePackedOf (hierarchy_with held busy.edit lists))) (sym c.requires.fits.lists) settled in
+    edits_after held (hierarchy_with held busy.edit busy.papers.lists) busy.edit (ready_resettled held busy c.requires.fits c.requires.none) c.args.room.now c.args.room.now.buckets
+    c.into_learned.result c.requires.room refl refl learned

@@ -1,5 +1,4 @@
-use Rattle.std.proofs.Common.{◌∙◌, ℕ, List, ap, subst, true}
-use Rattle.cu_elimtree.specs.SweepArcs.{parents_in}
+use Rattle.std.proofs.Common.{ℕ, List, subst, true}
 use Rattle.cu_pack.specs.Checks.{Spells, sealed}
 use Rattle.cu_pack.specs.Reading.{decoded}
 use Rattle.cu_pack.proofs.Read.Bodies.{spelled_sealed}
@@ -11,12 +10,11 @@ invariant_of-result c =
     let h = c.adopt.result in
     let bytes = c.args.bytes.items in
     let spells = subst (λ (bytes : List ℕ). Spells bytes h) c.deref.ensures.value c.adopt.ensures.spells in
-    let same = c.in_ok-graph.ensures.same in
     let holds = held_new bytes h true _ _ _ (record {
       spelled = sealed_spells bytes h spells;
       digest = λ _. spelled_sealed bytes h spells;
-      chordal = same;
-      tree = c.in_ok-tree.ensures.named ∙ ap parents_in same;
+      chordal = c.in_ok-graph.ensures.graph;
+      tree = c.in_ok-graph.ensures.tree;
       knows = c.requires.known h spells;
     }) in
     (holds, c.requires.walks (decoded (sealed bytes)) (spells_sealed bytes h spells))

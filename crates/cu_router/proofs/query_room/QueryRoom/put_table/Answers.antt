@@ -16,4 +16,4 @@ returns-clause-wrote g c =
     let some = c.is_none.ensures ∙ ap not c.if-is_none.false in
     let cut = rw c.targets-targets.ensures at c.next.ensures.steps in
     let rows = rows_of_some c.args.held.now asked.second asked.sources asked.targets c.next.new.self c.next.result some cut in
-    wrote_same (ap (λ (t : List ℕ). codes "table" ++ t) rows) (wrote_then c.in_ok-put_all.ensures.wrote c.put_rows-outcome.ensures.wrote)
+    wrote_same (ap (λ (t : List ℕ). codes "table" ++ t) rows) (wrote_then c.in_ok-put_all.ensures.wrote c.put_table_rows.ensures.wrote)

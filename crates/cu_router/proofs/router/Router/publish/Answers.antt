@@ -10,7 +10,7 @@ use Rattle.cu_recall.specs.Rooms.{Fits}
 use Rattle.cu_router.specs.Changes.{IsChange}
 use Rattle.cu_router.specs.Edited.{IsEdited}
 use Rattle.cu_router.specs.Working.{FitsBusy}
-use Rattle.cu_router.specs.Steps.Rooms.{HasEditRoom}
+use Rattle.cu_router.specs.Steps.Rooms.{FitsEdits, HasEditRoom}
 use Rattle.cu_router.proofs.RoomLaws.{fits_after}
 use Rattle.cu_router.proofs.WorkingLaws.{ready_change, ready_made, ready_range, ready_resettled, ready_sound, ready_touched}
 use Rattle.cu_router.proofs.router.Router.publish.Goals as goal
@@ -33,6 +33,9 @@ repacked-requires-clause-sound c =
     let busy = c.args.busy in
     let fits = subst (λ (h : HierarchyValue). FitsBusy h busy) (sym c.self.view_is) c.requires.fits in
     subst (λ (lists : List TouchedEdge). IsHierarchy (hierarchy_with held busy.edit lists)) (sym c.lists.ensures) (ready_sound held busy fits c.requires.none)
+
+pub finish-papers-requires-clause-room : goal.finish-papers-requires-clause-room
+finish-papers-requires-clause-room c = subst (FitsEdits c.self.inside.held) c.in-Some.is c.fill_edit_room.ensures.fits
 
 pub finish-papers-requires-clause-knows : goal.finish-papers-requires-clause-knows
 finish-papers-requires-clause-knows c = c.rows.ensures.knows c.self.inside.held c.self.invariant.0.knows
@@ -60,7 +63,7 @@ invariant_of-self-2 c =
     c.forget.ensures.nodes c.forget.ensures.lists (c.forget.ensures.knows new) (c.forget.ensures.downs new) in
     let nodes : length c.self.inside.reaches ≡ new.network.nodes = c.self.invariant.2 ∙ sym (sym queries.nodes ∙ c.forget.ensures.nodes ∙ c.self.invariant.0.nodes) in (
       subst (λ (h : HierarchyValue). Fits h c.forget.new.self) (sym same) queries,
-      subst (λ (h : HierarchyValue). HasEditRoom h c.finish-papers.result.1) (sym same) c.finish-papers.ensures.room,
+      subst (λ (h : HierarchyValue). HasEditRoom h c.finish-papers.new.room) (sym same) c.finish-papers.ensures.room,
       nodes ∙ sym (ap (λ (h : HierarchyValue). h.network.nodes) same),
     )
 
