@@ -5,17 +5,26 @@ mod lines;
 mod watched;
 
 use cu_io::{
-    LoadFailed, MemoryShelf, MemorySink, MemorySource, Shelf, Sink, SinkFailed, Source,
-    SourceFailed, StdSink, StdSource, StoreFailed, SureShelf, SureSink, SureSource, end_line,
-    put_all, put_line, put_number,
+    DiskShelf, LoadFailed, MemoryShelf, MemorySink, MemorySource, Shelf, ShelfFile, Sink,
+    SinkFailed, Source, SourceFailed, StdSink, StdSource, StoreFailed, SureShelf, SureSink,
+    SureSource, end_line, put_all, put_line, put_number,
 };
+use cu_model::NoMemory;
 use std::alloc::{AllocError, Global};
+use std::fs::Files;
 use std::test::Fail;
+use std::{fs, io};
 
 // A source in memory of these bytes, whose reads fail as told.
 fn source_of(alloc: Global, bytes: &[u8], fails: &[u64]) -> Result<MemorySource, AllocError> {
     let bytes = Vec::from_slice(alloc, bytes)?;
     Ok(MemorySource::of(bytes, Vec::from_slice(alloc, fails)?))
+}
+
+// A sink in memory with room for so many bytes, whose flushes and writes fail as told.
+fn sink_of(alloc: Global, room: usize, fails: &[u64]) -> Result<MemorySink, NoMemory> {
+    let fails = Vec::from_slice(alloc, fails)?;
+    MemorySink::new(alloc, room, fails)
 }
 
 // Whether the reads of a source answer so, each with these bytes in a buffer of two behind it.
@@ -52,6 +61,58 @@ fn loads<S: Shelf>(
     loaded == wanted
 }
 
+// Whether a load of a name from a shelf over these files answers so.
+fn loads_from<R: Files + Drop>(
+    files: R,
+    alloc: Global,
+    name: &str,
+    wanted: Result<&[u8], LoadFailed>,
+) -> bool
+where
+    R::File: ShelfFile,
+{
+    loads(&mut DiskShelf::new(files), alloc, name, wanted)
+}
+
+// Whether a load of a name from a shelf on disk answers so.
+fn loads_from_disk(rt: &HostRuntime, name: &str, wanted: Result<&[u8], LoadFailed>) -> bool {
+    loads_from(rt, rt.alloc(), name, wanted)
+}
+
+// What a store under a name on a shelf over these files answers.
+fn store_on<R: Files + Drop>(
+    files: R,
+    alloc: Global,
+    name: &str,
+    text: &[u8],
+) -> Result<(), StoreFailed>
+where
+    R::File: ShelfFile,
+{
+    DiskShelf::new(files).store(alloc, name, text)
+}
+
+// Whether a store under a name on a shelf over these files and a load of it then answer so.
+fn answers_on<R: Files + Drop>(
+    files: R,
+    alloc: Global,
+    name: &str,
+    text: &[u8],
+    stored: Result<(), StoreFailed>,
+    loaded: Result<&[u8], LoadFailed>,
+) -> bool
+where
+    R::File: ShelfFile,
+{
+    let mut shelf = DiskShelf::new(files);
+    shelf.store(alloc, name, text) == stored && loads(&mut shelf, alloc, name, loaded)
+}
+
+// Writes a text to a file of the file system.
+fn write(rt: &HostRuntime, name: &str, text: &str) -> io::Result<()> {
+    fs::write(rt, name, text)
+}
+
 #[test]
 fn source_gives_its_bytes_and_fails_where_told(rt: HostRuntime) -> Result<(), Fail> {
     let mut source = source_of(rt.alloc(), &[1, 2, 3], &[1])?;
@@ -65,12 +126,15 @@ fn source_gives_its_bytes_and_fails_where_told(rt: HostRuntime) -> Result<(), Fa
     Ok(())
 }
 
+// Whether a sink with room for five bytes takes a piece, and a part of the next.
+fn takes_a_part(sink: &mut MemorySink) -> bool {
+    takes_once(sink, b"cat", b"chup") && sink.bytes() == b"catch".as_slice()
+}
+
 #[test]
 fn sink_takes_what_finds_room(rt: HostRuntime) -> Result<(), Fail> {
-    let fails = Vec::from_slice(rt.alloc(), &[2])?;
-    let mut sink = MemorySink::new(rt.alloc(), 5, fails)?;
-    assert!(rt; takes_once(&mut sink, b"cat", b"chup"));
-    assert_eq!(rt; sink.bytes(), b"catch".as_slice());
+    let mut sink = sink_of(rt.alloc(), 5, &[2])?;
+    assert!(rt; takes_a_part(&mut sink));
     Ok(())
 }
 
@@ -102,11 +166,14 @@ fn write_all_kinds(sink: &mut MemorySink) -> Result<(), SinkFailed> {
     put_line(sink, b" done")
 }
 
+fn is_all_written(sink: &mut MemorySink) -> bool {
+    write_all_kinds(sink).is_ok() && sink.bytes() == b"0\n18446744073709551615 done\n".as_slice()
+}
+
 #[test]
 fn numbers_and_lines_are_written(rt: HostRuntime) -> Result<(), Fail> {
-    let mut sink = MemorySink::new(rt.alloc(), 40, Vec::new(rt.alloc()))?;
-    assert!(rt; write_all_kinds(&mut sink).is_ok());
-    assert_eq!(rt; sink.bytes(), b"0\n18446744073709551615 done\n".as_slice());
+    let mut sink = sink_of(rt.alloc(), 40, &[])?;
+    assert!(rt; is_all_written(&mut sink));
     Ok(())
 }
 

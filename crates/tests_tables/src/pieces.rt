@@ -2,146 +2,121 @@
 
 use cu_model::{Piece, PieceFault, Profile, Rule, check_pieces};
 use std::alloc::Global;
-use std::process::Abort;
 use std::test::*;
 
-fn travel(from: u32, seconds: u32) -> Piece {
-    Piece {
-        from,
-        rule: Rule::Travel(seconds),
-    }
+macro_rules! travel {
+    ($from:expr, $seconds:expr) => {
+        Piece {
+            from: $from,
+            rule: Rule::Travel($seconds),
+        }
+    };
 }
 
-fn until(from: u32, arrival: u32) -> Piece {
-    Piece {
-        from,
-        rule: Rule::Until(arrival),
-    }
+macro_rules! until {
+    ($from:expr, $arrival:expr) => {
+        Piece {
+            from: $from,
+            rule: Rule::Until($arrival),
+        }
+    };
 }
 
-fn closed(from: u32, value: u32) -> Piece {
-    Piece {
-        from,
-        rule: Rule::Closed(value),
-    }
+macro_rules! closed {
+    ($from:expr, $value:expr) => {
+        Piece {
+            from: $from,
+            rule: Rule::Closed($value),
+        }
+    };
 }
 
 // Lists of pieces, and what is wrong with each.
-type Rows<'a> = &'a [(&'a [Piece], Result<(), PieceFault>)];
-
-fn check(rt: &impl Abort, rows: Rows<'_>) {
-    for (pieces, want) in rows {
-        assert!(rt; pieces.len() < 9);
-        assert_eq!(rt; check_pieces(pieces), *want);
-    }
-}
-
-fn check_closed(rt: &impl Abort) {
-    check(
-        rt,
+const FAULTS: [(&[Piece], Result<(), PieceFault>); 20] = [
+    // Pieces that are closed.
+    (&[closed!(0, 0)], Ok(())),
+    (&[closed!(0, 1)], Err(PieceFault::Limit { piece: 0 })),
+    (&[closed!(5, 0)], Err(PieceFault::Start)),
+    (
+        &[closed!(0, 0), travel!(0, 1)],
+        Err(PieceFault::Rising { piece: 1 }),
+    ),
+    (
+        &[closed!(0, 0), travel!(5, 1)],
+        Err(PieceFault::Closed { piece: 0 }),
+    ),
+    (
+        &[until!(0, 100), closed!(50, 0), closed!(60, 0)],
+        Err(PieceFault::Closed { piece: 1 }),
+    ),
+    // Pieces that overtake one another, and that don't.
+    (&[until!(0, 86_400)], Ok(())),
+    (
         &[
-            (&[closed(0, 0)], Ok(())),
-            (&[closed(0, 1)], Err(PieceFault::Limit { piece: 0 })),
-            (&[closed(5, 0)], Err(PieceFault::Start)),
-            (
-                &[closed(0, 0), travel(0, 1)],
-                Err(PieceFault::Rising { piece: 1 }),
-            ),
-            (
-                &[closed(0, 0), travel(5, 1)],
-                Err(PieceFault::Closed { piece: 0 }),
-            ),
-            (
-                &[until(0, 100), closed(50, 0), closed(60, 0)],
-                Err(PieceFault::Closed { piece: 1 }),
-            ),
+            travel!(0, 100),
+            travel!(28_800, 300),
+            until!(35_800, 36_100),
+            travel!(36_000, 100),
         ],
-    );
-}
-
-fn check_overtaken(rt: &impl Abort) {
-    check(
-        rt,
+        Ok(()),
+    ),
+    (
         &[
-            (&[until(0, 86_400)], Ok(())),
-            (
-                &[
-                    travel(0, 100),
-                    travel(28_800, 300),
-                    until(35_800, 36_100),
-                    travel(36_000, 100),
-                ],
-                Ok(()),
-            ),
-            (
-                &[
-                    travel(0, 100),
-                    travel(28_800, 300),
-                    until(35_800, 36_100),
-                    travel(36_000, 50),
-                ],
-                Err(PieceFault::Fifo { second: 35_999 }),
-            ),
-            (
-                &[travel(0, 100), travel(50, 20)],
-                Err(PieceFault::Fifo { second: 49 }),
-            ),
-            (
-                &[travel(0, 0), travel(43_200, 100)],
-                Err(PieceFault::Fifo { second: 86_399 }),
-            ),
+            travel!(0, 100),
+            travel!(28_800, 300),
+            until!(35_800, 36_100),
+            travel!(36_000, 50),
         ],
-    );
-}
+        Err(PieceFault::Fifo { second: 35_999 }),
+    ),
+    (
+        &[travel!(0, 100), travel!(50, 20)],
+        Err(PieceFault::Fifo { second: 49 }),
+    ),
+    (
+        &[travel!(0, 0), travel!(43_200, 100)],
+        Err(PieceFault::Fifo { second: 86_399 }),
+    ),
+    // Pieces that arrive, begin or end too early.
+    (&[until!(0, 100)], Err(PieceFault::Early { second: 101 })),
+    (
+        &[until!(0, 100), until!(50, 20)],
+        Err(PieceFault::Early { second: 50 }),
+    ),
+    (
+        &[travel!(0, 1), travel!(0, 2)],
+        Err(PieceFault::Rising { piece: 1 }),
+    ),
+    (&[], Err(PieceFault::Start)),
+    (&[travel!(5, 1)], Err(PieceFault::Start)),
+    // Pieces past their limits.
+    (&[travel!(5, 604_801)], Err(PieceFault::Limit { piece: 0 })),
+    (&[travel!(0, 604_801)], Err(PieceFault::Limit { piece: 0 })),
+    (
+        &[travel!(0, 604_800), until!(86_399, 691_201)],
+        Err(PieceFault::Limit { piece: 1 }),
+    ),
+    (
+        &[travel!(0, 0), until!(86_400, 86_400)],
+        Err(PieceFault::Limit { piece: 1 }),
+    ),
+];
 
-fn check_early(rt: &impl Abort) {
-    check(
-        rt,
-        &[
-            (&[until(0, 100)], Err(PieceFault::Early { second: 101 })),
-            (
-                &[until(0, 100), until(50, 20)],
-                Err(PieceFault::Early { second: 50 }),
-            ),
-            (
-                &[travel(0, 1), travel(0, 2)],
-                Err(PieceFault::Rising { piece: 1 }),
-            ),
-            (&[], Err(PieceFault::Start)),
-            (&[travel(5, 1)], Err(PieceFault::Start)),
-        ],
-    );
-}
-
-fn check_limits(rt: &impl Abort) {
-    check(
-        rt,
-        &[
-            (&[travel(5, 604_801)], Err(PieceFault::Limit { piece: 0 })),
-            (&[travel(0, 604_801)], Err(PieceFault::Limit { piece: 0 })),
-            (
-                &[travel(0, 604_800), until(86_399, 691_201)],
-                Err(PieceFault::Limit { piece: 1 }),
-            ),
-            (
-                &[travel(0, 0), until(86_400, 86_400)],
-                Err(PieceFault::Limit { piece: 1 }),
-            ),
-        ],
-    );
+// Is this what is wrong with these pieces?
+fn is_found(pieces: &[Piece], want: Result<(), PieceFault>) -> bool {
+    pieces.len() < 9 && check_pieces(pieces) == want
 }
 
 #[test]
 fn names_the_first_fault(rt: HostRuntime) {
-    check_closed(&rt);
-    check_overtaken(&rt);
-    check_early(&rt);
-    check_limits(&rt);
+    for (pieces, want) in &FAULTS {
+        assert!(rt; is_found(*pieces, *want));
+    }
 }
 
 // The profile of two pieces.
 fn two_pieces(alloc: Global) -> Result<Profile, Fail> {
-    let pieces = Vec::from_slice(alloc, &[travel(0, 60), until(43_200, 86_400)])?;
+    let pieces = Vec::from_slice(alloc, &[travel!(0, 60), until!(43_200, 86_400)])?;
     Ok(Profile::of(pieces).ok().ok_or("these are a profile")?)
 }
 

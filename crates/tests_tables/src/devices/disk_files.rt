@@ -1,8 +1,8 @@
 //! Which answers of a file system a load of a shelf on disk calls a fault, and what of earlier stores is removed.
 ghost use Rattle.std.specs.Prelude.{◌≤◌, IfOk};
 
-use super::loads;
-use cu_io::{DiskShelf, LoadFailed, Lock, Shelf, ShelfFile};
+use super::{loads_from, loads_from_disk, store_on, write};
+use cu_io::{LoadFailed, Lock, ShelfFile};
 use std::alloc::Allocator;
 use std::cell::Cell;
 use std::fs::{File, Files, Metadata, OpenFile, OpenOptions, Permissions};
@@ -179,17 +179,11 @@ const NEVER: usize = usize::MAX;
 
 // Whether a load over a script answers so.
 fn loads_scripted(rt: &HostRuntime, script: &Script, wanted: Result<&[u8], LoadFailed>) -> bool {
-    let mut shelf = DiskShelf::new(Scripted { files: rt, script });
-    let mut bytes = Vec::new(rt.alloc());
-    let loaded = match shelf.load(rt.alloc(), "scripted", &mut bytes) {
-        Ok(()) => Ok(bytes.as_slice()),
-        Err(refusal) => Err(refusal),
-    };
-    loaded == wanted
+    let files = Scripted { files: rt, script };
+    loads_from(files, rt.alloc(), "scripted", wanted)
 }
 
 // A script of what files answer; and what a load over it has to answer, after how many reads.
-#[derive(Clone, Copy)]
 struct ScriptedLoad {
     length: u64,
     gives: &'static [usize],
@@ -244,17 +238,25 @@ const LOADS: [ScriptedLoad; 6] = [
 ];
 
 // Whether a load does so.
-fn is_loaded(rt: &HostRuntime, load: ScriptedLoad) -> bool {
+fn is_loaded(rt: &HostRuntime, load: &ScriptedLoad) -> bool {
     let script = Script::of(load.length, load.gives, load.fails_at);
     loads_scripted(rt, &script, load.loaded) && script.reads.get() == load.reads
 }
 
+// Whether all of them do.
+fn are_loaded(rt: &HostRuntime) -> bool {
+    for load in &LOADS {
+        if !is_loaded(rt, load) {
+            return false;
+        }
+    }
+    true
+}
+
 #[test]
 fn a_load_faults_where_the_system_fails_and_nowhere_else(rt: HostRuntime) -> Result<(), Fail> {
-    fs::write(&rt, "scripted", "")?;
-    for load in &LOADS {
-        assert!(rt; is_loaded(&rt, *load));
-    }
+    write(&rt, "scripted", "")?;
+    assert!(rt; are_loaded(&rt));
     fs::remove_file(&rt, "scripted")?;
     Ok(())
 }
@@ -263,8 +265,7 @@ fn a_load_faults_where_the_system_fails_and_nowhere_else(rt: HostRuntime) -> Res
 fn is_too_long(rt: &HostRuntime) -> Result<bool, Fail> {
     let file = fs::create(rt, "long")?;
     file.set_len(TOO_LONG)?;
-    let mut shelf = DiskShelf::new(rt);
-    Ok(loads(&mut shelf, rt.alloc(), "long", Err(LoadFailed::TooLong)))
+    Ok(loads_from_disk(rt, "long", Err(LoadFailed::TooLong)))
 }
 
 #[test]
@@ -281,8 +282,7 @@ fn stored(rt: &HostRuntime) -> Option<Lock> {
         files: rt,
         script: &script,
     };
-    let mut shelf = DiskShelf::new(files);
-    match shelf.store(rt.alloc(), "left/file", b"text") {
+    match store_on(files, rt.alloc(), "left/file", b"text") {
         Ok(()) => script.renamed.get(),
         Err(_) => None,
     }
@@ -290,6 +290,16 @@ fn stored(rt: &HostRuntime) -> Option<Lock> {
 
 fn is_there(rt: &HostRuntime, name: &str) -> bool {
     fs::symlink_metadata(rt, name).is_ok()
+}
+
+// Whether each of these is there, or none of them.
+fn are_there(rt: &HostRuntime, names: &[&str], there: bool) -> bool {
+    for name in names {
+        if is_there(rt, *name) != there {
+            return false;
+        }
+    }
+    true
 }
 
 // Leaves files, a folder and a link where a store makes its fresh files, and one file whose name isn't one of theirs.
@@ -300,7 +310,7 @@ fn leave(rt: &HostRuntime) -> Result<(), Fail> {
         "left/.catchup-stored-7",
         "left/.stored-0",
     ] {
-        fs::write(rt, name, "left")?;
+        write(rt, name, "left")?;
     }
     fs::create_dir(rt, "left/.catchup-stored-1")?;
     rt.symlink(".stored-0", "left/.catchup-stored-2")?;
@@ -322,16 +332,16 @@ const KEPT: [&str; 4] = [
     "left/.stored-0",
 ];
 
+// Whether a store beside all of them removes the files of killed ones, and nothing else.
+fn removes_what_was_left(rt: &HostRuntime) -> Result<bool, Fail> {
+    leave(rt)?;
+    let stored = is_stored_beside_another(rt)?;
+    Ok(stored && are_there(rt, &REMOVED, false) && are_there(rt, &KEPT, true))
+}
+
 #[test]
 fn a_store_removes_what_killed_ones_left(rt: HostRuntime) -> Result<(), Fail> {
-    leave(&rt)?;
-    assert!(rt; is_stored_beside_another(&rt)?);
-    for name in &REMOVED {
-        assert!(rt; !is_there(&rt, *name));
-    }
-    for name in &KEPT {
-        assert!(rt; is_there(&rt, *name));
-    }
+    assert!(rt; removes_what_was_left(&rt)?);
     fs::remove_dir_all(&rt, "left")?;
     Ok(())
 }

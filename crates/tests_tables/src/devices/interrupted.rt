@@ -100,11 +100,16 @@ const WRITTEN: [Turn; 8] = [
     Turn::Moves(1),
 ];
 
+// Does a device take a word once, and a part of the next?
+fn takes_a_word(device: &mut Device) -> bool {
+    takes_once(&mut StdSink::new(&mut *device), b"catchup", b"!?")
+        && device.written.as_slice() == b"catchup!".as_slice()
+}
+
 #[test]
 fn sink_writes_on_after_interrupts_and_short_writes(rt: HostRuntime) -> Result<(), Fail> {
     let turns = Vec::from_slice(rt.alloc(), &WRITTEN)?;
     let mut device = Device::new(turns, Vec::new(rt.alloc()));
-    assert!(rt; takes_once(&mut StdSink::new(&mut device), b"catchup", b"!?"));
-    assert_eq!(rt; device.written.as_slice(), b"catchup!".as_slice());
+    assert!(rt; takes_a_word(&mut device));
     Ok(())
 }

@@ -1,6 +1,6 @@
 //! Files under a shelf, and what the shelf asks of them, in order.
-use super::loads;
-use cu_io::{DiskShelf, LoadFailed, Shelf, ShelfFile, StoreFailed};
+use super::{answers_on, loads_from_disk, store_on, write};
+use cu_io::{LoadFailed, ShelfFile, StoreFailed};
 use std::alloc::Allocator;
 use std::cell::Cell;
 use std::fs::{File, Files, Metadata, OpenFile, OpenOptions, Permissions};
@@ -168,8 +168,7 @@ fn answers(
     stored: Result<(), StoreFailed>,
     loaded: Result<&[u8], LoadFailed>,
 ) -> bool {
-    let mut shelf = DiskShelf::new(rt);
-    shelf.store(rt.alloc(), name, text) == stored && loads(&mut shelf, rt.alloc(), name, loaded)
+    answers_on(rt, rt.alloc(), name, text, stored, loaded)
 }
 
 fn keeps(rt: &HostRuntime, name: &str, text: &[u8]) -> bool {
@@ -187,8 +186,7 @@ fn refuses(rt: &HostRuntime, name: &str) -> bool {
 }
 
 fn holds(rt: &HostRuntime, name: &str, bytes: &[u8]) -> bool {
-    let mut shelf = DiskShelf::new(rt);
-    loads(&mut shelf, rt.alloc(), name, Ok(bytes))
+    loads_from_disk(rt, name, Ok(bytes))
 }
 
 // Whether a store of a text answers so and asks for this, where what `fails` names fails.
@@ -207,9 +205,7 @@ fn asks(
         files: rt,
         log: &log,
     };
-    let mut shelf = DiskShelf::new(watched);
-    let stored = shelf.store(rt.alloc(), "file", text);
-    stored == answer && log.digits.get() == asked
+    store_on(watched, rt.alloc(), "file", text) == answer && log.digits.get() == asked
 }
 
 // Whether these files are there to be removed, and are then.
@@ -233,14 +229,26 @@ const STORES: [Store; 5] = [
     (OPEN, b"lost", 11, Err(StoreFailed::Fault)),
 ];
 
+// Whether they all ask for this and answer so, one after another.
+fn asks_for_all(rt: &HostRuntime) -> bool {
+    for (fails, text, asked, answer) in &STORES {
+        if !asks(rt, *fails, *text, *asked, *answer) {
+            return false;
+        }
+    }
+    true
+}
+
+fn is_absent(rt: &HostRuntime, name: &str) -> bool {
+    matches!(fs::exists(rt, name), Ok(false))
+}
+
 #[test]
 fn store_asks_in_this_order(rt: HostRuntime) {
-    assert!(rt; fs::write(&rt, ".catchup-stored-0", "a name that is taken").is_ok());
-    for (fails, text, asked, answer) in &STORES {
-        assert!(rt; asks(&rt, *fails, *text, *asked, *answer));
-    }
+    assert!(rt; write(&rt, ".catchup-stored-0", "a name that is taken").is_ok());
+    assert!(rt; asks_for_all(&rt));
     assert!(rt; holds(&rt, "file", b"new"));
-    assert!(rt; matches!(fs::exists(&rt, ".catchup-stored-1"), Ok(false)));
+    assert!(rt; is_absent(&rt, ".catchup-stored-1"));
     assert!(rt; removes(&rt, &[".catchup-stored-0", "file"]));
 }
 
@@ -269,7 +277,7 @@ fn leave_behind(rt: &HostRuntime, count: u32) -> Result<(), Fail> {
     fs::create_dir(rt, "crashed")?;
     for number in 0..count {
         let name = format!(in rt.alloc(); "crashed/.stored-{number}")?;
-        fs::write(rt, name.as_str(), "left")?;
+        write(rt, name.as_str(), "left")?;
     }
     Ok(())
 }
@@ -285,7 +293,7 @@ fn leftovers_of_crashes_keep_no_file_out(rt: HostRuntime) -> Result<(), Fail> {
 
 // Makes a link to a file with a mode of its own.
 fn make_link(rt: &HostRuntime) -> io::Result<()> {
-    fs::write(rt, "target", "old")?;
+    write(rt, "target", "old")?;
     fs::set_permissions(rt, "target", Permissions::from_mode(0o100640))?;
     rt.symlink("target", "link")
 }
