@@ -12,17 +12,33 @@ fn comes_back(alloc: Global, file: &[u8]) -> Result<bool, Fail> {
     Ok(bytes.as_slice() == file)
 }
 
+// Is the built file in its first version the one written byte by byte?
+fn is_first_version(alloc: Global) -> Result<bool, Fail> {
+    let first = first_version(alloc, &BUILT)?;
+    Ok(first.as_slice() == FIRST_VERSION.as_slice())
+}
+
 #[test]
 fn migrates_files_made_by_hand(rt: HostRuntime) -> Result<(), Fail> {
     let alloc = rt.alloc();
-    let first = first_version(alloc, &BUILT)?;
-    assert!(rt; first.as_slice() == FIRST_VERSION.as_slice());
+    assert!(rt; is_first_version(alloc)?);
     let later = later();
     let rows: [&[u8]; 4] = [&BUILT, &NOTHING, &FORGED, &later];
-    for file in rows {
-        assert!(rt; comes_back(alloc, file)?, "{} bytes", file.len());
+    for file in &rows {
+        assert!(rt; comes_back(alloc, *file)?, "{} bytes", file.len());
     }
     Ok(())
+}
+
+// The one changes, and then the others.
+fn joined(
+    alloc: Global,
+    changes: &[(usize, u8)],
+    others: &[(usize, u8)],
+) -> Result<Vec<(usize, u8)>, Fail> {
+    let mut all = Vec::from_slice(alloc, changes)?;
+    all.extend_from_slice(others)?;
+    Ok(all)
 }
 
 // The built file with these bytes changed, and these of its least bounds.
@@ -31,8 +47,7 @@ fn bounded(
     changes: &[(usize, u8)],
     bounds: &[(usize, u8)],
 ) -> Result<Vec<u8>, Fail> {
-    let mut all = Vec::from_slice(alloc, changes)?;
-    all.extend_from_slice(bounds)?;
+    let all = joined(alloc, changes, bounds)?;
     Ok(forged(alloc, &BUILT, &all, 408)?)
 }
 
@@ -66,8 +81,8 @@ const CHANGED: [(&[(usize, u8)], &[(usize, u8)]); 4] = [
 
 #[test]
 fn bounds_what_was_changed(rt: HostRuntime) -> Result<(), Fail> {
-    for (changes, bounds) in CHANGED {
-        assert!(rt; gets_bounds(rt.alloc(), changes, bounds)?);
+    for (changes, bounds) in &CHANGED {
+        assert!(rt; gets_bounds(rt.alloc(), *changes, *bounds)?);
     }
     Ok(())
 }

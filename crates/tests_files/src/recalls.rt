@@ -6,7 +6,7 @@ ghost use Rattle.cu_recall.specs.Rooms.{Fits};
 
 use cu_chordal::Chordal;
 use cu_interval::{BoundedWays, Dir, Relaxed, Relaxer, Ways};
-use cu_io::MemorySink;
+use cu_io::{MemorySink, SinkFailed};
 use cu_model::{NoMemory, Roads};
 use cu_pack::{PackedView, chordal_of};
 use cu_recall::{Recall, RecalledWays, Room, SweepRecall};
@@ -94,32 +94,7 @@ fn forgotten(view: &PackedView<'_>, room: Room) -> Room
     room
 }
 
-// Relaxations that know nothing yet.
-fn recall<'a>(
-    alloc: Global,
-    view: &'a PackedView<'a>,
-    graph: &'a Chordal,
-) -> Result<Recall<'a>, NoMemory>
-    requires graph { IsHierarchyOf graph.now view.now }
-    ensures view { IfOk result (λ recall. recall ≡ view.now) }
-{
-    Ok(Recall::new(view, graph, fresh(alloc, view)?))
-}
-
-// Those of a sweep that leaves at this second.
-fn sweep<'a>(
-    alloc: Global,
-    view: &'a PackedView<'a>,
-    graph: &'a Chordal,
-    second: u32,
-) -> Result<SweepRecall<'a>, NoMemory>
-    requires graph { IsHierarchyOf graph.now view.now }
-    ensures view { IfOk result (λ sweep. sweep ≡ view.now) }
-{
-    Ok(SweepRecall::new(view, graph, fresh(alloc, view)?, second))
-}
-
-// Those that don't remember.
+// Relaxations that don't remember.
 fn unpacker<'a>(
     alloc: Global,
     view: &'a PackedView<'a>,
@@ -172,14 +147,25 @@ fn recalled(
 }
 
 // The room that knows the answers forgets them.
+fn remembers_in(
+    rt: &impl Abort,
+    alloc: Global,
+    view: &PackedView<'_>,
+    graph: &Chordal,
+) -> Result<(), Fail>
+    requires graph { IsHierarchyOf graph.now view.now }
+{
+    let room = recalled(rt, view, graph, fresh(alloc, view)?, &REMEMBERED);
+    let room = forgotten(view, room);
+    let last = [(4, Dir::Up, 28_740, Relaxed::At(29_140))];
+    recalled(rt, view, graph, room, &last);
+    Ok(())
+}
+
 fn remembers(rt: &impl Abort, alloc: Global, view: &PackedView<'_>) -> Result<(), Fail> {
     let graph = chordal_of(alloc, view)?;
     let _edges = view.edges();
-    let room = recalled(rt, view, &graph, fresh(alloc, view)?, &REMEMBERED);
-    let room = forgotten(view, room);
-    let last = [(4, Dir::Up, 28_740, Relaxed::At(29_140))];
-    recalled(rt, view, &graph, room, &last);
-    Ok(())
+    remembers_in(rt, alloc, view, &graph)
 }
 
 #[test]
@@ -229,16 +215,35 @@ fn kept(
     sweep.into_room()
 }
 
-// Both that remember answer them, the one of a sweep also when it has forgotten all.
+// The one of a sweep answers them also when it has forgotten all.
+fn keeps_in_sweeps(rt: &impl Abort, view: &PackedView<'_>, graph: &Chordal, room: Room)
+    requires graph { IsHierarchyOf graph.now view.now }
+    requires fits { Fits view.now room }
+{
+    let room = kept(rt, view, graph, room, 0, &SPANS);
+    let room = forgotten(view, room);
+    let last = [(2, Dir::Down, 28_740, Relaxed::At(29_100))];
+    kept(rt, view, graph, room, 28_740, &last);
+}
+
+// Both that remember answer them.
+fn keeps_in_both(
+    rt: &impl Abort,
+    alloc: Global,
+    view: &PackedView<'_>,
+    graph: &Chordal,
+) -> Result<(), Fail>
+    requires graph { IsHierarchyOf graph.now view.now }
+{
+    recalled(rt, view, graph, fresh(alloc, view)?, &SPANS);
+    keeps_in_sweeps(rt, view, graph, fresh(alloc, view)?);
+    Ok(())
+}
+
 fn keeps_spans(rt: &impl Abort, alloc: Global, view: &PackedView<'_>) -> Result<(), Fail> {
     let graph = chordal_of(alloc, view)?;
     let _edges = view.edges();
-    recalled(rt, view, &graph, fresh(alloc, view)?, &SPANS);
-    let room = kept(rt, view, &graph, fresh(alloc, view)?, 0, &SPANS);
-    let room = forgotten(view, room);
-    let last = [(2, Dir::Down, 28_740, Relaxed::At(29_100))];
-    kept(rt, view, &graph, room, 28_740, &last);
-    Ok(())
+    keeps_in_both(rt, alloc, view, &graph)
 }
 
 #[test]
@@ -249,6 +254,17 @@ fn keeps_the_latest_span(rt: HostRuntime) -> Result<(), Fail> {
     keeps_spans(&rt, alloc, &view)
 }
 
+// Are these the least bound of the list from node 2 to 1 and its answers, before the slow hours and in them?
+fn is_swept(sweep: &mut SweepRecall<'_>, edges: u32) -> bool
+    requires { edges ≡ length sweep.old.edges }
+    ensures { sweep.new ≡ sweep.old }
+{
+    let bound = least(sweep, edges, 2, Dir::Down);
+    let early = ask(sweep, edges, 2, Dir::Down, 28_739);
+    let late = ask(sweep, edges, 2, Dir::Down, 28_740);
+    bound == Some(160) && early == Some(Relaxed::At(28_899)) && late == Some(Relaxed::At(29_100))
+}
+
 // What a sweep in this room answers over the list from node 2 to 1, that leaves at this second. The room that it leaves behind.
 fn swept(rt: &impl Abort, view: &PackedView<'_>, graph: &Chordal, room: Room, second: u32) -> Room
     requires graph { IsHierarchyOf graph.now view.now }
@@ -257,25 +273,37 @@ fn swept(rt: &impl Abort, view: &PackedView<'_>, graph: &Chordal, room: Room, se
 {
     let edges = view.edges();
     let mut sweep = SweepRecall::new(view, graph, room, second);
-    bounds(rt, &sweep, edges, &[(2, Dir::Down, 160)]);
-    let early = ask(&mut sweep, edges, 2, Dir::Down, 28_739);
-    assert_eq!(rt; early, Some(Relaxed::At(28_899)));
-    let late = ask(&mut sweep, edges, 2, Dir::Down, 28_740);
-    assert_eq!(rt; late, Some(Relaxed::At(29_100)));
+    assert!(rt; is_swept(&mut sweep, edges));
     sweep.into_room()
 }
 
 // The list is asked by sweeps that leave in each third of the day, one after another in the same room.
+fn sweep_thirds(
+    rt: &impl Abort,
+    alloc: Global,
+    view: &PackedView<'_>,
+    graph: &Chordal,
+) -> Result<(), Fail>
+    requires graph { IsHierarchyOf graph.now view.now }
+{
+    let room = swept(rt, view, graph, fresh(alloc, view)?, 28_799);
+    let room = swept(rt, view, graph, room, 28_800);
+    swept(rt, view, graph, room, 57_600);
+    Ok(())
+}
+
+fn answers_in_thirds(rt: &impl Abort, alloc: Global, view: &PackedView<'_>) -> Result<(), Fail> {
+    let graph = chordal_of(alloc, view)?;
+    let _edges = view.edges();
+    sweep_thirds(rt, alloc, view, &graph)
+}
+
 #[test]
 fn answers_the_same_in_each_third(rt: HostRuntime) -> Result<(), Fail> {
     let alloc = rt.alloc();
     let bytes = packed(alloc, BESIDE)?;
     let view = PackedView::open(alloc, &bytes)?;
-    let graph = chordal_of(alloc, &view)?;
-    let room = swept(&rt, &view, &graph, fresh(alloc, &view)?, 28_799);
-    let room = swept(&rt, &view, &graph, room, 28_800);
-    swept(&rt, &view, &graph, room, 57_600);
-    Ok(())
+    answers_in_thirds(&rt, alloc, &view)
 }
 
 // The lists from node 0 to 1, 2 to 0, 2 to 1, 1 to 3 and 2 to 3, and two without ways.
@@ -289,13 +317,48 @@ const LEAST: [(u32, Dir, u64); 7] = [
     (0, Dir::Down, 1 << 60),
 ];
 
-fn knows_bounds(rt: &impl Abort, alloc: Global, view: &PackedView<'_>) -> Result<(), Fail> {
-    let graph = chordal_of(alloc, view)?;
-    let edges = view.edges();
-    bounds(rt, &unpacker(alloc, view)?, edges, &LEAST);
-    bounds(rt, &recall(alloc, view, &graph)?, edges, &LEAST);
-    bounds(rt, &sweep(alloc, view, &graph, 0)?, edges, &LEAST);
+fn unpacker_knows(rt: &impl Abort, alloc: Global, view: &PackedView<'_>) -> Result<(), Fail> {
+    let unpacker = unpacker(alloc, view)?;
+    bounds(rt, &unpacker, view.edges(), &LEAST);
     Ok(())
+}
+
+fn recall_knows(rt: &impl Abort, view: &PackedView<'_>, graph: &Chordal, room: Room)
+    requires graph { IsHierarchyOf graph.now view.now }
+    requires fits { Fits view.now room }
+{
+    let edges = view.edges();
+    let recall = Recall::new(view, graph, room);
+    bounds(rt, &recall, edges, &LEAST);
+}
+
+fn sweep_knows(rt: &impl Abort, view: &PackedView<'_>, graph: &Chordal, room: Room)
+    requires graph { IsHierarchyOf graph.now view.now }
+    requires fits { Fits view.now room }
+{
+    let edges = view.edges();
+    let sweep = SweepRecall::new(view, graph, room, 0);
+    bounds(rt, &sweep, edges, &LEAST);
+}
+
+fn both_know(
+    rt: &impl Abort,
+    alloc: Global,
+    view: &PackedView<'_>,
+    graph: &Chordal,
+) -> Result<(), Fail>
+    requires graph { IsHierarchyOf graph.now view.now }
+{
+    recall_knows(rt, view, graph, fresh(alloc, view)?);
+    sweep_knows(rt, view, graph, fresh(alloc, view)?);
+    Ok(())
+}
+
+fn knows_bounds(rt: &impl Abort, alloc: Global, view: &PackedView<'_>) -> Result<(), Fail> {
+    unpacker_knows(rt, alloc, view)?;
+    let graph = chordal_of(alloc, view)?;
+    let _edges = view.edges();
+    both_know(rt, alloc, view, &graph)
 }
 
 #[test]
@@ -318,19 +381,81 @@ fn met(view: &PackedView<'_>, graph: &Chordal, room: Room, second: u32) -> Room
     recall.into_room()
 }
 
-// Are these the roads that are written of the walk upwards over edge 4?
+// Writes the walk upwards over edge 4, if there is one.
+fn write_walk<W: BoundedWays>(
+    ways: &W,
+    work: Work,
+    second: u32,
+    sink: &mut MemorySink,
+) -> Result<(), SinkFailed>
+    requires edge { 4 < length (W.Ways.hierarchy ways.now).edges }
+    requires work { work ≡ (W.Ways.hierarchy ways.now).network.nodes }
+{
+    let mut unpacker = Unpacker::new(ways, work);
+    if let Relaxed::At(_) = unpacker.relax(4, Dir::Up, u64::from(second)) {
+        unpacker.walk(4, Dir::Up, u64::from(second), true, sink)?;
+    }
+    Ok(())
+}
+
+// Are these the roads that are written of it?
 fn is_walk<W: BoundedWays>(alloc: Global, ways: &W, second: u32, roads: &[u8]) -> Result<bool, Fail>
     requires edge { 4 < length (W.Ways.hierarchy ways.now).edges }
 {
     let mut sink = MemorySink::new(alloc, 8, Vec::new(alloc))?;
-    let mut unpacker = Unpacker::new(ways, Work::new(alloc, ways.nodes())?);
-    if let Relaxed::At(_) = unpacker.relax(4, Dir::Up, u64::from(second)) {
-        unpacker.walk(4, Dir::Up, u64::from(second), true, &mut sink)?;
-    }
+    let work = Work::new(alloc, ways.nodes())?;
+    write_walk(ways, work, second, &mut sink)?;
     Ok(sink.bytes() == roads)
 }
 
-// Are they written so by what was met at another second, and by the bytes alone?
+// Are they written so by what this room knows?
+fn writes_in(
+    alloc: Global,
+    view: &PackedView<'_>,
+    graph: &Chordal,
+    room: &Room,
+    second: u32,
+    roads: &[u8],
+) -> Result<bool, Fail>
+    requires graph { IsHierarchyOf graph.now view.now }
+    requires fits { Fits view.now room.now }
+    requires edge { 4 < length view.now.edges }
+{
+    let ways = RecalledWays::new(view, graph, room.rows());
+    is_walk(alloc, &ways, second, roads)
+}
+
+// Are they written so by room in which the way at another second was met?
+fn writes_of(
+    alloc: Global,
+    view: &PackedView<'_>,
+    graph: &Chordal,
+    other: u32,
+    second: u32,
+    roads: &[u8],
+) -> Result<bool, Fail>
+    requires graph { IsHierarchyOf graph.now view.now }
+    requires edge { 4 < length view.now.edges }
+{
+    let room = met(view, graph, fresh(alloc, view)?, other);
+    writes_in(alloc, view, graph, &room, second, roads)
+}
+
+fn writes_as_met(
+    alloc: Global,
+    view: &PackedView<'_>,
+    other: u32,
+    second: u32,
+    roads: &[u8],
+) -> Result<bool, Fail>
+    requires edge { 4 < length view.now.edges }
+{
+    let graph = chordal_of(alloc, view)?;
+    let _edges = view.edges();
+    writes_of(alloc, view, &graph, other, second, roads)
+}
+
+// And by the bytes alone?
 fn writes(
     alloc: Global,
     view: &PackedView<'_>,
@@ -338,14 +463,10 @@ fn writes(
     second: u32,
     roads: &[u8],
 ) -> Result<bool, Fail> {
-    let graph = chordal_of(alloc, view)?;
-    let edges = view.edges();
-    if edges < 5 {
+    if view.edges() < 5 {
         return Ok(false);
     }
-    let room = met(view, &graph, fresh(alloc, view)?, other);
-    let ways = RecalledWays::new(view, &graph, room.rows());
-    Ok(is_walk(alloc, &ways, second, roads)? && is_walk(alloc, view, second, roads)?)
+    Ok(writes_as_met(alloc, view, other, second, roads)? && is_walk(alloc, view, second, roads)?)
 }
 
 // The way that is met at midnight is in force until before 28,740.

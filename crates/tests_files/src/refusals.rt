@@ -7,14 +7,13 @@ use std::alloc::Global;
 use std::process::Abort;
 use std::test::Fail;
 
-// Why a file isn't opened.
-fn refusal(alloc: Global, file: &[u8]) -> Option<PackRefusal> {
-    PackedView::open(alloc, file).err()
-}
-
-// Why a file of version 1 isn't migrated.
-fn migrate_refusal(alloc: Global, file: &[u8]) -> Option<PackRefusal> {
-    migrate(alloc, file).err()
+// Why a file of this version, 1 or 2, isn't taken: migrated or opened.
+fn refusal(alloc: Global, version: u32, file: &[u8]) -> Option<PackRefusal> {
+    if version == 1 {
+        migrate(alloc, file).err()
+    } else {
+        PackedView::open(alloc, file).err()
+    }
 }
 
 // Why the built file isn't opened with one byte changed, and the digest that it had.
@@ -23,7 +22,7 @@ fn changed_refusal(alloc: Global, place: usize, byte: u8) -> Option<PackRefusal>
     if let Some(old) = file.get_mut(place) {
         *old = byte;
     }
-    refusal(alloc, &file)
+    refusal(alloc, 2, &file)
 }
 
 // Why it isn't migrated in version 1, changed in the same way.
@@ -32,19 +31,55 @@ fn first_changed_refusal(alloc: Global, place: usize, byte: u8) -> Option<PackRe
     if let Some(old) = file.get_mut(place) {
         *old = byte;
     }
-    migrate_refusal(alloc, &file)
+    refusal(alloc, 1, &file)
 }
 
 // Why the built file isn't opened with these bytes changed and the digest of what they then are.
 fn forged_refusal(alloc: Global, changes: &[(usize, u8)]) -> Result<Option<PackRefusal>, Fail> {
     let file = forged(alloc, &BUILT, changes, 408)?;
-    Ok(refusal(alloc, &file))
+    Ok(refusal(alloc, 2, &file))
 }
 
 // Why it isn't migrated in version 1, changed in the same way.
 fn first_refusal(alloc: Global, changes: &[(usize, u8)]) -> Result<Option<PackRefusal>, Fail> {
     let file = forged(alloc, &FIRST_VERSION, changes, 360)?;
-    Ok(migrate_refusal(alloc, &file))
+    Ok(refusal(alloc, 1, &file))
+}
+
+// Is this why a file of this version with these bytes changed isn't taken?
+fn is_wanted(
+    rt: &impl Abort,
+    version: u32,
+    changes: &[(usize, u8)],
+    found: Option<PackRefusal>,
+    wanted: Option<PackRefusal>,
+) {
+    assert_eq!(rt; found, wanted, "{changes:?} in version {version}");
+}
+
+// Are these files of this version taken, and if not, is this why?
+fn takes_files(
+    rt: &impl Abort,
+    alloc: Global,
+    version: u32,
+    rows: &[(&[u8], Option<PackRefusal>)],
+) {
+    for (file, wanted) in rows {
+        let found = refusal(alloc, version, *file);
+        assert_eq!(rt; found, *wanted, "{} bytes", file.len());
+    }
+}
+
+// Is this why the built file isn't taken in this version, with one byte changed and the digest that it had?
+fn refuses_bytes(rt: &impl Abort, alloc: Global, version: u32, rows: &[(usize, u8, PackRefusal)]) {
+    for (place, byte, wanted) in rows {
+        let found = if version == 1 {
+            first_changed_refusal(alloc, *place, *byte)
+        } else {
+            changed_refusal(alloc, *place, *byte)
+        };
+        is_wanted(rt, version, &[(*place, *byte)], found, Some(*wanted));
+    }
 }
 
 // The check that fails where one byte is changed.
@@ -67,7 +102,7 @@ const HEADER: [(usize, u8, PackRefusal); 8] = [
 ];
 
 #[test]
-fn refuses_a_header_for_its_first_fault(rt: HostRuntime) -> Result<(), Fail> {
+fn refuses_a_header_for_its_first_fault(rt: HostRuntime) {
     let alloc = rt.alloc();
     let length = PackRefusal::Length {
         said: 440,
@@ -82,17 +117,8 @@ fn refuses_a_header_for_its_first_fault(rt: HostRuntime) -> Result<(), Fail> {
         (&BUILT[..439], Some(length)),
         (&FIRST_VERSION, Some(PackRefusal::Version { found: 1 })),
     ];
-    for (file, wanted) in rows {
-        assert_eq!(rt; refusal(alloc, file), wanted, "{} bytes", file.len());
-    }
-    for (place, byte, wanted) in HEADER {
-        assert_eq!(rt;
-            changed_refusal(alloc, place, byte),
-            Some(wanted),
-            "at {place}"
-        );
-    }
-    Ok(())
+    takes_files(&rt, alloc, 2, &rows);
+    refuses_bytes(&rt, alloc, 2, &HEADER);
 }
 
 // The same in version 1.
@@ -114,7 +140,7 @@ const FIRST_HEADER: [(usize, u8, PackRefusal); 7] = [
 ];
 
 #[test]
-fn refuses_a_header_of_version_1_for_its_first_fault(rt: HostRuntime) -> Result<(), Fail> {
+fn refuses_a_header_of_version_1_for_its_first_fault(rt: HostRuntime) {
     let alloc = rt.alloc();
     let length = PackRefusal::Length {
         said: 392,
@@ -127,22 +153,8 @@ fn refuses_a_header_of_version_1_for_its_first_fault(rt: HostRuntime) -> Result<
         (&FIRST_VERSION[..391], Some(length)),
         (&BUILT, Some(PackRefusal::Version { found: 2 })),
     ];
-    for (file, wanted) in rows {
-        assert_eq!(rt;
-            migrate_refusal(alloc, file),
-            wanted,
-            "{} bytes",
-            file.len()
-        );
-    }
-    for (place, byte, wanted) in FIRST_HEADER {
-        assert_eq!(rt;
-            first_changed_refusal(alloc, place, byte),
-            Some(wanted),
-            "at {place}"
-        );
-    }
-    Ok(())
+    takes_files(&rt, alloc, 1, &rows);
+    refuses_bytes(&rt, alloc, 1, &FIRST_HEADER);
 }
 
 // The bytes that the counts ask for, of a file with so many bytes; none for another refusal.
@@ -153,28 +165,55 @@ fn counted(refusal: Option<PackRefusal>, length: u64) -> Option<u64> {
     }
 }
 
+// The same of both versions with these bytes changed.
+fn counts(alloc: Global, changes: &[(usize, u8)]) -> Result<(Option<u64>, Option<u64>), Fail> {
+    let second = counted(forged_refusal(alloc, changes)?, 440);
+    let first = counted(first_refusal(alloc, changes)?, 392);
+    Ok((second, first))
+}
+
+// With these bytes changed, is this why neither version is taken?
+fn is_refused_so(
+    rt: &impl Abort,
+    alloc: Global,
+    changes: &[(usize, u8)],
+    wanted: Option<PackRefusal>,
+) -> Result<(), Fail> {
+    is_wanted(rt, 2, changes, forged_refusal(alloc, changes)?, wanted);
+    is_wanted(rt, 1, changes, first_refusal(alloc, changes)?, wanted);
+    Ok(())
+}
+
+// Counts that are one past their limits, and at them with their first byte 0.
+const COUNTS: [([(usize, u8); 3], Field); 6] = [
+    ([(12, 1), (13, 0), (14, 4)], Field::Nodes),
+    ([(16, 1), (17, 0), (18, 16)], Field::Arcs),
+    ([(20, 1), (21, 0), (22, 16)], Field::Profiles),
+    ([(24, 1), (25, 0), (27, 1)], Field::Edges),
+    ([(28, 1), (31, 0x18), (32, 0x15)], Field::Pieces),
+    ([(36, 1), (40, 0xa3), (41, 2)], Field::Entries),
+];
+
+// Does a count at its limit ask for more bytes than there are, in both versions?
+fn asks_for_more(rt: &impl Abort, alloc: Global, changes: [(usize, u8); 3]) -> Result<(), Fail> {
+    let [(place, _), second, third] = changes;
+    let (found, first) = counts(alloc, &[(place, 0), second, third])?;
+    assert!(rt; found.is_some(), "at {place}");
+    assert!(rt; first.is_some(), "at {place} in version 1");
+    Ok(())
+}
+
 #[test]
 fn refuses_counts_past_their_limits(rt: HostRuntime) -> Result<(), Fail> {
     let alloc = rt.alloc();
-    // Each count a one past its limit, and then at its limit, for which there aren't bytes enough.
-    let cases = [
-        ([(12, 1), (13, 0), (14, 4)], Field::Nodes),
-        ([(16, 1), (17, 0), (18, 16)], Field::Arcs),
-        ([(20, 1), (21, 0), (22, 16)], Field::Profiles),
-        ([(24, 1), (25, 0), (27, 1)], Field::Edges),
-        ([(28, 1), (31, 0x18), (32, 0x15)], Field::Pieces),
-        ([(36, 1), (40, 0xa3), (41, 2)], Field::Entries),
-    ];
-    for (changes, field) in cases {
-        let wanted = Some(PackRefusal::Limit { field });
-        assert_eq!(rt; forged_refusal(alloc, &changes)?, wanted);
-        assert_eq!(rt; first_refusal(alloc, &changes)?, wanted);
-        let [(place, _), second, third] = changes;
-        let changes = [(place, 0), second, third];
-        let found = counted(forged_refusal(alloc, &changes)?, 440);
-        assert!(rt; found.is_some(), "at {place}");
-        let found = counted(first_refusal(alloc, &changes)?, 392);
-        assert!(rt; found.is_some(), "at {place} in version 1");
+    for (changes, field) in &COUNTS {
+        is_refused_so(
+            &rt,
+            alloc,
+            changes,
+            Some(PackRefusal::Limit { field: *field }),
+        )?;
+        asks_for_more(&rt, alloc, *changes)?;
     }
     Ok(())
 }
@@ -182,12 +221,12 @@ fn refuses_counts_past_their_limits(rt: HostRuntime) -> Result<(), Fail> {
 // What the counts ask for where each version stands under the number of the other.
 fn first_as_second(alloc: Global) -> Result<Option<u64>, Fail> {
     let file = forged(alloc, &FIRST_VERSION, &[(8, 2)], 360)?;
-    Ok(counted(refusal(alloc, &file), 392))
+    Ok(counted(refusal(alloc, 2, &file), 392))
 }
 
 fn second_as_first(alloc: Global) -> Result<Option<u64>, Fail> {
     let file = forged(alloc, &BUILT, &[(8, 1)], 408)?;
-    Ok(counted(migrate_refusal(alloc, &file), 440))
+    Ok(counted(refusal(alloc, 1, &file), 440))
 }
 
 #[test]
@@ -195,11 +234,9 @@ fn refuses_other_sizes(rt: HostRuntime) -> Result<(), Fail> {
     let alloc = rt.alloc();
     // One more node, and one more edge, which asks for least bounds in version 2 alone.
     let rows = [((12, 4), 452, 404), ((24, 4), 476, 412)];
-    for (change, counts, first_counts) in rows {
-        let found = counted(forged_refusal(alloc, &[change])?, 440);
-        assert_eq!(rt; found, Some(counts));
-        let found = counted(first_refusal(alloc, &[change])?, 392);
-        assert_eq!(rt; found, Some(first_counts));
+    for (change, wanted, first_wanted) in &rows {
+        let (found, first) = counts(alloc, &[*change])?;
+        assert!(rt; found == Some(*wanted) && first == Some(*first_wanted));
     }
     assert_eq!(rt; first_as_second(alloc)?, Some(440));
     assert_eq!(rt; second_as_first(alloc)?, Some(392));
@@ -402,27 +439,13 @@ const MORE_BYTES: [(&[(usize, u8)], Option<PackRefusal>); 9] = [
     ),
 ];
 
-// With these bytes changed, is this why neither version is taken?
-fn is_refused_so(
-    rt: &impl Abort,
-    alloc: Global,
-    changes: &[(usize, u8)],
-    wanted: Option<PackRefusal>,
-) -> Result<(), Fail> {
-    let found = forged_refusal(alloc, changes)?;
-    assert_eq!(rt; found, wanted, "{changes:?}");
-    let found = first_refusal(alloc, changes)?;
-    assert_eq!(rt; found, wanted, "{changes:?} in version 1");
-    Ok(())
-}
-
 #[test]
 fn finds_the_first_part_that_is_wrong(rt: HostRuntime) -> Result<(), Fail> {
-    for (place, byte, wanted) in ONE_BYTE {
-        is_refused_so(&rt, rt.alloc(), &[(place, byte)], Some(wanted))?;
+    for (place, byte, wanted) in &ONE_BYTE {
+        is_refused_so(&rt, rt.alloc(), &[(*place, *byte)], Some(*wanted))?;
     }
-    for (changes, wanted) in MORE_BYTES {
-        is_refused_so(&rt, rt.alloc(), changes, wanted)?;
+    for (changes, wanted) in &MORE_BYTES {
+        is_refused_so(&rt, rt.alloc(), *changes, *wanted)?;
     }
     Ok(())
 }
@@ -451,11 +474,22 @@ const BOUNDS: [(&[(usize, u8)], Option<(u32, Dir)>); 15] = [
     (&[(164, 101), (200, 101), (376, 101), (392, 161)], None),
 ];
 
+// Is the first list of the built file with these bytes changed whose bound is wrong this one?
+fn is_bound(
+    rt: &impl Abort,
+    alloc: Global,
+    changes: &[(usize, u8)],
+    wanted: Option<(u32, Dir)>,
+) -> Result<(), Fail> {
+    let wanted = wanted.map(|(edge, dir)| PackRefusal::Bound { edge, dir });
+    is_wanted(rt, 2, changes, forged_refusal(alloc, changes)?, wanted);
+    Ok(())
+}
+
 #[test]
 fn finds_the_first_bound_that_is_wrong(rt: HostRuntime) -> Result<(), Fail> {
-    for (changes, wanted) in BOUNDS {
-        let wanted = wanted.map(|(edge, dir)| PackRefusal::Bound { edge, dir });
-        assert_eq!(rt; forged_refusal(rt.alloc(), changes)?, wanted);
+    for (changes, wanted) in &BOUNDS {
+        is_bound(&rt, rt.alloc(), *changes, *wanted)?;
     }
     Ok(())
 }

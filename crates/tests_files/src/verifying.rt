@@ -5,12 +5,18 @@ use cu_pack::{PackedView, migrate};
 use cu_samples::{FIRST_VERSION, forged};
 use cu_verify::{Verdict, verify};
 use std::alloc::Global;
+use std::process::Abort;
 use std::test::Fail;
 
-// The verdict over the built file in version 1 with these bytes changed, cut behind so many bytes, and migrated.
-fn verdict(alloc: Global, changes: &[(usize, u8)], length: usize) -> Result<Verdict, Fail> {
-    let bytes = migrate(alloc, &forged(alloc, &FIRST_VERSION, changes, length)?)?;
-    let view = PackedView::open(alloc, &bytes)?;
+// The built file in version 1 with these bytes changed, cut behind so many bytes, and migrated.
+fn migrated(alloc: Global, changes: &[(usize, u8)], length: usize) -> Result<Vec<u8>, Fail> {
+    let first = forged(alloc, &FIRST_VERSION, changes, length)?;
+    Ok(migrate(alloc, &first)?)
+}
+
+// The verdict over a file.
+fn verdict(alloc: Global, file: &[u8]) -> Result<Verdict, Fail> {
+    let view = PackedView::open(alloc, file)?;
     Ok(verify(alloc, &view)?)
 }
 
@@ -114,11 +120,18 @@ const ROWS: [Forged<'static>; 7] = [
     },
 ];
 
+// Does verify say this of the file?
+fn is_found(rt: &impl Abort, alloc: Global, row: &Forged<'_>) -> Result<(), Fail> {
+    let file = migrated(alloc, row.changes, row.length)?;
+    let found = verdict(alloc, &file)?;
+    assert_eq!(rt; found, row.verdict);
+    Ok(())
+}
+
 #[test]
 fn finds_where_a_list_differs_first(rt: HostRuntime) -> Result<(), Fail> {
     for row in &ROWS {
-        let found = verdict(rt.alloc(), row.changes, row.length)?;
-        assert_eq!(rt; found, row.verdict);
+        is_found(&rt, rt.alloc(), row)?;
     }
     Ok(())
 }

@@ -1,6 +1,7 @@
 //! Walks as relaxations that remember write them, beside those of an unpacking that remembers nothing.
 
-ghost use Rattle.std.specs.Prelude.{◌≡◌, ◌<◌, length};
+ghost use Rattle.std.specs.Prelude.{◌≡◌, ◌<◌, ◌^◌, length};
+ghost use Rattle.cu_unpack.specs.Answers.{IsArriving};
 
 use cu_interval::{Dir, Relaxed, Relaxer, Ways};
 use cu_io::MemorySink;
@@ -18,7 +19,44 @@ const SECONDS: [u64; 14] = [
     115_139, 115_140,
 ];
 
-// Are the walks the same, if there is one and there is an edge with this number?
+// The walk as an unpacking writes it, none if there is none.
+fn plain_walk(
+    alloc: Global,
+    unpacker: &mut Unpacker<'_, PackedView<'_>>,
+    edge: u32,
+    dir: Dir,
+    at: u64,
+) -> Result<MemorySink, Fail>
+    requires edge { edge < length unpacker.old.edges }
+    requires time { at < 2 ^ 60 }
+    requires answers { IsArriving unpacker.old edge dir at }
+    ensures unpacker { unpacker.new ≡ unpacker.old }
+{
+    let mut sink = MemorySink::new(alloc, 32, Vec::new(alloc))?;
+    unpacker.walk(edge, dir, at, true, &mut sink)?;
+    Ok(sink)
+}
+
+// The walk as relaxations that remember write it, before they are asked for it.
+fn learnt_walk(
+    alloc: Global,
+    recall: &mut Recall<'_>,
+    edge: u32,
+    dir: Dir,
+    at: u64,
+) -> Result<MemorySink, Fail>
+    requires edge { edge < length recall.old.edges }
+    requires time { at < 2 ^ 60 }
+    requires answers { IsArriving recall.old edge dir at }
+    ensures recall { recall.new ≡ recall.old }
+{
+    let mut sink = MemorySink::new(alloc, 32, Vec::new(alloc))?;
+    recall.walk(edge, dir, at, true, &mut sink)?;
+    recall.relax(edge, dir, at);
+    Ok(sink)
+}
+
+// Are the walks the same, if there is one?
 fn is_same(
     alloc: Global,
     unpacker: &mut Unpacker<'_, PackedView<'_>>,
@@ -35,13 +73,11 @@ fn is_same(
     if at >= 1 << 60 {
         return Ok(false);
     }
-    let mut plain = MemorySink::new(alloc, 32, Vec::new(alloc))?;
-    let mut learnt = MemorySink::new(alloc, 32, Vec::new(alloc))?;
-    if let Relaxed::At(_) = unpacker.relax(edge, dir, at) {
-        unpacker.walk(edge, dir, at, true, &mut plain)?;
-        recall.walk(edge, dir, at, true, &mut learnt)?;
-        recall.relax(edge, dir, at);
-    }
+    let Relaxed::At(_) = unpacker.relax(edge, dir, at) else {
+        return Ok(true);
+    };
+    let plain = plain_walk(alloc, unpacker, edge, dir, at)?;
+    let learnt = learnt_walk(alloc, recall, edge, dir, at)?;
     Ok(plain.bytes() == learnt.bytes())
 }
 
@@ -59,32 +95,74 @@ fn are_same(
     ensures recall { recall.new ≡ recall.old }
 {
     let mut same = true;
-    'seconds: for at in SECONDS {
-        same &= is_same(alloc, unpacker, recall, edge, dir, at)?;
+    'seconds: for at in &SECONDS {
+        same &= is_same(alloc, unpacker, recall, edge, dir, *at)?;
     }
     Ok(same)
 }
 
-// Are they over all edges of a file, in both directions, and behind one another?
+// Are they over this edge, in both directions?
+fn are_both_same(
+    alloc: Global,
+    unpacker: &mut Unpacker<'_, PackedView<'_>>,
+    recall: &mut Recall<'_>,
+    edge: u32,
+) -> Result<bool, Fail>
+    requires same { recall.old ≡ unpacker.old }
+    requires edge { edge < length unpacker.old.edges }
+    ensures unpacker { unpacker.new ≡ unpacker.old }
+    ensures recall { recall.new ≡ recall.old }
+{
+    let up = are_same(alloc, unpacker, recall, edge, Dir::Up)?;
+    let down = are_same(alloc, unpacker, recall, edge, Dir::Down)?;
+    Ok(up && down)
+}
+
+// Are they over all edges, behind one another?
+fn same_over_edges(
+    alloc: Global,
+    unpacker: &mut Unpacker<'_, PackedView<'_>>,
+    recall: &mut Recall<'_>,
+    edges: u32,
+) -> Result<bool, Fail>
+    requires same { recall.old ≡ unpacker.old }
+    requires known { edges ≡ length unpacker.old.edges }
+{
+    let mut same = true;
+    'edges: for edge in 0..edges {
+        same &= are_both_same(alloc, unpacker, recall, edge)?;
+    }
+    Ok(same)
+}
+
+// Are the walks of this recall over a file those of an unpacking?
+fn is_unpacked(alloc: Global, view: &PackedView<'_>, recall: &mut Recall<'_>) -> Result<bool, Fail>
+    requires same { recall.old ≡ view.now }
+{
+    let mut unpacker = Unpacker::new(view, Work::new(alloc, view.nodes())?);
+    same_over_edges(alloc, &mut unpacker, recall, view.edges())
+}
+
+// Are they, of one that knows nothing yet?
 fn all_same(alloc: Global, view: &PackedView<'_>) -> Result<bool, Fail> {
     let graph = chordal_of(alloc, view)?;
     let edges = view.edges();
     let mut recall = Recall::new(view, &graph, Room::new(alloc, view.nodes(), edges)?);
-    let mut unpacker = Unpacker::new(view, Work::new(alloc, view.nodes())?);
-    let mut same = true;
-    'edges: for edge in 0..edges {
-        same &= are_same(alloc, &mut unpacker, &mut recall, edge, Dir::Up)?;
-        same &= are_same(alloc, &mut unpacker, &mut recall, edge, Dir::Down)?;
-    }
-    Ok(same)
+    is_unpacked(alloc, view, &mut recall)
+}
+
+// Are they over a file with these bytes?
+fn file_same(alloc: Global, file: &[u8]) -> Result<bool, Fail> {
+    let view = PackedView::open(alloc, file)?;
+    all_same(alloc, &view)
 }
 
 #[test]
 fn writes_as_an_unpacking_does(rt: HostRuntime) -> Result<(), Fail> {
     let alloc = rt.alloc();
+    assert!(rt; file_same(alloc, &BUILT)?);
+    assert!(rt; file_same(alloc, &FORGED)?);
     let row = packed(alloc, ROW)?;
-    assert!(rt; all_same(alloc, &PackedView::open(alloc, &BUILT)?)?);
-    assert!(rt; all_same(alloc, &PackedView::open(alloc, &FORGED)?)?);
-    assert!(rt; all_same(alloc, &PackedView::open(alloc, &row)?)?);
+    assert!(rt; file_same(alloc, &row)?);
     Ok(())
 }

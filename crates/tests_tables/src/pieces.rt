@@ -77,7 +77,7 @@ const FAULTS: [(&[Piece], Result<(), PieceFault>); 20] = [
         &[travel!(0, 0), travel!(43_200, 100)],
         Err(PieceFault::Fifo { second: 86_399 }),
     ),
-    // Pieces that arrive, begin or end too early.
+    // Pieces that arrive too early, do not rise, or do not begin with the day.
     (&[until!(0, 100)], Err(PieceFault::Early { second: 101 })),
     (
         &[until!(0, 100), until!(50, 20)],
