@@ -26,8 +26,6 @@ use Rattle.cu_interval.specs.declared.ways.Entry.{Entry}
 use Rattle.cu_interval.specs.Hierarchies.{HierarchyValue, IsBuilt, IsHierarchy, entries_or_none, list_of}
 use Rattle.cu_interval.specs.WayLists.{IsWayList}
 use Rattle.cu_interval.proofs.Spelled.{few_entries}
-use Rattle.cu_pack.specs.Checks.{Spells}
-use Rattle.cu_pack.specs.Spelling.{spelling}
 use Rattle.cu_roads.specs.Draws.{after, drawn, stepped}
 use Rattle.cu_roads.specs.Grids.{IsSide, behind_grid, grid_network}
 use Rattle.cu_roads.proofs.DrawSteps.{after_two, drawn_below}
@@ -44,10 +42,6 @@ use Rattle.cu_cli.specs.Steps.Trials.{IsDrawable, StopsGrid, standing}
 use Rattle.cu_cli.proofs.Completeness.{IsComplete}
 use Rattle.cu_cli.proofs.LoadLaws.{only_nothing, only_refused}
 use Rattle.cu_cli.proofs.WorkLaws.{stopped_before}
-
--- and that of a built one is its own
-pub spells_built : (bytes : List ℕ) (h : HierarchyValue) → IsBuilt h → bytes ≡ spelling h → Spells bytes h
-spells_built bytes h built is = record { sound = built.sound; spelled = is }
 
 after_three : (state : ℕ) → after 3 state ≡ stepped (stepped (stepped state))
 unfolding after

@@ -3,6 +3,8 @@
 
 ghost use Rattle.std.specs.Prelude.{◌≡◌, ◌≤◌, ◌<◌, ℕ, Some, Ok, IfOk, IfErr, length, slice_get};
 ghost use Rattle.cu_chordal.specs.Edges.{IsClosureOf};
+ghost use Rattle.cu_interval.specs.Hierarchies.{HierarchyValue, IsBuilt};
+ghost use Rattle.cu_pack.specs.Checks.{Spells};
 ghost use Rattle.cu_dissect.specs.Dissection.{dissected};
 ghost use Rattle.cu_model.specs.Networks.{IsNetwork};
 ghost use Rattle.cu_model.specs.Orders.{IsOrder};
@@ -16,10 +18,12 @@ ghost use Rattle.cu_cli.specs.Words.{network_files, order_files};
 use crate::stops::{Role, Stop};
 use crate::words::{OrderWord, TableNames};
 use cu_chordal::{Chordal, close};
+use cu_customize::customize;
 use cu_dissect::dissect;
 use cu_io::{LoadFailed, Shelf};
-use cu_model::{Network, Order, Roads};
+use cu_model::{Network, NoMemory, Order, Roads};
 use cu_order::{OrderRefusal, read_order};
+use cu_pack::pack;
 use cu_roads::{Places, read_network};
 use std::alloc::Global;
 
@@ -173,6 +177,17 @@ pub fn read_prepared(
         order,
         graph,
     })
+}
+
+/// The packed file of the built hierarchy of what is prepared. The hierarchy itself is let go.
+pub fn pack_prepared(alloc: Global, prepared: Prepared) -> Result<Vec<u8>, NoMemory>
+    requires count { length prepared.order.node_at ≡ prepared.network.nodes }
+    requires closed { IsClosureOf prepared.network prepared.order prepared.graph }
+    ensures built { IfOk result (λ bytes. (h : HierarchyValue) × IsBuilt h
+        × (h.network ≡ prepared.network) × (h.order ≡ prepared.order) × Spells bytes.items h) }
+{
+    let hierarchy = customize(alloc, prepared.network, prepared.order, prepared.graph)?;
+    pack(alloc, &hierarchy)
 }
 
 // The order that is given.

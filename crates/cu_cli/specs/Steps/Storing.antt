@@ -1,7 +1,12 @@
 -- What stores leave of a shelf.
-use Rattle.std.specs.Prelude.{◌≡◌, List, Result, OnOk, IfErr}
+use Rattle.std.specs.Prelude.{◌≡◌, ◌⊎◌, ℕ, List, [], Result, OnOk, IfErr, length}
 use Rattle.cu_io.specs.Shelves.{ShelfState}
+use Rattle.cu_interval.specs.Hierarchies.{HierarchyValue}
+use Rattle.cu_pack.specs.Spelling.{spelling}
 use Rattle.cu_cli.specs.declared.stops.Stop.{Stop}
+use Rattle.cu_cli.specs.declared.stops.Stop.TheVariants as stop
+use Rattle.cu_cli.specs.Commands.Build.{built_text}
+use Rattle.cu_cli.specs.Endings.{Ending, EndsPacking, StopsBefore, packed_file}
 use Rattle.cu_cli.specs.Runs.{CountsFaults}
 use Rattle.cu_cli.specs.Storing.{FileMade, FileStored, StopsStoring, Stores, all_stored}
 use Rattle.cu_cli.specs.Steps.Outcomes.{IsBeforeScript, stop_of}
@@ -15,3 +20,8 @@ pub record StoresInTurn {T : Type 0} (before now : ShelfState) (files : List Fil
   pub early : IfErr result IsBeforeScript
   pub loads : now.load_faults ≡ before.load_faults
   pub faults : CountsFaults (stop_of result) before now
+
+-- the packed file of a built hierarchy is stored and said, or has too many bytes; or memory ran out before
+abbrev pub EndsBuilt : (out : List ℕ) → HierarchyValue → ShelfState → ShelfState → Ending → Type 0
+EndsBuilt out h before now work =
+    EndsPacking before now [] (packed_file out h) (built_text h (length (spelling h))) work ⊎ StopsBefore stop.NoMemory work

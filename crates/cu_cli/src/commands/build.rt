@@ -1,11 +1,14 @@
 //! `build`: the packed file of a network's built hierarchy, stored.
 
-ghost use Rattle.std.specs.Prelude.{map, string_bytes};
+ghost use Rattle.std.specs.Prelude.{None, false, map, string_bytes};
+ghost use Rattle.cu_io.specs.Shelves.{ShelfState};
 ghost use Rattle.cu_io.specs.Sources.{SourceState};
 ghost use Rattle.cu_io.specs.Sinks.{WroteLine};
 ghost use Rattle.cu_cli.specs.Commands.Build.{build_of, built_text};
 ghost use Rattle.cu_cli.specs.Steps.Asks.{Parses, build_asked};
-ghost use Rattle.cu_cli.specs.Steps.Outcomes.{Works, stop_of, world_of};
+ghost use Rattle.cu_cli.specs.Steps.Loading.{OnlyLoads};
+ghost use Rattle.cu_cli.specs.Steps.Outcomes.{Did, Works, stop_of, world_of};
+ghost use Rattle.cu_cli.specs.Steps.Storing.{EndsBuilt};
 
 use crate::preparing::prepare;
 use crate::saying::put_numbers_line;
@@ -59,13 +62,31 @@ pub fn build<H: Shelf, K: Sink>(
 {
     let prepared = prepare(alloc, asked.tables, asked.order, shelf)?;
     let hierarchy = customize(alloc, prepared.network, prepared.order, prepared.graph)?;
-    let bytes = pack(alloc, &hierarchy)?;
+    store_built(alloc, asked.out, &hierarchy, shelf, sink)
+}
+
+// Stores the packed file of a hierarchy and says it, where it hasn't more bytes than the shelf loads. Files may have been loaded
+// before.
+fn store_built<H: Shelf, K: Sink>(
+    alloc: Global,
+    out: &str,
+    hierarchy: &Hierarchy,
+    shelf: &mut H,
+    sink: &mut K,
+) -> Result<(), Stop>
+    ensures did { (first : ShelfState) (source : SourceState)
+        → OnlyLoads None first (H.state shelf.old)
+        → Did false (stop_of result) (EndsBuilt out.now hierarchy.now)
+        (world_of first source (K.state sink.old))
+        (world_of (H.state shelf.new) source (K.state sink.new)) }
+{
+    let bytes = pack(alloc, hierarchy)?;
     let length = bytes.len() as u64;
     if length > shelf.limit() {
         return Err(Stop::TooLarge(length));
     }
-    store_file(alloc, Role::Out, asked.out, &bytes, shelf)?;
-    say_built(sink, &hierarchy, length)?;
+    store_file(alloc, Role::Out, out, &bytes, shelf)?;
+    say_built(sink, hierarchy, length)?;
     Ok(())
 }
 

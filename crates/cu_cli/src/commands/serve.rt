@@ -9,12 +9,10 @@ ghost use Rattle.cu_cli.specs.Steps.Asks.{Parses, order_asked, serve_asked, tabl
 ghost use Rattle.cu_cli.specs.Steps.Loading.{HasBuilt, OnlyLoads};
 ghost use Rattle.cu_cli.specs.Steps.Outcomes.{IsBeforeScript, Works, stop_of, world_of};
 
-use crate::preparing::prepare;
+use crate::preparing::{pack_prepared, prepare};
 use crate::stops::Stop;
 use crate::words::{OrderWord, TableNames, parse_order};
-use cu_customize::customize;
 use cu_io::{Shelf, Sink, Source};
-use cu_pack::pack;
 use cu_session::answer_built;
 use std::alloc::Global;
 
@@ -60,7 +58,7 @@ pub fn serve<H: Shelf, S: Source, K: Sink>(
     Ok(())
 }
 
-// The packed bytes of the built hierarchy of the tables. The hierarchy itself is let go.
+// The packed bytes of the built hierarchy of the tables.
 fn pack_tables<H: Shelf>(
     alloc: Global,
     asked: ServeWords<'_>,
@@ -74,6 +72,5 @@ fn pack_tables<H: Shelf>(
     ensures loads { OnlyLoads (stop_of result) (H.state shelf.old) (H.state shelf.new) }
 {
     let prepared = prepare(alloc, asked.tables, asked.order, shelf)?;
-    let hierarchy = customize(alloc, prepared.network, prepared.order, prepared.graph)?;
-    Ok(pack(alloc, &hierarchy)?)
+    Ok(pack_prepared(alloc, prepared)?)
 }

@@ -5,6 +5,7 @@ ghost use Rattle.std.specs.List.{sum_by};
 ghost use Rattle.cu_io.specs.Shelves.{ShelfState};
 ghost use Rattle.cu_io.specs.Sources.{SourceState};
 ghost use Rattle.cu_io.specs.Sinks.{Wrote, WroteLine};
+ghost use Rattle.cu_chordal.specs.Edges.{IsClosureOf};
 ghost use Rattle.cu_interval.specs.Hierarchies.{IsBuilt};
 ghost use Rattle.cu_model.specs.Networks.{NetworkValue};
 ghost use Rattle.cu_model.specs.declared.limits.TheConstants.{DAY};
@@ -18,16 +19,16 @@ ghost use Rattle.cu_cli.specs.Trials.{IsEditedBy, IsGridOrder, IsQueried, IsTrie
 ghost use Rattle.cu_cli.specs.Words.{grid_read};
 ghost use Rattle.cu_cli.specs.declared.commands.trial.turns.TheConstants.{MAX_TURNS};
 
+use crate::preparing::{Prepared, pack_prepared};
 use crate::stops::Stop;
 use crate::words::{GridWords, parse_grid, parse_within};
 use cu_chordal::close;
-use cu_customize::customize;
 use cu_dissect::dissect;
-use cu_interval::{Dir, Hierarchy, Ways};
+use cu_interval::{Dir, Ways};
 use cu_io::{Sink, SinkFailed, end_line, put_all, put_number};
-use cu_model::{DAY, Edit, NoMemory, Profile, Query, Roads};
-use cu_pack::{PackedView, pack};
-use cu_roads::{Draws, draw_day, grid, read_network};
+use cu_model::{DAY, Edit, Network, NoMemory, Profile, Query, Roads};
+use cu_pack::PackedView;
+use cu_roads::{Draws, Places, draw_day, grid, read_network};
 use cu_session::Router;
 use std::alloc::Global;
 
@@ -73,7 +74,10 @@ pub fn trial<K: Sink>(alloc: Global, asked: TrialWords, sink: &mut K) -> Result<
 {
     let mut draws = Draws::new(asked.grid.start);
     let mut router = build_grid(alloc, &mut draws, asked.grid)?;
-    try_grid(alloc, &mut router, draws, asked, sink)
+    let tried = try_grid(alloc, &mut router, draws, asked, sink);
+    // Let go as its file, which is a vector, where a router has many parts.
+    let _file = router.into_file();
+    tried
 }
 
 // Takes the turns over the packed hierarchy of a grid, and says what they came to.
@@ -115,20 +119,59 @@ fn build_grid(alloc: Global, draws: &mut Draws, size: GridWords) -> Result<Route
     ensures behind { OnOk result (draws.new ≡ behind_grid size.start size.width size.height) }
     ensures err { IfErr result (StopsGrid (grid_asked size)) }
 {
-    let texts = grid(alloc, draws, size.width, size.height)?;
-    let (network, places) = read_network(alloc, &texts.nodes, &texts.roads, &texts.profiles)?;
-    let (order, _splits) = dissect(alloc, &network, &places)?;
-    let graph = close(alloc, &network, &order)?;
-    let hierarchy = customize(alloc, network, order, graph)?;
-    Ok(packed_router(alloc, &hierarchy)?)
+    let prepared = prepare_grid(alloc, draws, size)?;
+    Ok(packed_router(alloc, prepared)?)
 }
 
-// The packed bytes of a built hierarchy, and the room for its queries and edits.
-fn packed_router(alloc: Global, hierarchy: &Hierarchy) -> Result<Router, NoMemory>
-    requires built { IsBuilt hierarchy.now }
-    ensures same { IfOk result (λ router. router ≡ hierarchy.now) }
+// Draws a grid, and closes its graph under the order of its dissection.
+fn prepare_grid(alloc: Global, draws: &mut Draws, size: GridWords) -> Result<Prepared, Stop>
+    requires start { draws.old ≡ size.start }
+    ensures network { IfOk result
+        (λ prepared. prepared.network ≡ (grid_read (grid_asked size)).network) }
+    ensures order { IfOk result (λ prepared. IsGridOrder (grid_asked size) prepared.order) }
+    ensures count { IfOk result
+        (λ prepared. length prepared.order.node_at ≡ prepared.network.nodes) }
+    ensures closed { IfOk result
+        (λ prepared. IsClosureOf prepared.network prepared.order prepared.graph) }
+    ensures behind { OnOk result (draws.new ≡ behind_grid size.start size.width size.height) }
+    ensures err { IfErr result (StopsGrid (grid_asked size)) }
 {
-    let bytes = pack(alloc, hierarchy)?;
+    let (network, places) = draw_network(alloc, draws, size)?;
+    let (order, _splits) = dissect(alloc, &network, &places)?;
+    let graph = close(alloc, &network, &order)?;
+    Ok(Prepared {
+        network,
+        order,
+        graph,
+    })
+}
+
+// Draws the network of a grid, and the places of its nodes.
+fn draw_network(
+    alloc: Global,
+    draws: &mut Draws,
+    size: GridWords,
+) -> Result<(Network, Places), Stop>
+    requires start { draws.old ≡ size.start }
+    ensures read { IfOk result (λ read. record { network = read.0; places = read.1 }
+        ≡ grid_read (grid_asked size)) }
+    ensures places { IfOk result (λ read. length read.1 ≡ read.0.nodes) }
+    ensures behind { OnOk result (draws.new ≡ behind_grid size.start size.width size.height) }
+    ensures err { IfErr result (StopsGrid (grid_asked size)) }
+{
+    let texts = grid(alloc, draws, size.width, size.height)?;
+    Ok(read_network(alloc, &texts.nodes, &texts.roads, &texts.profiles)?)
+}
+
+// The packed bytes of the built hierarchy of what is prepared, and the room for its queries and edits.
+fn packed_router(alloc: Global, prepared: Prepared) -> Result<Router, NoMemory>
+    requires count { length prepared.order.node_at ≡ prepared.network.nodes }
+    requires closed { IsClosureOf prepared.network prepared.order prepared.graph }
+    ensures network { IfOk result (λ router. router.network ≡ prepared.network) }
+    ensures order { IfOk result (λ router. router.order ≡ prepared.order) }
+    ensures built { IfOk result IsBuilt }
+{
+    let bytes = pack_prepared(alloc, prepared)?;
     Router::built(alloc, bytes)
 }
 

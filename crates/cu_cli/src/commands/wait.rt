@@ -11,11 +11,10 @@ ghost use Rattle.cu_cli.specs.Steps.Measuring.{HasBuiltMeasured};
 ghost use Rattle.cu_cli.specs.Steps.Outcomes.{IsBeforeScript, Works, stop_of, world_of};
 
 use crate::measuring::prepare_measured;
+use crate::preparing::pack_prepared;
 use crate::stops::Stop;
 use crate::words::{OrderWord, TableNames, parse_order};
-use cu_customize::customize;
 use cu_io::{Shelf, Sink, Source};
-use cu_pack::pack;
 use cu_session::answer_built;
 use std::alloc::Global;
 
@@ -62,7 +61,7 @@ pub fn wait<H: Shelf, S: Source, K: Sink>(
     Ok(())
 }
 
-// The packed bytes of the built hierarchy of the converted network. The hierarchy itself is let go.
+// The packed bytes of the built hierarchy of the converted network.
 fn pack_measured<H: Shelf>(
     alloc: Global,
     asked: WaitWords<'_>,
@@ -76,6 +75,5 @@ fn pack_measured<H: Shelf>(
     ensures loads { OnlyLoads (stop_of result) (H.state shelf.old) (H.state shelf.new) }
 {
     let prepared = prepare_measured(alloc, asked.tables, asked.order, shelf)?;
-    let hierarchy = customize(alloc, prepared.network, prepared.order, prepared.graph)?;
-    Ok(pack(alloc, &hierarchy)?)
+    Ok(pack_prepared(alloc, prepared)?)
 }
