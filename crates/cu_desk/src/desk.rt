@@ -1,6 +1,6 @@
 //! A desk over a hierarchy: what is published, and the edit in work.
 
-ghost use Rattle.std.specs.Prelude.{◌≡◌, ◌<◌, [], None};
+ghost use Rattle.std.specs.Prelude.{◌≡◌, ◌<◌, [], None, Some};
 ghost use Rattle.std.specs.Option.{option_map};
 ghost use Rattle.cu_io.specs.Sinks.{Wrote};
 ghost use Rattle.cu_model.specs.declared.limits.TheConstants.{DAY};
@@ -11,8 +11,10 @@ ghost use Rattle.cu_pack.specs.Checks.{Spells};
 ghost use Rattle.cu_desk.specs.HeldDesks.{MakesHeld, TouchesHeld, desk_over, state_of};
 ghost use Rattle.cu_desk.specs.Machine.{Begins, Cancels, Steps, said_to};
 ghost use Rattle.cu_desk.specs.Says.{PublishedAtOnce, begun_text, cancel_text, stepped_text};
+ghost use Rattle.cu_desk.specs.Steps.Busies.{FitsSome, work_of};
 ghost use Rattle.cu_router.specs.Answers.{IsHeldAnswer};
 ghost use Rattle.cu_router.specs.Swept.{swept_reply};
+ghost use Rattle.cu_router.specs.Working.{FitsBusy};
 
 use crate::begun::Begun;
 use crate::stepped::Stepped;
@@ -22,6 +24,7 @@ use cu_pack::PackedView;
 use cu_router::{Busy, Router};
 use std::alloc::Global;
 use std::marker::Model;
+use std::mem;
 
 /// The hierarchy that is published, and the edit in work, if there is one. Contracts see both.
 #[derive(Drop)]
@@ -73,7 +76,9 @@ impl Desk {
     pub fn into_file(self) -> Vec<u8>
         ensures spelled { Spells result.items self.published }
     {
-        self.router.into_file()
+        let Desk { router, busy } = self;
+        drop(busy);
+        router.into_file()
     }
 
     /// Begins an edit of a client while none is in work; its numbers are in range. One that touches no edge is published at once.
@@ -93,7 +98,7 @@ impl Desk {
         let Ok(busy) = self.router.begin(alloc, client, edges, edit) else {
             return Begun::NoMemory;
         };
-        self.busy = Some(busy);
+        drop(mem::replace(&mut self.busy, Some(busy)));
         Begun::Begun(count)
     }
 
@@ -105,23 +110,9 @@ impl Desk {
         let Some(busy) = self.busy.take() else {
             return Stepped::Idle;
         };
-        let (busy, left) = self.router.go_on(alloc, busy);
-        let Ok(left) = left else {
-            self.busy = Some(busy);
-            return Stepped::NoMemory;
-        };
-        if left > 0 {
-            self.busy = Some(busy);
-            return Stepped::Left(left);
-        }
-        let client = busy.papers.client();
-        match self.router.publish(alloc, busy) {
-            Ok(()) => Stepped::Published(client),
-            Err(busy) => {
-                self.busy = Some(busy);
-                Stepped::NoMemory
-            }
-        }
+        let (busy, stepped) = step_busy(alloc, &mut self.router, busy);
+        drop(mem::replace(&mut self.busy, busy));
+        stepped
     }
 
     /// Drops a client's own edit in work, and answers whether there was one. Takes no memory.
@@ -129,13 +120,15 @@ impl Desk {
         ensures reply { Cancels self.old.work (state_of self.old) client
             (said_to client (cancel_text result)) (state_of self.new) }
     {
-        let Some(busy) = self.busy.take() else {
+        let Some(busy) = &self.busy else {
             return false;
         };
         if busy.papers.client() != client {
-            self.busy = Some(busy);
             return false;
         }
+        let Some(busy) = self.busy.take() else {
+            unreachable!()
+        };
         self.router.cancel(busy);
         true
     }
@@ -164,5 +157,27 @@ fn publish_at_once(alloc: Global, router: &mut Router, edit: Edit) -> Begun
     match router.edit(alloc, edit) {
         Ok(_edges) => Begun::Done,
         Err(NoMemory) => Begun::NoMemory,
+    }
+}
+
+// Settles one edge more of an edit in work, and publishes it once none is left; else it is still in work.
+fn step_busy(alloc: Global, router: &mut Router, busy: Busy) -> (Option<Busy>, Stepped)
+    requires fits { FitsBusy router.old busy }
+    ensures reply { Steps MakesHeld (Some (work_of busy))
+        (record { published = router.old; work = Some (work_of busy) }) (stepped_text result.1)
+        (record { published = router.new; work = option_map work_of result.0 }) }
+    ensures fits { FitsSome router.new result.0 }
+{
+    let (busy, left) = router.go_on(alloc, busy);
+    let Ok(left) = left else {
+        return (Some(busy), Stepped::NoMemory);
+    };
+    if left > 0 {
+        return (Some(busy), Stepped::Left(left));
+    }
+    let client = busy.papers.client();
+    match router.publish(alloc, busy) {
+        Ok(()) => (None, Stepped::Published(client)),
+        Err(busy) => (Some(busy), Stepped::NoMemory),
     }
 }
