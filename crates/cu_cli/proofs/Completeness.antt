@@ -78,6 +78,7 @@ meant words asked {why = why} {before = before} {now = now} means done = record 
     work = done.did.work;
     stop = done.did.stop;
     ended = means.ends before.shelf now.shelf done.did.work done.did.ended;
+    reads = rw means.script done.did.reads;
     moves = done.did.moves;
     stores = done.did.stores;
     leaves = rw means.script done.did.leaves;
@@ -99,7 +100,7 @@ pub no_words : (a : ShelfState) (s : SourceState) (k : SinkState) → Works no_c
 no_words a s k =
     let nothing = only_nothing a in
     works no_command (λ a b work why can fine is ends. absurd can)
-    (stopped_before no_command.script a a s k no_command.ends stop.Words (record { held = nothing.held; most = nothing.most; stores = nothing.stores; faults = nothing.faults }) tt
+    (stopped_before a a s k no_command.ends stop.Words (record { held = nothing.held; most = nothing.most; stores = nothing.stores; faults = nothing.faults }) tt
     (λ work ends. ends))
 
 -- where nothing fails, the status of a run whose work was stopped is 9 or that of what the meaning says

@@ -25,8 +25,9 @@ use Rattle.cu_cli.specs.Steps.Loading.{OnlyLoads}
 use Rattle.cu_cli.specs.Steps.Outcomes.{Did, IsBeforeScript, world_of}
 use Rattle.cu_cli.proofs.Completeness.{Fine, IsComplete, answers_stop, opening_stops, packing_stops}
 use Rattle.cu_cli.proofs.LoadLaws.{only_refused}
+use Rattle.cu_cli.proofs.ReadLaws.{packing_stops_so, opening_unread, reads_behind, reads_script}
 use Rattle.cu_cli.proofs.StoreLaws.{Storing}
-use Rattle.cu_cli.proofs.WorkLaws.{Behind, counts_script, ends_so, status_same, stopped_before, stopped_behind}
+use Rattle.cu_cli.proofs.WorkLaws.{Behind, counts_script, ends_so, script_unread, status_same, stopped_behind}
 
 -- what is said of the packed file that is stored
 abbrev pub stored_text : HierarchyValue → List ℕ
@@ -63,7 +64,7 @@ retaken a b replies file text taken work (inr (large, (is, nil, output, stored))
 module _ (a b : ShelfState) (s : SourceState) (k : SinkState) (hierarchy out : List ℕ) where
   pub desk_stopped : (why : Stop) → OnlyLoads (Some why) a b → StopsOpening a b (hierarchy_file hierarchy ∷ []) why → IsBeforeScript why
       → Did true (Some why) (EndsDesk hierarchy out) (world_of a s k) (world_of b s k)
-  desk_stopped why loads stops before = stopped_before true a b s k (EndsDesk hierarchy out) why loads before (λ work ends. inr (why, stops, ends))
+  desk_stopped why loads stops before = script_unread a b s k (EndsDesk hierarchy out) why loads before (opening_unread a b hierarchy why stops) (λ work ends. inr (why, stops, ends))
 
 module _ (a b : ShelfState) (s t : SourceState) (k mid : SinkState) (hierarchy out : List ℕ) where
   module _ (h : HierarchyValue) (desk : HeldDesk) (loads : OnlyLoads None a b) (opens : Opens a (hierarchy_file hierarchy ∷ []) h []) where
@@ -74,6 +75,7 @@ module _ (a b : ShelfState) (s t : SourceState) (k mid : SinkState) (hierarchy o
       work = record { stop = ending_of (Some end); taken = done.taken; output = done.output; stored = [] };
       stop = refl;
       ended = inl (h, opens, inr (end, refl, done.answered, (λ built. legal built), refl));
+      reads = reads_script (Some end) (IsHeldDeskOutput h) s t k mid done.taken done.output done.answered done.leaves;
       moves = (done.takes, done.appends);
       stores = loads.held;
       leaves = subst (λ (status : ℕ). Leaves true status s t k mid) (status_same (Some end)) done.leaves;
@@ -113,6 +115,8 @@ module _ (a b : ShelfState) (s t : SourceState) (k mid : SinkState) (hierarchy o
             packed = retaken a c done.output (packed_file out desk.published) (stored_text desk.published) done.taken packed.work packed.ended;
           }),
         );
+        reads = reads_behind s t (record packed.work { taken = done.taken }) packed.work.stop (done.leaves.whole refl refl)
+            (packing_stops_so a c done.output (packed_file out desk.published) (stored_text desk.published) packed.work refl packed.ended);
         moves = (done.takes, packed.moves.1);
         stores = packed.stores;
         leaves = record {
@@ -133,7 +137,7 @@ module _ (a b : ShelfState) (s t : SourceState) (k mid : SinkState) (hierarchy o
           → Did true (Some (stop.TooLarge (length (spelling desk.published)))) (EndsDesk hierarchy out) (world_of a s k) (world_of b t mid)
       desk_large large =
           scripted
-          (stopped_behind false a b t done.output (Packing done.output (packed_file out desk.published) (stored_text desk.published)) (stop.TooLarge (length (spelling desk.published)))
+          (stopped_behind a b t done.output (Packing done.output (packed_file out desk.published) (stored_text desk.published)) (stop.TooLarge (length (spelling desk.published)))
           behind_lines (only_refused (stop.TooLarge (length (spelling desk.published))) tt loads) tt (λ work ends. inr (large, ends)))
 
       -- or few enough, and its storing ended

@@ -46,7 +46,7 @@ module _ (a b : ShelfState) (s : SourceState) (k : SinkState) (hierarchy edits o
   -- the opening was stopped
   pub edit_stopped : (why : Stop) → OnlyLoads (Some why) a b → StopsOpening a b (editing_files hierarchy edits) why → IsBeforeScript why
       → Did false (Some why) (EndsEdit hierarchy edits out) (world_of a s k) (world_of b s k)
-  edit_stopped why loads stops before = stopped_before false a b s k (EndsEdit hierarchy edits out) why loads before (λ work ends. inr (why, stops, ends))
+  edit_stopped why loads stops before = stopped_before a b s k (EndsEdit hierarchy edits out) why loads before (λ work ends. inr (why, stops, ends))
 
   module _ (mid : SinkState) (h after : HierarchyValue) (text : List ℕ) (loads : OnlyLoads None a b) (opens : Opens a (editing_files hierarchy edits) h (text ∷ [])) where
     -- the edits were stopped
@@ -58,6 +58,7 @@ module _ (a b : ShelfState) (s : SourceState) (k : SinkState) (hierarchy edits o
           work = record { stop = Some stop.NoMemory; taken = []; output = done.output; stored = [] };
           stop = refl;
           ended = inl (h, text, opens, inr (inl (n, after, made, (refl, refl, refl, refl))));
+          reads = refl;
           moves = (takes_nothing s.left, done.appends);
           stores = loads.held;
           leaves = leaves_behind false stop.NoMemory s {replies = done.output} (record {
@@ -75,6 +76,7 @@ module _ (a b : ShelfState) (s : SourceState) (k : SinkState) (hierarchy edits o
           work = record { stop = Some stop.Sink; taken = []; output = done.output; stored = [] };
           stop = refl;
           ended = inl (h, text, opens, inr (inr (n, after, replies, made, front, (refl, refl, refl, refl))));
+          reads = refl;
           moves = (takes_nothing s.left, done.appends);
           stores = loads.held;
           leaves = record {
@@ -100,7 +102,7 @@ module _ (a b : ShelfState) (s : SourceState) (k : SinkState) (hierarchy edits o
       pub edits_large : a.most < length (spelling after)
           → Did false (Some (stop.TooLarge (length (spelling after)))) (EndsEdit hierarchy edits out) (world_of a s k) (world_of b s mid)
       edits_large large =
-          stopped_behind false a b s done.output (EndsEdit hierarchy edits out) (stop.TooLarge (length (spelling after))) behind_edits
+          stopped_behind a b s done.output (EndsEdit hierarchy edits out) (stop.TooLarge (length (spelling after))) behind_edits
           (only_refused (stop.TooLarge (length (spelling after))) tt loads) tt
           (λ work ends. inl (h, text, opens, inl (after, done.output, done.done, done_built h after _ done.output done.done, inr (large, ends))))
 

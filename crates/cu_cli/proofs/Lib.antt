@@ -2,6 +2,7 @@ pub mod StopLaws
 mod SayingLaws
 mod LoadLaws
 mod OrderKinds
+mod ReadLaws
 mod WorkLaws
 mod StoreLaws
 mod FileLaws

@@ -133,6 +133,7 @@ storing_refused {replies = replies} {why = why} s behind text h = record {
   work = record { stop = Some why; taken = []; output = replies; stored = h.stored };
   stop = refl;
   ended = (refl, inr (why, h.stopped, refl, refl));
+  reads = refl;
   moves = (takes_nothing s.left, behind.appends);
   stores = h.stores;
   leaves = leaves_behind false why s behind h.early;
@@ -147,6 +148,7 @@ storing_said {k = k} {mid = mid} {now = now} {replies = replies} {text = text} s
   work = record { stop = None; taken = []; output = replies ++ line_of text; stored = h.stored };
   stop = refl;
   ended = (refl, inl (h.whole, inl (refl, refl)));
+  reads = refl;
   moves = (takes_nothing s.left, appends_more k.written mid.written now.written replies (line_of text) behind.appends line.wrote.ok);
   stores = h.stores;
   leaves = record {
@@ -172,6 +174,7 @@ storing_unsaid {k = k} {mid = mid} {now = now} {replies = replies} {text = text}
       work = record { stop = Some stop.Sink; taken = []; output = replies ++ take count (line_of text); stored = h.stored };
       stop = refl;
       ended = (refl, inl (h.whole, inr (refl, (count, refl))));
+      reads = refl;
       moves = (takes_nothing s.left, appends_more k.written mid.written now.written replies (take count (line_of text)) behind.appends some);
       stores = h.stores;
       leaves = record {

@@ -175,9 +175,9 @@ trial_law grid turns a b work why can fine is (inr (inr before)) = inl (cc (befo
 pub grid_stopped : (a : ShelfState) (s : SourceState) (k : SinkState) (grid : GridAsked) (turns : ℕ) (why : Stop) → StopsGrid grid why
     → Did false (Some why) (EndsTrial grid turns) (world_of a s k) (world_of a s k)
 grid_stopped a s k grid turns stop.TooManyEdges (order, given, many) =
-    stopped_before false a a s k (EndsTrial grid turns) stop.TooManyEdges (only_refused stop.TooManyEdges tt (only_nothing a)) tt (λ work ends. inr (inl (order, given, many, ends)))
+    stopped_before a a s k (EndsTrial grid turns) stop.TooManyEdges (only_refused stop.TooManyEdges tt (only_nothing a)) tt (λ work ends. inr (inl (order, given, many, ends)))
 grid_stopped a s k grid turns stop.NoMemory h =
-    stopped_before false a a s k (EndsTrial grid turns) stop.NoMemory (only_refused stop.NoMemory tt (only_nothing a)) tt (λ work ends. inr (inr ends))
+    stopped_before a a s k (EndsTrial grid turns) stop.NoMemory (only_refused stop.NoMemory tt (only_nothing a)) tt (λ work ends. inr (inr ends))
 grid_stopped a s k grid turns _ h = absurd h
 
 -- four texts in two pairs, and four more

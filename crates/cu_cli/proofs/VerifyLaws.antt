@@ -33,18 +33,18 @@ module _ (a b : ShelfState) (s : SourceState) (k : SinkState) (name : List ℕ) 
   -- the opening of a packed file that was to be compared was stopped
   pub comparing_stopped : (why : Stop) → OnlyLoads (Some why) a b → StopsOpening a b (hierarchy_file name ∷ []) why
       → IsBeforeScript why → Did false (Some why) (EndsVerify name) (world_of a s k) (world_of b s k)
-  comparing_stopped why loads stops before = stopped_before false a b s k (EndsVerify name) why loads before (λ work ends. inr (why, stops, ends))
+  comparing_stopped why loads stops before = stopped_before a b s k (EndsVerify name) why loads before (λ work ends. inr (why, stops, ends))
 
   module _ (h : HierarchyValue) (loads : OnlyLoads None a b) (opens : Opens a (hierarchy_file name ∷ []) h []) where
     -- and so was its comparison
     pub verdict_stopped : Did false (Some stop.NoMemory) (EndsVerify name) (world_of a s k) (world_of b s k)
     verdict_stopped =
-        stopped_before false a b s k (EndsVerify name) stop.NoMemory (only_refused stop.NoMemory tt loads) tt (λ work ends. inl (h, opens, inr (inr ends)))
+        stopped_before a b s k (EndsVerify name) stop.NoMemory (only_refused stop.NoMemory tt loads) tt (λ work ends. inl (h, opens, inr (inr ends)))
 
     -- its hierarchy isn't the built one
     pub differs : (found : Difference) → IsDifference h found → Did false (Some (stop.Differs found)) (EndsVerify name) (world_of a s k) (world_of b s k)
     differs found is =
-        stopped_before false a b s k (EndsVerify name) (stop.Differs found) (only_refused (stop.Differs found) tt loads) tt
+        stopped_before a b s k (EndsVerify name) (stop.Differs found) (only_refused (stop.Differs found) tt loads) tt
         (λ work ends. inl (h, opens, inr (inl (found, is, ends))))
 
     -- it is, and that was said

@@ -1,6 +1,7 @@
 -- The work of commands, and what is said of it.
-use Rattle.std.proofs.Common.{◌≡◌, ◌≢◌, ◌≤◌, ◌∙◌, ◌++◌, [], ℕ, List, take, refl, sym, ap, subst, arith, inl, inr, true}
+use Rattle.std.proofs.Common.{◌≡◌, ◌≢◌, ◌≤◌, ◌∙◌, ◌++◌, [], ℕ, List, take, refl, sym, ap, subst, arith, inl, inr, false, true}
 use Rattle.std.specs.Prelude.{Bool, Option, Some, None}
+use Rattle.std.proofs.lemmas.List.{append-nil}
 use Rattle.cu_io.specs.Shelves.{ShelfState}
 use Rattle.cu_io.specs.Sinks.{SinkState}
 use Rattle.cu_io.specs.Sources.{SourceState}
@@ -10,18 +11,20 @@ use Rattle.cu_io.proofs.Taking.{takes_nothing}
 use Rattle.cu_interval.specs.Hierarchies.{HierarchyValue, IsBuilt}
 use Rattle.cu_session.specs.declared.stops.SessionStop.{SessionStop}
 use Rattle.cu_session.specs.declared.stops.SessionStop.TheVariants as session
+use Rattle.cu_session.specs.Held.{IsHeldOutput}
 use Rattle.cu_session.specs.Sessions.{EndsSession, IsFlushed, Leaves, session_status}
 use Rattle.cu_cli.specs.declared.preparing.Prepared.{Prepared}
 use Rattle.cu_cli.specs.declared.stops.Stop.{Stop}
 use Rattle.cu_cli.specs.declared.stops.Stop.TheVariants as stop
 use Rattle.cu_cli.specs.Commands.{meaning_of}
 use Rattle.cu_cli.specs.Endings.{Ending, StopsBefore, StopsBehind, ending_of}
-use Rattle.cu_cli.specs.Runs.{CountsFaults, EndsRun, Moves}
+use Rattle.cu_cli.specs.Runs.{CountsFaults, EndsRun, Moves, Reads}
 use Rattle.cu_cli.specs.Storing.{Stores}
 use Rattle.cu_cli.specs.Stops.{said_at, said_of, status_at, status_of}
 use Rattle.cu_cli.specs.Steps.Loading.{HasBuilt, HasPrepared, OnlyLoads}
 use Rattle.cu_cli.specs.Steps.Outcomes.{Did, IsBeforeScript, Refuses, SaysStop, Works, world_of}
 use Rattle.cu_cli.specs.Words.{OrderAsked, TablesAsked}
+use Rattle.cu_cli.proofs.ReadLaws.{IsUnread, reads_script, unread}
 
 -- a stop before the script has none of the statuses of a script
 early : (why : Stop) → IsBeforeScript why → (status_of why ≢ 0) × (status_of why ≢ 7) × (status_of why ≢ 8)
@@ -63,24 +66,36 @@ leaves_behind script why s behind h =
       rises = behind.rises;
     }
 
--- the work stopped with nothing taken or stored, behind these replies
-pub stopped_behind : (script : Bool) (a b : ShelfState) (s : SourceState) {k mid : SinkState} (replies : List ℕ) (Ends : ShelfState → ShelfState → Ending → Type 0) (why : Stop)
-    → Behind k mid replies → OnlyLoads (Some why) a b → IsBeforeScript why
+-- the work stopped with nothing read, taken or stored, behind these replies
+stopped_unread : (script : Bool) (a b : ShelfState) (s : SourceState) {k mid : SinkState} (replies : List ℕ) (Ends : ShelfState → ShelfState → Ending → Type 0) (why : Stop)
+    → Behind k mid replies → OnlyLoads (Some why) a b → IsBeforeScript why → Reads script s s (record { stop = Some why; taken = []; output = replies; stored = [] })
     → ((work : Ending) → StopsBehind replies why work → Ends a b work) → Did script (Some why) Ends (world_of a s k) (world_of b s mid)
-stopped_behind script a b s replies Ends why behind loads before ends = record {
+stopped_unread script a b s replies Ends why behind loads before reads ends = record {
   work = record { stop = Some why; taken = []; output = replies; stored = [] };
   stop = refl;
   ended = ends (record { stop = Some why; taken = []; output = replies; stored = [] }) (refl, refl, refl, refl);
+  reads = reads;
   moves = (takes_nothing s.left, behind.appends);
   stores = loads.held;
   leaves = leaves_behind script why s behind before;
   faults = loads.faults;
 }
 
+-- of a command that answers no script
+pub stopped_behind : (a b : ShelfState) (s : SourceState) {k mid : SinkState} (replies : List ℕ) (Ends : ShelfState → ShelfState → Ending → Type 0) (why : Stop)
+    → Behind k mid replies → OnlyLoads (Some why) a b → IsBeforeScript why
+    → ((work : Ending) → StopsBehind replies why work → Ends a b work) → Did false (Some why) Ends (world_of a s k) (world_of b s mid)
+stopped_behind a b s replies Ends why behind loads before ends = stopped_unread false a b s replies Ends why behind loads before refl ends
+
 -- the work stopped before anything was taken, written or stored
-pub stopped_before : (script : Bool) (a b : ShelfState) (s : SourceState) (k : SinkState) (Ends : ShelfState → ShelfState → Ending → Type 0) (why : Stop) → OnlyLoads (Some why) a b
-    → IsBeforeScript why → ((work : Ending) → StopsBefore why work → Ends a b work) → Did script (Some why) Ends (world_of a s k) (world_of b s k)
-stopped_before script a b s k Ends why loads before ends = stopped_behind script a b s [] Ends why (behind_nothing k) loads before ends
+pub stopped_before : (a b : ShelfState) (s : SourceState) (k : SinkState) (Ends : ShelfState → ShelfState → Ending → Type 0) (why : Stop) → OnlyLoads (Some why) a b
+    → IsBeforeScript why → ((work : Ending) → StopsBefore why work → Ends a b work) → Did false (Some why) Ends (world_of a s k) (world_of b s k)
+stopped_before a b s k Ends why loads before ends = stopped_behind a b s [] Ends why (behind_nothing k) loads before ends
+
+-- of a command that answers a script
+pub script_unread : (a b : ShelfState) (s : SourceState) (k : SinkState) (Ends : ShelfState → ShelfState → Ending → Type 0) (why : Stop) → OnlyLoads (Some why) a b
+    → IsBeforeScript why → IsUnread why → ((work : Ending) → StopsBefore why work → Ends a b work) → Did true (Some why) Ends (world_of a s k) (world_of b s k)
+script_unread a b s k Ends why loads before none ends = stopped_unread true a b s [] Ends why (behind_nothing k) loads before (unread why s [] none) ends
 
 -- work that ended in one way ended in another
 pub ends_so : {script : Bool} {why : Option Stop} {P Q : ShelfState → ShelfState → Ending → Type 0} {a b : ShelfState} {s t : SourceState} {k now : SinkState}
@@ -89,6 +104,7 @@ ends_so ends done = record {
   work = done.work;
   stop = done.stop;
   ended = ends done.work done.ended;
+  reads = done.reads;
   moves = done.moves;
   stores = done.stores;
   leaves = done.leaves;
@@ -124,16 +140,27 @@ answered a b s t k now end h Ends loads done ends = record {
   work = record { stop = ending_of end; taken = done.taken; output = done.output; stored = [] };
   stop = refl;
   ended = ends;
+  reads = reads_script end (IsHeldOutput h) s t k now done.taken done.output done.held done.leaves;
   moves = (done.takes, done.appends);
   stores = loads.held;
   leaves = subst (λ (status : ℕ). Leaves true status s t k now) (status_same end) done.leaves;
   faults = counts_script a b end loads.faults;
 }
 
+-- all was done
+pub finished : (a b : ShelfState) (s t : SourceState) (k now : SinkState) (words : List (List ℕ)) → Works (meaning_of words) None (world_of a s k) (world_of b t now)
+    → (ending : Ending) × (0 ≡ status_at ending.stop) × EndsRun a b s t words ending × Moves s t k now ending × Stores a.held ending.stored b.held
+finished a b s t k now words works =
+    let done = works.did in
+    let nothing : said_at done.work.stop ≡ [] = ap said_at done.stop in
+    let faults = subst (λ (e : Option Stop). CountsFaults e a b) (sym done.stop) done.faults in
+    let output : done.work.output ≡ done.work.output ++ said_at done.work.stop = rw nothing (sym (append-nil done.work.output)) in
+    (done.work, sym (ap status_at done.stop), (done.work, refl, refl, done.ended, done.reads, faults, inl (refl, output)), done.moves, done.stores)
+
 -- what stopped the work was said
 pub closed : (a b : ShelfState) (s t : SourceState) (k mid now : SinkState) (words : List (List ℕ)) (why : Stop) (status : ℕ)
     → Works (meaning_of words) (Some why) (world_of a s k) (world_of b t mid) → Refuses why mid now status
-    → (ending : Ending) × (status ≡ status_at ending.stop) × EndsRun a b words ending × Moves s t k now ending × Stores a.held ending.stored b.held
+    → (ending : Ending) × (status ≡ status_at ending.stop) × EndsRun a b s t words ending × Moves s t k now ending × Stores a.held ending.stored b.held
 closed a b s t k mid now words why status works refuses = said refuses.said
   where
     done : Did (meaning_of words).script (Some why) (meaning_of words).ends (world_of a s k) (world_of b t mid)
@@ -145,13 +172,13 @@ closed a b s t k mid now words why status works refuses = said refuses.said
     faults : CountsFaults done.work.stop a b
     faults = subst (λ (e : Option Stop). CountsFaults e a b) (sym done.stop) done.faults
 
-    said : SaysStop why mid now status → (ending : Ending) × (status ≡ status_at ending.stop) × EndsRun a b words ending × Moves s t k now ending × Stores a.held ending.stored b.held
+    said : SaysStop why mid now status → (ending : Ending) × (status ≡ status_at ending.stop) × EndsRun a b s t words ending × Moves s t k now ending × Stores a.held ending.stored b.held
     said (inl (is, app, flushed)) =
         let written : Appends k.written now.written (done.work.output ++ said_at done.work.stop) =
         appends_more k.written mid.written now.written done.work.output (said_at done.work.stop) done.moves.1 (subst (λ (t : List ℕ). Appends mid.written now.written t) text app) in (
           record { stop = done.work.stop; taken = done.work.taken; output = done.work.output ++ said_at done.work.stop; stored = done.work.stored },
           is ∙ sym (ap status_at done.stop),
-          (done.work, refl, refl, done.ended, faults, inl (refl, refl)),
+          (done.work, refl, refl, done.ended, done.reads, faults, inl (refl, refl)),
           (done.moves.0, written),
           done.stores,
         )
@@ -161,7 +188,7 @@ closed a b s t k mid now words why status works refuses = said refuses.said
         (subst (λ (t : List ℕ). Appends mid.written now.written (take count t)) text app) in (
           record { stop = Some stop.Sink; taken = done.work.taken; output = done.work.output ++ take count (said_at done.work.stop); stored = done.work.stored },
           eight,
-          (done.work, refl, refl, done.ended, faults, inr (refl, (λ nil. some (text ∙ nil)), (count, refl))),
+          (done.work, refl, refl, done.ended, done.reads, faults, inr (refl, (λ nil. some (text ∙ nil)), (count, refl))),
           (done.moves.0, written),
           done.stores,
         )

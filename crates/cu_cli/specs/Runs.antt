@@ -1,11 +1,12 @@
 -- What a run answers, writes, takes and stores, by its words, its files and its input.
-use Rattle.std.specs.Prelude.{ℕ, List, [], ◌++◌, ◌≡◌, ◌≢◌, ◌<◌, ◌⊎◌, Option, Some, length, take}
+use Rattle.std.specs.Prelude.{ℕ, List, [], ◌++◌, ◌≡◌, ◌≢◌, ◌<◌, ◌⊎◌, Bool, false, true, Option, Some, None, IfSome, length, take}
 use Rattle.cu_io.specs.Counts.{Rose}
 use Rattle.cu_io.specs.Shelves.{ShelfState}
 use Rattle.cu_io.specs.Sinks.{SinkState}
 use Rattle.cu_io.specs.Sources.{SourceState}
 use Rattle.cu_io.specs.Transfers.{Appends, Takes}
 use Rattle.cu_session.specs.Sessions.{take_limit}
+use Rattle.cu_cli.specs.declared.stops.Role.TheVariants as role
 use Rattle.cu_cli.specs.declared.stops.Stop.{Stop}
 use Rattle.cu_cli.specs.declared.stops.Stop.TheVariants as stop
 use Rattle.cu_cli.specs.Commands.{meaning_of}
@@ -19,6 +20,29 @@ CountsFaults (Some (stop.Fault whose)) before now =
     (name : List ℕ) × (Rose (before.load_faults name) (now.load_faults name) ⊎ Rose (before.store_faults name) (now.store_faults name))
 CountsFaults _ before now = (now.load_faults ≡ before.load_faults) × (now.store_faults ≡ before.store_faults)
 
+-- the source was read to its end: no byte is left, where it tells
+abbrev pub IsReadToEnd : SourceState → SourceState → Type 0
+IsReadToEnd before now = IfSome before.left (λ _. now.left ≡ Some [])
+
+-- What was read of a script, by what stopped the work. All of it, where nothing did, and where what did comes behind the last line: the
+-- file to be stored is too large, or its store met a fault. Where memory ran out all of it, or nothing was taken or stored; where the sink
+-- failed all of it, or nothing was stored. Where the source failed, or gave as much as a run takes, the replies say how far it was read.
+-- Where anything else stopped the work, nothing was taken.
+abbrev pub ReadsScript : Option Stop → SourceState → SourceState → Ending → Type 0
+ReadsScript None before now work = IsReadToEnd before now
+ReadsScript (Some (stop.TooLarge bytes)) before now work = IsReadToEnd before now
+ReadsScript (Some (stop.Fault role.Out)) before now work = IsReadToEnd before now
+ReadsScript (Some stop.NoMemory) before now work = IsReadToEnd before now ⊎ ((work.taken ≡ []) × (work.stored ≡ []))
+ReadsScript (Some stop.Sink) before now work = IsReadToEnd before now ⊎ (work.stored ≡ [])
+ReadsScript (Some stop.Source) before now work = Unit {0}
+ReadsScript (Some stop.TakeLimit) before now work = Unit {0}
+ReadsScript _ before now work = work.taken ≡ []
+
+-- what work read of the source: of one that is no script, nothing
+abbrev pub Reads : (script : Bool) → SourceState → SourceState → Ending → Type 0
+Reads false before now work = work.taken ≡ []
+Reads true before now work = ReadsScript work.stop before now work
+
 -- behind what was written stands what is said of the stop; or, where there is a line and the sink failed in it, first bytes of that line
 abbrev pub Closes : Ending → Ending → Type 0
 Closes work ending =
@@ -26,10 +50,10 @@ Closes work ending =
     ⊎ ((ending.stop ≡ Some stop.Sink) × (said_at work.stop ≢ []) × ((n : ℕ) × (ending.output ≡ work.output ++ take n (said_at work.stop))))
 
 -- the command of the words did its work, and what stopped it was said
-abbrev pub EndsRun : ShelfState → ShelfState → List (List ℕ) → Ending → Type 0
-EndsRun before now words ending =
+abbrev pub EndsRun : ShelfState → ShelfState → SourceState → SourceState → List (List ℕ) → Ending → Type 0
+EndsRun before now source_before source_now words ending =
     (work : Ending) × (ending.taken ≡ work.taken) × (ending.stored ≡ work.stored) × (meaning_of words).ends before now work
-    × CountsFaults work.stop before now × Closes work ending
+    × Reads (meaning_of words).script source_before source_now work × CountsFaults work.stop before now × Closes work ending
 
 -- the source gave the bytes taken, the sink got the bytes written
 abbrev pub Moves : SourceState → SourceState → SinkState → SinkState → Ending → Type 0

@@ -22,6 +22,7 @@ use crate::stops::Stop;
 use ask::AskWords;
 use build::BuildWords;
 use cu_io::{Shelf, Sink, Source};
+use cu_progress::Progress;
 use desk::DeskWords;
 use edit::EditWords;
 use make::MakeWords;
@@ -85,30 +86,31 @@ pub fn parse_words(words: &Vec<String>) -> Option<Command<'_>>
     }
 }
 
-/// Does what a command asks for.
-pub fn perform<H: Shelf, S: Source, K: Sink>(
+/// Does what a command asks for, and tells how far it is.
+pub fn perform<H: Shelf, S: Source, K: Sink, P: Progress>(
     alloc: Global,
     command: Command<'_>,
     shelf: &mut H,
     source: &mut S,
     sink: &mut K,
+    progress: &mut P,
 ) -> Result<(), Stop>
     ensures works { Works (command_asked command.entry) (stop_of result)
         (world_of (H.state shelf.old) (S.state source.old) (K.state sink.old))
         (world_of (H.state shelf.new) (S.state source.new) (K.state sink.new)) }
 {
     match command {
-        Command::Serve(asked) => serve::serve(alloc, asked, shelf, source, sink),
-        Command::Wait(asked) => wait::wait(alloc, asked, shelf, source, sink),
-        Command::Order(asked) => order::order(alloc, asked, shelf, sink),
+        Command::Serve(asked) => serve::serve(alloc, asked, shelf, source, sink, progress),
+        Command::Wait(asked) => wait::wait(alloc, asked, shelf, source, sink, progress),
+        Command::Order(asked) => order::order(alloc, asked, shelf, sink, progress),
         Command::Make(asked) => make::make(alloc, asked, shelf, sink),
-        Command::Build(asked) => build::build(alloc, asked, shelf, sink),
-        Command::Ask(asked) => ask::ask(alloc, asked, shelf, source, sink),
-        Command::Desk(asked) => desk::desk(alloc, asked, shelf, source, sink),
-        Command::Edit(asked) => edit::edit(alloc, asked, shelf, sink),
-        Command::Verify(asked) => verify::verify(alloc, asked, shelf, sink),
-        Command::Measure(asked) => measure::measure(alloc, asked, shelf, sink),
-        Command::Migrate(asked) => migrate::migrate(alloc, asked, shelf, sink),
+        Command::Build(asked) => build::build(alloc, asked, shelf, sink, progress),
+        Command::Ask(asked) => ask::ask(alloc, asked, shelf, source, sink, progress),
+        Command::Desk(asked) => desk::desk(alloc, asked, shelf, source, sink, progress),
+        Command::Edit(asked) => edit::edit(alloc, asked, shelf, sink, progress),
+        Command::Verify(asked) => verify::verify(alloc, asked, shelf, sink, progress),
+        Command::Measure(asked) => measure::measure(alloc, asked, shelf, sink, progress),
+        Command::Migrate(asked) => migrate::migrate(alloc, asked, shelf, sink, progress),
         Command::Trial(asked) => trial::trial(alloc, asked, sink),
     }
 }

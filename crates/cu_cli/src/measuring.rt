@@ -16,16 +16,18 @@ use crate::stops::Stop;
 use crate::words::{OrderWord, TableNames};
 use cu_io::Shelf;
 use cu_profile::write_profiles;
+use cu_progress::{Progress, Stage, begin};
 use cu_wait::read_measured;
 use std::alloc::Global;
 
 /// Loads the tables, of which that of the profiles is measured, and the order; reads and converts the measured profiles,
 /// and then reads the other texts; and closes the graph.
-pub fn prepare_measured<H: Shelf>(
+pub fn prepare_measured<H: Shelf, P: Progress>(
     alloc: Global,
     tables: TableNames<'_>,
     order: OrderWord<'_>,
     shelf: &mut H,
+    progress: &mut P,
 ) -> Result<Prepared, Stop>
     ensures ok { IfOk result
         (HasPreparedMeasured (H.state shelf.old) (tables_asked tables.entry) (order_asked order.entry)) }
@@ -36,8 +38,10 @@ pub fn prepare_measured<H: Shelf>(
     ensures before { IfErr result IsBeforeScript }
     ensures loads { OnlyLoads (stop_of result) (H.state shelf.old) (H.state shelf.new) }
 {
+    begin(progress, Stage::Reading);
     let texts = load_tables(alloc, tables, shelf)?;
     let given = load_order(alloc, order, shelf)?;
+    begin(progress, Stage::Measuring);
     read_converted(alloc, texts, &given)
 }
 

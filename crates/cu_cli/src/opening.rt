@@ -13,6 +13,7 @@ use crate::preparing::load_file;
 use crate::stops::{Role, Stop};
 use cu_io::Shelf;
 use cu_pack::{PackRefusal, PackedView, migrate};
+use cu_progress::{Progress, Stage, begin};
 use std::alloc::Global;
 
 /// A packed file, and the text of its edits.
@@ -23,7 +24,12 @@ pub struct EditedFile {
 }
 
 /// The packed file, in version 2, of the hierarchy whose packed file the bytes of a file are, in either version.
-pub fn open_file<H: Shelf>(alloc: Global, name: &str, shelf: &mut H) -> Result<Vec<u8>, Stop>
+pub fn open_file<H: Shelf, P: Progress>(
+    alloc: Global,
+    name: &str,
+    shelf: &mut H,
+    progress: &mut P,
+) -> Result<Vec<u8>, Stop>
     ensures ok { IfOk result (λ bytes. (h : HierarchyValue)
         × Opens (H.state shelf.old) (hierarchy_file name.now ∷ []) h [] × Spells bytes.items h) }
     ensures err { IfErr result (StopsOpening (H.state shelf.old) (H.state shelf.new)
@@ -31,17 +37,20 @@ pub fn open_file<H: Shelf>(alloc: Global, name: &str, shelf: &mut H) -> Result<V
     ensures before { IfErr result IsBeforeScript }
     ensures loads { OnlyLoads (stop_of result) (H.state shelf.old) (H.state shelf.new) }
 {
+    begin(progress, Stage::Reading);
     let bytes = load_file(alloc, Role::Hierarchy, name, shelf)?;
+    begin(progress, Stage::Opening);
     checked_file(alloc, bytes)
 }
 
 /// The packed file, in version 2, of the hierarchy whose packed file the bytes of a file are, in either version, and the
 /// bytes of its edits. Both are loaded before the first is checked.
-pub fn open_edited<H: Shelf>(
+pub fn open_edited<H: Shelf, P: Progress>(
     alloc: Global,
     hierarchy: &str,
     edits: &str,
     shelf: &mut H,
+    progress: &mut P,
 ) -> Result<EditedFile, Stop>
     ensures ok { IfOk result (λ file. (h : HierarchyValue)
         × Opens (H.state shelf.old) (editing_files hierarchy.now edits.now) h (file.edits.items ∷ [])
@@ -51,8 +60,10 @@ pub fn open_edited<H: Shelf>(
     ensures before { IfErr result IsBeforeScript }
     ensures loads { OnlyLoads (stop_of result) (H.state shelf.old) (H.state shelf.new) }
 {
+    begin(progress, Stage::Reading);
     let hierarchy = load_file(alloc, Role::Hierarchy, hierarchy, shelf)?;
     let edits = load_file(alloc, Role::Edits, edits, shelf)?;
+    begin(progress, Stage::Opening);
     let hierarchy = checked_file(alloc, hierarchy)?;
     Ok(EditedFile { hierarchy, edits })
 }

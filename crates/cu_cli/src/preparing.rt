@@ -18,12 +18,13 @@ ghost use Rattle.cu_cli.specs.Words.{network_files, order_files};
 use crate::stops::{Role, Stop};
 use crate::words::{OrderWord, TableNames};
 use cu_chordal::{Chordal, close};
-use cu_customize::customize;
+use cu_customize::customize_telling;
 use cu_dissect::dissect;
 use cu_io::{LoadFailed, Shelf};
 use cu_model::{Network, NoMemory, Order, Roads};
 use cu_order::{OrderRefusal, read_order};
 use cu_pack::pack;
+use cu_progress::{Progress, Stage, begin};
 use cu_roads::{Places, read_network};
 use std::alloc::Global;
 
@@ -55,11 +56,12 @@ pub struct Prepared {
 }
 
 /// Loads the tables and the order, reads them, and closes the graph.
-pub fn prepare<H: Shelf>(
+pub fn prepare<H: Shelf, P: Progress>(
     alloc: Global,
     tables: TableNames<'_>,
     order: OrderWord<'_>,
     shelf: &mut H,
+    progress: &mut P,
 ) -> Result<Prepared, Stop>
     ensures ok { IfOk result
         (HasPrepared (H.state shelf.old) (tables_asked tables.entry) (order_asked order.entry)) }
@@ -70,6 +72,7 @@ pub fn prepare<H: Shelf>(
     ensures before { IfErr result IsBeforeScript }
     ensures loads { OnlyLoads (stop_of result) (H.state shelf.old) (H.state shelf.new) }
 {
+    begin(progress, Stage::Reading);
     let texts = load_tables(alloc, tables, shelf)?;
     let given = load_order(alloc, order, shelf)?;
     read_prepared(alloc, &texts, &given)
@@ -180,13 +183,24 @@ pub fn read_prepared(
 }
 
 /// The packed file of the built hierarchy of what is prepared. The hierarchy itself is let go.
-pub fn pack_prepared(alloc: Global, prepared: Prepared) -> Result<Vec<u8>, NoMemory>
+pub fn pack_prepared<P: Progress>(
+    alloc: Global,
+    prepared: Prepared,
+    progress: &mut P,
+) -> Result<Vec<u8>, NoMemory>
     requires count { length prepared.order.node_at ≡ prepared.network.nodes }
     requires closed { IsClosureOf prepared.network prepared.order prepared.graph }
     ensures built { IfOk result (λ bytes. (h : HierarchyValue) × IsBuilt h
         × (h.network ≡ prepared.network) × (h.order ≡ prepared.order) × Spells bytes.items h) }
 {
-    let hierarchy = customize(alloc, prepared.network, prepared.order, prepared.graph)?;
+    let hierarchy = customize_telling(
+        alloc,
+        prepared.network,
+        prepared.order,
+        prepared.graph,
+        progress,
+    )?;
+    begin(progress, Stage::Packing);
     pack(alloc, &hierarchy)
 }
 

@@ -3,6 +3,7 @@
 ghost use Rattle.std.specs.Prelude.{◌≡◌, ◌⊎◌, map, string_bytes};
 ghost use Rattle.cu_cli.specs.Commands.{meaning_of};
 ghost use Rattle.cu_cli.specs.Endings.{Ending};
+ghost use Rattle.cu_cli.specs.Numbers.{AreTheNumbers};
 ghost use Rattle.cu_cli.specs.Runs.{EndsRun, IsShort, MayStop, MeetsNoFault, Moves};
 ghost use Rattle.cu_cli.specs.Steps.Outcomes.{Works, stop_of, world_of};
 ghost use Rattle.cu_cli.specs.Stops.{status_at};
@@ -12,6 +13,7 @@ ghost use Rattle.cu_session.specs.Sessions.{Leaves};
 use crate::commands::{parse_words, perform};
 use crate::stops::{Stop, refuse};
 use cu_io::{Shelf, Sink, Source};
+use cu_progress::{Progress, Silent, Stage, begin};
 use std::alloc::Global;
 
 /// Does all that the program does: what the words ask for, over the files of the shelf and the script of the source,
@@ -25,7 +27,8 @@ pub fn run<H: Shelf, S: Source, K: Sink>(
     sink: &mut K,
 ) -> u8
     ensures ended { (ending : Ending) × (result ≡ status_at ending.stop)
-        × EndsRun (H.state shelf.old) (H.state shelf.new) (map string_bytes words.now.items) ending
+        × EndsRun (H.state shelf.old) (H.state shelf.new) (S.state source.old) (S.state source.new)
+        (map string_bytes words.now.items) ending
         × Moves (S.state source.old) (S.state source.new) (K.state sink.old) (K.state sink.new)
         ending
         × Stores (H.state shelf.old).held ending.stored (H.state shelf.new).held }
@@ -36,6 +39,7 @@ pub fn run<H: Shelf, S: Source, K: Sink>(
         (S.state source.new)
         (K.state sink.old)
         (K.state sink.new) }
+    ensures numbers { AreTheNumbers }
 
     // Where the words ask for what can be done with the files, nothing fails and the input has fewer than 2^40 bytes,
     // all is done but for want of memory, or for what the meaning of the words says: a packed file past the limit, or a
@@ -47,19 +51,60 @@ pub fn run<H: Shelf, S: Source, K: Sink>(
         → (result ≡ 0) ⊎ (result ≡ 9)
         ⊎ MayStop (meaning_of (map string_bytes words.now.items)) result }
 {
-    match perform_words(alloc, words, shelf, source, sink) {
-        Ok(()) => 0,
-        Err(stop) => refuse(stop, sink),
-    }
+    run_telling(alloc, words, shelf, source, sink, &mut Silent)
 }
 
-// Does what the words ask for.
-fn perform_words<H: Shelf, S: Source, K: Sink>(
+/// [`run`], which tells how far long work is as it goes. Whatever is made of that, it changes no answer, byte or status.
+pub fn run_telling<H: Shelf, S: Source, K: Sink, P: Progress>(
     alloc: Global,
     words: &Vec<String>,
     shelf: &mut H,
     source: &mut S,
     sink: &mut K,
+    progress: &mut P,
+) -> u8
+    ensures ended { (ending : Ending) × (result ≡ status_at ending.stop)
+        × EndsRun (H.state shelf.old) (H.state shelf.new) (S.state source.old) (S.state source.new)
+        (map string_bytes words.now.items) ending
+        × Moves (S.state source.old) (S.state source.new) (K.state sink.old) (K.state sink.new)
+        ending
+        × Stores (H.state shelf.old).held ending.stored (H.state shelf.new).held }
+    ensures leaves { Leaves
+        (meaning_of (map string_bytes words.now.items)).script
+        result
+        (S.state source.old)
+        (S.state source.new)
+        (K.state sink.old)
+        (K.state sink.new) }
+    ensures numbers { AreTheNumbers }
+
+    // Where the words ask for what can be done with the files, nothing fails and the input has fewer than 2^40 bytes,
+    // all is done but for want of memory, or for what the meaning of the words says: a packed file past the limit, or a
+    // hierarchy that isn't the built one.
+    ensures complete { (meaning_of (map string_bytes words.now.items)).can (H.state shelf.old)
+        → IsShort (S.state source.old)
+        → MeetsNoFault (H.state shelf.old) (H.state shelf.new) (S.state source.old)
+        (S.state source.new) (K.state sink.old) (K.state sink.new)
+        → (result ≡ 0) ⊎ (result ≡ 9)
+        ⊎ MayStop (meaning_of (map string_bytes words.now.items)) result }
+{
+    match perform_words(alloc, words, shelf, source, sink, progress) {
+        Ok(()) => 0,
+        Err(stop) => {
+            begin(progress, Stage::Done);
+            refuse(stop, sink)
+        }
+    }
+}
+
+// Does what the words ask for.
+fn perform_words<H: Shelf, S: Source, K: Sink, P: Progress>(
+    alloc: Global,
+    words: &Vec<String>,
+    shelf: &mut H,
+    source: &mut S,
+    sink: &mut K,
+    progress: &mut P,
 ) -> Result<(), Stop>
     ensures works { Works (meaning_of (map string_bytes words.now.items)) (stop_of result)
         (world_of (H.state shelf.old) (S.state source.old) (K.state sink.old))
@@ -68,5 +113,5 @@ fn perform_words<H: Shelf, S: Source, K: Sink>(
     let Some(command) = parse_words(words) else {
         return Err(Stop::Words);
     };
-    perform(alloc, command, shelf, source, sink)
+    perform(alloc, command, shelf, source, sink, progress)
 }

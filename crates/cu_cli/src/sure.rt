@@ -3,6 +3,7 @@
 ghost use Rattle.std.specs.Prelude.{◌≡◌, ◌≢◌, ◌⊎◌, map, string_bytes};
 ghost use Rattle.cu_cli.specs.Commands.{meaning_of};
 ghost use Rattle.cu_cli.specs.Endings.{Ending};
+ghost use Rattle.cu_cli.specs.Numbers.{AreTheNumbers};
 ghost use Rattle.cu_cli.specs.Runs.{EndsRun, IsShort, MayStop, Moves};
 ghost use Rattle.cu_cli.specs.Stops.{status_at};
 ghost use Rattle.cu_cli.specs.Storing.{Stores};
@@ -26,7 +27,10 @@ pub fn run_surely(
     ensures sink { result ≢ 8 }
     ensures ended { (ending : Ending) × (result ≡ status_at ending.stop) × IsFaultless ending.stop
         × EndsRun (shelf_state shelf.old) (shelf_state shelf.new)
-        (map string_bytes words.now.items) ending
+        (⟦<SureSource as Source>⟧.state source.old)
+        (⟦<SureSource as Source>⟧.state source.new)
+        (map string_bytes words.now.items)
+        ending
         × Moves
         (⟦<SureSource as Source>⟧.state source.old)
         (⟦<SureSource as Source>⟧.state source.new)
@@ -41,6 +45,7 @@ pub fn run_surely(
         (⟦<SureSource as Source>⟧.state source.new)
         (⟦<SureSink as Sink>⟧.state sink.old)
         (⟦<SureSink as Sink>⟧.state sink.new) }
+    ensures numbers { AreTheNumbers }
     ensures complete { (meaning_of (map string_bytes words.now.items)).can (shelf_state shelf.old)
         → IsShort (⟦<SureSource as Source>⟧.state source.old)
         → (result ≡ 0) ⊎ (result ≡ 9)

@@ -16,6 +16,7 @@ use crate::triangles::{Triangle, Triangles};
 use cu_chordal::Chordal;
 use cu_interval::{Dir, EdgeArcs, Hierarchy, Shortcut, WayList, leg_of};
 use cu_model::{Network, NoMemory, Order, Roads};
+use cu_progress::{Counter, Progress, Silent, Stage};
 use cu_runs::{DayFunction, LayeredFunctions, PackedRun, Windows, staying};
 use std::alloc::Global;
 
@@ -143,8 +144,22 @@ fn settle_rank(
     Ok(())
 }
 
-// Settles all lists, by rising number.
-fn build_lists(alloc: Global, parts: &Parts<'_>) -> Result<Building, NoMemory>
+// How much there is to settle: the edges of a graph, and each time that an edge has a lower triangle.
+fn count_work(graph: &Chordal) -> u64 {
+    let mut work = 0u64;
+    for rank in 0..graph.ranks() {
+        let highs = graph.up(rank).len() as u64;
+        work = work.saturating_add(highs.saturating_mul(highs.saturating_add(1)) / 2);
+    }
+    work
+}
+
+// Settles all lists, by rising number, and tells how much of them is done.
+fn build_lists<P: Progress>(
+    alloc: Global,
+    parts: &Parts<'_>,
+    progress: &mut P,
+) -> Result<Building, NoMemory>
     requires { AreParts parts.now }
     ensures { IfOk result (λ building. AreBuilt parts.now.network.now parts.now.order.now
         parts.now.graph.now.edges building.lists.items) }
@@ -156,6 +171,7 @@ fn build_lists(alloc: Global, parts: &Parts<'_>) -> Result<Building, NoMemory>
         functions: Vec::with_capacity(alloc, lists)?,
         lists: Vec::with_capacity(alloc, lists)?,
     };
+    let mut counter = Counter::begin(progress, Stage::Customizing, count_work(parts.graph));
     for rank in 0..parts.graph.ranks() {
         settle_rank(
             alloc,
@@ -165,17 +181,19 @@ fn build_lists(alloc: Global, parts: &Parts<'_>) -> Result<Building, NoMemory>
             &mut gatherer,
             &mut building,
         )?;
+        counter.add(progress, triangles.settled());
     }
     Ok(building)
 }
 
 /// The lists of the hierarchy that is built of a network and an order, whose chordal graph this is, by list number: the
-/// maximal runs of first ways.
-pub fn built_lists(
+/// maximal runs of first ways. How much of them is settled is told as it goes.
+pub fn built_lists_telling<P: Progress>(
     alloc: Global,
     network: &Network,
     order: &Order,
     graph: &Chordal,
+    progress: &mut P,
 ) -> Result<Vec<WayList>, NoMemory>
     requires same { length order.now.node_at ≡ network.now.nodes }
     requires closed { IsClosureOf network.now order.now graph.now }
@@ -199,8 +217,49 @@ pub fn built_lists(
         stay: &stay,
         windows: Windows::of(network),
     };
-    let building = build_lists(alloc, &parts)?;
+    let building = build_lists(alloc, &parts, progress)?;
     Ok(building.lists)
+}
+
+/// The lists of the hierarchy that is built of a network and an order, whose chordal graph this is, by list number: the
+/// maximal runs of first ways.
+pub fn built_lists(
+    alloc: Global,
+    network: &Network,
+    order: &Order,
+    graph: &Chordal,
+) -> Result<Vec<WayList>, NoMemory>
+    requires same { length order.now.node_at ≡ network.now.nodes }
+    requires closed { IsClosureOf network.now order.now graph.now }
+    ensures built { IfOk result (λ lists. IsBuilt (record {
+      network = network.now;
+      order = order.now;
+      edges = graph.now.edges;
+      lists = lists.items;
+    })) }
+    ensures graph { graph.now.ranks ≡ network.now.nodes }
+{
+    built_lists_telling(alloc, network, order, graph, &mut Silent)
+}
+
+/// The built hierarchy of a network and an order, whose chordal graph this is. The network, the order and the graph are
+/// dropped where memory runs out. How much of it is settled is told as it goes.
+pub fn customize_telling<P: Progress>(
+    alloc: Global,
+    network: Network,
+    order: Order,
+    graph: Chordal,
+    progress: &mut P,
+) -> Result<Hierarchy, NoMemory>
+    requires same { length order.node_at ≡ network.nodes }
+    requires closed { IsClosureOf network order graph }
+    ensures network { IfOk result (λ hierarchy. hierarchy.network ≡ network) }
+    ensures order { IfOk result (λ hierarchy. hierarchy.order ≡ order) }
+    ensures edges { IfOk result (λ hierarchy. hierarchy.edges ≡ graph.edges) }
+    ensures built { IfOk result IsBuilt }
+{
+    let lists = built_lists_telling(alloc, &network, &order, &graph, progress)?;
+    Ok(Hierarchy::of(network, order, graph, lists))
 }
 
 /// The built hierarchy of a network and an order, whose chordal graph this is. The network, the order and the graph are
@@ -218,6 +277,5 @@ pub fn customize(
     ensures edges { IfOk result (λ hierarchy. hierarchy.edges ≡ graph.edges) }
     ensures built { IfOk result IsBuilt }
 {
-    let lists = built_lists(alloc, &network, &order, &graph)?;
-    Ok(Hierarchy::of(network, order, graph, lists))
+    customize_telling(alloc, network, order, graph, &mut Silent)
 }

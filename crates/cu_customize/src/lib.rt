@@ -13,6 +13,8 @@
 //! and order (`specs/Functions.antt`). [`PackedSettling`] makes the same list as customization makes it, from packed
 //! runs that are kept by list number (`LayeredFunctions` of `cu_runs`), as long as these can say how long its ways take.
 //!
+//! [`customize_telling`] is the same, and tells how much is settled as it goes.
+//!
 //! It stands on `cu_interval` and `cu_chordal`, for hierarchies, on `cu_runs`, for functions as packed runs, and on
 //! `cu_arrival`, for what a run says and for functions that packed runs can't say. How lists are stepped through is
 //! private; what only that cites is in `specs/Steps`.
@@ -30,7 +32,7 @@ mod settling;
 mod task;
 mod triangles;
 
-pub use customizing::{built_lists, customize};
+pub use customizing::{built_lists, built_lists_telling, customize, customize_telling};
 pub use functions::Functions;
 pub use packed_settling::PackedSettling;
 pub use pulling::SettledRuns;

@@ -16,3 +16,4 @@ pub mod Leaving
 pub mod Counted
 pub mod BuiltInTime
 pub mod LedDays
+pub mod LedArcs

@@ -5,3 +5,4 @@ pub mod Taking
 pub mod Ranks
 pub mod Saying
 pub mod LineFields
+pub mod LedSteps

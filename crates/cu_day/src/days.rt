@@ -12,7 +12,8 @@ ghost use Rattle.cu_elimtree.specs.SweepArcs.{parents_in};
 ghost use Rattle.cu_elimtree.specs.Trees.{ancestors_of};
 ghost use Rattle.cu_interval.specs.declared.ways.Dir.TheVariants.{Up, Down};
 ghost use Rattle.cu_day.specs.DayAnswers.{IsLeastWhereBuilt};
-ghost use Rattle.cu_day.specs.DayCalls.{AddsSweepArcs, calls_of_rank, calls_of_ranks};
+ghost use Rattle.cu_day.specs.DayCalls.{AddsSweepArcs};
+ghost use Rattle.cu_sweep.specs.LedCalls.{arcs_of_rank, arcs_of_ranks};
 ghost use Rattle.cu_day.specs.DayChains.{IsDayFunction};
 ghost use Rattle.cu_day.specs.Steps.Ranks.{AreBegun, GathersFrom, HasSwept, HasSweptDown, HasSweptUp, SpreadsTo};
 ghost use Rattle.cu_day.specs.Steps.Sweeping.{Always, TakesList};
@@ -143,7 +144,7 @@ fn sweep_up<F: DayFunctions>(
     ensures swept { OnOk result
         (HasSweptUp Always (F.hierarchy functions.old) path.now labels.old.items labels.new.items) }
     ensures told { OnOk result (F.calls functions.new
-        ≡ F.calls functions.old ++ calls_of_ranks (F.hierarchy functions.old) Up path.now) }
+        ≡ F.calls functions.old ++ arcs_of_ranks (F.hierarchy functions.old) Up path.now) }
     ensures stays { F.hierarchy functions.new ≡ F.hierarchy functions.old }
 {
     let mut done = 0;
@@ -169,7 +170,7 @@ fn sweep_down<F: DayFunctions>(
     ensures swept { OnOk result
         (HasSweptDown Always (F.hierarchy functions.old) path.now labels.old.items labels.new.items) }
     ensures told { OnOk result (F.calls functions.new ≡ F.calls functions.old
-        ++ calls_of_ranks (F.hierarchy functions.old) Down (reverse path.now)) }
+        ++ arcs_of_ranks (F.hierarchy functions.old) Down (reverse path.now)) }
     ensures stays { F.hierarchy functions.new ≡ F.hierarchy functions.old }
 {
     let mut left = path.len();
@@ -194,7 +195,7 @@ fn spread<F: DayFunctions>(
     ensures spreads { OnOk result (SpreadsTo Always (F.hierarchy functions.old) rank
         (up_of (F.hierarchy functions.old).edges rank) labels.old.items labels.new.items) }
     ensures told { OnOk result (F.calls functions.new
-        ≡ F.calls functions.old ++ calls_of_rank (F.hierarchy functions.old) Up rank) }
+        ≡ F.calls functions.old ++ arcs_of_rank (F.hierarchy functions.old) Up rank) }
     ensures stays { F.hierarchy functions.new ≡ F.hierarchy functions.old }
 {
     let mut edge = graph.first_edge(rank);
@@ -225,7 +226,7 @@ fn gather<F: DayFunctions>(
     ensures gathers { OnOk result (GathersFrom Always (F.hierarchy functions.old) rank
         (up_of (F.hierarchy functions.old).edges rank) labels.old.items labels.new.items) }
     ensures told { OnOk result (F.calls functions.new
-        ≡ F.calls functions.old ++ calls_of_rank (F.hierarchy functions.old) Down rank) }
+        ≡ F.calls functions.old ++ arcs_of_rank (F.hierarchy functions.old) Down rank) }
     ensures stays { F.hierarchy functions.new ≡ F.hierarchy functions.old }
 {
     let mut edge = graph.first_edge(rank);

@@ -5,10 +5,12 @@ ghost use Rattle.cu_elimtree.specs.SweepArcs.{parents_in};
 ghost use Rattle.cu_interval.specs.Hierarchies.{IsHierarchyOf};
 ghost use Rattle.cu_sweep.specs.Outlooks.{IsAhead};
 ghost use Rattle.cu_day.specs.DayAnswers.{IsLeastWhereBuilt};
+ghost use Rattle.cu_day.specs.DayCalls.{AddsLedArcs};
 ghost use Rattle.cu_day.specs.DayChains.{IsDayFunction};
 ghost use Rattle.cu_day.specs.Steps.InTime.{IsEarly};
+ghost use Rattle.cu_day.specs.Steps.LedSteps.{AddsInSweeps, AddsLimited};
 
-use crate::days::day;
+use crate::days::{day, list_ancestors};
 use crate::driving::drive_chain;
 use crate::functions::DayFunctions;
 use crate::slack::slack_of;
@@ -23,7 +25,8 @@ use std::alloc::Global;
 
 /// [`day`](crate::day) from the start of a leg to its end, which asks for the functions of those arcs alone that may be in time at
 /// some second of the day, as long as a chain that is driven first is met; else it is [`day`](crate::day). Whoever relaxes knows
-/// the least bounds of the same hierarchy; no relaxation is asked for.
+/// the least bounds of the same hierarchy; no relaxation is asked for. All that it asks for are functions of sweep arcs, upwards of
+/// the start and downwards of the end: along the chain, and then of each sweep in its order.
 ///
 /// Refused only for want of memory; some calls were made then, and the hierarchy is as it was.
 pub fn led_day<F: DayFunctions, R: Relaxer>(
@@ -40,10 +43,13 @@ pub fn led_day<F: DayFunctions, R: Relaxer>(
     requires same { R.hierarchy relaxer.now ≡ F.hierarchy functions.old }
     ensures function { IfOk result (IsDayFunction (F.hierarchy functions.old) leg.from leg.to) }
     ensures least { IfOk result (IsLeastWhereBuilt (F.hierarchy functions.old) leg.from leg.to) }
+    ensures told { IfOk result (λ _. AddsLedArcs (F.hierarchy functions.old) leg.from leg.to
+        (F.calls functions.old) (F.calls functions.new)) }
     ensures stays { F.hierarchy functions.new ≡ F.hierarchy functions.old }
 {
     let outlook = look(alloc, tree, graph, relaxer, leg)?;
-    let Some(by) = drive_chain(alloc, graph, functions, &outlook, leg)? else {
+    let path = list_ancestors(alloc, tree, leg.to)?;
+    let Some(by) = drive_chain(alloc, graph, functions, &outlook, &path, leg)? else {
         return day(alloc, tree, graph, functions, leg.from, leg.to);
     };
     let limits = Limits {
@@ -99,6 +105,8 @@ fn day_until<F: DayFunctions, R: Relaxer>(
     requires early { IsEarly limits.now.by.now }
     ensures function { IfOk result (IsDayFunction (F.hierarchy functions.old) leg.from leg.to) }
     ensures least { IfOk result (IsLeastWhereBuilt (F.hierarchy functions.old) leg.from leg.to) }
+    ensures told { IfOk result (λ _. AddsLimited (F.hierarchy functions.old) leg.from leg.to
+        (F.calls functions.old) (F.calls functions.new)) }
     ensures stays { F.hierarchy functions.new ≡ F.hierarchy functions.old }
 {
     let Some(function) = day_in_time(alloc, tree, graph, functions, limits, leg)? else {
@@ -128,6 +136,8 @@ fn day_in_time<F: DayFunctions, R: Relaxer>(
         (λ function. IsDayFunction (F.hierarchy functions.old) leg.from leg.to (Some function))) }
     ensures least { IfOk result (λ found. IfSome found
         (λ function. IsLeastWhereBuilt (F.hierarchy functions.old) leg.from leg.to (Some function))) }
+    ensures told { IfOk result (λ _. AddsInSweeps (F.hierarchy functions.old) leg.from leg.to
+        (F.calls functions.old) (F.calls functions.new)) }
     ensures stays { F.hierarchy functions.new ≡ F.hierarchy functions.old }
 {
     let mut labels = sweep_in_time(alloc, tree, graph, functions, limits, leg)?;

@@ -8,7 +8,8 @@
 //!
 //! [`led_day`] promises the same of its function, where the least bounds of lists are known, and asks for those arcs alone that may
 //! be in time for the end at some second of the day. What is left out at a second couldn't be in time, or no earlier than what
-//! stands, so the labels that are in time are those of all arcs (`specs/Steps/InTime.antt`).
+//! stands, so the labels that are in time are those of all arcs (`specs/Steps/InTime.antt`). It too asks for sweep arcs alone: along
+//! the chain that is driven first, and then of each sweep in its order (`specs/DayCalls.antt`).
 //!
 //! [`write_day`] writes such a function by its day form, of which there is one. [`check_day`] reads the line that asks for a day
 //! (`specs/DayLines.antt`).

@@ -1,6 +1,6 @@
 //! Sweeps over functions that leave out the arcs which can't be in time for the end at any second of the day.
 
-ghost use Rattle.std.specs.Prelude.{◌≡◌, ◌≢◌, ◌≤◌, ◌<◌, Some, IfOk, OnOk, All, length, reverse, slice_get, true};
+ghost use Rattle.std.specs.Prelude.{◌≡◌, ◌≢◌, ◌≤◌, ◌<◌, ◌∷◌, [], Some, IfOk, OnOk, All, length, reverse, slice_get, true};
 ghost use Rattle.std.specs.List.{AllPairs};
 ghost use Rattle.cu_chordal.specs.declared.graph.Ends.{Ends};
 ghost use Rattle.cu_chordal.specs.Graphs.{up_of};
@@ -9,6 +9,8 @@ ghost use Rattle.cu_interval.specs.declared.ways.Dir.TheVariants.{Up, Down};
 ghost use Rattle.cu_interval.specs.Hierarchies.{IsHierarchy, IsHierarchyOf, start_of, end_of};
 ghost use Rattle.cu_interval.specs.LeastBounds.{far, least_bound};
 ghost use Rattle.cu_day.specs.Steps.InTime.{AreSlacks, InTime, IsEarly, IsNoEarlier, LeavesArc, ahead_in};
+ghost use Rattle.cu_sweep.specs.LedCalls.{arcs_of_rank, arcs_of_ranks};
+ghost use Rattle.cu_day.specs.Steps.LedSteps.{AddsInSweeps, AddsSomeOf};
 ghost use Rattle.cu_day.specs.Steps.Ranks.{GathersFrom, HasSwept, HasSweptDown, HasSweptUp, SpreadsTo};
 ghost use Rattle.cu_day.specs.Steps.Sweeping.{TakesList};
 
@@ -58,6 +60,8 @@ pub fn sweep_in_time<F: DayFunctions, R: Relaxer>(
         (InTime limits.now.by.now limits.now.outlook.now.up)
         (InTime limits.now.by.now limits.now.outlook.now.down)
         (F.hierarchy functions.old) leg.from leg.to labels.items) }
+    ensures told { IfOk result (λ _. AddsInSweeps (F.hierarchy functions.old) leg.from leg.to
+        (F.calls functions.old) (F.calls functions.new)) }
     ensures stays { F.hierarchy functions.new ≡ F.hierarchy functions.old }
 {
     let labels = begun_labels(alloc, graph.ranks(), leg.from)?;
@@ -93,6 +97,8 @@ fn rise<F: DayFunctions, R: Relaxer>(
     ensures places { OnOk result (length reached.new.slacks.items ≡ graph.now.ranks) }
     ensures slacks { OnOk result (AreSlacks limits.now.by.now
         reached.new.labels.items reached.new.slacks.items) }
+    ensures told { OnOk result (AddsSomeOf (arcs_of_ranks (F.hierarchy functions.old) Up path.now)
+        (F.calls functions.old) (F.calls functions.new)) }
     ensures stays { F.hierarchy functions.new ≡ F.hierarchy functions.old }
 {
     let mut done = 0;
@@ -123,6 +129,9 @@ fn fall<F: DayFunctions, R: Relaxer>(
     requires slacks { AreSlacks limits.now.by.now reached.old.labels.items reached.old.slacks.items }
     ensures swept { OnOk result (HasSweptDown (InTime limits.now.by.now limits.now.outlook.now.down)
         (F.hierarchy functions.old) path.now reached.old.labels.items reached.new.labels.items) }
+    ensures told { OnOk result
+        (AddsSomeOf (arcs_of_ranks (F.hierarchy functions.old) Down (reverse path.now))
+        (F.calls functions.old) (F.calls functions.new)) }
     ensures stays { F.hierarchy functions.new ≡ F.hierarchy functions.old }
 {
     let mut left = path.len();
@@ -156,6 +165,8 @@ fn spread_in_time<F: DayFunctions, R: Relaxer>(
     ensures places { OnOk result (length reached.new.slacks.items ≡ graph.now.ranks) }
     ensures slacks { OnOk result (AreSlacks limits.now.by.now
         reached.new.labels.items reached.new.slacks.items) }
+    ensures told { OnOk result (AddsSomeOf (arcs_of_rank (F.hierarchy functions.old) Up rank)
+        (F.calls functions.old) (F.calls functions.new)) }
     ensures stays { F.hierarchy functions.new ≡ F.hierarchy functions.old }
 {
     settle(reached, limits.by, rank);
@@ -196,6 +207,8 @@ fn gather_in_time<F: DayFunctions, R: Relaxer>(
     ensures places { OnOk result (length reached.new.slacks.items ≡ graph.now.ranks) }
     ensures slacks { OnOk result (AreSlacks limits.now.by.now
         reached.new.labels.items reached.new.slacks.items) }
+    ensures told { OnOk result (AddsSomeOf (arcs_of_rank (F.hierarchy functions.old) Down rank)
+        (F.calls functions.old) (F.calls functions.new)) }
     ensures stays { F.hierarchy functions.new ≡ F.hierarchy functions.old }
 {
     let mut edge = graph.first_edge(rank);
@@ -257,6 +270,8 @@ fn take_in_time<F: DayFunctions, R: Relaxer>(
     ensures places { OnOk result (length reached.new.slacks.items ≡ length reached.old.slacks.items) }
     ensures slacks { OnOk result (AreSlacks limits.now.by.now
         reached.new.labels.items reached.new.slacks.items) }
+    ensures told { OnOk result
+        (AddsSomeOf (shortcut ∷ []) (F.calls functions.old) (F.calls functions.new)) }
     ensures stays { F.hierarchy functions.new ≡ F.hierarchy functions.old }
 {
     if is_left_out(reached, limits, shortcut, leg) {

@@ -8,47 +8,82 @@ ghost use Rattle.std.specs.Process.{exit_status};
 ghost use Rattle.std.specs.IoError.{error_kind};
 ghost use Rattle.cu_cli.specs.Commands.{meaning_of};
 ghost use Rattle.cu_cli.specs.Endings.{Ending};
+ghost use Rattle.cu_cli.specs.Numbers.{AreTheNumbers};
 ghost use Rattle.cu_cli.specs.Runs.{EndsRun, IsShort, MayStop, MeetsNoFault, Moves};
 ghost use Rattle.cu_cli.specs.Stops.{status_at};
 ghost use Rattle.cu_cli.specs.Storing.{Stores};
 ghost use Rattle.cu_session.specs.Sessions.{Leaves};
 
-use cu_cli::run;
+use cu_advice::{Ended, Fault, Noted, Watched, advise, brief, look};
+use cu_cli::run_telling;
 use cu_io::{DiskShelf, Shelf, Sink, Source, StdSink, StdSource};
+use cu_model::NoMemory;
+use cu_progress::{Progress, Shown, choose_showing};
 use std::alloc::{AllocError, Global};
-use std::env;
-use std::io::{self, BufWriter, ErrorKind};
+use std::io::{self, BufWriter, ErrorKind, IsTerminal};
 use std::process::ExitCode;
+use std::{env, str};
 
 /// The status for want of memory before the program's own work begins.
 const NO_MEMORY: u8 = 9;
 
+/// The status for an output that failed.
+const WRITE_FAILED: u8 = 8;
+
+/// The greatest status.
+const LAST_STATUS: u8 = 13;
+
 /// Does what the words after the program's name ask for, over the real files, standard input and standard output. The process's exit
-/// status is that of [`end_by_run`], or 9 where memory runs out before.
+/// status is that of [`end_by_run`], or 9 where memory runs out before. Where it isn't 0, standard error says what to do then.
 pub fn catchup(rt: HostRuntime) -> ExitCode {
     let Ok(words) = words(&rt) else {
-        return without_memory();
+        return without_memory(&rt);
     };
-    let Ok(writer) = BufWriter::new(rt.alloc(), io::writer(&rt)) else {
-        return without_memory();
+    let input = Fault::none();
+    let output = Fault::none();
+    let Ok(writer) = BufWriter::new(rt.alloc(), Noted::new(io::writer(&rt), &output)) else {
+        return without_memory(&rt);
     };
     let mut shelf = DiskShelf::new(&rt);
-    let mut source = StdSource::new(rt.reader());
-    let mut sink = StdSink::new(writer);
-    end_by_run(rt.alloc(), &words, &mut shelf, &mut source, &mut sink)
+    let mut source = StdSource::new(Noted::new(rt.reader(), &input));
+    let mut sink = Watched::new(StdSink::new(writer));
+    let how = choose_showing(&rt, &rt.stderr());
+    let mut shown = Shown::new(&rt, how, rt.stdout().is_terminal());
+    let code = end_by_run(
+        rt.alloc(),
+        &words,
+        &mut shelf,
+        &mut source,
+        &mut sink,
+        &mut shown,
+    );
+    let status = status_of(code);
+    // Whoever reads no longer is told nothing.
+    if status != WRITE_FAILED || !output.is_closed_pipe() {
+        let fault = if status == WRITE_FAILED {
+            &output
+        } else {
+            &input
+        };
+        say(&rt, status, words.as_slice(), sink.last_line(), fault);
+    }
+    code
 }
 
 /// The last step of a process: does what these words ask for, over the files of the shelf and the script of the source, with the
-/// replies, and the line that says what was stored, written to the sink. The exit status is the answer of `run`.
-pub fn end_by_run<H: Shelf, S: Source, K: Sink>(
+/// replies, and the line that says what was stored, written to the sink; and tells how far long work is. The exit status is the
+/// answer of `run_telling`.
+pub fn end_by_run<H: Shelf, S: Source, K: Sink, P: Progress>(
     alloc: Global,
     words: &Vec<String>,
     shelf: &mut H,
     source: &mut S,
     sink: &mut K,
+    progress: &mut P,
 ) -> ExitCode
     ensures ended { (ending : Ending) × (exit_status result ≡ status_at ending.stop)
-        × EndsRun (H.state shelf.old) (H.state shelf.new) (map string_bytes words.now.items) ending
+        × EndsRun (H.state shelf.old) (H.state shelf.new) (S.state source.old) (S.state source.new)
+        (map string_bytes words.now.items) ending
         × Moves (S.state source.old) (S.state source.new) (K.state sink.old) (K.state sink.new)
         ending
         × Stores (H.state shelf.old).held ending.stored (H.state shelf.new).held }
@@ -59,6 +94,7 @@ pub fn end_by_run<H: Shelf, S: Source, K: Sink>(
         (S.state source.new)
         (K.state sink.old)
         (K.state sink.new) }
+    ensures numbers { AreTheNumbers }
     ensures complete { (meaning_of (map string_bytes words.now.items)).can (H.state shelf.old)
         → IsShort (S.state source.old)
         → MeetsNoFault (H.state shelf.old) (H.state shelf.new) (S.state source.old)
@@ -66,14 +102,59 @@ pub fn end_by_run<H: Shelf, S: Source, K: Sink>(
         → (exit_status result ≡ 0) ⊎ (exit_status result ≡ 9)
         ⊎ MayStop (meaning_of (map string_bytes words.now.items)) (exit_status result) }
 {
-    ExitCode::from(run(alloc, words, shelf, source, sink))
+    let status = run_telling(alloc, words, shelf, source, sink, progress);
+    ExitCode::from(status)
 }
 
 // The end of a process that found no memory before its own work began.
-fn without_memory() -> ExitCode
+fn without_memory(rt: &HostRuntime) -> ExitCode
     ensures { exit_status result ≡ 9 }
 {
+    let _ = rt.eprint(brief(NO_MEMORY));
     ExitCode::from(NO_MEMORY)
+}
+
+// The number of a status of the program.
+fn status_of(code: ExitCode) -> u8 {
+    for status in 1..=LAST_STATUS {
+        if code == ExitCode::from(status) {
+            return status;
+        }
+    }
+    0
+}
+
+// Says on standard error why a process ends with a status, and what to do.
+fn say<'a>(rt: &HostRuntime, status: u8, words: &'a [String], line: &'a [u8], fault: &Fault) {
+    if status == 0 {
+        return;
+    }
+    let Ok(text) = advice(rt, status, words, line, fault) else {
+        let _ = rt.eprint(brief(status));
+        return;
+    };
+    if let Ok(text) = str::from_utf8(&text) {
+        let _ = rt.eprint(text);
+    }
+}
+
+// The text of it.
+fn advice<'a>(
+    rt: &HostRuntime,
+    status: u8,
+    words: &'a [String],
+    line: &'a [u8],
+    fault: &Fault,
+) -> Result<Vec<u8>, NoMemory> {
+    let no_text = words.is_empty() && env::args(rt).is_err();
+    let line = str::from_utf8(line).unwrap_or("");
+    let ended = Ended {
+        status,
+        words: if no_text { None } else { Some(words) },
+        line: line.trim_end(),
+    };
+    let texts = look(rt.alloc(), rt, ended, fault)?;
+    advise(rt.alloc(), ended, &texts)
 }
 
 // The words after the program's name; none where one of them is no text, which no command has.

@@ -1,5 +1,6 @@
 pub mod Queries
 pub mod LatestLaws
+pub mod SearchLaws
 pub mod FieldLaws
 pub mod TableLaws
 pub mod DeskLaws

@@ -1,10 +1,11 @@
 -- Latest departures.
-use Rattle.std.specs.Prelude.{ℕ, List, ◌≡◌, ◌≤◌, ◌<◌, ◌^◌, Option, Some, flat_map, length, slice_get}
+use Rattle.std.specs.Prelude.{ℕ, zero, suc, List, ◌≡◌, ◌≤◌, ◌<◌, ◌+◌, ◌-◌, ◌^◌, Option, Some, flat_map, if◌then◌else◌, length, max, min, nat_le, nat_lt, slice_get}
 use Rattle.cu_model.specs.Days.{day}
 use Rattle.cu_model.specs.Networks.{NetworkValue}
 use Rattle.cu_model.specs.Roads.{HasNoWalk, IsLeastArrival}
 use Rattle.cu_interval.specs.declared.relaxing.Call.{Call}
 use Rattle.cu_interval.specs.Hierarchies.{HierarchyValue, IsBuilt}
+use Rattle.cu_sweep.specs.declared.finding.Found.{Found}
 use Rattle.cu_sweep.specs.declared.finding.Found.TheVariants as found_as
 use Rattle.cu_sweep.specs.Answers.{IsReal}
 use Rattle.cu_sweep.specs.Desks.{DeskValue, HoldsFound}
@@ -28,6 +29,34 @@ IsDeparture h from to by TooLate = (arrival : ℕ) × (found h from to 0 ≡ fou
 IsDeparture h from to by (Depart second arrive) =
     IsInTimeAtNought h from to by × (second < day) × (found h from to second ≡ found_as.Arrive arrive) × (arrive ≤ by)
 IsDeparture h from to by (Long edge dir at) = (second : ℕ) × (second < day) × (found h from to second ≡ found_as.Long edge dir at)
+
+-- The second that is asked next, between one from which the walk arrives in time, with so many seconds to spare, and one that is too late:
+-- that at which this walk would leave to arrive just in time if it took as long then; but between the two, and no further than half of
+-- what the queries left can tell apart from either.
+abbrev pub next_second : (early spare late half : ℕ) → ℕ
+next_second early spare late half = min (max (min (max (early + spare) (early + 1)) (late - 1)) (late - half)) (early + half)
+
+-- what the answer at a second comes to: it is in time, or late, or there is no walk; a walk that is too long is the end of the search
+abbrev pub by_answer : (by : ℕ) → Found → (in_time : ℕ → Departure) → (late none : Departure) → Departure
+by_answer by (found_as.Arrive arrival) in_time late none = if nat_le arrival by then in_time arrival else late
+by_answer by found_as.NoWalk in_time late none = none
+by_answer by (found_as.Long edge dir at) in_time late none = Long edge dir at
+
+-- The departure that a search by so many more queries comes to, between a second that is in time, with its arrival, and a later one that
+-- isn't: the first of the two, where no second lies between them.
+unfoldable pub searched : HierarchyValue → (from to by left early arrival late : ℕ) → Departure
+searched h from to by zero early arrival late = Depart early arrival
+searched h from to by (suc left) early arrival late =
+    let second = next_second early (by - arrival) late (2 ^ left) in
+    if nat_lt (early + 1) late
+    then by_answer by (found h from to second) (λ next. searched h from to by left second next late)
+    (searched h from to by left early arrival second) (searched h from to by left early arrival second)
+    else Depart early arrival
+
+-- The one departure that a hierarchy, built or not, has: no walk, or too late, by the answer at second 0; else what a search of the day
+-- comes to from there.
+abbrev pub departure_of : HierarchyValue → (from to by : ℕ) → Departure
+departure_of h from to by = by_answer by (found h from to 0) (λ arrival. searched h from to by 18 0 arrival day) TooLate NoWalk
 
 -- By the least arrival at each second, where there is a way at all: the greatest second of the day that is in time, with its arrival; or that
 -- second 0 is too late already.

@@ -7,7 +7,7 @@ use Rattle.cu_sweep.specs.ToAll.{IsTime}
 use Rattle.cu_reach.specs.declared.departures.Departure.{Departure}
 use Rattle.cu_reach.specs.declared.lines.LatestAsked.{LatestAsked}
 use Rattle.cu_reach.specs.declared.lines.ReachAsked.{ReachAsked}
-use Rattle.cu_reach.specs.Departures.{IsDeparture, IsLatest}
+use Rattle.cu_reach.specs.Departures.{IsDeparture, IsLatest, departure_of}
 use Rattle.cu_reach.specs.NodeFields.{TableValue}
 use Rattle.cu_reach.specs.ReachTexts.{SaysDeparture, times_text}
 
@@ -52,11 +52,12 @@ IsReachAnswer g asked reply = SaysReach (λ v time. IsTime g asked.from v asked.
 abbrev pub IsTableAnswer : NetworkValue → TableValue → List ℕ → Type 0
 IsTableAnswer g asked reply = SaysTable (λ u v time. IsTime g u v asked.second time) asked reply
 
--- over a hierarchy: a departure between the ranks of the nodes; and where it is built, the latest between them
+-- over a hierarchy: the one departure between the ranks of the nodes; and where it is built, the latest between them
 pub record IsHeldLatest (h : HierarchyValue) (asked : LatestAsked) (departure : Departure) : Type 0 where
   pub from : ℕ
   pub to : ℕ
   pub start : slice_get h.order.rank_of asked.from ≡ Some from
   pub stop : slice_get h.order.rank_of asked.to ≡ Some to
   pub departs : IsDeparture h from to asked.by departure
+  pub search : departure ≡ departure_of h from to asked.by
   pub latest : IsBuilt h → IsLatest h.network asked.from asked.to asked.by departure

@@ -4,7 +4,7 @@ ghost use Rattle.std.specs.Prelude.{◌≡◌, ◌≤◌, ◌<◌, ◌+◌, ◌-
 ghost use Rattle.cu_elimtree.specs.SweepArcs.{parents_in};
 ghost use Rattle.cu_interval.specs.Hierarchies.{IsHierarchyOf};
 ghost use Rattle.cu_model.specs.declared.limits.TheConstants.{DAY};
-ghost use Rattle.cu_reach.specs.Departures.{AddsQueries, HoldsDeparture, IsDeparture, IsLatestWhereBuilt, IsRealDeparture, latest_by};
+ghost use Rattle.cu_reach.specs.Departures.{AddsQueries, HoldsDeparture, IsDeparture, IsLatestWhereBuilt, IsRealDeparture, departure_of, latest_by, next_second, searched};
 ghost use Rattle.cu_reach.specs.Steps.Searching.{IsInTime};
 
 use cu_chordal::Chordal;
@@ -52,6 +52,7 @@ pub fn latest<R: Relaxer>(
     requires desk { desk.old.nodes ≡ graph.now.ranks }
     requires graph { IsHierarchyOf graph.now (R.hierarchy relaxer.old) }
     ensures departure { IsDeparture (R.hierarchy relaxer.old) from to by result }
+    ensures search { result ≡ departure_of (R.hierarchy relaxer.old) from to by }
     ensures latest { IsLatestWhereBuilt (R.hierarchy relaxer.old) from to by result }
     ensures told { AddsQueries (R.hierarchy relaxer.old) from to MOST_QUERIES
         (R.calls relaxer.old) (R.calls relaxer.new) }
@@ -91,6 +92,8 @@ fn search<R: Relaxer>(
     requires in_time { IsInTime (R.hierarchy relaxer.old) journey 0 at_nought }
     ensures departure { IsDeparture (R.hierarchy relaxer.old)
         journey.from journey.to journey.by result }
+    ensures search { result
+        ≡ searched (R.hierarchy relaxer.old) journey.from journey.to journey.by 18 0 at_nought DAY }
     ensures latest { IsLatestWhereBuilt (R.hierarchy relaxer.old)
         journey.from journey.to journey.by result }
     ensures told { AddsQueries (R.hierarchy relaxer.old) journey.from journey.to 18
@@ -131,6 +134,7 @@ fn next_second(early: u64, spare: u64, late: u64, left: u32) -> u64
     requires between { early + 2 ≤ late }
     requires day { late ≤ DAY }
     requires left { (left ≤ 18) × (late ≤ early + 2 ^ left) }
+    ensures next { result ≡ next_second early spare late (2 ^ (left - 1)) }
     ensures after { early < result }
     ensures before { result < late }
     ensures low { result ≤ early + 2 ^ (left - 1) }

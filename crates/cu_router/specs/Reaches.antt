@@ -5,6 +5,6 @@ use Rattle.cu_reach.specs.declared.lines.LatestAsked.{LatestAsked}
 use Rattle.cu_reach.specs.ReachAnswers.{IsHeldLatest, SaysLatest}
 use Rattle.cu_router.specs.Answers.{IsHeldAnswer}
 
--- a departure between the ranks of the nodes, and the hierarchy's answer to the query at its second
+-- the one departure between the ranks of the nodes, and the hierarchy's answer to the query at its second
 abbrev pub IsHeldLatestReply : HierarchyValue → LatestAsked → List ℕ → Type 0
 IsHeldLatestReply h asked reply = SaysLatest (IsHeldLatest h asked) (λ query text. IsHeldAnswer h query text) asked reply

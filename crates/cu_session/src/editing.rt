@@ -10,8 +10,33 @@ use crate::answering::LINE_LIMIT;
 use crate::edit_lines::answer_edit;
 use crate::stops::SessionStop;
 use cu_io::{Sink, put_line};
+use cu_progress::{Counter, Progress, Silent, Stage};
 use cu_router::Router;
 use std::alloc::Global;
+
+/// Makes the edits of a text in a hierarchy, and writes the reply to each line before the next is made. A query line is refused,
+/// as it is no edit line. Where memory runs out at a line, the lines before it were answered and made, and it is not; where the
+/// sink fails in the reply to one, those up to it were made. How much of the text is made is told as it goes.
+pub fn answer_edits_telling<K: Sink, P: Progress>(
+    alloc: Global,
+    router: &mut Router,
+    text: &[u8],
+    sink: &mut K,
+    progress: &mut P,
+) -> Result<(), SessionStop>
+    ensures ended { EndsEdits router.old router.new text.now (stop_of result)
+        (K.state sink.old) (K.state sink.new) }
+{
+    let mut counter = Counter::begin(progress, Stage::Editing, text.len() as u64);
+    let mut rest = text;
+    'lines: while !rest.is_empty() {
+        let (line, behind) = cut_line(rest);
+        answer_edit_line(alloc, router, line, sink)?;
+        counter.add(progress, (line.len() as u64).saturating_add(1));
+        rest = behind;
+    }
+    Ok(())
+}
 
 /// Makes the edits of a text in a hierarchy, and writes the reply to each line before the next is made. A query line is refused,
 /// as it is no edit line. Where memory runs out at a line, the lines before it were answered and made, and it is not; where the
@@ -25,13 +50,7 @@ pub fn answer_edits<K: Sink>(
     ensures ended { EndsEdits router.old router.new text.now (stop_of result)
         (K.state sink.old) (K.state sink.new) }
 {
-    let mut rest = text;
-    'lines: while !rest.is_empty() {
-        let (line, behind) = cut_line(rest);
-        answer_edit_line(alloc, router, line, sink)?;
-        rest = behind;
-    }
-    Ok(())
+    answer_edits_telling(alloc, router, text, sink, &mut Silent)
 }
 
 // Makes the edit of a line, and writes the reply.

@@ -30,6 +30,6 @@ mod stops;
 pub use answerer::LineAnswerer;
 pub use answering::{answer_built, answer_lines, answer_script, session};
 pub use cu_router::{Router, put_dir, put_word_and_long, put_word_and_number};
-pub use editing::answer_edits;
+pub use editing::{answer_edits, answer_edits_telling};
 pub use refusals::put_piece_refusal;
 pub use stops::SessionStop;

@@ -152,10 +152,10 @@ module _ (h : HierarchyValue) (f : IsHierarchy h) (dir : Dir) where
       once = rows_apart xs apart;
     }
 
-rise_apart : (xs : List ℕ) → AllPairs (λ x y. x < y) xs → AllPairs (λ x y. x ≢ y) xs
+pub rise_apart : (xs : List ℕ) → AllPairs (λ x y. x < y) xs → AllPairs (λ x y. x ≢ y) xs
 rise_apart xs rise i j d lt within same = let less = rise i j d lt within in omega (arith, less, same)
 
-turned_apart : (xs : List ℕ) → AllPairs (λ x y. x ≢ y) xs → AllPairs (λ x y. x ≢ y) (reverse xs)
+pub turned_apart : (xs : List ℕ) → AllPairs (λ x y. x ≢ y) xs → AllPairs (λ x y. x ≢ y) (reverse xs)
 turned_apart [] apart = apart
 turned_apart (x ∷ xs) apart =
     let R : ℕ → ℕ → Type 0 = λ a b. a ≢ b in
@@ -169,7 +169,7 @@ turned_apart (x ∷ xs) apart =
     ]) in
     subst (AllPairs R) (sym (reverse_first x xs)) joined
 
-ancestors_apart : (h : HierarchyValue) → IsHierarchy h → (rank : ℕ) → AllPairs (λ x y. x ≢ y) (ancestors_in (graph_of h) rank)
+pub ancestors_apart : (h : HierarchyValue) → IsHierarchy h → (rank : ℕ) → AllPairs (λ x y. x ≢ y) (ancestors_in (graph_of h) rank)
 ancestors_apart h f rank = rise_apart (ancestors_in (graph_of h) rank) (ancestors_rising (graph_of h) f.graph rank)
 
 pub up_once : (h : HierarchyValue) (from second : ℕ) → IsHierarchy h → TakesArcsOnce h from Up (up_calls h from second)

@@ -21,6 +21,9 @@ pub mod RealLabels
 pub mod SweptLabels
 pub mod AllRanks
 pub mod ArcsOnce
+pub mod SomeArcs
+pub mod Ways
+pub mod Driven
 pub mod LeftOut
 pub mod MadeLaws
 pub mod AllMade

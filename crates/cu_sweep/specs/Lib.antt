@@ -7,4 +7,5 @@ pub mod ToAll
 pub mod Answers
 pub mod Outlooks
 pub mod ArcsOnce
+pub mod LedCalls
 pub mod Steps

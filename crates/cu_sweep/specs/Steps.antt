@@ -3,3 +3,4 @@ pub mod Ready
 pub mod Made
 pub mod Sweeping
 pub mod Ahead
+pub mod Driving

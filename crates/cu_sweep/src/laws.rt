@@ -1,9 +1,11 @@
 //! Which edges the sweeps take, said of the definitions alone.
 
-ghost use Rattle.std.specs.Prelude.{ℕ};
+ghost use Rattle.std.specs.Prelude.{ℕ, List};
 ghost use Rattle.cu_interval.specs.declared.ways.Dir.TheVariants.{Up, Down};
+ghost use Rattle.cu_interval.specs.declared.shortcuts.Shortcut.{Shortcut};
 ghost use Rattle.cu_interval.specs.Hierarchies.{HierarchyValue, IsHierarchy};
 ghost use Rattle.cu_sweep.specs.ArcsOnce.{TakesArcsOnce, TakesEdgesOnce};
+ghost use Rattle.cu_sweep.specs.LedCalls.{AreArcsOnce, AreSomeOf, LeadOn, arcs_down, arcs_up};
 ghost use Rattle.cu_sweep.specs.Sweeps.{down_calls, up_calls};
 ghost use Rattle.cu_sweep.specs.ToAll.{down_calls_to_all};
 
@@ -16,4 +18,16 @@ pub fn sweeps_take_arcs_once()
         → TakesArcsOnce h to Down (down_calls h from to second) }
     ensures all { (h : HierarchyValue) (from second : ℕ) → IsHierarchy h
         → TakesEdgesOnce h Down (down_calls_to_all h from second) }
+{}
+
+/// A law: what a led query takes of a sweep, and of its way in each direction, are sweep arcs, each at most once.
+pub fn led_queries_take_arcs_once()
+    ensures up { (h : HierarchyValue) (from : ℕ) (arcs : List Shortcut) → IsHierarchy h
+        → AreSomeOf (arcs_up h from) arcs → AreArcsOnce h from Up arcs }
+    ensures down { (h : HierarchyValue) (to : ℕ) (arcs : List Shortcut) → IsHierarchy h
+        → AreSomeOf (arcs_down h to) arcs → AreArcsOnce h to Down arcs }
+    ensures way_up { (h : HierarchyValue) (from top : ℕ) (arcs : List Shortcut) → IsHierarchy h
+        → LeadOn h from Up from arcs top → AreArcsOnce h from Up arcs }
+    ensures way_down { (h : HierarchyValue) (to top last : ℕ) (arcs : List Shortcut)
+        → IsHierarchy h → LeadOn h to Down top arcs last → AreArcsOnce h to Down arcs }
 {}

@@ -8,9 +8,11 @@ ghost use Rattle.cu_short.specs.Shortness.{NeverLong};
 ghost use Rattle.cu_sweep.specs.declared.finding.Found.TheVariants.{Arrive};
 ghost use Rattle.cu_sweep.specs.Answers.{IsLeastWhereBuilt, IsReal};
 ghost use Rattle.cu_sweep.specs.Desks.{HoldsFound};
+ghost use Rattle.cu_sweep.specs.LedCalls.{AddsLed, AddsSome};
 ghost use Rattle.cu_sweep.specs.Outlooks.{IsAhead};
 ghost use Rattle.cu_sweep.specs.Sweeps.{found};
 ghost use Rattle.cu_sweep.specs.Swept.{desk_of};
+ghost use Rattle.cu_sweep.specs.Steps.Driving.{AddsLimited};
 
 use crate::desk::SweepDesk;
 use crate::driving::drive_way;
@@ -25,8 +27,9 @@ use cu_interval::Relaxer;
 use cu_links::Chain;
 
 /// [`query`] over a hierarchy none of whose walks is too long: it finds the same, and leaves the same walk on the desk, but makes
-/// only calls that may still be in time for the end, as long as a way that is driven first is met; else it is [`query`]. The
-/// outlook was made for as many nodes as the desk. Takes no memory.
+/// only calls that may still be in time for the end, as long as a way that is driven first is met; else it is [`query`]. All of
+/// its calls are over sweep arcs, upwards of the start and downwards of the end: along the way, and then of each sweep in its
+/// order. The outlook was made for as many nodes as the desk. Takes no memory.
 pub fn led_query<R: Relaxer>(
     tree: &Tree,
     graph: &Chordal,
@@ -44,6 +47,8 @@ pub fn led_query<R: Relaxer>(
     requires short { NeverLong (R.hierarchy relaxer.old) }
     ensures found { result ≡ found (R.hierarchy relaxer.old)
         question.from question.to question.second }
+    ensures told { AddsLed (R.hierarchy relaxer.old)
+        question.from question.to question.second (R.calls relaxer.old) (R.calls relaxer.new) }
     ensures stays { R.hierarchy relaxer.new ≡ R.hierarchy relaxer.old }
     ensures nodes { desk.new.nodes ≡ desk.old.nodes }
     ensures outlook { outlook.new.nodes ≡ outlook.old.nodes }
@@ -78,6 +83,8 @@ fn query_along<R: Relaxer>(
     requires short { NeverLong (R.hierarchy relaxer.old) }
     ensures found { result ≡ found (R.hierarchy relaxer.old)
         question.from question.to question.second }
+    ensures told { AddsLed (R.hierarchy relaxer.old)
+        question.from question.to question.second (R.calls relaxer.old) (R.calls relaxer.new) }
     ensures stays { R.hierarchy relaxer.new ≡ R.hierarchy relaxer.old }
     ensures nodes { desk.new.nodes ≡ desk.old.nodes }
     ensures holds { HoldsFound (R.hierarchy relaxer.old)
@@ -87,7 +94,9 @@ fn query_along<R: Relaxer>(
     ensures real { IsReal (R.hierarchy relaxer.old)
         question.from question.to question.second desk.new.calls result }
 {
-    let Some(by) = drive_way(graph, outlook, relaxer, question) else {
+    let count = climb(tree, question.to, &mut desk.path);
+    let path = &desk.path[..count];
+    let Some(by) = drive_way(graph, outlook, path, relaxer, question) else {
         return query(
             tree,
             graph,
@@ -122,6 +131,8 @@ fn query_until<R: Relaxer>(
     requires short { NeverLong (R.hierarchy relaxer.old) }
     ensures found { result ≡ found (R.hierarchy relaxer.old)
         question.from question.to question.second }
+    ensures told { AddsLimited (R.hierarchy relaxer.old)
+        question.from question.to question.second (R.calls relaxer.old) (R.calls relaxer.new) }
     ensures stays { R.hierarchy relaxer.new ≡ R.hierarchy relaxer.old }
     ensures nodes { desk.new.nodes ≡ desk.old.nodes }
     ensures holds { HoldsFound (R.hierarchy relaxer.old)
@@ -163,6 +174,8 @@ fn query_in_time<R: Relaxer>(
     requires ahead { IsAhead (R.hierarchy relaxer.old) question.from question.to
         limits.up.now limits.down.now }
     requires short { NeverLong (R.hierarchy relaxer.old) }
+    ensures told { AddsSome (R.hierarchy relaxer.old) question.from question.to
+        (R.calls relaxer.old) (R.calls relaxer.new) }
     ensures stays { R.hierarchy relaxer.new ≡ R.hierarchy relaxer.old }
     ensures nodes { desk.new.nodes ≡ desk.old.nodes }
     ensures found { IfSome result (λ arrival. Arrive arrival
@@ -205,6 +218,8 @@ fn sweep_in_time<R: Relaxer>(
     requires ahead { IsAhead (R.hierarchy relaxer.old) goal.question.from goal.question.to
         goal.limits.up.now goal.limits.down.now }
     requires short { NeverLong (R.hierarchy relaxer.old) }
+    ensures told { AddsSome (R.hierarchy relaxer.old)
+        goal.entry.question.from goal.entry.question.to (R.calls relaxer.old) (R.calls relaxer.new) }
     ensures stays { R.hierarchy relaxer.new ≡ R.hierarchy relaxer.old }
     ensures nodes { labels.new.nodes ≡ labels.old.nodes }
     ensures found { IfSome result (λ arrival. Arrive arrival ≡ found (R.hierarchy relaxer.old)

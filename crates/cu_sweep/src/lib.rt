@@ -18,6 +18,10 @@
 //! A sweep leaves out each call whose end already has a label no later than the call's second and its list's least bound:
 //! whatever the call answered, no label would be earlier, so all labels and walks are those of all calls.
 //!
+//! [`led_query`] finds the same where no walk is too long, by fewer calls: along a way that is driven first, and then of each sweep
+//! those that may still be in time for the end (`specs/LedCalls.antt`). They too are over sweep arcs alone, each at most once along
+//! the way and at most once a sweep: [`led_queries_take_arcs_once`].
+//!
 //! It stands on `cu_model`, `cu_io`, `cu_links`, `cu_chordal`, `cu_elimtree`, `cu_interval` and `cu_unpack`. Private are the steps
 //! of both sweeps, and where a desk keeps its labels and links. `specs/Steps` is cited by private functions alone.
 #![tactic(auto)]
@@ -40,9 +44,10 @@ mod timing;
 mod walker;
 
 pub use desk::SweepDesk;
+pub use driving::{led_to, place_on};
 pub use finding::Found;
 pub use labels::Labels;
-pub use laws::sweeps_take_arcs_once;
+pub use laws::{led_queries_take_arcs_once, sweeps_take_arcs_once};
 pub use leading::led_query;
 pub use linking::{Linking, Unlinked};
 pub use outlook::Outlook;

@@ -20,7 +20,7 @@ use Rattle.cu_cli.specs.declared.stops.Stop.TheVariants as stop
 use Rattle.cu_session.specs.Sessions.{IsFlushed, Leaves}
 use Rattle.cu_cli.specs.Endings.{Ending}
 use Rattle.cu_cli.specs.Meanings.{Meaning}
-use Rattle.cu_cli.specs.Runs.{CountsFaults, IsShort, MeetsNoFault, Moves}
+use Rattle.cu_cli.specs.Runs.{CountsFaults, IsShort, MeetsNoFault, Moves, Reads}
 use Rattle.cu_cli.specs.Storing.{Stores}
 use Rattle.cu_cli.specs.Stops.{said_of, status_at, status_of}
 
@@ -106,6 +106,7 @@ pub record Did (script : Bool) (why : Option Stop) (Ends : ShelfState → ShelfS
   pub work : Ending
   pub stop : work.stop ≡ why
   pub ended : Ends before.shelf now.shelf work
+  pub reads : Reads script before.source now.source work
   pub moves : Moves before.source now.source before.sink now.sink work
   pub stores : Stores before.shelf.held work.stored now.shelf.held
   pub leaves : Leaves script (status_at why) before.source now.source before.sink now.sink

@@ -8,6 +8,7 @@ ghost use Rattle.cu_cli.specs.Steps.Outcomes.{Works, stop_of, world_of};
 use crate::opening::open_file;
 use crate::stops::Stop;
 use cu_io::{Shelf, Sink, Source};
+use cu_progress::{Progress, Stage, begin};
 use cu_session::answer_script;
 use std::alloc::Global;
 
@@ -31,18 +32,20 @@ pub fn parse(words: &[String]) -> Option<AskWords<'_>>
 
 /// Opens a packed file, whose hierarchy may be built or not, and answers the script of the source over its bytes. All
 /// that a query needs is made before the first reply; an edit takes memory of its own. Nothing is stored.
-pub fn ask<H: Shelf, S: Source, K: Sink>(
+pub fn ask<H: Shelf, S: Source, K: Sink, P: Progress>(
     alloc: Global,
     asked: AskWords<'_>,
     shelf: &mut H,
     source: &mut S,
     sink: &mut K,
+    progress: &mut P,
 ) -> Result<(), Stop>
     ensures works { Works (ask_asked asked.entry) (stop_of result)
         (world_of (H.state shelf.old) (S.state source.old) (K.state sink.old))
         (world_of (H.state shelf.new) (S.state source.new) (K.state sink.new)) }
 {
-    let bytes = open_file(alloc, asked.hierarchy, shelf)?;
+    let bytes = open_file(alloc, asked.hierarchy, shelf, progress)?;
+    begin(progress, Stage::Done);
     answer_script(alloc, bytes, source, sink)?;
     Ok(())
 }

@@ -15,11 +15,12 @@ use crate::saying::put_numbers_line;
 use crate::stops::{Role, Stop};
 use crate::storing::store_file;
 use crate::words::{OrderWord, TableNames, parse_order};
-use cu_customize::customize;
+use cu_customize::customize_telling;
 use cu_interval::{Hierarchy, Ways};
 use cu_io::{Shelf, Sink, SinkFailed};
 use cu_model::Roads;
 use cu_pack::pack;
+use cu_progress::{Progress, Stage, begin};
 use std::alloc::Global;
 
 /// The tables of a network with its order, and the file that gets its packed hierarchy.
@@ -50,29 +51,37 @@ pub fn parse(words: &[String]) -> Option<BuildWords<'_>>
 
 /// Builds the hierarchy of the tables, stores its packed file and says how many nodes, roads, edges and bytes it has.
 /// Nothing is stored where the file has more bytes than the shelf loads. Nothing is taken from a source.
-pub fn build<H: Shelf, K: Sink>(
+pub fn build<H: Shelf, K: Sink, P: Progress>(
     alloc: Global,
     asked: BuildWords<'_>,
     shelf: &mut H,
     sink: &mut K,
+    progress: &mut P,
 ) -> Result<(), Stop>
     ensures works { (source : SourceState) → Works (build_asked asked.entry) (stop_of result)
         (world_of (H.state shelf.old) source (K.state sink.old))
         (world_of (H.state shelf.new) source (K.state sink.new)) }
 {
-    let prepared = prepare(alloc, asked.tables, asked.order, shelf)?;
-    let hierarchy = customize(alloc, prepared.network, prepared.order, prepared.graph)?;
-    store_built(alloc, asked.out, &hierarchy, shelf, sink)
+    let prepared = prepare(alloc, asked.tables, asked.order, shelf, progress)?;
+    let hierarchy = customize_telling(
+        alloc,
+        prepared.network,
+        prepared.order,
+        prepared.graph,
+        progress,
+    )?;
+    store_built(alloc, asked.out, &hierarchy, shelf, sink, progress)
 }
 
 // Stores the packed file of a hierarchy and says it, where it hasn't more bytes than the shelf loads. Files may have been loaded
 // before.
-fn store_built<H: Shelf, K: Sink>(
+fn store_built<H: Shelf, K: Sink, P: Progress>(
     alloc: Global,
     out: &str,
     hierarchy: &Hierarchy,
     shelf: &mut H,
     sink: &mut K,
+    progress: &mut P,
 ) -> Result<(), Stop>
     ensures did { (first : ShelfState) (source : SourceState)
         → OnlyLoads None first (H.state shelf.old)
@@ -80,12 +89,15 @@ fn store_built<H: Shelf, K: Sink>(
         (world_of first source (K.state sink.old))
         (world_of (H.state shelf.new) source (K.state sink.new)) }
 {
+    begin(progress, Stage::Packing);
     let bytes = pack(alloc, hierarchy)?;
     let length = bytes.len() as u64;
     if length > shelf.limit() {
         return Err(Stop::TooLarge(length));
     }
+    begin(progress, Stage::Storing);
     store_file(alloc, Role::Out, out, &bytes, shelf)?;
+    begin(progress, Stage::Done);
     say_built(sink, hierarchy, length)?;
     Ok(())
 }

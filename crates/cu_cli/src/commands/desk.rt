@@ -12,6 +12,7 @@ use crate::stops::{Role, Stop};
 use crate::storing::store_file;
 use cu_desk::Desk;
 use cu_io::{Shelf, Sink, Source};
+use cu_progress::{Progress, Stage, begin};
 use cu_session::{Router, answer_lines};
 use std::alloc::Global;
 
@@ -39,20 +40,22 @@ pub fn parse(words: &[String]) -> Option<DeskWords<'_>>
 /// a query needs is made before the first reply. At the end of input the packed file of the published hierarchy is stored, and its
 /// bytes said; an edit that is still in work is dropped. Nothing is stored where the file has more bytes than the shelf loads, or
 /// where the source or the sink fails before.
-pub fn desk<H: Shelf, S: Source, K: Sink>(
+pub fn desk<H: Shelf, S: Source, K: Sink, P: Progress>(
     alloc: Global,
     asked: DeskWords<'_>,
     shelf: &mut H,
     source: &mut S,
     sink: &mut K,
+    progress: &mut P,
 ) -> Result<(), Stop>
     ensures works { Works (desk_asked asked.entry) (stop_of result)
         (world_of (H.state shelf.old) (S.state source.old) (K.state sink.old))
         (world_of (H.state shelf.new) (S.state source.new) (K.state sink.new)) }
 {
-    let bytes = open_file(alloc, asked.hierarchy, shelf)?;
+    let bytes = open_file(alloc, asked.hierarchy, shelf, progress)?;
     let router = Router::new(alloc, bytes)?;
     let mut desk = Desk::over(router);
+    begin(progress, Stage::Done);
     let answered = answer_lines(alloc, &mut desk, source, sink);
     let packed = desk.into_file();
     answered?;
@@ -61,7 +64,9 @@ pub fn desk<H: Shelf, S: Source, K: Sink>(
     if length > shelf.limit() {
         return Err(Stop::TooLarge(length));
     }
+    begin(progress, Stage::Storing);
     store_file(alloc, Role::Out, asked.out, bytes, shelf)?;
+    begin(progress, Stage::Done);
     put_numbers_line(sink, b"stored", &[length])?;
     Ok(())
 }

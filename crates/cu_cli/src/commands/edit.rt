@@ -11,7 +11,8 @@ use crate::saying::put_numbers_line;
 use crate::stops::{Role, Stop};
 use crate::storing::store_file;
 use cu_io::{Shelf, Sink};
-use cu_session::{Router, answer_edits};
+use cu_progress::{Progress, Stage, begin};
+use cu_session::{Router, answer_edits_telling};
 use std::alloc::Global;
 
 /// The file of a packed hierarchy, the file of its edits, and the file that gets the packed hierarchy after them.
@@ -40,19 +41,20 @@ pub fn parse(words: &[String]) -> Option<EditWords<'_>>
 /// what it did. Behind the last the packed file of the hierarchy after them is stored, and its bytes said. Nothing is
 /// stored where the file has more bytes than the shelf loads, where memory runs out at a line, or where the sink fails in
 /// a reply. Nothing is taken from a source.
-pub fn edit<H: Shelf, K: Sink>(
+pub fn edit<H: Shelf, K: Sink, P: Progress>(
     alloc: Global,
     asked: EditWords<'_>,
     shelf: &mut H,
     sink: &mut K,
+    progress: &mut P,
 ) -> Result<(), Stop>
     ensures works { (source : SourceState) → Works (edit_asked asked.entry) (stop_of result)
         (world_of (H.state shelf.old) source (K.state sink.old))
         (world_of (H.state shelf.new) source (K.state sink.new)) }
 {
-    let file = open_edited(alloc, asked.hierarchy, asked.edits, shelf)?;
+    let file = open_edited(alloc, asked.hierarchy, asked.edits, shelf, progress)?;
     let mut router = Router::new(alloc, file.hierarchy)?;
-    let answered = answer_edits(alloc, &mut router, &file.edits, sink);
+    let answered = answer_edits_telling(alloc, &mut router, &file.edits, sink, progress);
     let packed = router.into_file();
     answered?;
     let bytes = packed.as_slice();
@@ -60,7 +62,9 @@ pub fn edit<H: Shelf, K: Sink>(
     if length > shelf.limit() {
         return Err(Stop::TooLarge(length));
     }
+    begin(progress, Stage::Storing);
     store_file(alloc, Role::Out, asked.out, bytes, shelf)?;
+    begin(progress, Stage::Done);
     put_numbers_line(sink, b"stored", &[length])?;
     Ok(())
 }

@@ -12,6 +12,7 @@ use crate::stops::{Role, Stop};
 use crate::storing::store_file;
 use cu_io::{Shelf, Sink};
 use cu_profile::write_profiles;
+use cu_progress::{Progress, Stage, begin};
 use cu_wait::read_measured;
 use std::alloc::Global;
 
@@ -37,20 +38,26 @@ pub fn parse(words: &[String]) -> Option<MeasureWords<'_>>
 
 /// Reads measured profiles, stores the table of the profiles that stand for them and says how many they are. Nothing is taken
 /// from a source.
-pub fn measure<H: Shelf, K: Sink>(
+pub fn measure<H: Shelf, K: Sink, P: Progress>(
     alloc: Global,
     asked: MeasureWords<'_>,
     shelf: &mut H,
     sink: &mut K,
+    progress: &mut P,
 ) -> Result<(), Stop>
     ensures works { (source : SourceState) → Works (measure_asked asked.entry) (stop_of result)
         (world_of (H.state shelf.old) source (K.state sink.old))
         (world_of (H.state shelf.new) source (K.state sink.new)) }
 {
+    begin(progress, Stage::Reading);
     let text = load_file(alloc, Role::Profiles, asked.measured, shelf)?;
+    begin(progress, Stage::Measuring);
     let profiles = read_measured(alloc, &text)?;
+    begin(progress, Stage::Packing);
     let table = write_profiles(alloc, &profiles)?;
+    begin(progress, Stage::Storing);
     store_file(alloc, Role::Out, asked.out, &table, shelf)?;
+    begin(progress, Stage::Done);
     put_numbers_line(sink, b"measured", &[profiles.len() as u64])?;
     Ok(())
 }

@@ -11,6 +11,7 @@ use crate::saying::put_numbers_line;
 use crate::stops::{Role, Stop};
 use crate::storing::store_file;
 use cu_io::{Shelf, Sink};
+use cu_progress::{Progress, Stage, begin};
 use std::alloc::Global;
 
 /// The file of a packed hierarchy, and the file that gets it in version 2.
@@ -35,22 +36,25 @@ pub fn parse(words: &[String]) -> Option<MigrateWords<'_>>
 
 /// Opens a packed file of either version, whose hierarchy may be built or not, stores its packed file in version 2 and says
 /// how many bytes it has. Nothing is stored where it has more bytes than the shelf loads. Nothing is taken from a source.
-pub fn migrate<H: Shelf, K: Sink>(
+pub fn migrate<H: Shelf, K: Sink, P: Progress>(
     alloc: Global,
     asked: MigrateWords<'_>,
     shelf: &mut H,
     sink: &mut K,
+    progress: &mut P,
 ) -> Result<(), Stop>
     ensures works { (source : SourceState) → Works (migrate_asked asked.entry) (stop_of result)
         (world_of (H.state shelf.old) source (K.state sink.old))
         (world_of (H.state shelf.new) source (K.state sink.new)) }
 {
-    let bytes = open_file(alloc, asked.hierarchy, shelf)?;
+    let bytes = open_file(alloc, asked.hierarchy, shelf, progress)?;
     let length = bytes.len() as u64;
     if length > shelf.limit() {
         return Err(Stop::TooLarge(length));
     }
+    begin(progress, Stage::Storing);
     store_file(alloc, Role::Out, asked.out, &bytes, shelf)?;
+    begin(progress, Stage::Done);
     put_numbers_line(sink, b"migrated", &[length])?;
     Ok(())
 }

@@ -15,6 +15,7 @@ use cu_dissect::dissect;
 use cu_io::{Shelf, Sink};
 use cu_model::Roads;
 use cu_order::write_order;
+use cu_progress::{Progress, Stage, begin};
 use std::alloc::Global;
 
 /// The tables of a network, and the file that gets its order.
@@ -43,21 +44,26 @@ pub fn parse(words: &[String]) -> Option<OrderWords<'_>>
 
 /// Dissects the network of the tables, stores its order and says of how many nodes it is. Nothing is taken from a
 /// source.
-pub fn order<H: Shelf, K: Sink>(
+pub fn order<H: Shelf, K: Sink, P: Progress>(
     alloc: Global,
     asked: OrderWords<'_>,
     shelf: &mut H,
     sink: &mut K,
+    progress: &mut P,
 ) -> Result<(), Stop>
     ensures works { (source : SourceState) → Works (order_words_asked asked.entry) (stop_of result)
         (world_of (H.state shelf.old) source (K.state sink.old))
         (world_of (H.state shelf.new) source (K.state sink.new)) }
 {
+    begin(progress, Stage::Reading);
     let texts = load_tables(alloc, asked.tables, shelf)?;
     let (network, places) = read_tables(alloc, &texts)?;
+    begin(progress, Stage::Ordering);
     let (order, _splits) = dissect(alloc, &network, &places)?;
     let text = write_order(alloc, &order)?;
+    begin(progress, Stage::Storing);
     store_file(alloc, Role::Out, asked.out, &text, shelf)?;
+    begin(progress, Stage::Done);
     put_numbers_line(sink, b"ordered", &[u64::from(network.nodes())])?;
     Ok(())
 }

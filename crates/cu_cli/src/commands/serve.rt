@@ -13,6 +13,7 @@ use crate::preparing::{pack_prepared, prepare};
 use crate::stops::Stop;
 use crate::words::{OrderWord, TableNames, parse_order};
 use cu_io::{Shelf, Sink, Source};
+use cu_progress::{Progress, Stage, begin};
 use cu_session::answer_built;
 use std::alloc::Global;
 
@@ -42,27 +43,30 @@ pub fn parse(words: &[String]) -> Option<ServeWords<'_>>
 
 /// Packs the built hierarchy of the tables, and answers the script of the source over its bytes. All that a query needs
 /// is made before the first reply; an edit takes memory of its own.
-pub fn serve<H: Shelf, S: Source, K: Sink>(
+pub fn serve<H: Shelf, S: Source, K: Sink, P: Progress>(
     alloc: Global,
     asked: ServeWords<'_>,
     shelf: &mut H,
     source: &mut S,
     sink: &mut K,
+    progress: &mut P,
 ) -> Result<(), Stop>
     ensures works { Works (serve_asked asked.entry) (stop_of result)
         (world_of (H.state shelf.old) (S.state source.old) (K.state sink.old))
         (world_of (H.state shelf.new) (S.state source.new) (K.state sink.new)) }
 {
-    let bytes = pack_tables(alloc, asked, shelf)?;
+    let bytes = pack_tables(alloc, asked, shelf, progress)?;
+    begin(progress, Stage::Done);
     answer_built(alloc, bytes, source, sink)?;
     Ok(())
 }
 
 // The packed bytes of the built hierarchy of the tables.
-fn pack_tables<H: Shelf>(
+fn pack_tables<H: Shelf, P: Progress>(
     alloc: Global,
     asked: ServeWords<'_>,
     shelf: &mut H,
+    progress: &mut P,
 ) -> Result<Vec<u8>, Stop>
     ensures ok { IfOk result (λ bytes. (h : HierarchyValue)
         × HasBuilt (H.state shelf.old) (tables_asked asked.entry.tables) (order_asked asked.entry.order) h × Spells bytes.items h) }
@@ -71,6 +75,6 @@ fn pack_tables<H: Shelf>(
     ensures before { IfErr result IsBeforeScript }
     ensures loads { OnlyLoads (stop_of result) (H.state shelf.old) (H.state shelf.new) }
 {
-    let prepared = prepare(alloc, asked.tables, asked.order, shelf)?;
-    Ok(pack_prepared(alloc, prepared)?)
+    let prepared = prepare(alloc, asked.tables, asked.order, shelf, progress)?;
+    Ok(pack_prepared(alloc, prepared, progress)?)
 }

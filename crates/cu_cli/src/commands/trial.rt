@@ -28,6 +28,7 @@ use cu_interval::{Dir, Ways};
 use cu_io::{Sink, SinkFailed, end_line, put_all, put_number};
 use cu_model::{DAY, Edit, Network, NoMemory, Profile, Query, Roads};
 use cu_pack::PackedView;
+use cu_progress::Silent;
 use cu_roads::{Draws, Places, draw_day, grid, read_network};
 use cu_session::Router;
 use std::alloc::Global;
@@ -171,7 +172,7 @@ fn packed_router(alloc: Global, prepared: Prepared) -> Result<Router, NoMemory>
     ensures order { IfOk result (λ router. router.order ≡ prepared.order) }
     ensures built { IfOk result IsBuilt }
 {
-    let bytes = pack_prepared(alloc, prepared)?;
+    let bytes = pack_prepared(alloc, prepared, &mut Silent)?;
     Router::built(alloc, bytes)
 }
 

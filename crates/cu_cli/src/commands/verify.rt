@@ -12,6 +12,7 @@ use crate::stops::{Difference, Stop};
 use cu_io::{Shelf, Sink, put_line};
 use cu_model::NoMemory;
 use cu_pack::PackedView;
+use cu_progress::{Progress, Stage, begin};
 use cu_verify::Verdict;
 use std::alloc::Global;
 
@@ -35,30 +36,36 @@ pub fn parse(words: &[String]) -> Option<VerifyWords<'_>>
 
 /// Opens a packed file, builds the hierarchy of its network and order anew, and says that the file has the same, or stops for
 /// where it first differs. Nothing is stored, and nothing taken from a source.
-pub fn verify<H: Shelf, K: Sink>(
+pub fn verify<H: Shelf, K: Sink, P: Progress>(
     alloc: Global,
     asked: VerifyWords<'_>,
     shelf: &mut H,
     sink: &mut K,
+    progress: &mut P,
 ) -> Result<(), Stop>
     ensures works { (source : SourceState) → Works (verify_asked asked.entry) (stop_of result)
         (world_of (H.state shelf.old) source (K.state sink.old))
         (world_of (H.state shelf.new) source (K.state sink.new)) }
 {
-    let bytes = open_file(alloc, asked.hierarchy, shelf)?;
+    let bytes = open_file(alloc, asked.hierarchy, shelf, progress)?;
     let view = PackedView::adopt(&bytes);
-    if let Some(found) = difference(alloc, &view)? {
+    if let Some(found) = difference(alloc, &view, progress)? {
         return Err(Stop::Differs(found));
     }
+    begin(progress, Stage::Done);
     put_line(sink, b"same")?;
     Ok(())
 }
 
 // Where a packed file first differs from the built one, if it does.
-fn difference(alloc: Global, view: &PackedView<'_>) -> Result<Option<Difference>, NoMemory>
+fn difference<P: Progress>(
+    alloc: Global,
+    view: &PackedView<'_>,
+    progress: &mut P,
+) -> Result<Option<Difference>, NoMemory>
     ensures found { IfOk result (FindsDifference view.now) }
 {
-    match cu_verify::verify(alloc, view)? {
+    match cu_verify::verify_telling(alloc, view, progress)? {
         Verdict::Same => Ok(None),
         Verdict::Differs {
             edge,

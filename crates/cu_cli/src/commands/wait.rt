@@ -15,6 +15,7 @@ use crate::preparing::pack_prepared;
 use crate::stops::Stop;
 use crate::words::{OrderWord, TableNames, parse_order};
 use cu_io::{Shelf, Sink, Source};
+use cu_progress::{Progress, Stage, begin};
 use cu_session::answer_built;
 use std::alloc::Global;
 
@@ -45,27 +46,30 @@ pub fn parse(words: &[String]) -> Option<WaitWords<'_>>
 /// Packs the built hierarchy of the tables, once the measured profiles are converted to those that arrive when whoever
 /// waits best does, and answers the script of the source over its bytes. All that a query needs is made before the first
 /// reply; an edit takes memory of its own, and one that sets a profile puts its pieces in the place of what was measured.
-pub fn wait<H: Shelf, S: Source, K: Sink>(
+pub fn wait<H: Shelf, S: Source, K: Sink, P: Progress>(
     alloc: Global,
     asked: WaitWords<'_>,
     shelf: &mut H,
     source: &mut S,
     sink: &mut K,
+    progress: &mut P,
 ) -> Result<(), Stop>
     ensures works { Works (wait_asked asked.entry) (stop_of result)
         (world_of (H.state shelf.old) (S.state source.old) (K.state sink.old))
         (world_of (H.state shelf.new) (S.state source.new) (K.state sink.new)) }
 {
-    let bytes = pack_measured(alloc, asked, shelf)?;
+    let bytes = pack_measured(alloc, asked, shelf, progress)?;
+    begin(progress, Stage::Done);
     answer_built(alloc, bytes, source, sink)?;
     Ok(())
 }
 
 // The packed bytes of the built hierarchy of the converted network.
-fn pack_measured<H: Shelf>(
+fn pack_measured<H: Shelf, P: Progress>(
     alloc: Global,
     asked: WaitWords<'_>,
     shelf: &mut H,
+    progress: &mut P,
 ) -> Result<Vec<u8>, Stop>
     ensures ok { IfOk result (λ bytes. (h : HierarchyValue)
         × HasBuiltMeasured (H.state shelf.old) (tables_asked asked.entry.tables) (order_asked asked.entry.order) h × Spells bytes.items h) }
@@ -74,6 +78,6 @@ fn pack_measured<H: Shelf>(
     ensures before { IfErr result IsBeforeScript }
     ensures loads { OnlyLoads (stop_of result) (H.state shelf.old) (H.state shelf.new) }
 {
-    let prepared = prepare_measured(alloc, asked.tables, asked.order, shelf)?;
-    Ok(pack_prepared(alloc, prepared)?)
+    let prepared = prepare_measured(alloc, asked.tables, asked.order, shelf, progress)?;
+    Ok(pack_prepared(alloc, prepared, progress)?)
 }

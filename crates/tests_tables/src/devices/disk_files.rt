@@ -2,7 +2,7 @@
 ghost use Rattle.std.specs.Prelude.{◌≤◌, IfOk};
 
 use super::{loads_from, loads_from_disk, store_on, write};
-use cu_io::{LoadFailed, Lock, ShelfFile};
+use cu_io::{LoadFailed, Lock, ShelfFile, StoreFailed};
 use std::alloc::Allocator;
 use std::cell::Cell;
 use std::fs::{File, Files, Metadata, OpenFile, OpenOptions, Permissions};
@@ -11,13 +11,24 @@ use std::path::PathBuf;
 use std::test::Fail;
 use std::{fs, io};
 
-// What files answer: how long they say that they are, how many bytes each of their reads gives, and which read fails. And
-// how many reads were made, and what a lock of a fresh file found while it was renamed.
+// What the system can't tell of a fresh file.
+#[derive(Clone, Copy, PartialEq, Eq)]
+enum Untold {
+    Nothing,
+    // What it is.
+    File,
+    // What stands under its name.
+    Name,
+}
+
+// What files answer: how long they say that they are, how many bytes each of their reads gives, which read fails, and what
+// they can't tell. And how many reads were made, and what a lock of a fresh file found while it was renamed.
 #[derive(Drop)]
 struct Script {
     length: u64,
     gives: &'static [usize],
     fails_at: usize,
+    untold: Cell<Untold>,
     reads: Cell<usize>,
     renamed: Cell<Option<Lock>>,
 }
@@ -28,6 +39,7 @@ impl Script {
             length,
             gives,
             fails_at,
+            untold: Cell::new(Untold::Nothing),
             reads: Cell::new(0),
             renamed: Cell::new(None),
         }
@@ -46,9 +58,17 @@ impl Script {
             None => Ok(0),
         }
     }
+
+    // Fails where this can't be told.
+    fn tell(&self, asked: Untold) -> io::Result<()> {
+        if self.untold.get() == asked {
+            return Err(Error::from(ErrorKind::Other));
+        }
+        Ok(())
+    }
 }
 
-// The files of the file system, but for what a load reads of them.
+// The files of the file system, but for what a load reads of them, and for what can't be told of fresh ones.
 #[derive(Drop)]
 struct Scripted<'a> {
     files: &'a HostRuntime,
@@ -83,6 +103,9 @@ impl<'a> Files for Scripted<'a> {
     }
 
     fn symlink_metadata(&self, path: &str) -> io::Result<Metadata> {
+        if path.contains(".catchup-stored-") {
+            self.script.tell(Untold::Name)?;
+        }
         self.files.symlink_metadata(path)
     }
 
@@ -143,6 +166,7 @@ impl Seek for ScriptedFile<'_> {
 
 impl OpenFile for ScriptedFile<'_> {
     fn metadata(&self) -> io::Result<Metadata> {
+        self.script.tell(Untold::File)?;
         self.file.metadata()
     }
 
@@ -343,5 +367,30 @@ fn removes_what_was_left(rt: &HostRuntime) -> Result<bool, Fail> {
 fn a_store_removes_what_killed_ones_left(rt: HostRuntime) -> Result<(), Fail> {
     assert!(rt; removes_what_was_left(&rt)?);
     fs::remove_dir_all(&rt, "left")?;
+    Ok(())
+}
+
+// Whether a store fails where the system can't tell this of a fresh file, leaves none, and keeps the old file.
+fn fails_at_once(rt: &HostRuntime, untold: Untold) -> bool {
+    let script = Script::of(0, &[], NEVER);
+    script.untold.set(untold);
+    let files = Scripted {
+        files: rt,
+        script: &script,
+    };
+    store_on(files, rt.alloc(), "untold/file", b"text") == Err(StoreFailed::Fault)
+        && are_there(rt, &FRESH, false)
+        && loads_from_disk(rt, "untold/file", Ok(b"old"))
+}
+
+const FRESH: [&str; 2] = ["untold/.catchup-stored-0", "untold/.catchup-stored-1"];
+
+#[test]
+fn a_store_fails_at_once_where_names_cant_be_told(rt: HostRuntime) -> Result<(), Fail> {
+    fs::create_dir(&rt, "untold")?;
+    write(&rt, "untold/file", "old")?;
+    assert!(rt; fails_at_once(&rt, Untold::File));
+    assert!(rt; fails_at_once(&rt, Untold::Name));
+    fs::remove_dir_all(&rt, "untold")?;
     Ok(())
 }

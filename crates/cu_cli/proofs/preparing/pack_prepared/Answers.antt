@@ -2,7 +2,7 @@ use Rattle.cu_cli.proofs.StopLaws.{if_ok_map}
 use Rattle.cu_cli.proofs.preparing.pack_prepared.Goals as goal
 
 pub returns : goal.returns
-returns c =
+returns g c =
     let h = c.in_ok-hierarchy.hierarchy in
     let done = c.in_ok-hierarchy.ensures in
     record {

@@ -12,7 +12,7 @@ never rose = absurd (omega (arith, rose))
 pub returns-clause-ended : goal.returns-clause-ended
 returns-clause-ended c =
     let (ending, status, ends, moves, stores) = c.run.ensures.ended in
-    let file = no_fault (shelf_state c.args.shelf.now) (shelf_state c.run.new.shelf) (λ name. never) (λ name. never) (map string_bytes c.args.words.now.items) ending ends in
+    let file = no_fault (shelf_state c.args.shelf.now) (shelf_state c.run.new.shelf) (λ name. never) (λ name. never) _ _ (map string_bytes c.args.words.now.items) ending ends in
     let source : status_at ending.stop ≡ 7 → ⊥ = λ is. never (c.run.ensures.leaves.source_fault (status ∙ is)) in
     let sink : status_at ending.stop ≡ 8 → ⊥ = λ is. never (c.run.ensures.leaves.sink_fault (status ∙ is)) in
     (ending, status, faultless ending.stop file source sink, ends, moves, stores)

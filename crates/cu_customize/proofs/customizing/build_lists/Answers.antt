@@ -9,7 +9,7 @@ use Rattle.cu_customize.proofs.Ranks.{first_last, first_zero}
 use Rattle.cu_customize.proofs.customizing.build_lists.Goals as goal
 
 pub loop-rank-init : goal.loop-rank-init
-loop-rank-init c =
+loop-rank-init g c =
     let edges = c.args.parts.now.graph.now.edges in
     let none : 0 ≡ first_edge_of edges 0 = sym (first_zero edges) in
     let Building : ℕ → List (Option (List Run)) → List (List Entry) → Type 0 = λ i fs ls. IsBuilding c.args.parts.now.network.now c.args.parts.now.order.now edges i (2 * i) fs ls in
@@ -22,7 +22,7 @@ loop-rank-init c =
     }
 
 pub returns : goal.returns
-returns c =
+returns g c =
     let graph = c.args.parts.now.graph.now in
     let all : c.loop-rank.rank ≡ graph.ranks = (let count = c.ranks-rank-end.ensures.count in omega (arith, count)) in
     let last : first_edge_of graph.edges c.loop-rank.rank ≡ length graph.edges = ap (λ (k : ℕ). first_edge_of graph.edges k) all ∙ first_last graph c.requires.chordal in

@@ -5,6 +5,7 @@ use Rattle.cu_interval.specs.declared.ways.Dir.TheVariants.{Up}
 use Rattle.cu_chordal.specs.Graphs.{first_edge_of, up_of}
 use Rattle.cu_day.specs.Steps.Ranks.{SpreadsTo}
 use Rattle.cu_day.specs.Steps.Sweeping.{Always}
+use Rattle.cu_sweep.specs.LedCalls.{arc_by}
 use Rattle.cu_day.proofs.days.spread.Given as goal
 
 abbrev pub invariant-edges : goal.invariant-edges
@@ -13,5 +14,5 @@ invariant-edges g l =
     (g.F.DayFunctions.hierarchy l.functions ≡ h) × (l.highers ≡ up_of h.edges l.fn.rank)
     × (l.edge ≡ first_edge_of h.edges l.fn.rank + l.higher-index)
     × SpreadsTo Always h l.fn.rank (take l.higher-index l.highers) l.fn.labels.items l.labels.items
-    × (g.F.DayFunctions.calls l.functions ≡ g.F.DayFunctions.calls l.fn.functions ++ map (λ e. record { edge = e; dir = Up })
+    × (g.F.DayFunctions.calls l.functions ≡ g.F.DayFunctions.calls l.fn.functions ++ map (arc_by Up)
     (range_with_len (first_edge_of h.edges l.fn.rank) l.higher-index))

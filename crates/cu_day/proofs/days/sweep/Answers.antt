@@ -6,7 +6,7 @@ use Rattle.cu_elimtree.specs.Trees.{ancestors_of}
 use Rattle.cu_interval.specs.Hierarchies.{HierarchyValue, graph_of}
 use Rattle.std.specs.List.{AllPairs}
 use Rattle.cu_interval.specs.declared.ways.Dir.TheVariants.{Up, Down}
-use Rattle.cu_day.specs.DayCalls.{calls_of_ranks}
+use Rattle.cu_sweep.specs.LedCalls.{arcs_of_ranks}
 use Rattle.cu_day.proofs.Calls.{adds_sweep_arcs}
 use Rattle.cu_day.specs.Steps.Ranks.{HasSweptDown, HasSweptUp}
 use Rattle.cu_day.proofs.Whole.{tree_long}
@@ -66,8 +66,8 @@ returns-clause-told g c =
     let downs = path c.args.to c.in_ok-downs.downs.items c.deref-2.result.now c.in_ok-downs.ensures.path c.deref-2.ensures.value in
     let rise_ups = subst (AllPairs (λ a b. a < b)) (sym c.deref.ensures.value ∙ ups) c.in_ok-ups.ensures.rising in
     let rise_downs = subst (AllPairs (λ a b. a < b)) (sym c.deref-2.ensures.value ∙ downs) c.in_ok-downs.ensures.rising in
-    let up = subst (λ (xs : List ℕ). mid ≡ before ++ calls_of_ranks h Up xs) ups c.in_ok-sweep_up.ensures.told in
-    let swept = subst (λ (v : HierarchyValue). now ≡ mid ++ calls_of_ranks v Down
+    let up = subst (λ (xs : List ℕ). mid ≡ before ++ arcs_of_ranks h Up xs) ups c.in_ok-sweep_up.ensures.told in
+    let swept = subst (λ (v : HierarchyValue). now ≡ mid ++ arcs_of_ranks v Down
     (reverse c.deref-2.result.now)) c.sweep_up.ensures.stays c.in_ok-sweep_down.ensures.told in
-    let down = subst (λ (xs : List ℕ). now ≡ mid ++ calls_of_ranks h Down (reverse xs)) downs swept in
+    let down = subst (λ (xs : List ℕ). now ≡ mid ++ arcs_of_ranks h Down (reverse xs)) downs swept in
     adds_sweep_arcs h c.requires.graph.1 c.args.graph.now c.args.from c.args.to before mid now same rise_ups rise_downs up down

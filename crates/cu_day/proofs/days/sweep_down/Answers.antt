@@ -6,7 +6,7 @@ use Rattle.cu_interval.specs.Hierarchies.{HierarchyValue}
 use Rattle.cu_day.specs.Steps.Ranks.{DownSweptBy, GathersFrom}
 use Rattle.std.proofs.lemmas.List.{append-nil}
 use Rattle.cu_interval.specs.declared.ways.Dir.TheVariants.{Down}
-use Rattle.cu_day.specs.DayCalls.{calls_of_rank, calls_of_ranks}
+use Rattle.cu_sweep.specs.LedCalls.{arcs_of_rank, arcs_of_ranks}
 use Rattle.cu_day.proofs.Calls.{one_rank}
 use Rattle.cu_sweep.proofs.Rows.{row_edge}
 use Rattle.cu_day.proofs.Places.{behind_place}
@@ -24,7 +24,7 @@ ranks-init g c =
       refl,
       omega arith,
       subst (λ (done : List ℕ). DownSweptBy Always h done labels labels) none (swept_down_none Always h labels),
-      subst (λ (done : List ℕ). first ≡ first ++ calls_of_ranks h Down done) none (sym (append-nil first)),
+      subst (λ (done : List ℕ). first ≡ first ++ arcs_of_ranks h Down done) none (sym (append-nil first)),
     )
 
 pub ranks-preserved : goal.ranks-preserved
@@ -43,9 +43,9 @@ ranks-preserved g c =
     let done = reverse (drop (suc k) path) in
     let swept = subst (λ (n : ℕ). DownSweptBy Always h (reverse (drop n path)) first before) next i.2 in
     let calls = g.F.DayFunctions.calls c.args.functions.now in
-    let so = subst (λ (n : ℕ). g.F.DayFunctions.calls c.ranks.functions ≡ calls ++ calls_of_ranks h Down (reverse (drop n path))) next i.3 in
+    let so = subst (λ (n : ℕ). g.F.DayFunctions.calls c.ranks.functions ≡ calls ++ arcs_of_ranks h Down (reverse (drop n path))) next i.3 in
     let told =
-    subst (λ (v : HierarchyValue). g.F.DayFunctions.calls c.gather.new.functions ≡ g.F.DayFunctions.calls c.ranks.functions ++ calls_of_rank v Down x)
+    subst (λ (v : HierarchyValue). g.F.DayFunctions.calls c.gather.new.functions ≡ g.F.DayFunctions.calls c.ranks.functions ++ arcs_of_rank v Down x)
     i.0 c.in_ok-gather.ensures.told in
     let rises : (y z : ℕ) → Contains (up_of h.edges y) z → y < z = λ y z m. let at = place_of (up_of h.edges y) z m in
     (row_edge h c.requires.graph.1 y at.0 z at.1).2 in
@@ -54,7 +54,7 @@ ranks-preserved g c =
       c.gather.ensures.stays ∙ i.0,
       omega (arith, lt),
       subst (λ (ranks : List ℕ). DownSweptBy Always h ranks first after) (sym (turned_at path k lt)) more,
-      subst (λ (ranks : List ℕ). g.F.DayFunctions.calls c.gather.new.functions ≡ calls ++ calls_of_ranks h Down ranks) (sym (turned_at path k lt))
+      subst (λ (ranks : List ℕ). g.F.DayFunctions.calls c.gather.new.functions ≡ calls ++ arcs_of_ranks h Down ranks) (sym (turned_at path k lt))
           (one_rank h calls (g.F.DayFunctions.calls c.ranks.functions) (g.F.DayFunctions.calls c.gather.new.functions) Down done x so told),
     )
 
@@ -68,5 +68,5 @@ pub returns-clause-told : goal.returns-clause-told
 returns-clause-told g c =
     let h = g.F.DayFunctions.hierarchy c.args.functions.now in
     let over : c.ranks.left ≡ 0 = omega (arith, c.ranks-test.false) in
-    subst (λ (n : ℕ). g.F.DayFunctions.calls c.ranks.functions ≡ g.F.DayFunctions.calls c.args.functions.now ++ calls_of_ranks h Down
+    subst (λ (n : ℕ). g.F.DayFunctions.calls c.ranks.functions ≡ g.F.DayFunctions.calls c.args.functions.now ++ arcs_of_ranks h Down
     (reverse (drop n c.args.path.now))) over c.ranks.invariant.3

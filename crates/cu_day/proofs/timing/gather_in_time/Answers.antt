@@ -3,11 +3,13 @@ use Rattle.std.specs.Prelude.{slice_get}
 use Rattle.std.proofs.lemmas.List.{take_more}
 use Rattle.std.proofs.lemmas.Option.{slice_get-get_or}
 use Rattle.cu_interval.specs.Hierarchies.{HierarchyValue}
-use Rattle.cu_chordal.specs.Graphs.{up_of}
+use Rattle.cu_chordal.specs.Graphs.{first_edge_of, up_of}
+use Rattle.cu_interval.specs.declared.ways.Dir.TheVariants.{Down}
 use Rattle.cu_day.specs.Steps.InTime.{InTime}
 use Rattle.cu_day.specs.Steps.Ranks.{GathersFrom}
 use Rattle.cu_day.specs.Steps.Sweeping.{TakesList}
 use Rattle.cu_sweep.proofs.Rows.{row_edge}
+use Rattle.cu_day.proofs.LedArcs.{edge_more}
 use Rattle.cu_day.proofs.Spreading.{gathers_more}
 use Rattle.cu_day.proofs.timing.gather_in_time.Goals as goal
 
@@ -35,4 +37,6 @@ edges-preserved g c =
       gathers = subst (λ (part : List ℕ). GathersFrom counts h x part first after) (sym (take_more highers k 0 lt)) more;
       places = c.in_ok-take_in_time.ensures.places ∙ i.places;
       slacks = c.in_ok-take_in_time.ensures.slacks;
+      told = edge_more Down (first_edge_of h.edges x) k c.edges.edge (g.F.DayFunctions.calls c.args.functions.now) (g.F.DayFunctions.calls c.edges.functions)
+          (g.F.DayFunctions.calls c.take_in_time.new.functions) i.told c.in_ok-take_in_time.ensures.told i.edge;
     }

@@ -2,8 +2,12 @@ use Rattle.std.proofs.Common.{◌<◌, ◌∙◌, ℕ, List, sym, subst, arith, 
 use Rattle.std.proofs.lemmas.List.{take_more}
 use Rattle.cu_chordal.specs.Graphs.{up_of}
 use Rattle.cu_interval.specs.Hierarchies.{HierarchyValue}
+use Rattle.cu_interval.specs.declared.ways.Dir.TheVariants.{Up}
+use Rattle.cu_sweep.specs.LedCalls.{arcs_of_rank, arcs_of_ranks}
 use Rattle.cu_day.specs.Steps.InTime.{InTime}
+use Rattle.cu_day.specs.Steps.LedSteps.{AddsSomeOf}
 use Rattle.cu_day.specs.Steps.Ranks.{HasSweptUp, SpreadsTo}
+use Rattle.cu_day.proofs.LedArcs.{rank_more}
 use Rattle.cu_day.proofs.Places.{before_place}
 use Rattle.cu_day.proofs.Ranked.{swept_up_more}
 use Rattle.cu_day.proofs.timing.rise.Goals as goal
@@ -21,6 +25,10 @@ ranks-preserved g c =
     let before = c.ranks.reached.labels.items in
     let after = c.spread_in_time.new.reached.labels.items in
     let spreads = subst (λ (v : HierarchyValue). SpreadsTo counts v x (up_of v.edges x) before after) i.stays c.in_ok-spread_in_time.ensures.spreads in
+    let calls = g.F.DayFunctions.calls c.args.functions.now in
+    let mid = g.F.DayFunctions.calls c.ranks.functions in
+    let now = g.F.DayFunctions.calls c.spread_in_time.new.functions in
+    let told = subst (λ (v : HierarchyValue). AddsSomeOf (arcs_of_rank v Up x) mid now) i.stays c.in_ok-spread_in_time.ensures.told in
     let more = swept_up_more counts h (take k path) x first before after
     (λ y m. before_place path k y c.requires.rising lt m) i.swept spreads in
     record {
@@ -29,4 +37,6 @@ ranks-preserved g c =
       swept = subst (λ (done : List ℕ). HasSweptUp counts h done first after) (sym (take_more path k 0 lt)) more;
       places = c.in_ok-spread_in_time.ensures.places;
       slacks = c.in_ok-spread_in_time.ensures.slacks;
+      told = subst (λ (done : List ℕ). AddsSomeOf (arcs_of_ranks h Up done) calls now) (sym (take_more path k 0 lt))
+          (rank_more h Up (take k path) x calls mid now i.told told);
     }

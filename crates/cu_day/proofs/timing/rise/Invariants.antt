@@ -2,6 +2,9 @@
 use Rattle.std.proofs.Common.{◌≡◌, ◌≤◌, ◌-◌, length, take}
 use Rattle.cu_day.specs.Steps.InTime.{AreSlacks, InTime}
 use Rattle.cu_day.specs.Steps.Ranks.{HasSweptUp}
+use Rattle.cu_interval.specs.declared.ways.Dir.TheVariants.{Up}
+use Rattle.cu_sweep.specs.LedCalls.{arcs_of_ranks}
+use Rattle.cu_day.specs.Steps.LedSteps.{AddsSomeOf}
 use Rattle.cu_day.proofs.timing.rise.Given as goal
 
 abbrev pub invariant-ranks : goal.invariant-ranks
@@ -12,6 +15,7 @@ invariant-ranks g l = record {
       l.reached.labels.items;
   places : length l.reached.slacks.items ≡ l.graph.ranks;
   slacks : AreSlacks l.limits.by.now l.reached.labels.items l.reached.slacks.items;
+  told : AddsSomeOf (arcs_of_ranks (g.F.DayFunctions.hierarchy l.fn.functions) Up (take l.done l.path)) (g.F.DayFunctions.calls l.fn.functions) (g.F.DayFunctions.calls l.functions);
 }
 
 abbrev pub decreases-ranks : goal.decreases-ranks

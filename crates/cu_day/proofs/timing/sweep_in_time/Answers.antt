@@ -1,12 +1,16 @@
-use Rattle.std.proofs.Common.{◌≡◌, ◌<◌, ◌∙◌, ℕ, List, Option, sym, ap, subst, arith}
+use Rattle.std.proofs.Common.{◌≡◌, ◌<◌, ◌∙◌, ℕ, List, Option, sym, ap, subst, arith, reverse}
 use Rattle.std.proofs.lemmas.Grind.{common_steps}
 use Rattle.std.specs.Prelude.{All}
 use Rattle.cu_chordal.specs.Graphs.{ChordalValue}
 use Rattle.cu_elimtree.specs.SweepArcs.{ancestors_in}
 use Rattle.cu_elimtree.specs.Trees.{ancestors_of}
 use Rattle.cu_interval.specs.Hierarchies.{HierarchyValue, graph_of}
+use Rattle.cu_interval.specs.declared.ways.Dir.TheVariants.{Up, Down}
+use Rattle.cu_sweep.specs.LedCalls.{arcs_of_ranks}
 use Rattle.cu_day.specs.Steps.InTime.{InTime}
+use Rattle.cu_day.specs.Steps.LedSteps.{AddsSomeOf}
 use Rattle.cu_day.specs.Steps.Ranks.{HasSweptDown, HasSweptUp}
+use Rattle.cu_day.proofs.LedArcs.{in_sweeps}
 use Rattle.cu_day.proofs.Leaving.{slacks_begun}
 use Rattle.cu_day.proofs.Whole.{tree_long}
 use Rattle.cu_day.proofs.timing.sweep_in_time.Goals as goal
@@ -56,3 +60,20 @@ pub rise-requires-clause-slacks : goal.rise-requires-clause-slacks
 rise-requires-clause-slacks g c =
     let all : All (λ slack. slack ≡ 18446744073709551615) c.in_ok-slacks.slacks.items = λ k d lt. grind (arith, common_steps) in
     slacks_begun c.args.limits.now.by.now c.requires.early c.in_ok-labels.labels.items c.in_ok-slacks.slacks.items 18446744073709551615 (omega arith) all
+
+pub returns-clause-told : goal.returns-clause-told
+returns-clause-told g c =
+    let h = g.F.DayFunctions.hierarchy c.args.functions.now in
+    let same : c.args.graph.now ≡ graph_of h = c.requires.graph.0 in
+    let before = g.F.DayFunctions.calls c.args.functions.now in
+    let mid = g.F.DayFunctions.calls c.rise.new.functions in
+    let now = g.F.DayFunctions.calls c.fall.new.functions in
+    let path : (rank : ℕ) (items now : List ℕ) → items ≡ ancestors_of c.args.tree.now rank → now ≡ items → now ≡ ancestors_in (graph_of h) rank =
+    λ rank items now is held.
+    held ∙ is ∙ ap (λ (ps : List (Option ℕ)). ancestors_of ps rank) c.requires.tree ∙ ap (λ (v : ChordalValue). ancestors_in v rank) same in
+    let ups = path c.args.leg.from c.in_ok-ups.ups.items c.deref.result.now c.in_ok-ups.ensures.path c.deref.ensures.value in
+    let downs = path c.args.leg.to c.in_ok-downs.downs.items c.deref-2.result.now c.in_ok-downs.ensures.path c.deref-2.ensures.value in
+    let up = subst (λ (xs : List ℕ). AddsSomeOf (arcs_of_ranks h Up xs) before mid) ups c.in_ok-rise.ensures.told in
+    let swept = subst (λ (v : HierarchyValue). AddsSomeOf (arcs_of_ranks v Down (reverse c.deref-2.result.now)) mid now) c.rise.ensures.stays c.in_ok-fall.ensures.told in
+    let down = subst (λ (xs : List ℕ). AddsSomeOf (arcs_of_ranks h Down (reverse xs)) mid now) downs swept in
+    in_sweeps h c.args.leg.from c.args.leg.to before mid now up down

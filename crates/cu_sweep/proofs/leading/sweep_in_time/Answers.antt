@@ -1,4 +1,4 @@
-use Rattle.std.proofs.Common.{◌≡◌, ◌≤◌, ◌<◌, ◌+◌, ◌∙◌, ℕ, List, Some, None, refl, sym, ap, subst, arith, rules}
+use Rattle.std.proofs.Common.{◌≡◌, ◌≤◌, ◌<◌, ◌+◌, ◌∙◌, ℕ, List, Some, None, refl, sym, ap, subst, arith, reverse, rules}
 use Rattle.std.specs.Prelude.{All}
 use Rattle.std.specs.List.{AllPairs, Contains}
 use Rattle.std.proofs.lemmas.List.Elements.{All-contains}
@@ -8,10 +8,11 @@ use Rattle.cu_interval.specs.Hierarchies.{HierarchyValue, graph_of}
 use Rattle.cu_sweep.specs.declared.finding.Found.TheVariants.{Arrive}
 use Rattle.cu_sweep.specs.Desks.{HoldsFound}
 use Rattle.cu_sweep.specs.Sweeps.{found}
-use Rattle.cu_sweep.specs.Swept.{IsClosed, desk_of}
+use Rattle.cu_sweep.specs.Swept.{IsClosed, Makes, desk_of}
 use Rattle.cu_sweep.specs.Steps.Ahead.{ahead_of, is_in_time}
-use Rattle.cu_sweep.specs.Steps.Made.{IsMadeDown, IsMadeUp, Led}
+use Rattle.cu_sweep.specs.Steps.Made.{IsMadeDown, IsMadeUp, Led, down_calls_of}
 use Rattle.cu_sweep.proofs.Ancestry.{ancestors_ranks, ancestors_rising, ancestors_upwards, own_ancestor}
+use Rattle.cu_sweep.proofs.Driven.{fallen_some, risen_some}
 use Rattle.cu_sweep.proofs.GoalLaws.{IsPlaced}
 use Rattle.cu_sweep.proofs.Passing.{tree_long}
 use Rattle.cu_sweep.proofs.Placed.{found_in_time, holds_in_time, if_some_then, placed}
@@ -119,3 +120,61 @@ returns-clause-holds g c =
     holds_in_time h sound c.requires.short q closed p.to by (ahead_of up down) at member labels reached arrival (sym c.second.ensures ∙ both.0) both.1
     (c.fall.ensures.kept chain_keeps) c.fall.ensures.unturned)
     c.in_time.ensures
+
+pub returns-then-is_some-clause-told : goal.returns-then-is_some-clause-told
+returns-then-is_some-clause-told g c =
+    let h = g.R.Relaxer.hierarchy c.args.relaxer.now in
+    let p = c.args.goal.question in
+    let up = c.args.goal.limits.up.now in
+    let down = c.args.goal.limits.down.now in
+    let by = c.args.goal.limits.by in
+    let path = c.args.path.now in
+    let q : Led = record { from = p.from; second = p.second; path = path; allows = is_in_time up down by } in
+    let sound = c.requires.graph.1 in
+    let begun = c.begin.ensures.begun h (c.requires.tree ∙ ap parents_in c.requires.graph.0) in
+    let risen = c.rise.ensures.makes q refl refl begun in
+    risen_some h sound q p.from p.to (g.R.Relaxer.calls c.args.relaxer.now) (g.R.Relaxer.calls c.rise.new.relaxer) c.rise.result risen
+
+pub returns-then-is_some-2-clause-told : goal.returns-then-is_some-2-clause-told
+returns-then-is_some-2-clause-told g c =
+    let h = g.R.Relaxer.hierarchy c.args.relaxer.now in
+    let p = c.args.goal.question in
+    let up = c.args.goal.limits.up.now in
+    let down = c.args.goal.limits.down.now in
+    let by = c.args.goal.limits.by in
+    let path = c.args.path.now in
+    let q : Led = record { from = p.from; second = p.second; path = path; allows = is_in_time up down by } in
+    let sound = c.requires.graph.1 in
+    let begun = c.begin.ensures.begun h (c.requires.tree ∙ ap parents_in c.requires.graph.0) in
+    let risen = c.rise.ensures.makes q refl refl begun in
+    let is : path ≡ ancestors_in (graph_of h) p.to = c.requires.path ∙ ap (λ (v : ChordalValue). ancestors_in v p.to) c.requires.graph.0 in
+    let none : c.rise.result ≡ None = no_call c.rise.result (search rules) in
+    let made : IsMadeUp h q c.rise.new.self = c.rise.ensures.swept q refl refl begun none in
+    let before = g.R.Relaxer.calls c.rise.new.relaxer in
+    let now = g.R.Relaxer.calls c.fall.new.relaxer in
+    let falls = subst (λ (v : HierarchyValue). (r : Led) → r.path ≡ path → r.allows ≡ is_in_time up down by → IsMadeUp v r c.rise.new.self
+    → Makes v (down_calls_of v r (reverse r.path)) before now c.fall.result) c.rise.ensures.stays c.fall.ensures.makes in
+    let fallen = subst (λ (xs : List ℕ). Makes h (down_calls_of h q (reverse xs)) before now c.fall.result) is (falls q refl refl made) in
+    fallen_some h sound q p.from p.to (g.R.Relaxer.calls c.args.relaxer.now) before c.rise.result now c.fall.result risen fallen
+
+pub returns-clause-told : goal.returns-clause-told
+returns-clause-told g c =
+    let h = g.R.Relaxer.hierarchy c.args.relaxer.now in
+    let p = c.args.goal.question in
+    let up = c.args.goal.limits.up.now in
+    let down = c.args.goal.limits.down.now in
+    let by = c.args.goal.limits.by in
+    let path = c.args.path.now in
+    let q : Led = record { from = p.from; second = p.second; path = path; allows = is_in_time up down by } in
+    let sound = c.requires.graph.1 in
+    let begun = c.begin.ensures.begun h (c.requires.tree ∙ ap parents_in c.requires.graph.0) in
+    let risen = c.rise.ensures.makes q refl refl begun in
+    let is : path ≡ ancestors_in (graph_of h) p.to = c.requires.path ∙ ap (λ (v : ChordalValue). ancestors_in v p.to) c.requires.graph.0 in
+    let none : c.rise.result ≡ None = no_call c.rise.result (search rules) in
+    let made : IsMadeUp h q c.rise.new.self = c.rise.ensures.swept q refl refl begun none in
+    let before = g.R.Relaxer.calls c.rise.new.relaxer in
+    let now = g.R.Relaxer.calls c.fall.new.relaxer in
+    let falls = subst (λ (v : HierarchyValue). (r : Led) → r.path ≡ path → r.allows ≡ is_in_time up down by → IsMadeUp v r c.rise.new.self
+    → Makes v (down_calls_of v r (reverse r.path)) before now c.fall.result) c.rise.ensures.stays c.fall.ensures.makes in
+    let fallen = subst (λ (xs : List ℕ). Makes h (down_calls_of h q (reverse xs)) before now c.fall.result) is (falls q refl refl made) in
+    fallen_some h sound q p.from p.to (g.R.Relaxer.calls c.args.relaxer.now) before c.rise.result now c.fall.result risen fallen

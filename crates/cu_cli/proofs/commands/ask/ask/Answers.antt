@@ -7,8 +7,9 @@ use Rattle.cu_cli.specs.declared.stops.Stop.{Stop}
 use Rattle.cu_cli.specs.Steps.Outcomes.{Did, Works, World}
 use Rattle.cu_cli.specs.Words.{hierarchy_file}
 use Rattle.cu_cli.proofs.Completeness.{IsComplete, answers_stop, opening_stops, works}
+use Rattle.cu_cli.proofs.ReadLaws.{opening_unread}
 use Rattle.cu_cli.proofs.StopLaws.{stop_is}
-use Rattle.cu_cli.proofs.WorkLaws.{answered, stopped_before}
+use Rattle.cu_cli.proofs.WorkLaws.{answered, script_unread}
 use Rattle.cu_cli.proofs.commands.ask.ask.Goals as goal
 
 -- where nothing fails, nothing but want of memory stops the answering of a script
@@ -30,7 +31,7 @@ returns-in_err-bytes g c =
     rw (err_is c.from_residual.result c.in_err-bytes.field-0.0 c.from_residual.ensures.1)
     (record {
       works = ask_works name
-          (stopped_before true _ _ _ _ (EndsAsk name) c.in_err-bytes.field-0.0 stopped.loads stopped.before (λ work ends. inr (c.in_err-bytes.field-0.0, stopped.err, ends)));
+          (script_unread _ _ _ _ (EndsAsk name) c.in_err-bytes.field-0.0 stopped.loads stopped.before (opening_unread (g.H.Shelf.state c.args.shelf.now) (g.H.Shelf.state c.open_file.new.shelf) name c.in_err-bytes.field-0.0 stopped.err) (λ work ends. inr (c.in_err-bytes.field-0.0, stopped.err, ends)));
     })
 
 pub answer_script-requires : goal.answer_script-requires

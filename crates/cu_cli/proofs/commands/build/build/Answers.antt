@@ -40,7 +40,7 @@ build_works words done = works (build_asked words) (build_law (tables_asked word
 stopped : (words : BuildWords) {a b : ShelfState} (s : SourceState) {k : SinkState} (why : Stop) → OnlyLoads (Some why) a b
     → StopsPreparing a b (tables_asked words.tables) (order_asked words.order) why → IsBeforeScript why → Works (build_asked words) (Some why) (world_of a s k) (world_of b s k)
 stopped words s why loads stops before =
-    build_works words (stopped_before false _ _ s _ (EndsBuild (tables_asked words.tables) (order_asked words.order) words.out.now) why loads before (λ work ends. inr (why, stops, ends)))
+    build_works words (stopped_before _ _ s _ (EndsBuild (tables_asked words.tables) (order_asked words.order) words.out.now) why loads before (λ work ends. inr (why, stops, ends)))
 
 -- the hierarchy was built, and the storing of its packed file ended
 ended : (words : BuildWords) {a c : ShelfState} (s : SourceState) {k now : SinkState} {why : Option Stop} (h : HierarchyValue)

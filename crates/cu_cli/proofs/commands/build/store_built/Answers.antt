@@ -29,7 +29,7 @@ returns-in_err-bytes g c =
     let h = c.args.hierarchy.now in
     rw (err_is c.from_residual.result stop.NoMemory c.from_residual.ensures.1)
     (record {
-      did = λ first source loads. stopped_before false _ _ source _ (EndsBuilt c.args.out.now h) stop.NoMemory (only_refused stop.NoMemory tt loads) tt (λ work ends. inr ends);
+      did = λ first source loads. stopped_before _ _ source _ (EndsBuilt c.args.out.now h) stop.NoMemory (only_refused stop.NoMemory tt loads) tt (λ work ends. inr ends);
     })
 
 pub returns-then-length-limit : goal.returns-then-length-limit
@@ -41,7 +41,7 @@ returns-then-length-limit g c =
     (record {
       did = λ first source loads.
           let more : first.most < length (spelling h) = omega (arith, size, c.limit.ensures, loads.most, c.if-length-limit.true) in
-          stopped_before false _ _ source _ (EndsBuilt c.args.out.now h) (stop.TooLarge (length (spelling h))) (only_refused (stop.TooLarge (length (spelling h))) tt loads) tt
+          stopped_before _ _ source _ (EndsBuilt c.args.out.now h) (stop.TooLarge (length (spelling h))) (only_refused (stop.TooLarge (length (spelling h))) tt loads) tt
           (λ work ends. inl (inr (more, ends)));
     })
 

@@ -50,7 +50,7 @@ returns-in_err-answered g c =
     let done = rw c.deref.ensures.value at c.in_err-answered.ensures.ended in
     rw (stop_is c.from_residual-in_err-answered.result _ c.from_residual-in_err-answered.ensures.1)
     (record {
-      works = λ source. edit_works c.args.asked (edits_stopped _ _ source _ c.args.asked.hierarchy.now c.args.asked.edits.now c.args.asked.out.now _ h c.answer_edits-answered.new.router
+      works = λ source. edit_works c.args.asked (edits_stopped _ _ source _ c.args.asked.hierarchy.now c.args.asked.edits.now c.args.asked.out.now _ h c.answer_edits_telling-answered.new.router
           text c.in_ok-file.ensures.loads opens c.in_err-answered.field-0.0 done);
     })
 
@@ -58,7 +58,7 @@ pub returns-then-length-limit : goal.returns-then-length-limit
 returns-then-length-limit g c =
     let (first, opened, spells) = c.in_ok-file.ensures.ok in
     let h = c.in_ok-router.router in
-    let after = c.answer_edits-answered.new.router in
+    let after = c.answer_edits_telling-answered.new.router in
     let text = c.in_ok-file.file.edits.items in
     let opens : Opens (g.H.Shelf.state c.args.shelf.now) (editing_files c.args.asked.hierarchy.now c.args.asked.edits.now) h (text ∷ []) =
     opens_held (g.H.Shelf.state c.args.shelf.now) (editing_files c.args.asked.hierarchy.now c.args.asked.edits.now) (text ∷ []) opened spells c.in_ok-router.ensures.held in
@@ -75,7 +75,7 @@ pub returns-in_err-store_file : goal.returns-in_err-store_file
 returns-in_err-store_file g c =
     let (first, opened, spells) = c.in_ok-file.ensures.ok in
     let h = c.in_ok-router.router in
-    let after = c.answer_edits-answered.new.router in
+    let after = c.answer_edits_telling-answered.new.router in
     let text = c.in_ok-file.file.edits.items in
     let opens : Opens (g.H.Shelf.state c.args.shelf.now) (editing_files c.args.asked.hierarchy.now c.args.asked.edits.now) h (text ∷ []) =
     opens_held (g.H.Shelf.state c.args.shelf.now) (editing_files c.args.asked.hierarchy.now c.args.asked.edits.now) (text ∷ []) opened spells c.in_ok-router.ensures.held in
@@ -96,7 +96,7 @@ pub returns-in_err-put_numbers_line : goal.returns-in_err-put_numbers_line
 returns-in_err-put_numbers_line g c =
     let (first, opened, spells) = c.in_ok-file.ensures.ok in
     let h = c.in_ok-router.router in
-    let after = c.answer_edits-answered.new.router in
+    let after = c.answer_edits_telling-answered.new.router in
     let text = c.in_ok-file.file.edits.items in
     let opens : Opens (g.H.Shelf.state c.args.shelf.now) (editing_files c.args.asked.hierarchy.now c.args.asked.edits.now) h (text ∷ []) =
     opens_held (g.H.Shelf.state c.args.shelf.now) (editing_files c.args.asked.hierarchy.now c.args.asked.edits.now) (text ∷ []) opened spells c.in_ok-router.ensures.held in
@@ -118,7 +118,7 @@ pub returns : goal.returns
 returns g c =
     let (first, opened, spells) = c.in_ok-file.ensures.ok in
     let h = c.in_ok-router.router in
-    let after = c.answer_edits-answered.new.router in
+    let after = c.answer_edits_telling-answered.new.router in
     let text = c.in_ok-file.file.edits.items in
     let opens : Opens (g.H.Shelf.state c.args.shelf.now) (editing_files c.args.asked.hierarchy.now c.args.asked.edits.now) h (text ∷ []) =
     opens_held (g.H.Shelf.state c.args.shelf.now) (editing_files c.args.asked.hierarchy.now c.args.asked.edits.now) (text ∷ []) opened spells c.in_ok-router.ensures.held in

@@ -42,7 +42,7 @@ returns-in_err-texts g c =
     rw (err_is c.from_residual.result stop.NoMemory c.from_residual.ensures.1)
     (record {
       works = λ source. make_works asked
-          (stopped_before false _ _ source _ (EndsMake (tables_asked asked.tables) (grid_asked asked.grid)) stop.NoMemory (only_refused stop.NoMemory tt (only_nothing _)) tt (λ work ends. inr ends));
+          (stopped_before _ _ source _ (EndsMake (tables_asked asked.tables) (grid_asked asked.grid)) stop.NoMemory (only_refused stop.NoMemory tt (only_nothing _)) tt (λ work ends. inr ends));
     })
 
 pub returns-in_err-store_tables : goal.returns-in_err-store_tables

@@ -33,7 +33,7 @@ measure_works words done = works (measure_asked words) (measure_law words.measur
 stopped : (words : MeasureWords) {a b : ShelfState} (s : SourceState) {k : SinkState} (why : Stop) → OnlyLoads (Some why) a b
     → StopsMeasuring a b (measured_file words.measured.now) why → IsBeforeScript why → Works (measure_asked words) (Some why) (world_of a s k) (world_of b s k)
 stopped words s why loads stops before =
-    measure_works words (stopped_before false _ _ s _ (EndsMeasure words.measured.now words.out.now) why loads before (λ work ends. inr (why, stops, ends)))
+    measure_works words (stopped_before _ _ s _ (EndsMeasure words.measured.now words.out.now) why loads before (λ work ends. inr (why, stops, ends)))
 
 -- the profiles were read, and the storing of their table ended
 stored : (words : MeasureWords) {a c : ShelfState} (s : SourceState) {k now : SinkState} {why : Option Stop} (text : List ℕ) (points : List (List Point)) (profiles : List (List Piece))

@@ -42,7 +42,7 @@ module _ (words : MigrateWords) {a : ShelfState} (s : SourceState) {k : SinkStat
       → Works (migrate_asked words) (Some (stop.TooLarge (length (spelling h)))) (world_of a s k) (world_of b s k)
   large loads more =
       migrate_works words
-      (stopped_before false _ _ s _ (EndsMigrate words.hierarchy.now words.out.now) (stop.TooLarge (length (spelling h)))
+      (stopped_before _ _ s _ (EndsMigrate words.hierarchy.now words.out.now) (stop.TooLarge (length (spelling h)))
       (only_refused (stop.TooLarge (length (spelling h))) tt loads) tt (λ work ends. inl (h, opens, inr (more, ends))))
 
   -- or few enough, and its storing ended
@@ -56,7 +56,7 @@ returns-in_err-bytes g c =
     rw (err_is c.from_residual.result c.in_err-bytes.field-0.0 c.from_residual.ensures.1)
     (record {
       works = λ source. migrate_works c.args.asked
-          (stopped_before false _ _ source _ (EndsMigrate c.args.asked.hierarchy.now c.args.asked.out.now) _ c.in_err-bytes.ensures.loads c.in_err-bytes.ensures.before
+          (stopped_before _ _ source _ (EndsMigrate c.args.asked.hierarchy.now c.args.asked.out.now) _ c.in_err-bytes.ensures.loads c.in_err-bytes.ensures.before
           (λ work ends. inr (_, c.in_err-bytes.ensures.err, ends)));
     })
 

@@ -40,7 +40,7 @@ order_works words done = works (order_words_asked words) (order_law (tables_aske
 stopped : (words : OrderWords) {a b : ShelfState} (s : SourceState) {k : SinkState} (why : Stop) → OnlyLoads (Some why) a b
     → StopsTables a b (network_files (tables_asked words.tables)) why → IsBeforeScript why → Works (order_words_asked words) (Some why) (world_of a s k) (world_of b s k)
 stopped words s why loads stops before =
-    order_works words (stopped_before false _ _ s _ (EndsOrder (tables_asked words.tables) words.out.now) why loads before (λ work ends. inr (why, stops, ends)))
+    order_works words (stopped_before _ _ s _ (EndsOrder (tables_asked words.tables) words.out.now) why loads before (λ work ends. inr (why, stops, ends)))
 
 -- the order was made, and its storing ended
 ordered : (words : OrderWords) {a b : ShelfState} {s : SourceState} {k now : SinkState} {why : Option Stop} (read : NetworkRead) (order : OrderValue)

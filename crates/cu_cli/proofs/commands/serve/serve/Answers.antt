@@ -10,8 +10,9 @@ use Rattle.cu_cli.specs.Steps.Outcomes.{Did, Works, World}
 use Rattle.cu_cli.specs.Steps.Asks.{order_asked, tables_asked}
 use Rattle.cu_cli.specs.Words.{OrderAsked, TablesAsked}
 use Rattle.cu_cli.proofs.Completeness.{IsComplete, answers_stop, preparing_stops, works}
+use Rattle.cu_cli.proofs.ReadLaws.{preparing_unread}
 use Rattle.cu_cli.proofs.StopLaws.{stop_is}
-use Rattle.cu_cli.proofs.WorkLaws.{answered, stopped_before}
+use Rattle.cu_cli.proofs.WorkLaws.{answered, script_unread}
 use Rattle.cu_cli.proofs.commands.serve.serve.Goals as goal
 
 -- where nothing fails, nothing but want of memory stops the answering of a script
@@ -34,7 +35,7 @@ returns-in_err-bytes g c =
     rw (err_is c.from_residual.result c.in_err-bytes.field-0.0 c.from_residual.ensures.1)
     (record {
       works = serve_works tables order
-          (stopped_before true _ _ _ _ (EndsServe tables order) c.in_err-bytes.field-0.0 stopped.loads stopped.before (λ work ends. inr (c.in_err-bytes.field-0.0, stopped.err, ends)));
+          (script_unread _ _ _ _ (EndsServe tables order) c.in_err-bytes.field-0.0 stopped.loads stopped.before (preparing_unread (g.H.Shelf.state c.args.shelf.now) (g.H.Shelf.state c.pack_tables.new.shelf) tables order c.in_err-bytes.field-0.0 stopped.err) (λ work ends. inr (c.in_err-bytes.field-0.0, stopped.err, ends)));
     })
 
 pub answer_built-requires : goal.answer_built-requires

@@ -10,9 +10,10 @@ use Rattle.cu_cli.specs.Steps.Outcomes.{Did, Works, World}
 use Rattle.cu_cli.specs.Steps.Asks.{order_asked, tables_asked}
 use Rattle.cu_cli.specs.Words.{OrderAsked, TablesAsked}
 use Rattle.cu_cli.proofs.Completeness.{works}
+use Rattle.cu_cli.proofs.ReadLaws.{waiting_unread}
 use Rattle.cu_cli.proofs.StopLaws.{stop_is}
 use Rattle.cu_cli.proofs.WaitLaws.{wait_law}
-use Rattle.cu_cli.proofs.WorkLaws.{answered, stopped_before}
+use Rattle.cu_cli.proofs.WorkLaws.{answered, script_unread}
 use Rattle.cu_cli.proofs.commands.wait.wait.Goals as goal
 
 wait_works : (tables : TablesAsked) (asked : OrderAsked) {why : Option Stop} {before now : World} → Did true why (EndsWait tables asked) before now → Works (waiting tables asked) why before now
@@ -27,7 +28,7 @@ returns-in_err-bytes g c =
     rw (err_is c.from_residual.result c.in_err-bytes.field-0.0 c.from_residual.ensures.1)
     (record {
       works = wait_works tables order
-          (stopped_before true _ _ _ _ (EndsWait tables order) c.in_err-bytes.field-0.0 stopped.loads stopped.before (λ work ends. inr (c.in_err-bytes.field-0.0, stopped.err, ends)));
+          (script_unread _ _ _ _ (EndsWait tables order) c.in_err-bytes.field-0.0 stopped.loads stopped.before (waiting_unread (g.H.Shelf.state c.args.shelf.now) (g.H.Shelf.state c.pack_measured.new.shelf) tables order c.in_err-bytes.field-0.0 stopped.err) (λ work ends. inr (c.in_err-bytes.field-0.0, stopped.err, ends)));
     })
 
 pub answer_built-requires : goal.answer_built-requires

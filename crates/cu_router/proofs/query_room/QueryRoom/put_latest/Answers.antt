@@ -29,7 +29,7 @@ returns-clause-reply g c =
     let stop = subst (λ (h : HierarchyValue). slice_get h.order.rank_of asked.to ≡ Some c.rank-to.result) (sym over) c.rank-to.ensures.there in
     let sound = subst IsHierarchy (sym over) c.rank-from.ensures.sound in
     let told = departure_told c.new-recall.result sound asked c.rank-from.result c.rank-to.result start stop found.result found.new.desk
-    found.ensures.departure found.ensures.latest found.ensures.holds found.ensures.real in
+    found.ensures.departure found.ensures.search found.ensures.latest found.ensures.holds found.ensures.real in
     let wrote = subst (λ (h : HierarchyValue). Wrote (g.K.Sink.state c.args.sink.now) (g.K.Sink.state c.put_departure-outcome.new.sink) c.put_departure-outcome.result
     (departure_text h asked found.result)) (c.of-walks.ensures ∙ c.latest-departure.ensures.stays ∙ over ∙ seen) c.put_departure-outcome.ensures.wrote in (
       departure_text held asked found.result,
