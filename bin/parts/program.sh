@@ -27,12 +27,23 @@ closure() {
     }' "$top/crates.txt"
 }
 
-# Finds the program's `crates`, and the `folders` that their sources are in.
+# The version of the product: that of the newest heading of the change log.
+version() {
+  local line
+  while IFS= read -r line; do
+    case "$line" in '## ['*']'*) line="${line#*[}" && echo "catchup ${line%%]*}" && return ;; esac
+  done 2>/dev/null <"$top/CHANGELOG.md"
+  fail "$top/CHANGELOG.md names no version"
+}
+
+# Finds the program's `crates`, and the `folders` that their sources are in. Fails where one of them has none.
 find_sources() {
   local line crate part
-  lines="$(closure)" crates=() folders=()
+  lines="$(closure)" && [ -n "$lines" ] || return 1
+  crates=() folders=()
   while read -r line; do
     crate="${line%%[ :]*}"
+    [ -d "$top/crates/$crate/src" ] || return 1
     crates+=("$crate")
     for part in src specs proofs; do
       [ ! -d "$top/crates/$crate/$part" ] || folders+=("crates/$crate/$part")
@@ -40,18 +51,23 @@ find_sources() {
   done <<<"$lines"
 }
 
-# The digests of the files in every fourth folder of the sources: four processes go through them at once.
+# The digests of the files in every fourth folder of the sources: four processes go through them at once. What can't be read
+# leaves a line of its own, since nobody sees the status.
 digests() {
   local at some=()
   for ((at = $1; at < ${#folders[@]}; at += 4)); do some+=("${folders[at]}"); done
-  [ ${#some[@]} -eq 0 ] || find "${some[@]}" -type f -exec b2sum -l 256 {} +
+  [ ${#some[@]} -eq 0 ] || find "${some[@]}" -type f -exec b2sum -l 256 {} + 2>/dev/null || echo '?'
 }
 
 # Finds `now`, the checksum of what the program is made of: src, specs and proofs of the crates that crates/catchup stands
 # on, their lines in crates.txt, and HANDLES. Tests in other crates aren't in it. It is BLAKE2b of a sorted list of such sums.
+# Fails where one of them can't be read.
 sum_sources() {
-  now="$(cd "$top" && LC_ALL=C sort <(digests 0) <(digests 1) <(digests 2) <(digests 3) <(b2sum -l 256 HANDLES) \
-    - <<<"$lines" | b2sum -l 256)" && now="${now%% *}"
+  local list
+  list="$(cd "$top" && LC_ALL=C sort <(digests 0) <(digests 1) <(digests 2) <(digests 3) \
+    <(b2sum -l 256 HANDLES 2>/dev/null || echo '?') - <<<"$lines")" || return 1
+  [[ $'\n'$list$'\n' != *$'\n?\n'* ]] || return 1
+  now="$(printf '%s\n' "$list" | b2sum -l 256)" && now="${now%% *}"
 }
 
 # Finds `sum`, the checksum of a file.

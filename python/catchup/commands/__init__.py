@@ -1,0 +1,1 @@
+"""The commands: a module each, with a click command `command` and `main()`."""

@@ -1,0 +1,78 @@
+"""How every command begins and ends: statuses, one line for what goes wrong, no traceback for what isn't a bug."""
+
+from __future__ import annotations
+
+import os
+import signal
+import sys
+from types import FrameType
+from typing import NoReturn
+
+import click
+
+from catchup.errors import CatchupError, Failure
+
+WRONG_WORDS = 2
+INTERRUPTED = 130
+CLOSED_PIPE = 141
+TERMINATED = 143
+
+
+def run(command: click.Command, name: str) -> NoReturn:
+    """Runs a click command as a program that is called `name`.
+
+    Wrong words are status 2, a Failure its own status (1), an interrupt 130, a request to terminate 143 (both let the
+    command clean up), a closed pipe 141 without a word. Each but the last three has one line on standard error.
+    """
+    if signal.getsignal(signal.SIGTERM) is signal.SIG_DFL:
+        signal.signal(signal.SIGTERM, _terminate)
+    sys.exit(_status_of(command, name))
+
+
+def _status_of(command: click.Command, name: str) -> int:
+    try:
+        # Not by `main`, which answers a closed pipe and an interrupt in ways of its own.
+        with command.make_context(name, sys.argv[1:]) as context:
+            result = command.invoke(context)
+        sys.stdout.flush()
+    except click.exceptions.Exit as end:
+        return end.exit_code
+    except click.UsageError as error:
+        return _said(name, f"{_one_line(error.format_message()).rstrip('.')}. See: {name} --help", WRONG_WORDS)
+    except click.ClickException as error:
+        return _said(name, _one_line(error.format_message()), error.exit_code)
+    except Failure as error:
+        return _said(name, _one_line(str(error)), error.status)
+    except CatchupError as error:
+        return _said(name, _one_line(str(error)), 1)
+    except (KeyboardInterrupt, click.Abort):
+        return INTERRUPTED
+    except BrokenPipeError:
+        _leave_output()
+        return CLOSED_PIPE
+    except OSError as error:
+        _leave_output()
+        return _said(name, _one_line(str(error)), 1)
+    except MemoryError:
+        return _said(name, "out of memory: free some, or give it a smaller input", 1)
+    return result if isinstance(result, int) else 0
+
+
+def _terminate(number: int, frame: FrameType | None) -> None:
+    raise SystemExit(TERMINATED)
+
+
+def _said(name: str, text: str, status: int) -> int:
+    print(f"{name}: {text}", file=sys.stderr)
+    return status
+
+
+def _one_line(text: str) -> str:
+    return " ".join(text.split())
+
+
+def _leave_output() -> None:
+    """What is still kept for an output that failed must not fail again when Python ends."""
+    nowhere = os.open(os.devnull, os.O_WRONLY)
+    os.dup2(nowhere, sys.stdout.fileno())
+    os.close(nowhere)

@@ -1,0 +1,125 @@
+"""catchup-import: a map of OpenStreetMap made into a network."""
+from __future__ import annotations
+
+import resource
+import shlex
+import sys
+import time
+from collections.abc import Iterator
+from contextlib import contextmanager
+from pathlib import Path
+from typing import Any, NoReturn
+
+import click
+
+from catchup.commands._run import run
+
+VEHICLES = ("car", "truck", "bicycle", "foot")
+WEEKDAYS = ("mo", "tu", "we", "th", "fr", "sa", "su")
+
+
+class Steps:
+    """What is done, on a terminal: the step with a turning sign, and how long it took."""
+
+    def __init__(self) -> None:
+        self._status: Any = None
+
+    def say(self, text: str) -> None:
+        """The next step begins."""
+        if self._status is not None:
+            self._status.update(text)
+
+    @contextmanager
+    def shown(self) -> Iterator["Steps"]:
+        """Shows steps on standard error, where that is a terminal."""
+        if not sys.stderr.isatty():
+            yield self
+            return
+        from rich.console import Console
+        with Console(stderr=True).status("beginning") as self._status:
+            yield self
+        self._status = None
+
+
+class Box(click.ParamType):
+    """WEST,SOUTH,EAST,NORTH in degrees."""
+    name = "box"
+
+    def convert(self, value: Any, param: click.Parameter | None, ctx: click.Context | None) -> Any:
+        if isinstance(value, tuple):
+            return value
+        try:
+            west, south, east, north = (float(part) for part in str(value).split(","))
+        except ValueError:
+            self.fail(f"{value!r} isn't four numbers WEST,SOUTH,EAST,NORTH", param, ctx)
+        if not (-180 <= west < east <= 180 and -90 <= south < north <= 90):
+            self.fail(f"{value!r} isn't WEST,SOUTH,EAST,NORTH in degrees, west before east and south before north", param, ctx)
+        return west, south, east, north
+
+
+@click.group(context_settings={"help_option_names": ["-h", "--help"]})
+def command() -> None:
+    """Makes networks of what others have.
+
+    Example: catchup-import osm MAP.osm.pbf town --build
+    """
+
+
+@command.command("osm")
+@click.argument("map_file", metavar="MAP", type=click.Path(path_type=Path))
+@click.argument("folder", metavar="DIR", type=click.Path(path_type=Path))
+@click.option("--build", is_flag=True, help="Make the packed file map.cu too.")
+@click.option("--vehicle", type=click.Choice(VEHICLES), default="car", show_default=True, help="Whose roads.")
+@click.option("--weekday", type=click.Choice(WEEKDAYS), default="mo", show_default=True, help="Whose hours.")
+@click.option("--speeds", metavar="FILE", type=click.Path(path_type=Path), help="Speeds of one's own, as TOML.")
+@click.option("--rush", is_flag=True, help="Slow roads down at rush hours, by figures that nobody measured.")
+@click.option("--spare", metavar="N", type=click.IntRange(0, 100_000), default=16, show_default=True,
+              help="Profiles of no road, to close or slow single roads by.")
+@click.option("--signals", metavar="S", type=click.FloatRange(0, 600), default=0.0, help="Seconds at each traffic signal.")
+@click.option("--crossings", metavar="S", type=click.FloatRange(0, 600), default=0.0,
+              help="Seconds at each crossing without a signal, and at each level crossing.")
+@click.option("--left", metavar="S", type=click.IntRange(0, 600), default=0, help="Seconds for each turn to the left.")
+@click.option("--right", metavar="S", type=click.IntRange(0, 600), default=0, help="Seconds for each turn to the right.")
+@click.option("--without", metavar="CLASS,..", default="", help="Leave out these classes of roads, as service,track.")
+@click.option("--bbox", metavar="W,S,E,N", type=Box(), help="Take this part alone, in degrees.")
+@click.option("--no-private", is_flag=True, help="Bar private roads, and don't take them as roads for destinations.")
+@click.option("--through", is_flag=True, help="Let everybody through on roads for destinations alone.")
+@click.option("--turn-back", is_flag=True, help="Let drives turn round behind a turn that is forbidden.")
+@click.option("--islands", is_flag=True, help="Keep the parts that aren't joined with the largest.")
+@click.option("--force", is_flag=True, help="Replace what an import has made in DIR.")
+def osm(map_file: Path, folder: Path, build: bool, force: bool, without: str, no_private: bool, **words: Any) -> None:
+    """Makes tables, order and map.gpkg in DIR of a MAP of OpenStreetMap: .osm.pbf, .osm.bz2 or .osm."""
+    from catchup.maps.importing import Options, import_osm
+    from catchup.maps.writing import check_folder, making, write_all
+    from catchup.program import find_program
+    begin = time.monotonic()
+    check_folder(folder, force)
+    if build:
+        find_program()
+    classes = frozenset(word.strip() for word in without.split(",") if word.strip())
+    options = Options(without=classes, private=not no_private, **words)
+    with Steps().shown() as steps:
+        made = import_osm(map_file, options, steps.say)
+        with making(folder, force) as beside:
+            said = write_all(made, beside, build, steps.say)
+    _tell(made.lines, said, time.monotonic() - begin, folder, build)
+
+
+def _tell(lines: list[str], said: list[str], seconds: float, folder: Path, build: bool) -> None:
+    """Prints the report, what it took, and the command that comes next."""
+    for line in lines:
+        click.echo(line)
+    for line in said:
+        click.echo(f"catchup-import: {line}", err=True)
+    peak = max(resource.getrusage(who).ru_maxrss for who in (resource.RUSAGE_SELF, resource.RUSAGE_CHILDREN)) / 1024
+    click.echo(f"{'made':<10}{folder} in {seconds:.1f} s and {peak:,.0f} MB")
+    place = shlex.quote(str(folder))
+    if build:
+        click.echo(f"{'next':<10}catchup-http {place}/map.cu --tables {place}")
+    else:
+        click.echo(f"{'next':<10}catchup build {place}/{{nodes,roads,profiles,order}}.csv {place}/map.cu")
+
+
+def main() -> NoReturn:
+    """The program catchup-import."""
+    run(command, "catchup-import")

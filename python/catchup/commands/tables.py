@@ -1,0 +1,100 @@
+"""catchup-tables: makes the three tables of places and streets of one's own."""
+
+from __future__ import annotations
+
+import contextlib
+import csv
+import io
+from pathlib import Path
+from typing import NoReturn
+
+import click
+
+from catchup.commands._run import run
+from catchup.errors import Failure
+from catchup.own_data import OwnNetwork, make_network
+from catchup.tables import (
+    MOST_NODES,
+    MOST_PROFILES,
+    MOST_ROADS,
+    NODES_FILE,
+    PROFILES_FILE,
+    ROADS_FILE,
+    nodes_text,
+    profiles_text,
+    roads_text,
+    writing,
+)
+
+IDS_FILE = "ids.csv"
+# Up to so many nodes the order that needs no tool is good enough.
+SMALL = 5_000
+
+
+@click.command(epilog="Example: catchup-tables --share places.csv streets.csv")
+@click.argument("places", type=click.Path(path_type=Path))
+@click.argument("streets", type=click.Path(path_type=Path))
+@click.option("--out", type=click.Path(path_type=Path), default=Path("."), help="The folder to write into; here by default.")
+@click.option("--share", is_flag=True, help="Streets that take the same share a profile: an edit changes them all.")
+@click.option("--degrees", is_flag=True, help="Shrink x by the latitude, so that drawings look as a map does.")
+def command(places: Path, streets: Path, out: Path, share: bool, degrees: bool) -> None:
+    """Makes nodes.csv, roads.csv and profiles.csv for 'catchup build', and ids.csv, which tells each node's id.
+
+    PLACES is a CSV of id,longitude,latitude; an id is any text. STREETS is one of from,to and the seconds that the street
+    takes in each of the 24 hours (columns 0 to 23), or all day (one column seconds); a street is one way. With a header
+    there may be two more columns: closed (yes, or times as 22:00-06:00, at whose end the street opens for who waits) and
+    ferry (departures as 06:00 07:30). Without a header the columns are in this order.
+
+    Who leaves later never arrives earlier: who would be overtaken arrives with the first who wouldn't.
+    """
+    made = make_network(places, streets, share=share, in_metres=degrees)
+    _check_limits(made)
+    write(made, out)
+    network = made.network
+    click.echo(f"made {len(network.nodes)} nodes, {len(network.roads)} roads, {len(network.profiles)} profiles")
+    click.echo(f"next: {_next_command(out, len(network.nodes))}")
+
+
+def main() -> NoReturn:
+    """The command as a program."""
+    run(command, "catchup-tables")
+
+
+def write(made: OwnNetwork, folder: Path) -> None:
+    """Writes the four files; where one can't be written, none is changed."""
+    ids = io.StringIO(newline="")
+    writer = csv.writer(ids, lineterminator="\n")
+    writer.writerow(["node", "id"])
+    writer.writerows(enumerate(made.ids))
+    texts = {
+        NODES_FILE: nodes_text(made.network.nodes),
+        ROADS_FILE: roads_text(made.network.roads),
+        PROFILES_FILE: profiles_text(made.network.profiles),
+        IDS_FILE: ids.getvalue().encode(),
+    }
+    try:
+        folder.mkdir(parents=True, exist_ok=True)
+    except OSError as error:
+        raise Failure(f"{folder} can't be made: {error.strerror or error}") from None
+    with contextlib.ExitStack() as files:
+        for name, text in texts.items():
+            files.enter_context(writing(folder / name)).write(text)
+
+
+def _check_limits(made: OwnNetwork) -> None:
+    network = made.network
+    for what, count, most in (
+        ("places", len(network.nodes), MOST_NODES),
+        ("streets", len(network.roads), MOST_ROADS),
+        ("profiles", len(network.profiles), MOST_PROFILES),
+    ):
+        if count > most:
+            click.echo(f"catchup-tables: {count} {what} are more than catchup takes ({most}): see docs/USING.md", err=True)
+
+
+def _next_command(folder: Path, nodes: int) -> str:
+    at = "" if folder == Path(".") else f"{folder}/"
+    tables = f"{at}{NODES_FILE} {at}{ROADS_FILE}"
+    if nodes <= SMALL:
+        return f"catchup build {tables} {at}{PROFILES_FILE} dissect {at}map.cu"
+    return f"catchup-order {tables} > {at}order.csv && catchup build {tables} {at}{PROFILES_FILE} {at}order.csv {at}map.cu"

@@ -1,0 +1,1 @@
+"""Maps of OpenStreetMap made into the tables of a network."""

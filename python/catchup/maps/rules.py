@@ -1,0 +1,271 @@
+"""What the tags of a way say of it: in which directions one may go, how fast, when, and whether to its end alone."""
+from __future__ import annotations
+
+from dataclasses import dataclass, replace
+
+from catchup.maps.access import Access, Tags, lets_in, read_access
+from catchup.maps.hours import conditions, open_spans, starts, turning_points, value_at
+from catchup.maps.timing import NEVER, Timing, combined, open_in, timing
+from catchup.maps.values import DAY, IMPLICIT, duration, kmh
+from catchup.maps.vehicles import Vehicle
+
+LONGEST = 5 * DAY
+"""No ferry takes longer, in seconds."""
+
+_YES, _BACK = ("yes", "true", "1"), ("-1", "reverse")
+_NO = ("no", "false", "0")
+_ZONES = ("zone:maxspeed", "maxspeed:type", "source:maxspeed", "zone:traffic")
+_OTHER = ("highway", "route", "junction", "area", "abandoned", "disused", "impassable", "duration", "interval",
+          "opening_hours", "foot", "bicycle", "motorroad", "cycleway", "surface", "tracktype", "smoothness",
+          "oneway:conditional", "maxspeed:conditional", "maxspeed:forward", "maxspeed:backward", *_ZONES)
+
+
+@dataclass(frozen=True)
+class Side:
+    """One direction of a way: its speed in km/h where nothing else is said, and what of it changes over the day."""
+    kmh: float
+    timing: Timing | None = None
+
+
+@dataclass(frozen=True)
+class Rule:
+    """What the tags of a way say. Where `out` is said, the way isn't taken, and that is why."""
+    kind: str = ""
+    out: str | None = None
+    forth: Side | None = None
+    back: Side | None = None
+    ends: bool = False
+    """For destinations alone."""
+    too: "Rule | None" = None
+    """Where the way is open to all at some hours and for destinations alone at others: the way once more, as one that is
+    for destinations alone at all the hours at which anybody may enter it."""
+    ferry: bool = False
+    seconds: int | None = None
+    """How long the ferry takes, where that is said."""
+    notes: tuple[str, ...] = ()
+    """What the report counts for each of its ways."""
+
+
+def relevant_tags(vehicle: Vehicle) -> frozenset[str]:
+    """The tags that a rule is made of."""
+    keys = vehicle.keys + tuple(key + ":conditional" for key in vehicle.keys)
+    return frozenset(keys + vehicle.oneway + vehicle.maxspeed + _OTHER)
+
+
+def read_rule(tags: Tags, vehicle: Vehicle, weekday: int, without: frozenset[str] = frozenset()) -> Rule | None:
+    """The rule of a way; None where it is no way that anybody goes."""
+    ferry = tags.get("route") == "ferry"
+    kind = "ferry" if ferry else tags.get("highway")
+    if kind is None:
+        return None
+    access = read_access(tags, vehicle, weekday)
+    base = vehicle.speeds.ferry if ferry else vehicle.speeds.classes.get(kind)
+    notes: list[str] = []
+    if base is None and _opened(tags, kind, vehicle, access):
+        base = vehicle.speeds.let_in[kind]
+        notes.append(f"opened: {kind}")
+    out = _left_out(tags, kind, vehicle, access, base, without)
+    if out is not None or base is None:
+        return Rule(kind=kind, out=out or f"class: {kind}")
+    rule, too = _by_access(Rule(kind=kind, ferry=ferry, notes=tuple(notes)), access)
+    done = _directed(rule, tags, vehicle, weekday, base)
+    return done if too is None else replace(done, too=_directed(too, tags, vehicle, weekday, base))
+
+
+def _opened(tags: Tags, kind: str, vehicle: Vehicle, access: Access) -> bool:
+    """Whether a tag lets the vehicle in on a class that isn't for it."""
+    if kind not in vehicle.speeds.let_in or access.always == "barred":
+        return False
+    by_access = kind in vehicle.speeds.let_in_by_access and access.always in ("open", "ends")
+    return lets_in(tags, vehicle) or by_access and "private" not in tags.get("access", "")
+
+
+def _left_out(tags: Tags, kind: str, vehicle: Vehicle, access: Access, base: float | None, without: frozenset[str]) -> str | None:
+    """Why a way isn't taken; None where it is."""
+    if base is None:
+        return None
+    if kind in without:
+        return f"asked to be left out: {kind}"
+    if tags.get("area") == "yes":
+        return "areas"
+    if access.said == {"barred"}:
+        return f"barred: {access.key}={tags[access.key]}" if access.key else "barred: at all hours"
+    if vehicle.name in ("bicycle", "foot") and tags.get("motorroad") == "yes" and access.always is None:
+        return "barred: motorroad=yes"
+    if kind == "ferry" and access.always is None and not vehicle.walks and ("foot" in tags or "bicycle" in tags):
+        return "ferries that name walkers or bicycles and no others"
+    if any(tags.get(key) == "yes" for key in ("abandoned", "disused", "impassable")):
+        return "abandoned, disused or impassable"
+    if any(of.get(tags.get(key, "")) == 0 for key, of in vehicle.speeds.rough.items()):
+        return "abandoned, disused or impassable"
+    if _oneway(tags, vehicle) == "reversible" and "oneway:conditional" not in tags:
+        return "reversible"
+    return None
+
+
+def _by_access(rule: Rule, access: Access) -> tuple[Rule, Rule | None]:
+    """The rule with what access says over the day; and that of the way once more, where both are needed."""
+    notes = rule.notes + ("conditions not used: access",) * bool(access.unknown)
+    if len(access.steps) == 1:
+        ends = access.always == "ends"
+        return replace(rule, ends=ends, notes=notes + ("for destinations alone",) * ends), None
+    notes += ("open at some hours alone",)
+    entered = timing([(second, None if said == "barred" else 1.0) for second, said in access.steps])
+    if not access.said & {"open", None}:
+        return _timed(replace(rule, ends=True, notes=notes + ("for destinations alone",)), entered), None
+    through = timing([(second, 1.0 if said in ("open", None) else None) for second, said in access.steps])
+    too = _timed(replace(rule, ends=True), entered) if "ends" in access.said else None
+    return _timed(replace(rule, notes=notes), through), too
+
+
+def _timed(rule: Rule, of: Timing) -> Rule:
+    """A rule with a timing kept in both its sides; speeds come later."""
+    side = Side(0.0, None if of.plain else of)
+    return replace(rule, forth=side, back=side)
+
+
+def _oneway(tags: Tags, vehicle: Vehicle) -> str | None:
+    """What the most special tag of direction says; where none does, roundabouts and motorways are one-way."""
+    said = next((tags[key] for key in vehicle.oneway if key in tags), None)
+    if vehicle.name == "bicycle" and said in _YES and tags.get("cycleway", "").startswith("opposite"):
+        return "no"
+    if said is None and vehicle.one_way and (tags.get("junction") in ("roundabout", "circular") or tags.get("highway") == "motorway"):
+        return "yes"
+    return said
+
+
+def _directed(rule: Rule, tags: Tags, vehicle: Vehicle, weekday: int, base: float) -> Rule:
+    """The rule with its directions, their speeds and timings."""
+    notes = list(rule.notes)
+    oneway = _oneway(tags, vehicle)
+    if oneway == "alternating":
+        notes.append("alternating, taken as open both ways without a wait")
+    elif oneway not in (None, "reversible") + _YES + _NO + _BACK:
+        notes.append(f"oneway not understood, taken as both ways: {oneway}")
+    limits = _limits(tags, vehicle, notes)
+    sides: list[Side | None] = []
+    for forth in (True, False):
+        held = rule.forth.timing if rule.forth is not None else None
+        if "oneway:conditional" not in tags and oneway in (_BACK if forth else _YES):
+            sides.append(None)
+            continue
+        speed = _speed(limits["forward" if forth else "backward"], tags, vehicle, base, notes)
+        held = combined(held, _limits_by_hour(tags, vehicle, weekday, base, speed, notes))
+        held = combined(held, _oneway_by_hour(tags, vehicle, weekday, forth, notes))
+        sides.append(None if held == NEVER else Side(speed, held))
+    if rule.ferry:
+        return _sailing(replace(rule, notes=tuple(notes)), sides, tags, weekday)
+    hours = _open_hours(tags, weekday, notes)
+    forth_side, back_side = (_within(side, hours) for side in sides)
+    return replace(rule, forth=forth_side, back=back_side, notes=tuple(dict.fromkeys(notes)))
+
+
+def _within(side: Side | None, of: Timing | None) -> Side | None:
+    """A direction at these hours alone; none where that leaves nothing of the day, so that it joins nothing either."""
+    if side is None:
+        return None
+    held = combined(side.timing, of)
+    return None if held == NEVER else Side(side.kmh, held)
+
+
+def _limits(tags: Tags, vehicle: Vehicle, notes: list[str]) -> dict[str, float | None]:
+    """The limit of each direction in km/h, where one is known."""
+    def said(key: str) -> float | None:
+        value = kmh(tags[key], vehicle.speeds.zones) if key in tags else None
+        if key in tags and value is None and tags[key] not in IMPLICIT:
+            notes.append(f"maxspeed not understood: {tags[key]}")
+        return value
+
+    if not vehicle.maxspeed:
+        return {"forward": None, "backward": None}
+    own = next((value for value in map(said, vehicle.maxspeed) if value), None)
+    zone = None
+    if own is None and tags.get("highway") in vehicle.speeds.classes:
+        zone = next((value for value in (kmh(tags[key], vehicle.speeds.zones) for key in _ZONES if key in tags) if value), None)
+    if zone:
+        notes.append("limits by zone or type of maxspeed")
+    return {side: said("maxspeed:" + side) or own or zone for side in ("forward", "backward")}
+
+
+def _speed(limit: float | None, tags: Tags, vehicle: Vehicle, base: float, notes: list[str]) -> float:
+    """The speed of a direction whose limit is known or not."""
+    speeds = vehicle.speeds
+    speed = base if limit is None else speeds.share * limit if speeds.limits == "speed" else min(base, limit)
+    cap = min((of[tags[key]] for key, of in speeds.rough.items() if tags.get(key) in of), default=speeds.most)
+    if speed > cap:
+        notes.append("slowed by surface, tracktype or smoothness")
+    return min(speed, cap, speeds.most)
+
+
+def _limits_by_hour(tags: Tags, vehicle: Vehicle, weekday: int, base: float, speed: float, notes: list[str]) -> Timing | None:
+    """How limits that hold at some hours change the seconds of a direction."""
+    text = tags.get("maxspeed:conditional")
+    if text is None or not vehicle.maxspeed:
+        return None
+    known, unknown = conditions(text, weekday)
+    if unknown:
+        notes.append("conditions not used: maxspeed")
+    steps: list[tuple[int, float | None]] = []
+    for second in turning_points(known):
+        value = value_at(known, second)
+        limit = None if value is None else kmh(value, vehicle.speeds.zones)
+        steps.append((second, 1.0 if limit is None else speed / _speed(limit, tags, vehicle, base, [])))
+    of = timing(steps)
+    if not of.plain:
+        notes.append("limits at some hours")
+    return None if of.plain else of
+
+
+def _oneway_by_hour(tags: Tags, vehicle: Vehicle, weekday: int, forth: bool, notes: list[str]) -> Timing | None:
+    """When a direction is closed because the way is one-way then."""
+    text = tags.get("oneway:conditional")
+    if text is None or vehicle.name == "foot":
+        return None
+    known, unknown = conditions(text, weekday)
+    if unknown:
+        notes.append("conditions not used: oneway")
+    plain = _oneway(tags, vehicle)
+    steps: list[tuple[int, float | None]] = []
+    for second in turning_points(known):
+        value = value_at(known, second) or plain
+        steps.append((second, None if value in (_BACK if forth else _YES) + ("reversible",) else 1.0))
+    of = timing(steps)
+    return None if of.plain else of
+
+
+def _open_hours(tags: Tags, weekday: int, notes: list[str]) -> Timing | None:
+    """When a way has opening hours."""
+    text = tags.get("opening_hours")
+    if text is None:
+        return None
+    spans = open_spans(text, weekday)
+    if spans is None:
+        notes.append("opening hours not understood, taken as all day")
+        return None
+    of = open_in(spans)
+    if not of.plain:
+        notes.append("open at some hours alone")
+    return None if of.plain else of
+
+
+def _sailing(rule: Rule, sides: list[Side | None], tags: Tags, weekday: int) -> Rule:
+    """The rule of a ferry: its duration and its departures."""
+    notes = list(rule.notes)
+    takes, every = (duration(tags[key]) if key in tags else None for key in ("duration", "interval"))
+    if "duration" in tags and (takes is None or takes > LONGEST):
+        notes.append(f"durations not understood: {tags['duration']}")
+        takes = None
+    if "interval" in tags and every is None:
+        notes.append(f"intervals not understood, taken as none: {tags['interval']}")
+    goes: Timing | None
+    if every:
+        departures = starts(tags.get("opening_hours", "24/7"), every, weekday)
+        if departures is None:
+            notes.append("opening hours not understood, taken as all day")
+            departures = tuple(range(0, DAY, every))
+        goes = Timing(departures=departures) if departures else timing([(0, None)])
+        notes.append("ferries with departures")
+    else:
+        goes = _open_hours(tags, weekday, notes)
+    forth, back = (None if side is None else Side(side.kmh, combined(side.timing, goes)) for side in sides)
+    return replace(rule, forth=forth, back=back, seconds=takes, notes=tuple(dict.fromkeys(notes)))

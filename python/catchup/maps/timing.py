@@ -1,0 +1,133 @@
+"""What of a road changes over the day, and the pieces of the profile that says so.
+
+Whoever comes to a road may wait there. So a road that is closed for some hours is a wait for its opening, and where a road
+is slow and then fast again, nobody who enters it while it is slow arrives later than who waits until it is fast.
+"""
+from __future__ import annotations
+
+from dataclasses import dataclass
+from math import floor
+from typing import Sequence
+
+from catchup.maps.hours import Spans, merged
+from catchup.maps.values import DAY
+from catchup.replies import Piece
+
+CLOSED = (Piece(0, "closed", 0),)
+ALWAYS: Spans = ((0, DAY),)
+
+
+@dataclass(frozen=True)
+class Timing:
+    """How a road is over the day: from each second on a factor of its seconds, or None while it is closed; and where it is
+    a ferry's, its departures. The first step is at second 0."""
+    steps: tuple[tuple[int, float | None], ...] = ((0, 1.0),)
+    departures: tuple[int, ...] = ()
+
+    def at(self, second: int) -> float | None:
+        """The factor at a second of the day; None while it is closed."""
+        return [factor for start, factor in self.steps if start <= second][-1]
+
+    @property
+    def plain(self) -> bool:
+        """Whether the road is the same all day."""
+        return not self.departures and self.steps == ((0, 1.0),)
+
+
+NEVER = Timing(((0, None),))
+"""Closed all day."""
+
+
+def _simple(steps: Sequence[tuple[int, float | None]]) -> tuple[tuple[int, float | None], ...]:
+    """The same without steps that change nothing."""
+    kept: list[tuple[int, float | None]] = []
+    for start, factor in steps:
+        if not kept or kept[-1][1] != factor:
+            kept.append((start, factor))
+    return tuple(kept)
+
+
+def timing(steps: Sequence[tuple[int, float | None]], departures: tuple[int, ...] = ()) -> Timing:
+    """A timing of steps that may repeat one another."""
+    return Timing(_simple(steps), departures)
+
+
+def closed_in(spans: Spans) -> Timing:
+    """Closed in these parts of the day, and else open."""
+    steps: list[tuple[int, float | None]] = [(0, 1.0)]
+    for begin, end in merged(spans):
+        steps = [step for step in steps if step[0] != begin] + [(begin, None)]
+        if end < DAY:
+            steps.append((end, 1.0))
+    return timing(steps)
+
+
+def open_in(spans: Spans) -> Timing:
+    """Open in these parts of the day, and else closed."""
+    steps: list[tuple[int, float | None]] = [(0, None)]
+    for begin, end in merged(spans):
+        steps = [step for step in steps if step[0] != begin] + [(begin, 1.0)]
+        if end < DAY:
+            steps.append((end, None))
+    return timing(steps)
+
+
+def closed_spans(of: Timing) -> Spans:
+    """The parts of the day in which a timing is closed."""
+    ends = [start for start, _ in of.steps[1:]] + [DAY]
+    return tuple((start, end) for (start, factor), end in zip(of.steps, ends) if factor is None)
+
+
+def combined(one: Timing | None, other: Timing | None) -> Timing | None:
+    """Both together: closed where either is, and slowed by both."""
+    if one is None or other is None:
+        return one or other
+    steps: list[tuple[int, float | None]] = []
+    for second in sorted({start for start, _ in one.steps + other.steps}):
+        a, b = one.at(second), other.at(second)
+        steps.append((second, None if a is None or b is None else a * b))
+    departures = tuple(sorted(set(one.departures) | set(other.departures)))
+    return timing(steps, departures)
+
+
+def rounded(value: float) -> int:
+    """The nearest whole number, a half upwards."""
+    return floor(value + 0.5)
+
+
+def pieces(of: Timing | None, seconds: int) -> tuple[Piece, ...]:
+    """The pieces of a road that takes so many seconds by itself, its waits with them."""
+    if of is None or of.plain:
+        return (Piece(0, "travel", seconds),)
+    if of.departures:
+        return _departures(of, seconds)
+    travels = [None if factor is None else rounded(factor * seconds) for _, factor in of.steps]
+    starts = [start for start, _ in of.steps]
+    if all(travel is None for travel in travels):
+        return CLOSED
+    done: list[Piece] = []
+    for i, (start, travel) in enumerate(zip(starts, travels)):
+        end = starts[i + 1] if i + 1 < len(starts) else DAY
+        later = min(starts[j] + (DAY if j <= i else 0) + other for j, other in enumerate(travels) if other is not None)
+        # The first second at which waiting for a later step is better than going.
+        turn = start if travel is None else max(start, later - travel + 1)
+        if travel is not None and turn > start:
+            done.append(Piece(start, "travel", travel))
+        if turn < end:
+            done.append(Piece(turn, "until", later))
+    return tuple(piece for i, piece in enumerate(done) if i == 0 or (done[i - 1].kind, done[i - 1].value) != (piece.kind, piece.value))
+
+
+def _departures(of: Timing, seconds: int) -> tuple[Piece, ...]:
+    """The pieces of who waits for the next departure of the day, or for the first one of the next."""
+    goes = [second for second in of.departures if of.at(second) is not None]
+    if not goes:
+        return CLOSED
+    done: list[Piece] = []
+    begin = 0
+    for second in goes:
+        done.append(Piece(begin, "until", second + seconds))
+        begin = second + 1
+    if begin < DAY:
+        done.append(Piece(begin, "until", goes[0] + DAY + seconds))
+    return tuple(done)

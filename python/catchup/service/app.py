@@ -1,0 +1,147 @@
+"""The application: the gates before it, the quick way of plain routes, and the routers of all paths."""
+
+from __future__ import annotations
+
+from collections.abc import Awaitable, Callable, MutableMapping
+from typing import Any, Final
+
+from fastapi import FastAPI, Request
+from starlette.exceptions import HTTPException
+from starlette.responses import Response
+from starlette.routing import Match
+
+from catchup import __version__
+from catchup.service import edits, openapi, reads, state
+from catchup.service.answers import refusal_answer
+from catchup.service.errors import Refusal
+from catchup.service.gates import PREFLIGHT, READS
+from catchup.service.limits import LONGEST_JSON
+from catchup.service.reads import PLAIN_ROUTE, plain_route
+from catchup.service.versions import tell
+from catchup.service.worker import Worker, said_of
+
+Scope = MutableMapping[str, Any]
+Receive = Callable[[], Awaitable[MutableMapping[str, Any]]]
+Send = Callable[[MutableMapping[str, Any]], Awaitable[None]]
+
+# Each has the paths of one field; further ones are added here.
+ROUTERS: Final = (reads.router, edits.router, state.router)
+JSON_HEADER: Final = (b"content-type", b"application/json")
+VERSION_HEADER: Final = b"catchup-version"
+
+
+def make_app(worker: Worker) -> FastAPI:
+    """The application over a worker."""
+    app = FastAPI(
+        title="catchup", version=__version__, description=openapi.DESCRIPTION, redoc_url=None,
+        docs_url="/docs" if worker.options.has_docs else None)
+    app.router.redirect_slashes = False
+    app.state.worker = worker
+    for router in ROUTERS:
+        app.include_router(router)
+    app.add_exception_handler(Refusal, on_refusal)
+    app.add_exception_handler(HTTPException, on_http_error)
+    return app
+
+
+async def on_refusal(request: Request, refusal: Exception) -> Response:
+    assert isinstance(refusal, Refusal)
+    return refusal_answer(refusal, request.app.state.worker.version())
+
+
+async def on_http_error(request: Request, problem: Exception) -> Response:
+    """What FastAPI itself refuses: paths and methods."""
+    assert isinstance(problem, HTTPException)
+    if problem.status_code == 404:
+        refusal = Refusal(404, "there is nothing of this path", hint="/openapi.json has all paths")
+    elif problem.status_code == 405:
+        refusal = Refusal(405, "this path doesn't know this method", headers={"Allow": ", ".join(methods_of(request))})
+    else:
+        refusal = Refusal(problem.status_code, str(problem.detail))
+    return refusal_answer(refusal, request.app.state.worker.version())
+
+
+def methods_of(request: Request) -> list[str]:
+    """The methods that a path has."""
+    found: set[str] = set()
+    for route in request.app.router.routes:
+        if route.matches(request.scope)[0] is not Match.NONE:
+            found |= set(route.methods or ())
+    return sorted(found | ({"HEAD"} if "GET" in found else set()))
+
+
+class Front:
+    """What each request meets first."""
+
+    def __init__(self, worker: Worker, app: FastAPI) -> None:
+        self.worker = worker
+        self.app = app
+
+    async def __call__(self, scope: Scope, receive: Receive, send: Send) -> None:
+        try:
+            await self.answer(scope, receive, send)
+        except Refusal as refusal:
+            await self.refuse(refusal, scope, receive, send)
+        except OSError as problem:
+            # Of a client that is gone, mostly.
+            await self.refuse(Refusal(503, problem.strerror or "an error of the system"), scope, receive, send)
+        except Exception as problem:
+            tell(f"an error that should not be: {said_of(problem)}")
+            await self.refuse(Refusal(500, "an error of the service"), scope, receive, send)
+
+    async def answer(self, scope: Scope, receive: Receive, send: Send) -> None:
+        worker, read, method = self.worker, scope["catchup.read"], scope["method"]
+        worker.gates.check_host(read)
+        if scope["path"] == "/route" and method == "GET":
+            found = PLAIN_ROUTE.fullmatch(scope["query_string"])
+            if found is not None:
+                body, version = await plain_route(worker.networks[0], found)
+                headers = [JSON_HEADER, (VERSION_HEADER, version.name_bytes)]
+                if worker.gates.origins:
+                    headers += encoded(worker.gates.shared(read))
+                await send({"type": "http.response.start", "status": 200, "headers": headers})
+                await send({"type": "http.response.body", "body": body})
+                return
+        if method == "OPTIONS" and b"origin" in read and (shared := worker.gates.shared(read)).get("Access-Control-Allow-Origin"):
+            await Response(status_code=204, headers={**shared, **PREFLIGHT})(scope, receive, send)
+            return
+        self.check(scope, read, method)
+        # Each path that has GET has HEAD: the body is left out as it is sent.
+        passed = {**scope, "method": "GET"} if method == "HEAD" else scope
+        await self.app(passed, receive, with_headers(send, worker, worker.gates.shared(read)))
+
+    def check(self, scope: Scope, read: dict[bytes, bytes], method: str) -> None:
+        """Refuses writes of those who may not, and bodies that nobody wants."""
+        if method not in READS:
+            self.worker.gates.check_write(read)
+        if scope["path"] != "/edits" and int(read.get(b"content-length", b"0")) > LONGEST_JSON:
+            raise Refusal(413, f"a body has at most {LONGEST_JSON} bytes here")
+
+    async def refuse(self, refusal: Refusal, scope: Scope, receive: Receive, send: Send) -> None:
+        """Answers a refusal, where no answer has begun."""
+        response = refusal_answer(refusal, self.worker.version())
+        for name, value in self.worker.gates.shared(scope["catchup.read"]).items():
+            response.headers[name] = value
+        try:
+            await response(scope, receive, send)
+        except RuntimeError as problem:
+            tell(f"an answer was broken off: {problem}")
+
+
+def encoded(headers: dict[str, str]) -> list[tuple[bytes, bytes]]:
+    return [(name.lower().encode(), value.encode("latin-1")) for name, value in headers.items()]
+
+
+def with_headers(send: Send, worker: Worker, shared: dict[str, str]) -> Send:
+    """A `send` that adds the version to an answer that doesn't say one, and what lets other pages read it."""
+    more = encoded(shared)
+
+    async def send_with_headers(message: MutableMapping[str, Any]) -> None:
+        if message["type"] == "http.response.start":
+            headers = [*message.get("headers", ()), *more]
+            if not any(name == VERSION_HEADER for name, _ in headers):
+                headers.append((VERSION_HEADER, worker.version().encode()))
+            message["headers"] = headers
+        await send(message)
+
+    return send_with_headers

@@ -1,0 +1,332 @@
+"""How an edit is made: `catchup edit` makes the next file, which takes the place of the one before by renaming.
+
+One at a time holds the lock of the folder, whichever process and service it is of. All lines are made, or none. What an
+answer confirms is on the disk: first the journal's line, then the file in its place.
+"""
+
+from __future__ import annotations
+
+import asyncio
+import contextlib
+import os
+import signal
+import sqlite3
+from collections.abc import AsyncIterator
+from dataclasses import dataclass, field
+from pathlib import Path
+from typing import Final
+
+from catchup.service import journal, packed
+from catchup.service.errors import Refusal
+from catchup.service.jobs import DONE, ENDED, REFUSED, Job, Jobs
+from catchup.service.limits import TOLD_REFUSALS
+from catchup.service.process import child_start, child_words, said_of, try_lock
+from catchup.service.roadedits import Edit, Profiles, lines_of
+from catchup.service.spool import Spool, next_of, recover, sweep
+from catchup.service.versions import Network, identity_of, tell
+
+LOCK_PAUSE: Final = 0.01                # between two tries to take the folder's lock
+CANCEL_PAUSE: Final = 0.2               # between two looks whether another worker was asked to end a job
+PIECE: Final = 65_536
+REFUSED_WORD: Final = b"refused: "
+WORDS: Final = {9: "no memory", 13: "the edited file would have more than 2^32 bytes"}
+
+
+@dataclass(eq=False)
+class Work:
+    """A job in work: its edits, and whether it is to be ended, and why."""
+
+    job: Job
+    spool: Spool
+    edits: list[Edit] | None = None     # of a body of JSON
+    entry: str | None = None            # of the stream between replicas
+    cancelled: asyncio.Event = field(default_factory=asyncio.Event)
+    why: Refusal | None = None
+
+    def cancel(self, why: Refusal) -> None:
+        """Ends it at the next place where it can be ended: `catchup edit` at once."""
+        if self.why is None:
+            self.why = why
+        self.cancelled.set()
+
+    def check(self) -> None:
+        """Stops here where it is to be ended."""
+        if self.why is not None:
+            raise self.why
+
+
+@dataclass(frozen=True, slots=True)
+class Made:
+    """A version that was made: whole digests, and how many lines made it."""
+
+    before: str
+    after: str
+    lines: int
+
+    def told(self) -> dict[str, object]:
+        """What an answer says of it besides its version."""
+        return {"before": self.before[:packed.SHORT], "lines": self.lines}
+
+
+class Refused(Exception):
+    """Some lines were refused, so nothing was made: the first of them, and how many there are."""
+
+    def __init__(self, lines: list[dict[str, object]], count: int) -> None:
+        super().__init__(f"{count} lines were refused")
+        self.told: dict[str, object] = {"refused": lines, "count": count}
+
+
+class Replies:
+    """What `catchup edit` says to its lines, counted without a look at each."""
+
+    def __init__(self) -> None:
+        self.lines = 0
+        self.count = 0
+        self.refused: list[tuple[int, str]] = []
+        self.rest = b""
+        self.last = b""                 # the last whole line
+
+    def feed(self, piece: bytes) -> None:
+        """Takes a piece of its output."""
+        piece = self.rest + piece
+        cut = piece.rfind(b"\n") + 1
+        self.rest, piece = piece[cut:], piece[:cut]
+        at = piece.find(REFUSED_WORD)
+        while at >= 0 and len(self.refused) < TOLD_REFUSALS:
+            word = piece[at + len(REFUSED_WORD):piece.find(b"\n", at)].decode("ascii", "replace")
+            self.refused.append((self.lines + piece.count(b"\n", 0, at) + 1, word))
+            at = piece.find(REFUSED_WORD, at + 1)
+        self.count += piece.count(REFUSED_WORD)
+        self.lines += piece.count(b"\n")
+        if piece:
+            self.last = piece[piece.rfind(b"\n", 0, -1) + 1:-1]
+
+
+class Editor:
+    """Makes the edits of one served file that come to this worker, one after the other."""
+
+    def __init__(self, network: Network, program: str) -> None:
+        self.network = network
+        self.program = program
+        self.jobs = Jobs(network.path)
+        self.turn = asyncio.Lock()
+        self.works: dict[str, Work] = {}
+
+    async def start(self) -> None:
+        """Takes away what killed services left, where nobody is at work in the folder: else whoever is has done it."""
+        folder = os.open(self.network.path.parent, os.O_RDONLY | os.O_DIRECTORY | os.O_CLOEXEC)
+        try:
+            if try_lock(folder):
+                await asyncio.to_thread(recover, self.network.path, self.jobs)
+        except (OSError, sqlite3.Error, packed.NotPacked) as problem:
+            tell(f"{self.network.path.parent} can't be looked through: {problem}")
+        finally:
+            os.close(folder)
+
+    def cancel_all(self, why: Refusal) -> None:
+        """Ends all that is in work here."""
+        for work in list(self.works.values()):
+            work.cancel(why)
+
+    async def work(self, work: Work) -> Made:
+        """Makes an edit. Refused where lines are refused, else a Refusal says why there is no new version."""
+        self.works[work.job.id] = work
+        watcher = asyncio.create_task(self.watch(work))
+        try:
+            async with self.in_turn(work), self.locked(work) as folder:
+                made = await self.make(work, folder)
+            await self.network.load()
+            return made
+        except Refused as refused:
+            await self.note(work.job, REFUSED, refused.told)
+            raise
+        except Refusal as refusal:
+            await self.note(work.job, ENDED, {"error": refusal.error})
+            raise
+        except (OSError, sqlite3.Error, packed.NotPacked) as problem:
+            reason = why(problem)
+            await self.note(work.job, ENDED, {"error": reason})
+            raise Refusal(503, reason, hint="nothing has changed; see to it and try again") from None
+        finally:
+            watcher.cancel()
+            del self.works[work.job.id]
+            await asyncio.to_thread(work.spool.close)
+
+    async def note(self, job: Job, state: str, told: dict[str, object]) -> None:
+        """Notes what became of a job; where that can't be written, the edit is what it is all the same."""
+        try:
+            await asyncio.to_thread(self.jobs.end, job, state, told)
+        except sqlite3.Error as problem:
+            tell(f"{self.jobs.path} can't be written: {problem}")
+
+    async def watch(self, work: Work) -> None:
+        """Looks whether another worker was asked to end a job."""
+        while not work.cancelled.is_set():
+            await asyncio.sleep(CANCEL_PAUSE)
+            with contextlib.suppress(sqlite3.Error):
+                found = await asyncio.to_thread(self.jobs.find, work.job.id)
+                if found is not None and found.is_cancelled:
+                    work.cancel(cancelled())
+
+    @contextlib.asynccontextmanager
+    async def in_turn(self, work: Work) -> AsyncIterator[None]:
+        """Waits until those that came before are made, or until this one is ended."""
+        taking = asyncio.create_task(self.turn.acquire())
+        ending = asyncio.create_task(work.cancelled.wait())
+        try:
+            await asyncio.wait({taking, ending}, return_when=asyncio.FIRST_COMPLETED)
+            if taking.done():
+                yield
+            else:
+                taking.cancel()
+                work.check()
+        finally:
+            ending.cancel()
+            if taking.done() and not taking.cancelled():
+                self.turn.release()
+
+    @contextlib.asynccontextmanager
+    async def locked(self, work: Work) -> AsyncIterator[int]:
+        """Holds the lock of the file's folder."""
+        folder = os.open(self.network.path.parent, os.O_RDONLY | os.O_DIRECTORY | os.O_CLOEXEC)
+        try:
+            while not try_lock(folder):
+                work.check()
+                await asyncio.sleep(LOCK_PAUSE)
+            yield folder
+        finally:
+            os.close(folder)
+
+    async def make(self, work: Work, folder: int) -> Made:
+        """Makes the next file and puts it in place. The folder is locked."""
+        path = self.network.path
+        await self.network.load()
+        if self.network.refused is not None:
+            raise Refusal(503, f"the file that was put in place isn't served: {self.network.refused}",
+                          hint="put a file of this network in its place")
+        await asyncio.to_thread(recover, path, self.jobs)
+        await self.begin(work)
+        source = os.open(path, os.O_RDONLY | os.O_CLOEXEC)
+        following = next_of(path, work.spool.name)
+        try:
+            return await self.make_next(work, folder, source, following)
+        finally:
+            os.close(source)
+            # Where `catchup edit` was killed it leaves something too.
+            with contextlib.suppress(OSError):
+                await asyncio.to_thread(sweep, path)
+
+    async def make_next(self, work: Work, folder: int, source: int, following: Path) -> Made:
+        path, job = self.network.path, work.job
+        before = packed.read_digest(source)
+        lines, of = await self.lines(work, source, following)
+        replies = await self.run_edit(work, source, lines, following)
+        if replies.refused:
+            raise Refused([{"line": of[line - 1] if of else line, "word": word} for line, word in replies.refused], replies.count)
+        after = packed.digest_of(str(following))
+        work.check()
+        await self.begin(work, after)
+        entry = journal.Entry(before, after, journal.now(), work.entry)
+        await asyncio.to_thread(put_in_place, path, following, folder, entry, lines, identity_of(os.fstat(source)))
+        made = Made(before, after, replies.lines - 1)
+        await self.note(job, DONE, {"version": after[:packed.SHORT], **made.told()})
+        return made
+
+    async def begin(self, work: Work, after: str | None = None) -> None:
+        """Notes how far a job is. An entry of a stream is made whoever asked for it, since all replicas make it."""
+        has_begun = await asyncio.to_thread(self.jobs.begin, work.job, after)
+        if not has_begun and work.entry is None:
+            raise cancelled()
+
+    async def lines(self, work: Work, source: int, following: Path) -> tuple[Path, list[int]]:
+        """The file of edit lines, and of JSON which edit each line is of."""
+        if work.edits is None:
+            return work.spool.path, []
+        lines, of = await asyncio.to_thread(lambda: lines_of(work.edits or [], Profiles(source)))
+        path = lines_path(following)
+        path.write_text("".join(line + "\n" for line in lines), "ascii")
+        return path, of
+
+    async def run_edit(self, work: Work, source: int, lines: Path, following: Path) -> Replies:
+        """Runs `catchup edit`; where it doesn't come to its end a Refusal says why."""
+        process = await asyncio.create_subprocess_exec(
+            *child_words(self.program, "edit", f"/dev/fd/{source}", lines, following), stdin=asyncio.subprocess.DEVNULL,
+            stdout=asyncio.subprocess.PIPE, pass_fds=(source,), preexec_fn=child_start(), start_new_session=True)
+        replies = Replies()
+        reading = asyncio.create_task(read_replies(process, replies))
+        ending = asyncio.create_task(work.cancelled.wait())
+        try:
+            await asyncio.wait({reading, ending}, return_when=asyncio.FIRST_COMPLETED)
+            work.check()
+            status = await reading
+        finally:
+            ending.cancel()
+            if process.returncode is None:
+                with contextlib.suppress(ProcessLookupError):
+                    os.killpg(process.pid, signal.SIGKILL)
+                await process.wait()
+            reading.cancel()
+        if status:
+            raise not_made(status, replies, self.network.path)
+        return replies
+
+
+async def read_replies(process: asyncio.subprocess.Process, replies: Replies) -> int:
+    """Reads all that the process says, and answers its status."""
+    assert process.stdout is not None
+    while piece := await process.stdout.read(PIECE):
+        replies.feed(piece)
+    return await process.wait()
+
+
+def put_in_place(path: Path, following: Path, folder: int, entry: journal.Entry, lines: Path,
+                 expected: tuple[int, int, int, int]) -> None:
+    """Writes the journal's line and renames the next file over the one before, each flushed to the disk."""
+    descriptor = os.open(following, os.O_RDONLY | os.O_CLOEXEC)
+    try:
+        os.fchmod(descriptor, os.stat(path).st_mode & 0o7777)
+        os.fsync(descriptor)
+    finally:
+        os.close(descriptor)
+    journal.append(path, entry, lines)
+    try:
+        if identity_of(os.stat(path)) != expected:
+            raise Refusal(503, "another file was put in place while the edit was made", hint="try it again over that one")
+        os.rename(following, path)
+    except (OSError, Refusal):
+        journal.drop_last_where_not(path, entry.before)
+        raise
+    os.fsync(folder)
+
+
+def lines_path(following: Path) -> Path:
+    """Where the lines of an edit in JSON are written."""
+    return following.with_name(following.name + "-lines")
+
+
+def cancelled() -> Refusal:
+    """What is said of a job that somebody ended."""
+    return Refusal(503, "the edit was ended, and nothing has changed")
+
+
+def not_made(status: int, replies: Replies, path: Path) -> Refusal:
+    """Why `catchup edit` came to no end."""
+    said = replies.last.decode("ascii", "replace") if replies.lines else ""
+    if status in WORDS:
+        return Refusal(503, WORDS[status], hint="nothing has changed")
+    if status == -signal.SIGXFSZ:
+        return Refusal(503, "the edited file can't be stored: no file may be as large here", hint="see ulimit -f")
+    if status > 0 and said.startswith("shelf: fault out"):
+        free = os.statvfs(path.parent)
+        room, needed = free.f_bavail * free.f_frsize, os.stat(path).st_size
+        may = os.access(path.parent, os.W_OK | os.X_OK)
+        reason = f"no space left on the disk, {room} bytes are free" if may else "the folder may not be written"
+        return Refusal(503, f"the edited file can't be stored: {reason}", hint=f"it needs some {needed} bytes in {path.parent}")
+    return Refusal(503, f"catchup edit {said_of(status)}" + (f": {said}" if said else ""), hint="nothing has changed")
+
+
+def why(problem: Exception) -> str:
+    """An error of the system in words."""
+    if isinstance(problem, OSError) and problem.strerror:
+        return f"the edit can't be stored: {problem.strerror}"
+    return f"the edit can't be stored: {problem}"

@@ -1,0 +1,125 @@
+"""What a service is told as it is started."""
+
+from __future__ import annotations
+
+import ipaddress
+import re
+from collections.abc import Sequence
+from dataclasses import dataclass
+from pathlib import Path
+from typing import Final
+
+from catchup.errors import Failure
+from catchup.service.gates import OWN_NAMES, Gates
+
+NAMED: Final = re.compile(r"([A-Za-z0-9_.-]{1,64})=(.+)", re.DOTALL)
+NAME: Final = re.compile(r"[A-Za-z0-9_.:\[\]-]{1,255}")
+ORIGIN: Final = re.compile(r"https?://[A-Za-z0-9_.\[\]:-]{1,255}")
+TOKEN: Final = re.compile(rb"[!-~]{16,4096}")
+
+
+@dataclass(frozen=True, slots=True)
+class Served:
+    """A packed file with its name, and the folder of its tables where the page may draw it."""
+
+    name: str | None
+    path: Path
+    tables: Path | None = None
+
+
+@dataclass(frozen=True, slots=True)
+class Options:
+    """A service's options, each looked through."""
+
+    files: tuple[Served, ...]
+    host: str = "127.0.0.1"
+    port: int = 8080
+    workers: int = 1
+    names: tuple[str, ...] = ()
+    origins: tuple[str, ...] = ()
+    token: Path | None = None
+    log: str | None = None
+    has_access_log: bool = False
+    has_docs: bool = False
+
+    def gates(self) -> Gates:
+        """Who gets in. The token is read anew at each start of a worker, so a new one comes in by SIGHUP."""
+        bound = f"[{self.host}]" if ":" in self.host else self.host
+        names = frozenset(name.lower() for name in (*OWN_NAMES, bound, *self.names))
+        return Gates(names, frozenset(self.origins), read_token(self.token))
+
+
+def is_loopback(host: str) -> bool:
+    """Whether an address is this machine's alone."""
+    if host == "localhost":
+        return True
+    try:
+        return ipaddress.ip_address(host).is_loopback
+    except ValueError:
+        return False
+
+
+def read_token(path: Path | None) -> bytes | None:
+    """The token of a file: one line."""
+    if path is None:
+        return None
+    try:
+        with open(path, "rb") as file:
+            token = file.read(8192).strip()
+    except OSError as problem:
+        raise Failure(f"the token {path} can't be read: {problem.strerror}") from None
+    if not TOKEN.fullmatch(token):
+        raise Failure(f"{path} holds no token: one line of 16 to 4096 letters, digits and signs (openssl rand -hex 32)")
+    return token
+
+
+def served_of(words: Sequence[str], tables: Sequence[str]) -> tuple[Served, ...]:
+    """The files of `FILE` or `NAME=FILE`, with the folders of `DIR` or `NAME=DIR`."""
+    folders = dict(parted(word) for word in tables)
+    found: dict[str | None, Served] = {}
+    for word in words:
+        name, path = parted(word)
+        if name in found:
+            raise Failure(f"{name or path} is named twice: give each file a name of its own, as car={path}")
+        found[name] = Served(name, resolved(path), folders.pop(name, None))
+    if None in folders and len(found) == 1:
+        [only] = found.values()
+        return (Served(only.name, only.path, folders.pop(None)),)
+    if folders:
+        raise Failure(f"--tables names no served file: {next(iter(folders.values()))}")
+    return tuple(found.values())
+
+
+def parted(word: str) -> tuple[str | None, Path]:
+    named = NAMED.fullmatch(word)
+    return (named[1], Path(named[2])) if named else (None, Path(word))
+
+
+def resolved(path: Path) -> Path:
+    """Where a file is, behind all links: the next versions are put there."""
+    try:
+        found = path.resolve(strict=True)
+    except (OSError, RuntimeError) as problem:
+        said = problem.strerror if isinstance(problem, OSError) else "its links lead in a circle"
+        raise Failure(f"{path} can't be read: {said}") from None
+    if not found.is_file():
+        raise Failure(f"{path} is no file: the packed file that `catchup build` makes is needed")
+    return found
+
+
+def check(options: Options) -> None:
+    """Refuses options that don't go together."""
+    if not is_loopback(options.host) and options.token is None:
+        raise Failure(f"on {options.host} others could edit the network: --token FILE is needed")
+    for name in options.names:
+        if not NAME.fullmatch(name):
+            raise Failure(f"--name {name!r} is no name of a machine")
+    for origin in options.origins:
+        if not ORIGIN.fullmatch(origin):
+            raise Failure(f"--origin {origin!r} is no origin: write it as https://maps.example.org")
+    read_token(options.token)
+    if options.log is not None:
+        # Only a service with a stream needs Redis.
+        from catchup.service.replicas import parted as parted_log
+
+        parted_log(options.log)

@@ -1,0 +1,523 @@
+"""Connections: how requests are read, one after the other, each with limits of size and of time.
+
+uvicorn's protocol, but for four things. A request is begun only when the one before it is answered, in a later turn of the
+loop, so that no client has more than its share however much it sends at once. What is no request is refused in JSON.
+Heads, bodies, pauses and replies have limits. Who holds much for long is let go where all hold too much.
+"""
+
+from __future__ import annotations
+
+import asyncio
+import contextlib
+import re
+import time
+import urllib.parse
+from collections.abc import Callable
+from email.utils import formatdate
+from typing import Any, Final, Protocol
+
+import httptools
+from uvicorn.protocols.http.httptools_impl import STATUS_LINE, HttpToolsProtocol, RequestResponseCycle
+
+from catchup.service.limits import (
+    BODY_RATE, BODY_SECONDS, HEAD_SECONDS, IDLE_SECONDS, LARGE, LINGER_SECONDS, LONGEST_HEAD, LONGEST_LINES, LONGEST_TARGET,
+    MOST_DROPPED, MOST_HELD, TAKE_SECONDS)
+
+HEAD_END: Final = b"\r\n\r\n"
+FIRST_LINE: Final = re.compile(rb"[A-Z]{1,32} /[!-~]{0,16383} HTTP/1\.[01]")
+# Ends of lines that are none, and NUL.
+BAD_ENDS: Final = re.compile(rb"\x00|\r(?=[^\n])|(?<!\r)\n")
+# A line that is no header: one that goes on the one before, or a name with blanks, which others would read in another way.
+BAD_LINE: Final = re.compile(rb"\r\n(?![!#$%&'*+.^_`|~0-9A-Za-z-]+:)")
+# Bytes that a header nobody reads here may hold, and the parser wouldn't take.
+CONTROLS: Final = re.compile(rb"[\x01-\x08\x0b\x0c\x0e-\x1f\x7f]")
+HARMLESS: Final = bytes.maketrans(bytes([*range(1, 9), 11, 12, *range(14, 32), 127]), b"?" * 29)
+READ: Final = frozenset([b"host", b"origin", b"authorization", b"content-length", b"content-type", b"transfer-encoding", b"expect"])
+NUMBER: Final = re.compile(rb"[0-9]+")
+
+Headers = list[tuple[bytes, bytes]]
+
+
+class Told(Protocol):
+    """What connections tell of each answer: the path, the status and how many seconds it took."""
+
+    def __call__(self, path: str, status: int, seconds: float) -> None: ...
+
+
+class Crowd:
+    """All connections of a worker."""
+
+    def __init__(self, most: int, error: Callable[[int, str], tuple[Headers, bytes]], told: Told,
+                 log: Callable[[str], None] | None = None) -> None:
+        self.most = most
+        self.error = error          # the headers and the body of an error
+        self.told = told
+        self.log = log
+        self.everyone: set[Connection] = set()
+        self.idlers: dict[Connection, None] = {}    # those with no request in work, the longest such first
+        self.holders: dict[Connection, int] = {}    # those with many bytes on their way, and how many
+        self.is_ending = False
+        self.date = b""
+        self.tick(0.0)
+
+    def tick(self, now: float) -> None:
+        """What is due each second: the date, and whoever takes too long."""
+        self.date = b"date: " + formatdate(time.time(), usegmt=True).encode() + b"\r\n"
+        for each in [each for each in self.everyone if each.deadline <= now]:
+            each.is_due(now)
+
+    def admit(self, connection: Connection) -> bool:
+        """Takes a connection in; where there are too many that goes which has had nothing to do for the longest."""
+        if len(self.everyone) >= self.most:
+            if not self.idlers:
+                return False
+            next(iter(self.idlers)).abort()
+        self.everyone.add(connection)
+        return True
+
+    def hold(self, connection: Connection, size: int) -> None:
+        """Takes note of bytes on their way. Where they are too many, those go that hold some for the longest."""
+        if size < LARGE:
+            self.holders.pop(connection, None)
+            return
+        while self.holders and sum(self.holders.values()) + size > MOST_HELD:
+            next(iter(self.holders)).abort()
+        if not connection.is_closing:
+            self.holders[connection] = size
+
+    def forget(self, connection: Connection) -> None:
+        """A connection is gone."""
+        self.everyone.discard(connection)
+        self.idlers.pop(connection, None)
+        self.holders.pop(connection, None)
+
+    def end(self) -> None:
+        """No connection gets another request: idle ones are closed, others once they are answered."""
+        self.is_ending = True
+        for each in list(self.everyone):
+            each.shutdown()
+
+
+class Cycle(RequestResponseCycle):  # type: ignore[misc]
+    """One request and its answer: uvicorn's, but what is sent goes out in one piece, and is counted."""
+
+    connection: Connection
+    began: float
+    start: dict[str, Any] | None = None
+    response_started: bool
+    response_complete: bool
+    on_response: Callable[[], None] | None
+
+    async def run_asgi(self, app: Any) -> None:
+        """Has the application answer. It tells what goes wrong by itself; where it is ended meanwhile, the client is let go."""
+        try:
+            await app(self.scope, self.receive, self.send)
+        except asyncio.CancelledError:
+            self.transport.abort()
+        finally:
+            self.on_response = None
+        if not self.response_complete and not self.disconnected:
+            self.transport.close()
+
+    async def send(self, message: Any) -> None:
+        """Takes the answer's start, and its body in pieces."""
+        if self.start is None:
+            if message["type"] != "http.response.start":
+                raise RuntimeError(f"an answer begins with its start, not with {message['type']}")
+            self.start = message
+            return
+        if self.flow.write_paused and not self.disconnected:
+            await self.flow.drain()
+        if self.disconnected:
+            return
+        body, more = message.get("body", b""), message.get("more_body", False)
+        if not self.response_started:
+            self.response_started = True
+            self.waiting_for_100_continue = False
+            head = self.head(self.start, None if more else len(body))
+            if self.scope["method"] == "HEAD":
+                body = b""
+            self.write(head, self.framed(body, more))
+        elif self.scope["method"] != "HEAD":
+            self.write(self.framed(body, more))
+        if not more:
+            self.complete()
+
+    def head(self, start: dict[str, Any], length: int | None) -> bytes:
+        """The status line and the headers of an answer; `length` is that of its body where all of it is there."""
+        lines, has_length, status = [], False, start["status"]
+        for name, value in start.get("headers", ()):
+            has_length = has_length or name == b"content-length"
+            lines.append(name + b": " + value + b"\r\n")
+        self.chunked_encoding = False
+        if not has_length and status not in (204, 304):
+            self.chunked_encoding = length is None
+            lines.append(b"transfer-encoding: chunked\r\n" if length is None else b"content-length: %d\r\n" % length)
+        if self.connection.must_close():
+            self.keep_alive = False
+        if not self.keep_alive:
+            lines.append(b"connection: close\r\n")
+        elif self.scope["http_version"] == "1.0":
+            lines.append(b"connection: keep-alive\r\n")
+        block = b"".join(lines)
+        if block.count(b"\n") != len(lines) or block.count(b"\r") != len(lines):
+            raise RuntimeError("a header has an end of line in it")
+        line: bytes = STATUS_LINE[status]
+        return line + self.connection.crowd.date + block + b"\r\n"
+
+    def framed(self, body: bytes, more: bool) -> bytes:
+        """A piece of the body as it goes out."""
+        if not self.chunked_encoding or self.scope["method"] == "HEAD":
+            return body
+        piece = b"%x\r\n%b\r\n" % (len(body), body) if body else b""
+        return piece if more else piece + b"0\r\n\r\n"
+
+    def write(self, *pieces: bytes) -> None:
+        if sum(map(len, pieces)) < LARGE:
+            self.transport.write(b"".join(pieces))
+        else:
+            for piece in pieces:
+                self.transport.write(piece)
+            self.connection.crowd.hold(self.connection, self.transport.get_write_buffer_size())
+
+    def complete(self) -> None:
+        """The answer is on its way."""
+        connection, scope = self.connection, self.scope
+        assert self.start is not None
+        self.response_complete = True
+        self.message_event.set()
+        seconds = connection.loop.time() - self.began
+        connection.crowd.told(scope["path"], self.start["status"], seconds)
+        if connection.crowd.log is not None:
+            query = scope["query_string"].decode("latin-1")
+            client = scope["client"] or ("-", 0)
+            connection.crowd.log(f"{client[0]} {scope['method']} {scope['raw_path'].decode('latin-1')}{'?' * bool(query)}{query} "
+                                 f"{self.start['status']} {seconds * 1000:.1f}")
+        if self.on_response is not None:
+            self.on_response()
+
+
+class Connection(HttpToolsProtocol):  # type: ignore[misc]
+    """A client's connection."""
+
+    def __init__(self, crowd: Crowd, config: Any, server_state: Any, _loop: Any = None) -> None:
+        super().__init__(config, server_state, _loop)
+        self.crowd = crowd
+        self.held, self.at = b"", 0     # what came and isn't read yet, from this place on
+        self.is_busy = False            # a request is in work
+        self.is_closing = False         # nothing more is read
+        self.has_ended = False          # the client sends nothing more
+        self.dropped = 0                # bytes that came behind a refusal
+        self.body_left = 0
+        self.deadline = self.loop.time() + IDLE_SECONDS
+        self.unsent = 0                 # bytes that the client hadn't taken when it was last looked at
+        self.read: dict[bytes, bytes] = {}
+
+    # ---- what comes ----
+
+    def connection_made(self, transport: Any) -> None:
+        super().connection_made(transport)
+        if not self.crowd.admit(self):
+            self.refuse(503, "too many clients at once", b"retry-after: 1\r\n")
+        elif self.crowd.is_ending:
+            transport.close()
+        else:
+            self.crowd.idlers[self] = None
+
+    def connection_lost(self, exc: Exception | None) -> None:
+        self.crowd.forget(self)
+        self.is_closing = True
+        super().connection_lost(exc)
+
+    def data_received(self, data: bytes) -> None:
+        if self.is_closing:
+            self.dropped += len(data)
+            if self.dropped > MOST_DROPPED:
+                self.abort()
+            return
+        self.held = self.held[self.at:] + data if self.at < len(self.held) else data
+        self.at = 0
+        if self.body_left:
+            self.take_body()
+        elif not self.is_busy:
+            self.begin()
+        if self.is_busy and not self.body_left and self.at < len(self.held):
+            self.flow.pause_reading()
+
+    def eof_received(self) -> bool:
+        """Keeps the connection open where an answer is still owed to a client that sends nothing more."""
+        self.has_ended = True
+        if self.is_closing or self.body_left:
+            return False
+        if not self.is_busy and self.at < len(self.held):
+            self.loop.call_soon(self.begin)
+        return self.is_busy or self.at < len(self.held)
+
+    def begin(self) -> None:
+        """Begins the next request where its head is there."""
+        if self.is_busy or self.is_closing or self.transport.is_closing():
+            return
+        while self.held.startswith((b"\r\n", b"\n"), self.at):
+            self.at += 1 + self.held.startswith(b"\r\n", self.at)
+        end = self.held.find(HEAD_END, self.at)
+        size = (len(self.held) if end < 0 else end) - self.at
+        if size > LONGEST_HEAD:
+            self.refuse_long()
+        elif end >= 0:
+            head, self.at = self.held[self.at:end + 4], end + 4
+            self.take_head(head)
+        elif self.has_ended:
+            self.transport.close()
+        else:
+            self.flow.resume_reading()
+            if size:
+                self.wait_for_head()
+
+    def wait_for_head(self) -> None:
+        if BAD_ENDS.search(self.held, self.at):
+            self.refuse(400, "the request's head has bytes that have no place there")
+        elif self in self.crowd.idlers:
+            del self.crowd.idlers[self]
+            self.deadline = self.loop.time() + HEAD_SECONDS
+
+    def refuse_long(self) -> None:
+        if self.held.find(b"\r\n", self.at, self.at + LONGEST_TARGET + 64) < 0:
+            self.refuse(414, f"an address has at most {LONGEST_TARGET} bytes")
+        else:
+            self.refuse(431, f"a request's head has at most {LONGEST_HEAD} bytes")
+
+    def take_head(self, head: bytes) -> None:
+        """Hands a whole head to the parser, which calls back."""
+        first = head[:head.find(b"\r\n")]
+        if not FIRST_LINE.fullmatch(first):
+            self.refuse_first(first)
+        elif BAD_ENDS.search(head[:-4]):
+            self.refuse(400, "the request's head has bytes that have no place there")
+        elif BAD_LINE.search(head[:-4]):
+            self.refuse(400, "a header isn't one")
+        else:
+            if CONTROLS.search(head):
+                head = head.translate(HARMLESS)
+            try:
+                self.parser.feed_data(head)
+            except httptools.HttpParserUpgrade:
+                self.refuse(400, "no other protocol is spoken here")
+            except httptools.HttpParserError:
+                self.refuse(400, "the request's head can't be read")
+
+    def refuse_first(self, first: bytes) -> None:
+        words = first.split(b" ")
+        if CONTROLS.search(first) or not first.isascii() or BAD_ENDS.search(first):
+            self.refuse(400, "the request's head has bytes that have no place there")
+        elif len(words) != 3 or not words[2].startswith(b"HTTP/") or not words[0].isupper():
+            self.refuse(400, "the first line is no request")
+        elif len(words[1]) > LONGEST_TARGET:
+            self.refuse(414, f"an address has at most {LONGEST_TARGET} bytes")
+        elif words[2] not in (b"HTTP/1.1", b"HTTP/1.0"):
+            self.refuse(505, "HTTP/1.1 and HTTP/1.0 are known here")
+        else:
+            self.refuse(400, "an address begins with /")
+
+    # ---- the parser's calls ----
+
+    def on_message_begin(self) -> None:
+        self.url = b""
+        self.headers: Headers = []
+        self.read = {}
+        self.twice: bytes | None = None
+
+    def on_header(self, name: bytes, value: bytes) -> None:
+        name = name.lower()
+        self.headers.append((name, value))
+        if name in READ:
+            if name in self.read:
+                self.twice = name
+            self.read[name] = value
+        elif name == b"connection":
+            self.read[name] = self.read.get(name, b"") + b"," + value.lower()
+
+    def on_headers_complete(self) -> None:
+        if self.parser.should_upgrade():
+            return
+        version, method = self.parser.get_http_version(), self.parser.get_method()
+        if (wrong := self.wrong_headers(version)) is not None:
+            self.refuse(*wrong)
+            return
+        raw_path, _, query = self.url.partition(b"?")
+        path = raw_path.decode("ascii")
+        self.scope = {
+            "type": "http", "asgi": {"version": self.config.asgi_version, "spec_version": "2.3"}, "http_version": version,
+            "server": self.server, "client": self.client, "scheme": self.scheme, "root_path": self.root_path,
+            "headers": self.headers, "method": method.decode("ascii"), "raw_path": raw_path, "query_string": query,
+            "path": urllib.parse.unquote(path) if "%" in path else path, "catchup.read": self.read}
+        self.start_cycle(version)
+
+    def wrong_headers(self, version: str) -> tuple[int, str] | None:
+        """What is wrong with a request's headers, with its status."""
+        if self.twice is not None:
+            return 400, f"the header {self.twice.decode()} is there twice"
+        if b"transfer-encoding" in self.read:
+            if b"content-length" in self.read:
+                return 400, "a request has Content-Length or Transfer-Encoding, and not both"
+            return 411, "a body needs a Content-Length"
+        length = self.read.get(b"content-length", b"0")
+        if not NUMBER.fullmatch(length):
+            return 400, "Content-Length is no number"
+        if version == "1.1" and b"host" not in self.read:
+            return 400, "the header host is missing"
+        short = length.lstrip(b"0")
+        if len(short) > 9 or int(short or b"0") > LONGEST_LINES:
+            return 413, f"a body has at most {LONGEST_LINES} bytes"
+        self.body_left = int(short or b"0")
+        return None
+
+    def start_cycle(self, version: str) -> None:
+        now = self.loop.time()
+        kept = self.read.get(b"connection", b"")
+        keeps = b"keep-alive" in kept if version == "1.0" else b"close" not in kept
+        self.cycle = Cycle(
+            scope=self.scope, transport=self.transport, flow=self.flow, logger=self.logger, access_logger=self.access_logger,
+            access_log=False, default_headers=[], message_event=asyncio.Event(),
+            expect_100_continue=self.read.get(b"expect", b"").lower() == b"100-continue", keep_alive=keeps,
+            on_response=self.on_response_complete)
+        self.cycle.connection, self.cycle.began = self, now
+        self.is_busy = True
+        self.crowd.idlers.pop(self, None)
+        self.deadline = now + BODY_SECONDS + self.body_left / BODY_RATE if self.body_left else float("inf")
+        task = self.loop.create_task(self.cycle.run_asgi(self.app))
+        task.add_done_callback(self.tasks.discard)
+        self.tasks.add(task)
+        if self.body_left:
+            self.loop.call_soon(self.take_body)
+
+    def take_body(self) -> None:
+        """Hands on what there is of a body."""
+        if self.is_closing or not self.body_left or self.at >= len(self.held):
+            return
+        piece = self.held[self.at:self.at + self.body_left]
+        self.at += len(piece)
+        self.body_left -= len(piece)
+        if not self.body_left:
+            self.deadline = float("inf")
+        with contextlib.suppress(httptools.HttpParserError):
+            self.parser.feed_data(piece)
+
+    def on_body(self, body: bytes) -> None:
+        if not self.is_closing and self.cycle is not None and not self.cycle.response_complete:
+            super().on_body(body)
+
+    def on_message_complete(self) -> None:
+        if not self.is_closing and self.cycle is not None and not self.cycle.response_complete:
+            super().on_message_complete()
+
+    # ---- answers ----
+
+    def must_close(self) -> bool:
+        """Whether the connection can't have another request: the service ends, or a body is left that nobody wants."""
+        return self.crowd.is_ending or self.body_left > 0
+
+    def on_response_complete(self) -> None:
+        """The answer of the request in work is on its way: the next one begins in another turn, once this one is taken."""
+        self.server_state.total_requests += 1
+        if self.transport.is_closing():
+            return
+        if self.body_left:
+            self.linger()
+        elif not self.cycle.keep_alive:
+            self.is_closing = True
+            self.deadline = self.loop.time() + TAKE_SECONDS
+            self.transport.close()
+        else:
+            self.rest()
+
+    def rest(self) -> None:
+        """Waits for the next request, or for the client to take the answer first."""
+        self.is_busy = False
+        if self.flow.write_paused:
+            self.is_busy = True
+            return
+        self.crowd.idlers[self] = None
+        self.deadline = self.loop.time() + IDLE_SECONDS
+        if self.at < len(self.held):
+            # More is read only once all that is there is begun.
+            self.loop.call_soon(self.begin)
+        elif self.has_ended:
+            self.transport.close()
+        else:
+            self.held, self.at = b"", 0
+            self.flow.resume_reading()
+
+    def refuse(self, status: int, error: str, headers: bytes = b"") -> None:
+        """Answers what is no request, and closes."""
+        more, body = self.crowd.error(status, error)
+        lines = b"".join(name + b": " + value + b"\r\n" for name, value in more)
+        self.crowd.told("", status, 0.0)
+        if self.crowd.log is not None:
+            self.crowd.log(f"{self.client[0] if self.client else '-'} - - {status} 0.0")
+        self.transport.write(STATUS_LINE[status] + self.crowd.date + lines + headers
+                             + b"content-length: %d\r\nconnection: close\r\n\r\n" % len(body) + body)
+        self.linger()
+
+    def linger(self) -> None:
+        """Closes, but first lets go of what the client still sends, which would otherwise cost it the answer."""
+        self.is_closing = True
+        self.is_busy = True
+        self.crowd.idlers.pop(self, None)
+        self.held, self.at, self.body_left = b"", 0, 0
+        self.deadline = self.loop.time() + LINGER_SECONDS
+        with contextlib.suppress(OSError, RuntimeError, NotImplementedError):
+            self.transport.write_eof()
+        self.flow.resume_reading()
+
+    # ---- time ----
+
+    def is_due(self, now: float) -> None:
+        """The deadline has come."""
+        if self.flow.write_paused and not self.is_closing:
+            unsent = self.transport.get_write_buffer_size()
+            if unsent < self.unsent:
+                self.unsent, self.deadline = unsent, now + TAKE_SECONDS
+                return
+        if self.is_closing or self.flow.write_paused or self in self.crowd.idlers:
+            self.abort()
+        elif self.body_left and not self.cycle.response_started:
+            # The application waits for the body; it learns that the client is gone.
+            self.is_closing = True
+            self.cycle.disconnected = True
+            self.cycle.message_event.set()
+            self.refuse(408, "the request comes too slowly")
+        elif not self.is_busy:
+            self.refuse(408, "the request comes too slowly")
+
+    def pause_writing(self) -> None:
+        super().pause_writing()
+        self.unsent = self.transport.get_write_buffer_size()
+        self.deadline = self.loop.time() + TAKE_SECONDS
+
+    def resume_writing(self) -> None:
+        super().resume_writing()
+        self.crowd.holders.pop(self, None)
+        if self.is_closing:
+            return
+        self.deadline = float("inf")
+        if self.is_busy and self.cycle is not None and self.cycle.response_complete:
+            self.rest()
+
+    def abort(self) -> None:
+        """Lets the connection go at once, with what is on its way."""
+        self.crowd.forget(self)
+        self.is_closing = True
+        self.transport.abort()
+
+    def shutdown(self) -> None:
+        """The service ends: closes where no request is in work."""
+        if self.is_closing:
+            return
+        if not self.is_busy or self.cycle is None or self.cycle.response_complete:
+            self.is_closing = True
+            self.transport.close()
+        else:
+            self.cycle.keep_alive = False
+
+    def timeout_keep_alive_handler(self) -> None:
+        """Deadlines are looked at for all connections together."""

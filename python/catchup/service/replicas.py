@@ -1,0 +1,264 @@
+"""Edits of several machines, each with a file of its own: a stream of Redis says which come, and in which order.
+
+All is exact: who makes the same entries over the same file has the same bytes. So beside each entry stands the digest of the
+file behind it, and a replica whose digest is another one makes nothing more and says so. On each machine one worker takes the
+entries; where in the stream its file is, the journal and the digests tell.
+"""
+
+from __future__ import annotations
+
+import asyncio
+import contextlib
+import os
+import re
+import sqlite3
+from pathlib import Path
+from typing import TYPE_CHECKING, Any, Final
+
+from redis.asyncio import Redis
+from redis.exceptions import RedisError
+
+from catchup.errors import Failure
+from catchup.service import journal, packed
+from catchup.service.editor import Editor, Made, Refused, Work
+from catchup.service.errors import Refusal
+from catchup.service.jobs import ENDED, REFUSED, WAITING, Job, new_name
+from catchup.service.limits import LOG_SECONDS, LONGEST_LINES
+from catchup.service.process import try_lock
+from catchup.service.roadedits import edits_of
+from catchup.service.spool import Spool
+from catchup.service.versions import Network, tell
+
+if TYPE_CHECKING:
+    from catchup.service.roadedits import Roads
+
+ADDRESS: Final = re.compile(r"(rediss?://[^/]+/[0-9]+)/([A-Za-z0-9_.:-]{1,200})")
+FIRST: Final = "0"                      # stands for the entry before the first
+AGAIN_SECONDS: Final = 0.5              # until another try where something failed
+BLOCK_MILLISECONDS: Final = 1_000       # for which an entry is waited for at once
+LOOK_SECONDS: Final = 0.03              # between two looks whether an entry is made
+SOCKET_SECONDS: Final = 4.0
+
+
+def parted(address: str) -> tuple[str, str]:
+    """The server and the stream of `redis://HOST:PORT/0/NAME`."""
+    found = ADDRESS.fullmatch(address)
+    if found is None:
+        raise Failure(f"--log {address} is no stream: write it as redis://HOST:PORT/0/NAME")
+    return found[1], found[2]
+
+
+def order_of(entry: str) -> tuple[int, int]:
+    """What entries are ordered by."""
+    time, _, number = entry.partition("-")
+    return int(time), int(number or 0)
+
+
+class Diverged(Exception):
+    """This replica's file isn't the one that the others have: str() says what to do."""
+
+
+class Log:
+    """The stream, for one worker. `folder` is shared by the workers of a service: one of them takes the entries."""
+
+    def __init__(self, address: str, network: Network, editor: Editor, folder: Path | None, roads: Roads) -> None:
+        server, self.name = parted(address)
+        self.redis: Redis[bytes] = Redis.from_url(server, socket_timeout=SOCKET_SECONDS, socket_connect_timeout=SOCKET_SECONDS)
+        self.digests = self.name + ":digests"
+        self.network = network
+        self.editor = editor
+        self.roads = roads
+        self.leader = (folder or network.path.parent) / "leader"
+        self.trouble = (folder or network.path.parent) / "diverged"
+        self.is_reached = True
+        self.said = ""                  # what was told last
+        self.position = FIRST           # the last entry that the file has
+        self.digest = ""                # the file's digest at that entry
+
+    # ---- for those who edit ----
+
+    def check(self, network: Network) -> None:
+        """Refuses edits where they can't be made."""
+        if network is not self.network:
+            raise Refusal(400, "the stream is of the first file alone")
+        if (said := self.diverged()) is not None:
+            raise Refusal(503, said)
+
+    def diverged(self) -> str | None:
+        """What is said where this replica's file isn't that of the others."""
+        try:
+            return self.trouble.read_text()
+        except OSError:
+            return None
+
+    def health(self) -> dict[str, object]:
+        """What /health says of the stream."""
+        said = self.diverged()
+        if said is not None:
+            return {"status": "diverged", "error": said}
+        return {"log": "ok" if self.is_reached else "unreachable"}
+
+    async def make(self, editor: Editor, work: Work) -> Made:
+        """Puts an edit into the stream, and waits until this replica has made it."""
+        editor.works[work.job.id] = work
+        try:
+            await self.add(work)
+            return await self.outcome(work)
+        except Refusal as refusal:
+            if refusal.status == 503 and not work.cancelled.is_set():
+                await editor.note(work.job, ENDED, {"error": refusal.error})
+            raise
+        finally:
+            del editor.works[work.job.id]
+            await asyncio.to_thread(work.spool.close)
+
+    async def add(self, work: Work) -> None:
+        fields = {"job": work.job.id, "type": "lines" if work.edits is None else "json",
+                  "edits": await asyncio.to_thread(work.spool.read)}
+        try:
+            async with asyncio.timeout(LOG_SECONDS):
+                await self.redis.xadd(self.name, fields)
+        except (RedisError, OSError, TimeoutError) as problem:
+            self.is_reached = False
+            raise Refusal(503, f"the stream can't be reached: {said_of(problem)}", hint="reads go on; edit again later") from None
+
+    async def outcome(self, work: Work) -> Made:
+        """What became of an entry here."""
+        while True:
+            job = await asyncio.to_thread(self.editor.jobs.find, work.job.id)
+            if job is not None and job.is_over:
+                break
+            if work.cancelled.is_set():
+                raise Refusal(503, "the edit is in the stream, and is made once the service is there again")
+            await asyncio.sleep(LOOK_SECONDS)
+        await self.network.load()
+        told: dict[str, Any] = job.told
+        if job.state == REFUSED:
+            if "refused" in told:
+                raise Refused(told["refused"], told["count"])
+            raise Refusal(409, str(told["error"]))
+        if job.state == ENDED:
+            raise Refusal(503, str(told["error"]))
+        return Made(told["before"], told["version"], told["lines"])
+
+    # ---- for the one who makes entries ----
+
+    async def run(self) -> None:
+        """Takes the entries in their order, for as long as this worker is the one to do so."""
+        self.leader.touch()
+        lock = os.open(self.leader, os.O_RDWR | os.O_CLOEXEC)
+        try:
+            while not try_lock(lock):
+                await asyncio.sleep(AGAIN_SECONDS)
+            while True:
+                await self.take()
+        finally:
+            os.close(lock)
+
+    async def take(self) -> None:
+        """Takes the next entries; where something fails, it is tried again."""
+        try:
+            await self.find_place()
+            entries = await self.redis.xread({self.name: self.position}, count=16, block=BLOCK_MILLISECONDS)
+            self.is_reached = True
+            for entry, fields in (entries[0][1] if entries else []):
+                await self.make_entry(entry.decode(), fields)
+            self.trouble.unlink(missing_ok=True)
+            self.said = ""
+        except Diverged as diverged:
+            self.tell_once(f"this replica has diverged: {diverged}")
+            self.trouble.write_text(str(diverged))
+            self.digest = ""
+            await asyncio.sleep(AGAIN_SECONDS)
+        except TimeoutError:
+            pass
+        except (RedisError, OSError, sqlite3.Error, Refusal, packed.NotPacked) as problem:
+            self.is_reached = not isinstance(problem, RedisError)
+            self.tell_once(("an entry of the stream can't be made yet: " if self.is_reached else "the stream can't be reached: ")
+                           + said_of(problem))
+            self.digest = ""
+            await asyncio.sleep(AGAIN_SECONDS)
+
+    def tell_once(self, line: str) -> None:
+        """Tells a line where it isn't the one that was told last: what fails is tried again and again."""
+        if line != self.said:
+            tell(line)
+        self.said = line
+
+    async def find_place(self) -> None:
+        """Finds which entry the file has as its last one, where the file isn't the one that was made here."""
+        digest = await asyncio.to_thread(packed.digest_of, str(self.network.path))
+        if digest == self.digest:
+            return
+        await self.redis.hsetnx(self.digests, FIRST, digest)
+        known = {entry.decode(): found.decode() for entry, found in (await self.redis.hgetall(self.digests)).items()}
+        places = [entry for entry, found in known.items() if found == digest]
+        places += await asyncio.to_thread(lambda: [
+            line.entry for line in journal.entries(self.network.path) if line.entry is not None and line.after == digest])
+        if not places:
+            raise Diverged(f"the file's version {digest[:12]} isn't one of the stream {self.name}: copy the file of another replica "
+                           f"into its place, or start a new stream")
+        self.position, self.digest = max(places, key=order_of), digest
+
+    async def check_digest(self, entry: str, digest: str) -> None:
+        """Writes the file's digest beside the last entry, and compares where another has."""
+        await self.redis.hsetnx(self.digests, entry, digest)
+        found = (await self.redis.hget(self.digests, entry) or b"").decode()
+        if found != digest:
+            raise Diverged(f"behind entry {entry} this file is {digest[:12]}, and another replica's is {found[:12]}: copy its file "
+                           f"into this one's place")
+
+    async def make_entry(self, entry: str, fields: dict[bytes, bytes]) -> None:
+        """Makes one entry, all of it or nothing, as each replica does."""
+        work = await asyncio.to_thread(self.work_of, entry, fields)
+        try:
+            async with self.editor.turn, self.editor.locked(work) as folder:
+                digest = await asyncio.to_thread(packed.digest_of, str(self.network.path))
+                if digest != self.digest:
+                    raise Refusal(503, "the file has changed meanwhile")
+                await self.check_digest(self.position, digest)
+                after = await self.make_all_or_nothing(work, folder, digest)
+        finally:
+            await asyncio.to_thread(work.spool.close)
+        self.position, self.digest = entry, after
+        await self.network.load()
+        await self.check_digest(entry, after)
+
+    async def make_all_or_nothing(self, work: Work, folder: int, before: str) -> str:
+        """The digest behind an entry. What is refused is refused by each replica; what only fails here is tried again."""
+        try:
+            if work.edits is not None and not work.edits:
+                raise Refusal(409, "the edit isn't one")
+            return (await self.editor.make(work, folder)).after
+        except Refused as refused:
+            await self.editor.note(work.job, REFUSED, refused.told)
+        except Refusal as refusal:
+            if refusal.status != 409:
+                raise
+            await self.editor.note(work.job, REFUSED, {"error": refusal.error})
+        return before
+
+    def work_of(self, entry: str, fields: dict[bytes, bytes]) -> Work:
+        """An entry's edits, in a file."""
+        body = fields.get(b"edits", b"")
+        spool = Spool(self.network.path, new_name(), LONGEST_LINES)
+        spool.write(body, has_lines=False)
+        job = Job(fields.get(b"job", b"").decode("ascii", "replace"), WAITING, 0)
+        edits = None
+        if fields.get(b"type") == b"json":
+            try:
+                edits = edits_of(body, self.roads)
+            except Refusal:
+                edits = []
+        return Work(job, spool, edits, entry)
+
+    async def close(self) -> None:
+        """Lets the server go."""
+        with contextlib.suppress(RedisError, OSError):
+            await self.redis.close()
+
+
+def said_of(problem: BaseException) -> str:
+    """An error in one line."""
+    text = problem.error if isinstance(problem, Refusal) else str(problem)
+    return " ".join(text.split())[:200] or type(problem).__name__

@@ -1,0 +1,193 @@
+"""Edits in JSON that name roads: checked as they come, and made edit lines by the file that they are of.
+
+Roads share profiles. A road that gets times of its own takes a spare profile, one that no road has; the lowest closed
+profile is kept for roads that are closed.
+"""
+
+from __future__ import annotations
+
+import json
+from collections.abc import Callable
+from dataclasses import dataclass
+from typing import TYPE_CHECKING, Any, Final
+
+from catchup.service import packed
+from catchup.service.errors import Refusal
+
+if TYPE_CHECKING:
+    import numpy as np
+
+KINDS: Final = ("travel", "until", "closed")
+CLOSED: Final = 2
+FORM: Final = 'a body is {"edits": [..]}, each with "road" and "closed", "pieces" or "profile", or with "profile" and "pieces"'
+# Roads of an outside name, or of a number as text.
+Roads = Callable[[str], list[int]]
+
+
+@dataclass(frozen=True, slots=True)
+class Edit:
+    """One edit: of roads or of a profile; what it sets is pieces (as the words of an edit line), a profile, or closed."""
+
+    roads: tuple[int, ...] | None
+    profile: int | None
+    pieces: str | None
+    is_closed: bool
+
+
+def edits_of(body: bytes, roads: Roads) -> list[Edit]:
+    """The edits of a body; a Refusal says what isn't as it must be."""
+    try:
+        found = json.loads(body.decode("utf-8"), parse_constant=not_json, object_pairs_hook=once)
+    except (ValueError, RecursionError):
+        raise Refusal(400, "the body is no JSON", hint=FORM) from None
+    if not isinstance(found, dict) or set(found) != {"edits"} or not isinstance(found["edits"], list):
+        raise Refusal(400, FORM)
+    if not found["edits"]:
+        raise Refusal(400, "there is no edit in the body", hint=FORM)
+    return [edit_of(each, number, roads) for number, each in enumerate(found["edits"], 1)]
+
+
+def not_json(word: str) -> object:
+    raise ValueError(word)
+
+
+def once(pairs: list[tuple[str, Any]]) -> dict[str, Any]:
+    found = dict(pairs)
+    if len(found) != len(pairs):
+        raise ValueError("a name twice")
+    return found
+
+
+def edit_of(found: object, number: int, roads: Roads) -> Edit:
+    """One edit of a body, the one of this number."""
+    where = f"edit {number}"
+    if not isinstance(found, dict):
+        raise Refusal(400, f"{where} is no object", hint=FORM)
+    names = set(found)
+    if names == {"road", "closed"} and found["closed"] is True:
+        return Edit(roads_of(found["road"], where, roads), None, None, True)
+    if names == {"road", "pieces"}:
+        return Edit(roads_of(found["road"], where, roads), None, pieces_of(found["pieces"], where), False)
+    if names == {"road", "profile"}:
+        return Edit(roads_of(found["road"], where, roads), whole(found["profile"], f"{where}: profile"), None, False)
+    if names == {"profile", "pieces"}:
+        return Edit(None, whole(found["profile"], f"{where}: profile"), pieces_of(found["pieces"], where), False)
+    raise Refusal(400, f"{where} isn't one", hint=FORM)
+
+
+def roads_of(found: object, where: str, roads: Roads) -> tuple[int, ...]:
+    if isinstance(found, str):
+        named = roads(found)
+        if not named:
+            raise Refusal(400, f"{where}: no road has this name", hint="a road is its number, or a name of the served tables")
+        return tuple(named)
+    return (whole(found, f"{where}: road"),)
+
+
+def whole(found: object, where: str) -> int:
+    if isinstance(found, bool) or not isinstance(found, int) or found < 0:
+        raise Refusal(400, f"{where} must be a whole number from 0 on")
+    return found
+
+
+def pieces_of(found: object, where: str) -> str:
+    """Pieces as the words of an edit line."""
+    if not isinstance(found, list) or not found:
+        raise Refusal(400, f"{where}: pieces must be a list with at least one piece")
+    words = []
+    for piece in found:
+        if not isinstance(piece, dict) or set(piece) != {"from", "kind", "value"} or piece["kind"] not in KINDS:
+            raise Refusal(400, f"{where}: a piece has from, kind and value, its kind is travel, until or closed")
+        words += [str(whole(piece["from"], f"{where}: from")), piece["kind"], str(whole(piece["value"], f"{where}: value"))]
+    return ",".join(words)
+
+
+class Profiles:
+    """The profiles of an open packed file: how many roads have each, and which are closed."""
+
+    def __init__(self, descriptor: int) -> None:
+        # Only edits that name roads need it, and it takes its memory.
+        import numpy as np
+
+        header = packed.read_header(descriptor)
+        roads = np.frombuffer(packed.read_exactly(descriptor, 12 * header.roads, header.roads_at), "<u4").reshape(-1, 3)
+        starts = np.frombuffer(packed.read_exactly(descriptor, 8 * (header.profiles + 1), header.starts_at), "<u8")
+        pieces = np.frombuffer(packed.read_exactly(descriptor, 12 * header.pieces, header.pieces_at), "<u4").reshape(-1, 3)
+        self.of_road: np.ndarray[Any, Any] = roads[:, 2].astype(np.int64)
+        self.count: np.ndarray[Any, Any] = np.bincount(self.of_road, minlength=header.profiles)
+        self.is_closed: np.ndarray[Any, Any] = pieces[starts[:-1].astype(np.int64), 1] == CLOSED
+        self.profiles = header.profiles
+        self.np = np
+
+    def lowest_closed(self) -> int | None:
+        """The profile that closed roads get."""
+        found = self.np.flatnonzero(self.is_closed)
+        return int(found[0]) if len(found) else None
+
+    def spare(self) -> int:
+        """The lowest profile that no road has and that isn't kept for closed roads."""
+        free = self.count == 0
+        closed = self.lowest_closed()
+        if closed is not None:
+            free[closed] = False
+        found = self.np.flatnonzero(free)
+        if not len(found):
+            raise Refusal(409, "no spare profile", hint="build the file from tables with more profiles that no road has")
+        return int(found[0])
+
+    def is_own(self, road: int) -> bool:
+        """Whether no other road has a road's profile, and that isn't kept for closed roads."""
+        profile = int(self.of_road[road])
+        return int(self.count[profile]) == 1 and profile != self.lowest_closed()
+
+    def set_pieces(self, profile: int, pieces: str) -> str:
+        """The line that gives a profile pieces. One that isn't there is refused by the program."""
+        if profile < self.profiles:
+            self.is_closed[profile] = ",closed," in f",{pieces},"
+        return f"s,{profile},{pieces}"
+
+    def set_profile(self, road: int, profile: int) -> str:
+        """The line that gives a road a profile."""
+        if road < len(self.of_road) and profile < self.profiles:
+            self.count[self.of_road[road]] -= 1
+            self.count[profile] += 1
+            self.of_road[road] = profile
+        return f"a,{road},{profile}"
+
+
+def lines_of(edits: list[Edit], profiles: Profiles) -> tuple[list[str], list[int]]:
+    """The edit lines of edits, and for each line which edit, counted from 1, it is of."""
+    lines: list[str] = []
+    of: list[int] = []
+    for number, edit in enumerate(edits, 1):
+        made = lines_of_edit(edit, profiles)
+        lines += made
+        of += [number] * len(made)
+    return lines, of
+
+
+def lines_of_edit(edit: Edit, profiles: Profiles) -> list[str]:
+    if edit.roads is None:
+        assert edit.profile is not None and edit.pieces is not None
+        return [profiles.set_pieces(edit.profile, edit.pieces)]
+    if edit.profile is not None:
+        return [profiles.set_profile(road, edit.profile) for road in edit.roads]
+    lines: list[str] = []
+    for road in edit.roads:
+        lines += closed_road(road, profiles) if edit.is_closed else own_pieces(road, edit.pieces or "", profiles)
+    return lines
+
+
+def closed_road(road: int, profiles: Profiles) -> list[str]:
+    closed = profiles.lowest_closed()
+    return own_pieces(road, "0,closed,0", profiles) if closed is None else [profiles.set_profile(road, closed)]
+
+
+def own_pieces(road: int, pieces: str, profiles: Profiles) -> list[str]:
+    if road >= len(profiles.of_road):
+        # The program says what is wrong with it.
+        return [profiles.set_profile(road, 0)]
+    if profiles.is_own(road):
+        return [profiles.set_pieces(int(profiles.of_road[road]), pieces)]
+    profile = profiles.spare()
+    return [profiles.set_pieces(profile, pieces), profiles.set_profile(road, profile)]

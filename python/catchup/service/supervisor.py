@@ -1,0 +1,333 @@
+"""The processes of a service: gunicorn's arbiter, which keeps workers alive, and uvicorn's workers."""
+
+from __future__ import annotations
+
+import asyncio
+import contextlib
+import functools
+import logging
+import os
+import resource
+import shutil
+import signal
+import socket
+import sys
+import time
+from pathlib import Path
+from typing import Any, Final
+
+from uvicorn.config import Config
+from uvicorn.server import Server
+
+from catchup.errors import Failure
+from catchup.program import Child, find_program, run_program
+from catchup.service.accepting import UNUSED, Acceptor, Counts
+from catchup.service.app import Front, make_app
+from catchup.service.limits import DRAIN_SECONDS, LAST_SECONDS, MOST_CONNECTIONS
+from catchup.service.metrics import forget_worker, make_folder
+from catchup.service.options import Options
+from catchup.service.process import end_with
+from catchup.service.protocol import Connection
+from catchup.service.tables import draw_networks
+from catchup.service.versions import Kept, tell
+from catchup.service.worker import Worker, said_of
+
+BACKLOG: Final = 2_048
+SPARE_FILES: Final = 128                # for all but connections
+LARGE_PAGES: Final = "glibc.malloc.hugetlb=1"   # as the launcher has them
+STUCK_SECONDS: Final = 20               # after which a worker that gives no sign is ended
+DRAIN_PAUSE: Final = 0.05
+START_PAUSE: Final = 0.1
+ASK_SECONDS: Final = 0.5                # after which workers are asked again to end: one that has just begun missed it
+UVICORN: Final[dict[str, Any]] = {
+    "loop": "uvloop", "lifespan": "off", "log_config": None, "access_log": False, "date_header": False, "server_header": False,
+    "proxy_headers": False, "ws": "none"}
+
+try:
+    from gunicorn.app.base import BaseApplication
+    from gunicorn.arbiter import Arbiter
+    from gunicorn.glogging import Logger
+    from gunicorn.sock import close_sockets
+    from uvicorn.workers import UvicornWorker
+except ImportError:
+    HAS_GUNICORN = False
+else:
+    HAS_GUNICORN = True
+
+
+class Setting:
+    """What the main process has found out, and each worker needs."""
+
+    options: Options
+    folder: Path
+    drawn: dict[Path, bytes]
+    kept: dict[Path, Kept]
+    most: int
+    counts: Counts
+
+
+class DrainingServer(Server):  # type: ignore[misc]
+    """uvicorn's server, which lets what is in work come to its end, and no longer than it may."""
+
+    worker: Worker
+    slot: int
+
+    async def startup(self, sockets: list[socket.socket] | None = None) -> None:
+        """Opens the files, and takes clients from then on. Where the end is asked for meanwhile, nothing is waited for."""
+        starting = asyncio.create_task(self.worker.start())
+        while not starting.done() and not self.should_exit:
+            await asyncio.wait({starting}, timeout=START_PAUSE)
+        if self.should_exit:
+            starting.cancel()
+            return
+        await starting
+        make = functools.partial(self.config.http_protocol_class, config=self.config, server_state=self.server_state)
+        everyone = self.worker.crowd.everyone
+        self.acceptors = [Acceptor(each, make, Setting.counts, self.slot, everyone.__len__) for each in sockets or []]
+        self.worker.acceptors = self.acceptors
+        self.started = True
+
+    async def shutdown(self, sockets: list[socket.socket] | None = None) -> None:
+        """Takes no more connections, answers what is in work, and ends edits that aren't ready in time."""
+        worker, loop = self.worker, asyncio.get_running_loop()
+        began = loop.time()
+        worker.is_ending = True
+        for each in self.acceptors:
+            each.close()
+        worker.crowd.end()
+        has_ended_edits = False
+        while self.is_busy() and loop.time() < began + LAST_SECONDS:
+            if not has_ended_edits and loop.time() > began + DRAIN_SECONDS:
+                has_ended_edits = True
+                worker.end_edits()
+            await asyncio.sleep(DRAIN_PAUSE)
+        for connection in list(worker.crowd.everyone):
+            connection.abort()
+        await worker.end()
+
+    def is_busy(self) -> bool:
+        """Whether something is in work."""
+        return bool(self.worker.crowd.everyone) or any(editor.works for editor in self.worker.editors.values())
+
+
+async def serve(sockets: list[socket.socket], slot: int, notify: Any = None, pause: float = 0.0) -> None:
+    """Serves in this process until a signal comes."""
+    asyncio.get_running_loop().set_exception_handler(tell_error)
+    worker = Worker(Setting.options, Setting.folder, Setting.drawn, Setting.kept, Setting.most)
+    front = Front(worker, make_app(worker))
+    config = Config(front, http=functools.partial(Connection, worker.crowd), backlog=BACKLOG, callback_notify=notify,
+                    timeout_notify=pause, **UVICORN)
+    server = DrainingServer(config)
+    server.worker, server.slot = worker, slot
+    await server.serve(sockets=sockets)
+    # It ends by itself: another request to end is too late.
+    signal.pthread_sigmask(signal.SIG_BLOCK, {signal.SIGTERM})
+
+
+if HAS_GUNICORN:
+    class OneLine(Logger):  # type: ignore[misc]
+        """gunicorn's log, with a line for an error in place of a trace."""
+
+        def exception(self, msg: str, *args: Any, **kwargs: Any) -> None:
+            """An error that ended a worker."""
+            problem = sys.exc_info()[1]
+            tell(f"{msg}: {said_of(problem) if problem is not None else ''}")
+
+    class ServiceWorker(UvicornWorker):  # type: ignore[misc]
+        """A worker that ends with its arbiter."""
+
+        def init_process(self) -> None:
+            end_with(self.ppid)
+            super().init_process()
+
+        def run(self) -> None:
+            # An interrupt of a terminal is for the arbiter, which asks the workers to end.
+            asyncio.run(serve_sockets(self))
+            # All is closed; Python's own end would take its time.
+            os._exit(0)
+
+        def init_signals(self) -> None:
+            super().init_signals()
+            signal.signal(signal.SIGINT, signal.SIG_IGN)
+            # Until the server itself takes it.
+            signal.signal(signal.SIGTERM, lambda *_: sys.exit(0))
+
+    async def serve_sockets(worker: Any) -> None:
+        await serve([each.sock for each in worker.sockets], worker.slot, worker.callback_notify, worker.timeout / 2)
+
+    class ServiceArbiter(Arbiter):  # type: ignore[misc]
+        """gunicorn's arbiter, but an interrupt lets requests in work come to their end, and a reload needs good files."""
+
+        def stop(self, graceful: bool = True) -> None:
+            """Asks the workers to end, and ends those that don't in time."""
+            close_sockets(self.LISTENERS, False)
+            self.LISTENERS: list[Any] = []
+            began = asked = time.monotonic()
+            self.kill_workers(signal.SIGTERM)
+            while self.WORKERS and time.monotonic() < began + LAST_SECONDS + START_PAUSE:
+                time.sleep(DRAIN_PAUSE)
+                if time.monotonic() > asked + ASK_SECONDS:
+                    asked = time.monotonic()
+                    self.kill_workers(signal.SIGTERM)
+            self.kill_workers(signal.SIGKILL)
+
+        def manage_workers(self) -> None:
+            """Starts workers where there are too few, over the files that the others serve."""
+            for kept in Setting.kept.values():
+                kept.follow()
+            super().manage_workers()
+
+        def handle_int(self) -> None:
+            """As a request to terminate."""
+            raise StopIteration
+
+        handle_quit = handle_int
+
+        def handle_usr2(self) -> None:
+            """gunicorn would start another service beside this one."""
+
+        def handle_winch(self) -> None:
+            """gunicorn would end the workers."""
+
+        def handle_hup(self) -> None:
+            """Starts workers anew, where they could serve."""
+            try:
+                check_files(Setting.options)
+                Setting.options.gates()
+                Setting.drawn = draw_networks(Setting.options)
+            except Failure as problem:
+                tell(f"nothing is reloaded: {problem}")
+                return
+            super().handle_hup()
+
+    class Service(BaseApplication):  # type: ignore[misc]
+        """gunicorn's application: what it is told in place of a file of settings."""
+
+        def __init__(self, listener: socket.socket) -> None:
+            self.address = address_of(listener)
+            # gunicorn closes the descriptor that it is given, and listens by one of its own.
+            self.descriptor = listener.detach()
+            super().__init__()
+
+        def load_config(self) -> None:
+            settings = {
+                "bind": f"fd://{self.descriptor}", "workers": Setting.options.workers, "worker_class": f"{__name__}.ServiceWorker", "logger_class": OneLine,
+                "timeout": STUCK_SECONDS, "backlog": BACKLOG, "loglevel": "warning",
+                "proc_name": "catchup-http", "pre_fork": take_slot, "child_exit": let_go,
+                "when_ready": lambda _: tell_ready(self.address), "worker_tmp_dir": "/dev/shm" if os.path.isdir("/dev/shm") else None}
+            for name, value in settings.items():
+                self.cfg.set(name, value)
+
+        def load(self) -> Any:
+            """Workers make the application themselves."""
+            return None
+
+
+def tell_error(_: asyncio.AbstractEventLoop, context: dict[str, Any]) -> None:
+    """An error that nobody waits for, in one line."""
+    problem = context.get("exception")
+    tell(f"an error that should not be: {context.get('message', '')} {said_of(problem) if problem is not None else ''}")
+
+
+def take_slot(_: object, worker: Any) -> None:
+    """Gives a worker that is about to start its place among the counts."""
+    worker.slot = Setting.counts.take_slot()
+    # Two that start behind one another get two.
+    Setting.counts.cells[worker.slot] = 0
+
+
+def let_go(_: object, worker: Any) -> None:
+    """A worker is gone."""
+    Setting.counts.cells[worker.slot] = UNUSED
+    # This is called by a signal, in the middle of anything.
+    with contextlib.suppress(OSError):
+        forget_worker(worker.pid)
+
+
+def address_of(listener: socket.socket) -> str:
+    """Where a socket listens, as an address of the web."""
+    host, port = listener.getsockname()[:2]
+    return f"http://{f'[{host}]' if ':' in host else host}:{port}/"
+
+
+def tell_ready(address: str) -> None:
+    """Says where the service listens; standard output may be closed."""
+    with contextlib.suppress(OSError):
+        os.write(1, f"listening on {address}\n".encode())
+
+
+def listen(options: Options) -> socket.socket:
+    """The socket that all workers take their clients from."""
+    try:
+        family = socket.getaddrinfo(options.host, options.port, type=socket.SOCK_STREAM)[0][0]
+        listener = socket.create_server((options.host, options.port), family=family, backlog=BACKLOG)
+    except OSError as problem:
+        raise Failure(f"can't listen on {options.host} port {options.port}: {problem.strerror}") from None
+    listener.set_inheritable(False)
+    return listener
+
+
+class Unserved(Failure):
+    """A file that can't be served as the service starts: the status is the program's."""
+
+    def __init__(self, text: str, status: int) -> None:
+        super().__init__(text)
+        self.status = status
+
+
+def check_files(options: Options) -> None:
+    """Refuses files that the program doesn't open."""
+    for file in options.files:
+        found = run_program(["ask", file.path], input="-\n")
+        if found.output != "refused: line\n":
+            said = found.output.strip() or found.error.strip()
+            raise Unserved(f"{file.path} can't be served: the program ended with status {found.status}: {said}",
+                           found.status if 0 < found.status < 126 else 1)
+
+
+def find_at_once(options: Options) -> None:
+    """Finds the program that the launcher starts, once for all children: the launcher looks through its sources each time.
+    A program that CATCHUP names is started as it is."""
+    if os.environ.get("CATCHUP"):
+        return
+    with Child(["ask", options.files[0].path]) as child:
+        child.ask("-")
+        path = os.readlink(f"/proc/{child.pid}/exe")
+    if os.path.basename(path) == "catchup":
+        os.environ["CATCHUP"] = path
+        os.environ.setdefault("GLIBC_TUNABLES", LARGE_PAGES)
+
+
+def allow_files() -> int:
+    """Allows as many open files as connections need, and answers how many connections a worker may have."""
+    soft, hard = resource.getrlimit(resource.RLIMIT_NOFILE)
+    most = hard if hard != resource.RLIM_INFINITY else 1 << 20
+    soft = max(soft, min(most, MOST_CONNECTIONS + SPARE_FILES))
+    resource.setrlimit(resource.RLIMIT_NOFILE, (soft, hard))
+    return max(min(MOST_CONNECTIONS, soft - SPARE_FILES), 8)
+
+
+def start(options: Options) -> None:
+    """Serves until a signal asks for the end."""
+    find_program()
+    check_files(options)
+    find_at_once(options)
+    Setting.options = options
+    Setting.drawn = draw_networks(options)
+    Setting.most = allow_files()
+    Setting.counts = Counts()
+    listener = listen(options)
+    logging.raiseExceptions = False
+    Setting.folder = make_folder()
+    main = os.getpid()
+    try:
+        Setting.kept = {file.path: Kept(file.path, Setting.folder / f"served{at}") for at, file in enumerate(options.files)}
+        if HAS_GUNICORN:
+            ServiceArbiter(Service(listener)).run()
+        else:
+            tell("gunicorn isn't installed: one worker serves, and nobody starts it again where it dies")
+            tell_ready(address_of(listener))
+            asyncio.run(serve([listener], Setting.counts.take_slot()))
+    finally:
+        if os.getpid() == main:
+            shutil.rmtree(Setting.folder, ignore_errors=True)

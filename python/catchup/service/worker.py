@@ -1,0 +1,163 @@
+"""What one worker process holds: its networks, their editors, who gets in, and what it counts."""
+
+from __future__ import annotations
+
+import asyncio
+import contextlib
+import os
+import sqlite3
+from collections.abc import Coroutine
+from pathlib import Path
+from typing import TYPE_CHECKING, Any
+
+from starlette.requests import Request
+
+from catchup.program import find_program
+from catchup.service.accepting import Acceptor
+from catchup.service.answers import as_json
+from catchup.service.editor import Editor, Refused
+from catchup.service.errors import Refusal, told_briefly
+from catchup.service.limits import WATCH_SECONDS
+from catchup.service.metrics import Metrics, first_to_tell
+from catchup.service.options import Options
+from catchup.service.protocol import Crowd, Headers
+from catchup.service.reads import Tables
+from catchup.service.versions import AGAIN_SECONDS, Kept, Network, tell, watch
+from catchup.service.words import number_of
+
+if TYPE_CHECKING:
+    from catchup.service.replicas import Log
+
+
+class Worker:
+    """One process of a service."""
+
+    def __init__(self, options: Options, folder: Path | None, drawn: dict[Path, bytes], kept: dict[Path, Kept], most: int) -> None:
+        self.options = options
+        self.folder = folder
+        self.gates = options.gates()
+        self.program = str(find_program())
+        self.metrics = Metrics()
+        self.networks = [
+            Network(file.name, file.path, self.program, kept.get(file.path), lambda line: first_to_tell(folder, line))
+            for file in options.files]
+        self.by_name = {network.name: network for network in self.networks}
+        # A file without a name answers to every name.
+        self.unnamed = self.by_name.get(None)
+        self.drawn = {network: drawn[file.path] for network, file in zip(self.networks, options.files) if file.path in drawn}
+        self.editors = {network: Editor(network, self.program) for network in self.networks}
+        self.crowd = Crowd(most, self.error, self.metrics.told, log_access if options.has_access_log else None)
+        self.acceptors: list[Acceptor] = []
+        self.tables = Tables()
+        self.log: Log | None = None
+        self.tasks: set[asyncio.Task[Any]] = set()
+        self.is_ending = False
+
+    async def start(self) -> None:
+        """Opens the files, waiting for one that can be served, and begins to look at them."""
+        for network in self.networks:
+            await network.open()
+            while not hasattr(network, "current"):
+                # There was no memory for it, say. The workers that have a version go on with it.
+                await asyncio.sleep(AGAIN_SECONDS)
+                network.tried = None
+                await network.open()
+            await self.editors[network].start()
+        if self.options.log is not None:
+            from catchup.service.replicas import Log
+
+            self.log = Log(self.options.log, self.networks[0], self.editors[self.networks[0]], self.folder, self.roads_of)
+            self.keep(self.log.run())
+        await self.each_second()
+        self.keep(watch(self.networks, WATCH_SECONDS, self.each_second))
+
+    async def each_second(self) -> None:
+        """What is due each second."""
+        self.crowd.tick(asyncio.get_running_loop().time())
+        for acceptor in self.acceptors:
+            acceptor.tell()
+        self.metrics.children.set(sum(
+            not child.gone.is_set() for network in self.networks for child in (network.current.quick, network.current.slow)))
+
+    def end_edits(self) -> None:
+        """The service ends and can't wait longer for edits."""
+        for editor in self.editors.values():
+            editor.cancel_all(Refusal(503, "the service ends, and the edit wasn't ready: nothing has changed"))
+
+    async def end(self) -> None:
+        """Ends all that it has begun."""
+        for task in list(self.tasks):
+            task.cancel()
+        await asyncio.gather(*self.tasks, return_exceptions=True)
+        if self.log is not None:
+            await self.log.close()
+        for network in self.networks:
+            network.end()
+
+    def keep(self, coroutine: Coroutine[Any, Any, Any]) -> asyncio.Task[Any]:
+        """A task that goes on whoever asked for it, and whose errors are told where nobody waits for it."""
+        task = asyncio.get_running_loop().create_task(coroutine)
+        self.tasks.add(task)
+        task.add_done_callback(self.let_go)
+        return task
+
+    def let_go(self, task: asyncio.Task[Any]) -> None:
+        self.tasks.discard(task)
+        if not task.cancelled() and (problem := task.exception()) is not None and not isinstance(problem, (Refusal, Refused)):
+            tell(f"an error that should not be: {said_of(problem)}")
+
+    def network(self, profile: str | None) -> Network:
+        """The network of a profile's name, the first where none is said."""
+        if profile is None:
+            return self.networks[0]
+        found = self.by_name.get(profile, self.unnamed)
+        if found is None:
+            known = ", ".join(str(network.name) for network in self.networks)
+            raise Refusal(400, "InvalidValue", hint=f"there is no profile {told_briefly(profile)}: {known}")
+        return found
+
+    def roads_of(self, text: str) -> list[int]:
+        """The roads of an outside name; without such names a road is its number."""
+        with contextlib.suppress(ValueError):
+            return [number_of(text.removeprefix("road:"))]
+        return []
+
+    def version(self) -> str:
+        """The version that this worker serves of the first file."""
+        return self.networks[0].current.name
+
+    def error(self, status: int, text: str) -> tuple[Headers, bytes]:
+        """The headers and the body of an error that comes before any path is known."""
+        version = self.version()
+        headers = [(b"content-type", b"application/json"), (b"catchup-version", version.encode())]
+        return headers, as_json({"error": text, "version": version})
+
+    def job_counts(self) -> dict[str, int]:
+        """How many jobs of all files there are in each state."""
+        found: dict[str, int] = {}
+        for editor in self.editors.values():
+            with contextlib.suppress(sqlite3.Error):
+                for state, count in editor.jobs.counts().items():
+                    found[state] = found.get(state, 0) + count
+        return found
+
+
+def worker_of(request: Request) -> Worker:
+    """The worker that answers a request."""
+    found: Worker = request.app.state.worker
+    return found
+
+
+def log_access(line: str) -> None:
+    """A line of the access log, on standard error: the client, what it asked, the status and milliseconds."""
+    with contextlib.suppress(OSError):
+        os.write(2, line.encode("ascii", "replace") + b"\n")
+
+
+def said_of(problem: BaseException) -> str:
+    """An error of the service's own in one line, with where it came from."""
+    at, trace = "", problem.__traceback__
+    while trace is not None:
+        at = f" at {Path(trace.tb_frame.f_code.co_filename).name}:{trace.tb_lineno}"
+        trace = trace.tb_next
+    return f"{type(problem).__name__}: {' '.join(str(problem).split())[:300]}{at}"

@@ -1,0 +1,65 @@
+"""How tests run the commands of bin/ as a stranger does."""
+
+from __future__ import annotations
+
+import os
+import signal
+import subprocess
+import time
+from collections.abc import Mapping
+from pathlib import Path
+from typing import NamedTuple
+
+BIN = Path(__file__).resolve().parents[2] / "bin"
+
+
+class Ran(NamedTuple):
+    """Status, standard output and standard error of a command."""
+
+    status: int
+    output: str
+    error: str
+
+
+def run(
+    name: str, *words: str | Path, input: str | bytes = b"", cwd: Path | None = None, env: Mapping[str, str] | None = None
+) -> Ran:
+    """Runs bin/NAME to its end, at most two minutes."""
+    said = input.encode() if isinstance(input, str) else input
+    done = subprocess.run(
+        [BIN / name, *words], input=said, capture_output=True, timeout=120, cwd=cwd, env={**os.environ, **(env or {})}
+    )
+    return Ran(done.returncode, done.stdout.decode(), done.stderr.decode())
+
+
+def check_refused(ran: Ran, status: int, said: str) -> None:
+    """That a command ended so, printed nothing, and said one line with these words."""
+    assert (ran.status, ran.output) == (status, "") and said in ran.error and ran.error.count("\n") == 1, ran
+
+
+def run_into_closed_pipe(name: str, *words: str | Path, input: bytes = b"", cwd: Path | None = None) -> Ran:
+    """Runs bin/NAME with an output that nobody reads."""
+    reader, writer = os.pipe()
+    os.close(reader)
+    try:
+        done = subprocess.run([BIN / name, *words], input=input, stdout=writer, stderr=subprocess.PIPE, timeout=120, cwd=cwd)
+    finally:
+        os.close(writer)
+    return Ran(done.returncode, "", done.stderr.decode())
+
+
+def interrupt(process: subprocess.Popen[bytes], after: Path, seconds: float = 60) -> tuple[int, bytes]:
+    """Interrupts a command, with all that it has started, once a file is there; its status and what it said."""
+    until = time.monotonic() + seconds
+    while not after.exists():
+        assert process.poll() is None and time.monotonic() < until, "the command never came so far"
+        time.sleep(0.02)
+    os.killpg(process.pid, signal.SIGINT)
+    _, error = process.communicate(timeout=seconds)
+    return process.returncode, error
+
+
+def without_tools(folder: Path) -> dict[str, str]:
+    """An environment whose PATH has nothing but a Python."""
+    folder.mkdir(exist_ok=True)
+    return {"PATH": str(folder)}

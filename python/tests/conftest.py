@@ -1,0 +1,115 @@
+"""What the tests share: the program, the examples built, and which tests are long."""
+
+from __future__ import annotations
+
+import os
+import shutil
+import sys
+import tempfile
+from collections.abc import Iterator
+from pathlib import Path
+
+# Hypothesis keeps tables of characters in a folder; it must not be one of the checkout.
+os.environ.setdefault("HYPOTHESIS_STORAGE_DIRECTORY", os.path.join(tempfile.gettempdir(), "catchup-hypothesis"))
+sys.dont_write_bytecode = True
+
+import pytest  # noqa: E402
+from reporting import pytest_make_collect_report, pytest_terminal_summary  # noqa: E402, F401
+from scripts import let_through, make_clone, set_writable  # noqa: E402
+from stub_checkout import Checkout  # noqa: E402
+
+from catchup.errors import CatchupError  # noqa: E402
+from catchup.program import Child, run_program  # noqa: E402
+
+TOP = Path(__file__).resolve().parents[2]
+EXAMPLES = TOP / "examples"
+
+try:
+    import hypothesis
+except ModuleNotFoundError:
+    # The tests that import it are skipped.
+    pass
+else:
+    # The same examples each time, and no limit of time for one: these machines are shared.
+    hypothesis.settings.register_profile("catchup", deadline=None, derandomize=True, database=None)
+    hypothesis.settings.load_profile("catchup")
+
+
+def pytest_addoption(parser: pytest.Parser) -> None:
+    parser.addoption("--long", action="store_true", help="run the tests that are marked as long too")
+
+
+def pytest_collection_modifyitems(config: pytest.Config, items: list[pytest.Item]) -> None:
+    if config.getoption("--long"):
+        return
+    for item in items:
+        if item.get_closest_marker("long"):
+            item.add_marker(pytest.mark.skip(reason="takes long: run with --long"))
+
+
+@pytest.fixture(scope="session")
+def program() -> Path:
+    """The path of the program; skips where there is none. From then on the tests start it without the launcher, which
+    looks at each source first."""
+    tables = [EXAMPLES / "rush_hour" / name for name in ("nodes.csv", "roads.csv", "profiles.csv")]
+    try:
+        with Child(["serve", *tables, "identity"]) as child:
+            child.ask("q,0,2,0")
+            found = Path(os.readlink(f"/proc/{child.pid}/exe"))
+    except CatchupError as error:
+        pytest.skip(f"the program doesn't run here: {error}")
+    os.environ["CATCHUP"] = str(found)
+    return found
+
+
+def build(folder: Path, out: Path, order: str = "dissect") -> Path:
+    """Builds the packed file of a folder's three tables."""
+    tables = [folder / name for name in ("nodes.csv", "roads.csv", "profiles.csv")]
+    run = run_program(["build", *tables, order, out])
+    assert run.status == 0, run
+    return out
+
+
+@pytest.fixture(scope="session")
+def town(program: Path, tmp_path_factory: pytest.TempPathFactory) -> Path:
+    """The packed file of examples/town: 159 nodes, 550 roads. Tests don't write it."""
+    return build(EXAMPLES / "town", tmp_path_factory.mktemp("town") / "town.cu")
+
+
+@pytest.fixture(scope="session")
+def rush_hour() -> Path:
+    """The folder of the tables of examples/rush_hour: 3 nodes, 3 roads, 3 profiles. Tests don't write it."""
+    return EXAMPLES / "rush_hour"
+
+
+@pytest.fixture(scope="session")
+def clone(tmp_path_factory: pytest.TempPathFactory) -> Path:
+    """A clean clone of the checkout as it stands, in which tests write nothing that git would show.
+
+    It has some thousand files, so there is one: tests that take it are marked by `xdist_group("clone")`.
+    """
+    return make_clone(tmp_path_factory.mktemp("clean") / "clone")
+
+
+@pytest.fixture
+def checkout(tmp_path: Path) -> Iterator[Checkout]:
+    """A checkout of stubs, of which nothing is built."""
+    let_through(tmp_path)
+    yield Checkout(tmp_path)
+    set_writable(tmp_path, True)
+
+
+@pytest.fixture
+def built(checkout: Checkout) -> Checkout:
+    """A checkout of stubs whose program is built, and which goes by times from now on."""
+    assert checkout.launch() == (0, "one")
+    checkout.date_word()
+    return checkout
+
+
+@pytest.fixture
+def released(built: Checkout) -> Checkout:
+    """A checkout of stubs with a released program and none that was built."""
+    assert built.call("release").status == 0
+    shutil.rmtree(built.out)
+    return built

@@ -1,0 +1,58 @@
+"""packaging/needs.txt: what the Python package imports is supplied by a package of the list."""
+
+from __future__ import annotations
+
+import ast
+import importlib.util
+import shutil
+import sys
+from collections.abc import Iterator
+from pathlib import Path
+
+import pytest
+from scripts import TOP, run
+
+NEEDS = [line.split(None, 2) for line in (TOP / "packaging/needs.txt").read_text().splitlines() if not line.startswith("#")]
+KINDS = {"depends", "recommends", "suggests", "tests"}
+
+
+def imported(place: Path) -> Iterator[str]:
+    """The first words of what a module imports, wherever in it."""
+    for node in ast.walk(ast.parse(place.read_text())):
+        if isinstance(node, ast.Import):
+            yield from (alias.name.partition(".")[0] for alias in node.names)
+        elif isinstance(node, ast.ImportFrom) and node.module and not node.level:
+            yield node.module.partition(".")[0]
+
+
+def others(folder: Path) -> list[str]:
+    """What the modules of a folder import of others: not of Python itself, nor of the folder and its neighbours."""
+    own = {place.stem for place in folder.iterdir()} | {"catchup"}
+    names = {name for place in folder.rglob("*.py") for name in imported(place)}
+    return sorted(names - own - sys.stdlib_module_names)
+
+
+def test_lines() -> None:
+    assert all(len(line) == 3 and line[1] in KINDS for line in NEEDS)
+    names = [line[0] for line in NEEDS]
+    assert len(set(names)) == len(names)
+
+
+@pytest.mark.parametrize(
+    ("module", "kinds"),
+    [
+        *((name, KINDS - {"tests"}) for name in others(TOP / "python/catchup")),
+        *((name, KINDS) for name in others(TOP / "python/tests") if name not in others(TOP / "python/catchup")),
+    ],
+)
+def test_what_is_imported_is_in_the_list(module: str, kinds: set[str]) -> None:
+    if not shutil.which("dpkg-query"):
+        pytest.skip("dpkg-query isn't installed, which tells whose a module is")
+    found = importlib.util.find_spec(module)
+    if found is None or not (found.origin or found.submodule_search_locations):
+        pytest.skip(f"the module {module} isn't installed")
+    place = found.origin or list(found.submodule_search_locations or [])[0]
+    status, out, err = run(["dpkg-query", "-S", place])
+    assert status == 0, err
+    owner = out.partition(":")[0]
+    assert [line[1] in kinds for line in NEEDS if line[0] == owner] == [True], f"{module} is of {owner}"

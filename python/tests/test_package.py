@@ -1,0 +1,42 @@
+"""The package as a whole: commands of bin/ and of pyproject.toml are the same, and each tells its words."""
+
+from __future__ import annotations
+
+import re
+import tomllib
+from importlib import import_module
+from pathlib import Path
+
+import pytest
+from commands import BIN, run
+
+PROJECT = tomllib.loads((BIN.parent / "python" / "pyproject.toml").read_text())["project"]
+SCRIPTS: dict[str, str] = PROJECT["scripts"]
+
+
+def test_the_version_is_said_once() -> None:
+    assert import_module("catchup").__version__ == PROJECT["version"]
+
+
+def test_each_script_of_bin_calls_the_function_of_the_project() -> None:
+    calls = {}
+    for path in BIN.iterdir():
+        text = path.read_text(errors="replace") if path.is_file() else ""
+        if "from catchup.commands import" in text:
+            module = text.rpartition("import ")[2].partition(";")[0]
+            assert text.startswith("#!/usr/bin/python3\n") and text.endswith(f"{module}.main()\n") and text.count("\n") == 2, path
+            calls[path.name] = f"catchup.commands.{module}:main"
+    assert calls == SCRIPTS
+
+
+@pytest.mark.parametrize("name", sorted(SCRIPTS))
+def test_each_command_tells_its_words_with_an_example(name: str) -> None:
+    ran = run(name, "--help")
+    assert ran.status == 0 and ran.error == "" and ran.output.startswith(f"Usage: {name} ")
+    words = " ".join(ran.output.split())
+    assert re.search(rf"Example: [^:]*\b{re.escape(name)} ", words)
+
+
+def test_modules_are_small() -> None:
+    for path in Path(BIN.parent / "python").rglob("*.py"):
+        assert len(path.read_text().splitlines()) < 800, path

@@ -1,0 +1,376 @@
+"""The library: values, errors, threads, pools, edits in every process, closing; plain and for asyncio."""
+
+from __future__ import annotations
+
+import asyncio
+import gc
+import inspect
+import os
+import random
+import signal
+import stat
+import subprocess
+import sys
+import threading
+from collections.abc import Callable, Coroutine
+from pathlib import Path
+from typing import Any
+
+import pytest
+
+import catchup
+from catchup import AsyncPlanner, Damaged, Day, Ended, Failure, Matrix, NoMemory, Piece, Planner, Reach, Refused, Route, TooLate
+from catchup.planner import reach_question, table_question
+from catchup.program import run_program
+
+ROADS_SHUT = [(0, "closed", 0)]
+
+
+@pytest.fixture(params=["plain", "asyncio"])
+def call(request: pytest.FixtureRequest, rush_hour: Path) -> Callable[[Callable[[Any], Any]], Any]:
+    """Runs a function of a planner over examples/rush_hour, of either kind; results may be awaitable."""
+
+    async def in_loop(use: Callable[[Any], Any]) -> Any:
+        async with await AsyncPlanner.from_tables(rush_hour, order="identity", processes=2) as planner:
+            result = use(planner)
+            return await result if inspect.isawaitable(result) else result
+
+    def run(use: Callable[[Any], Any]) -> Any:
+        if request.param == "asyncio":
+            return asyncio.run(in_loop(use))
+        with Planner.from_tables(rush_hour, order="identity", processes=2) as planner:
+            return use(planner)
+
+    return run
+
+
+def stub(folder: Path, text: str, monkeypatch: pytest.MonkeyPatch) -> None:
+    """A program that answers each line as a shell script says, whose first word is its number of start."""
+    path = folder / "stub"
+    path.write_text(f"#!/bin/sh\nset -- $(ls '{folder}' | grep -c started)\n: >'{folder}'/started$1\n{text}")
+    path.chmod(path.stat().st_mode | stat.S_IXUSR)
+    monkeypatch.setenv("CATCHUP", str(path))
+
+
+# ---- values ----
+
+VALUES: list[tuple[str, Callable[[Any], Any], Any]] = [
+    ("route", lambda p: p.route(0, 2, "08:00"), Route(0, 2, 28800, 29050, (2,))),
+    ("route at a second", lambda p: p.route(0, 2, 0), Route(0, 2, 0, 160, (0, 1))),
+    ("route to where one is", lambda p: p.route(1, 1, "0:05"), Route(1, 1, 300, 300, ())),
+    ("no route", lambda p: p.route(2, 0, 0), None),
+    ("day", lambda p: p.day(1, 2), Day((Piece(0, "travel", 100), Piece(28800, "travel", 300), Piece(35801, "until", 36100), Piece(36001, "travel", 100)))),
+    ("no day", lambda p: p.day(2, 0), None),
+    ("reach", lambda p: p.reach(1, "08:00"), Reach((None, 28800, 29100))),
+    ("table", lambda p: p.table([0, 1], [2, 0], "08:00"), Matrix((0, 1), (2, 0), 28800, ((29050, 28800), (29100, None)))),
+    ("table without targets", lambda p: p.table([0, 1], [], 0), Matrix((0, 1), (), 0, ((), ()))),
+    ("table without sources", lambda p: p.table([], [1], 0), Matrix((), (1,), 0, ())),
+    ("latest", lambda p: p.latest(0, 2, "10:01:40"), Route(0, 2, 35940, 36100, (0, 1))),
+    ("latest on a later day", lambda p: p.latest(0, 2, 90000), Route(0, 2, 86399, 86559, (0, 1))),
+    ("too late", lambda p: p.latest(0, 2, 159), TooLate()),
+    ("no latest", lambda p: p.latest(2, 0, 50), None),
+    ("edit of a profile", lambda p: p.edit_profile(2, ROADS_SHUT), 2),
+    ("edit of a road", lambda p: p.edit_road(2, 1), 2),
+]  # fmt: skip
+
+
+@pytest.mark.parametrize("use, value", [row[1:] for row in VALUES], ids=[row[0] for row in VALUES])
+def test_values(program: Path, call: Callable[[Any], Any], use: Callable[[Any], Any], value: Any) -> None:
+    found = call(use)
+    if isinstance(value, int):
+        assert isinstance(found, int) and found >= 1
+    else:
+        assert found == value
+
+
+def test_a_route_tells_its_times() -> None:
+    route = Route(0, 2, 86000, 87000, (1,))
+    assert (route.seconds, route.departure, route.arrival) == (1000, "23:53:20", "00:10:00 (+1 day)")
+    assert route.duration == "16 min 40 s"
+
+
+WRONG: list[tuple[Callable[[Any], Any], type[Exception], str]] = [
+    (lambda p: p.route(0, 3, 0), Refused, "node"),
+    (lambda p: p.route(0, 2, 86400), Refused, "second"),
+    (lambda p: p.route(-1, 2, 0), Refused, "line"),
+    (lambda p: p.route(0, 2, "8 o'clock"), ValueError, "no time of day"),
+    (lambda p: p.route("0", 2, 0), TypeError, ""),
+    (lambda p: p.route(0, 2.5, 0), TypeError, ""),
+    (lambda p: p.edit_profile(9, ROADS_SHUT), Refused, "profile"),
+    (lambda p: p.edit_profile(0, [(0, "travel", 5), ("10:00", "travel", 1)]), Refused, "fifo 35999"),
+    (lambda p: p.edit_profile(0, [(0, "until", "09:00")]), Refused, "early 32401"),
+    (lambda p: p.edit_profile(0, []), Refused, "line"),
+    (lambda p: p.edit_profile(0, [(0, "flies,0", 5)]), ValueError, "a piece is travel, until or closed"),
+    (lambda p: p.edit_road(3, 0), Refused, "arc"),
+    (lambda p: p.table([0] * 1025, [1] * 1024, 0), Refused, "limit"),
+]
+
+
+@pytest.mark.parametrize("use, error, said", WRONG)
+def test_what_is_refused_is_raised_and_nothing_is_lost(
+    program: Path, call: Callable[[Any], Any], use: Callable[[Any], Any], error: type[Exception], said: str
+) -> None:
+    def wrong(planner: Any) -> Any:
+        return use(planner)
+
+    with pytest.raises(error, match=said):
+        call(wrong)
+
+
+def test_entered_seconds_where_the_program_knows_them(program: Path, call: Callable[[Any], Any]) -> None:
+    try:
+        route = call(lambda p: p.route(0, 2, 0, entered=True))
+    except Refused as refused:
+        assert refused.word == "line"
+        pytest.skip("this program answers no v lines")
+    assert route == Route(0, 2, 0, 160, (0, 1), (0, 60))
+
+
+REPLIES: list[tuple[str, Callable[[Any], Any], type[Exception]]] = [
+    ("damaged 5 up 7", lambda p: p.route(0, 1, 0), Damaged),
+    ("table 5 damaged 5 up 7", lambda p: p.table([0], [1, 2], 0), Damaged),
+    ("no memory", lambda p: p.day(0, 1), NoMemory),
+    ("no memory", lambda p: p.edit_road(0, 1), NoMemory),
+    ("table 5", lambda p: p.table([0], [1, 2], 0), ValueError),
+    ("unreachable", lambda p: p.reach(0, 0), catchup.CatchupError),
+    ("what?", lambda p: p.route(0, 1, 0), ValueError),
+    ("file: digest", lambda p: p.route(0, 1, 0), Ended),
+]
+
+
+@pytest.mark.parametrize("reply, use, error", REPLIES)
+def test_other_replies_are_raised(
+    tmp_path: Path, monkeypatch: pytest.MonkeyPatch, reply: str, use: Callable[[Any], Any], error: type[Exception]
+) -> None:
+    stub(tmp_path, f"while read -r line; do echo '{reply}'; done", monkeypatch)
+
+    async def ask() -> None:
+        async with await AsyncPlanner.start("a.cu") as planner:
+            await use(planner)
+
+    with pytest.raises(error):
+        asyncio.run(ask())
+    with Planner("a.cu") as planner, pytest.raises(error):
+        use(planner)
+
+
+def test_orders_of_all_kinds(program: Path, rush_hour: Path, tmp_path: Path) -> None:
+    path = tmp_path / "order"
+    path.write_text("1\n0\n2\n")
+    for order in ("dissect", path, str(path), [2, 0, 1], range(3)):
+        with Planner.from_tables(rush_hour, order=order) as planner:
+            assert planner.route(0, 2, 0) == Route(0, 2, 0, 160, (0, 1))
+    with Planner.from_tables(rush_hour, order=[0, 0, 1]) as planner, pytest.raises(Ended, match="order: 1 twice"):
+        planner.route(0, 2, 0)
+
+
+# ---- pools and threads ----
+
+
+def in_threads(count: int, work: Callable[[int], None]) -> list[BaseException]:
+    """Runs the work in so many threads at once; what they raised."""
+    raised: list[BaseException] = []
+
+    def run(number: int) -> None:
+        try:
+            work(number)
+        except BaseException as error:
+            raised.append(error)
+
+    threads = [threading.Thread(target=run, args=(number,)) for number in range(count)]
+    for thread in threads:
+        thread.start()
+    for thread in threads:
+        thread.join(120)
+        assert not thread.is_alive()
+    return raised
+
+
+@pytest.mark.parametrize("processes", [1, 4])
+def test_sixteen_threads_get_their_own_answers(town: Path, processes: int) -> None:
+    draw = random.Random(1)
+    asked = [(draw.randrange(159), draw.randrange(159), draw.randrange(86400)) for _ in range(1600)]
+    lines = "".join(f"q,{origin},{target},{second}\n" for origin, target, second in asked)
+    wanted = [reply.split()[0] for reply in run_program(["ask", town], input=lines).output.splitlines()]
+    with Planner(town, processes=processes) as planner:
+
+        def ask(number: int) -> None:
+            for place in range(number, len(asked), 16):
+                route = planner.route(*asked[place])
+                assert (f"arrive={route.arrive}" if route else "unreachable") == wanted[place]
+                if place % 400 == number:
+                    assert planner.reach(number, 0).arrivals[number] == 0
+
+        assert in_threads(16, ask) == []
+
+
+def test_an_edit_is_in_every_process_when_it_returns(program: Path, rush_hour: Path) -> None:
+    with Planner.from_tables(rush_hour, order="identity", processes=4) as planner:
+
+        def edit(number: int) -> None:
+            """Each thread has times of its own: after its edit only later edits can have changed them."""
+            for time in range(1, 20):
+                planner.edit_profile(2, [(0, "travel", time)])
+                for _ in range(8):
+                    route = planner.route(0, 2, 0)
+                    assert route and 1 <= route.arrive < 20
+
+        assert in_threads(16, edit) == []
+        arrivals = {planner.route(0, 2, 0).arrive for _ in range(16)}  # type: ignore[union-attr]
+        assert len(arrivals) == 1
+        planner.edit_profile(2, [(0, "travel", 7)])
+        pids = set()
+
+        def ask(number: int) -> None:
+            with planner._taken() as child:
+                barrier.wait(60)
+                pids.add(child.pid)
+                assert child.ask("q,0,2,0") == "arrive=7 arcs=2"
+
+        barrier = threading.Barrier(4)
+        assert in_threads(4, ask) == [] and len(pids) == 4
+
+
+def test_a_process_that_ends_is_left_out(program: Path, rush_hour: Path) -> None:
+    with Planner.from_tables(rush_hour, processes=3) as planner:
+        for child in planner._all[:2]:
+            os.kill(child.pid, signal.SIGKILL)
+        ended = 0
+        for _ in range(20):
+            try:
+                assert planner.route(0, 2, 0) == Route(0, 2, 0, 160, (0, 1))
+            except Ended as error:
+                assert error.status == -9
+                ended += 1
+        assert ended in (0, 1, 2)
+        assert planner.edit_road(2, 1) >= 1
+        assert len(planner._children) == 1 and planner.route(0, 2, 0)
+        os.kill(planner._children[0].pid, signal.SIGKILL)
+        for _ in range(3):
+            with pytest.raises(Ended):
+                planner.route(0, 2, 0)
+        with pytest.raises(Ended):
+            planner.edit_road(2, 1)
+
+
+def test_who_waits_is_told_when_none_is_left(tmp_path: Path, monkeypatch: pytest.MonkeyPatch) -> None:
+    stub(tmp_path, "read -r line; sleep 0.3; exit 9", monkeypatch)
+    with Planner("a.cu") as planner:
+        raised = in_threads(8, lambda _: planner.route(0, 1, 0))  # type: ignore[arg-type, return-value]
+    assert [type(error) for error in raised] == [Ended] * 8
+
+
+ODD = """
+while read -r line; do
+  case "$line" in
+    a*) if [ "$1" = 1 ]; then echo 'no memory'; else echo 'done 3'; fi ;;
+    *) echo "arrive=$1 arcs=" ;;
+  esac
+done
+"""
+
+
+def test_a_process_without_the_edit_answers_no_more(tmp_path: Path, monkeypatch: pytest.MonkeyPatch) -> None:
+    stub(tmp_path, ODD, monkeypatch)
+
+    async def ask() -> set[int]:
+        async with await AsyncPlanner.start("a.cu", processes=1) as planner:
+            assert (await planner.route(0, 0, 0)).arrive == 0  # type: ignore[union-attr]
+            planner._all.append(second := (await AsyncPlanner.start("a.cu"))._all[0])
+            planner._load[second] = 0
+            assert await planner.edit_road(0, 0) == 3
+            return {(await planner.route(0, 0, 0)).arrive for _ in range(5)}  # type: ignore[union-attr]
+
+    with pytest.warns(ResourceWarning):
+        assert asyncio.run(ask()) == {0}
+        gc.collect()
+    for started in tmp_path.glob("started*"):
+        started.unlink()
+    with Planner("a.cu") as planner:
+        planner.route(0, 0, 0)
+        with Planner("a.cu") as other:
+            other.route(0, 0, 0)
+            planner._children.append(other._children[0])
+            assert planner.edit_road(0, 0) == 3 and len(planner._children) == 1
+        assert planner.route(0, 0, 0).arrive == 0  # type: ignore[union-attr]
+
+
+def test_many_calls_of_asyncio_at_once(town: Path) -> None:
+    async def ask() -> None:
+        async with await AsyncPlanner.start(town, processes=3) as planner:
+            calls: list[Coroutine[Any, Any, Any]] = [planner.route(5, 151, second) for second in range(0, 86400, 200)]
+            routes = await asyncio.gather(*calls)
+            day = await planner.day(5, 151)
+            assert day and [route.arrive for route in routes] == [day.arrival(second) for second in range(0, 86400, 200)]
+            await asyncio.gather(*(planner.edit_profile(0, [(0, "travel", 30 + time)]) for time in range(10)))
+            replies = {await child.ask(b"q,5,151,0") for child in planner._all}
+            assert len(replies) == 1
+            edit = asyncio.ensure_future(planner.edit_profile(0, [(0, "closed", 0)]))
+            await asyncio.sleep(0)
+            edit.cancel()
+            await planner.edit_road(0, 1)
+            assert edit.cancelled() and {await child.ask(b"q,5,151,0") for child in planner._all} != replies
+
+    asyncio.run(ask())
+
+
+# ---- closing ----
+
+
+def test_closing_waits_for_what_is_asked(tmp_path: Path, monkeypatch: pytest.MonkeyPatch) -> None:
+    stub(tmp_path, "while read -r line; do sleep 0.4; echo unreachable; done", monkeypatch)
+    planner = Planner("a.cu", processes=2)
+    found: list[object] = []
+    threads = [threading.Thread(target=lambda: found.append(planner.route(0, 1, 0))) for _ in range(2)]
+    for thread in threads:
+        thread.start()
+    while len(planner._free):
+        threading.Event().wait(0.01)
+    planner.close()
+    assert found == [None, None]
+    planner.close()
+    for call in (lambda: planner.route(0, 1, 0), lambda: planner.edit_road(0, 0)):
+        with pytest.raises(Ended, match="the planner is closed"):
+            call()
+    assert all(child._process and child._process.returncode == 0 for child in planner._all)
+
+
+def test_a_forgotten_planner_is_told(program: Path, rush_hour: Path) -> None:
+    planner = Planner.from_tables(rush_hour, processes=2)
+    planner.route(0, 2, 0)
+    processes = [child._process for child in planner._all]
+    with pytest.warns(ResourceWarning, match="a Planner wasn't closed"):
+        del planner
+        gc.collect()
+    assert [process and process.wait(60) for process in processes] == [0, 0]
+
+
+def test_a_planner_that_cannot_start(monkeypatch: pytest.MonkeyPatch, rush_hour: Path) -> None:
+    monkeypatch.setenv("CATCHUP", "/none/such")
+    with pytest.raises(Failure, match="CATCHUP names /none/such"):
+        Planner("a.cu")
+    with pytest.raises(Failure):
+        Planner.from_tables(rush_hour, order=[0, 1, 2])
+    for processes in (0, -1):
+        with pytest.raises(ValueError):
+            Planner("a.cu", processes=processes)
+
+
+def test_a_missing_file_is_told_at_the_first_call(program: Path) -> None:
+    with Planner("/none/such.cu", processes=2) as planner, pytest.raises(Ended, match="status 3: shelf: fault hierarchy"):
+        planner.route(0, 1, 0)
+
+
+def test_the_package_exports_what_it_says() -> None:
+    for name in catchup.__all__:
+        assert getattr(catchup, name) is not None
+    with pytest.raises(AttributeError):
+        catchup.nothing  # type: ignore[attr-defined]
+    code = "import sys, catchup, catchup.replies, catchup.clock, catchup.program; print('numpy' in sys.modules, 'click' in sys.modules)"
+    said = subprocess.run([sys.executable, "-c", code], capture_output=True, text=True, cwd=Path(catchup.__file__).parents[1])
+    assert said.stdout == "False False\n"
+
+
+def test_lines_are_written_once() -> None:
+    assert reach_question(5, "8:00").line == "r,5,28800"
+    assert table_question([1, 2], [3], 7).line == "t,7,2,1,2,3"

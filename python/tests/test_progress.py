@@ -1,0 +1,116 @@
+"""Long work tells how far it is on standard error, and changes nothing of what is said on standard output."""
+
+from __future__ import annotations
+
+import os
+import pty
+import re
+import subprocess
+from pathlib import Path
+
+import pytest
+
+ROOT = Path(__file__).resolve().parents[2]
+TOWN = ROOT / "examples" / "town"
+
+
+def words(command: str, folder: Path) -> list[str]:
+    """The arguments of a command over the town, with what it stores in a folder."""
+    tables = [str(TOWN / name) for name in ("nodes.csv", "roads.csv", "profiles.csv")]
+    packed = str(folder / "town.cu")
+    return {
+        "build": ["build", *tables, "identity", packed],
+        "serve": ["serve", *tables, "identity"],
+        "order": ["order", *tables, str(folder / "order.csv")],
+        "ask": ["ask", packed],
+        "verify": ["verify", packed],
+        "migrate": ["migrate", packed, str(folder / "out.cu")],
+        "edit": ["edit", packed, str(folder / "edits.txt"), str(folder / "edited.cu")],
+    }[command]
+
+
+STAGES = {
+    "build": ["reading files", "settling shortcuts", "packing", "storing"],
+    "serve": ["reading files", "settling shortcuts", "packing"],
+    "order": ["reading files", "making an order", "storing"],
+    "ask": ["reading files", "checking the packed file"],
+    "verify": ["reading files", "checking the packed file", "settling shortcuts"],
+    "migrate": ["reading files", "checking the packed file", "storing"],
+    "edit": ["reading files", "checking the packed file", "making edits", "storing"],
+}
+
+
+@pytest.fixture
+def folder(program: Path, tmp_path: Path) -> Path:
+    """A folder with a packed file of the town and a text of two edits."""
+    subprocess.run([program, *words("build", tmp_path)], check=True, capture_output=True)
+    (tmp_path / "edits.txt").write_text("s,0,0,travel,70\na,1,0\n")
+    return tmp_path
+
+
+def run(program: Path, command: str, folder: Path, progress: str | None) -> subprocess.CompletedProcess[str]:
+    """Runs a command with CATCHUP_PROGRESS as given, and one query where it reads a script."""
+    env = {name: value for name, value in os.environ.items() if name != "CATCHUP_PROGRESS"}
+    if progress is not None:
+        env["CATCHUP_PROGRESS"] = progress
+    return subprocess.run(
+        [program, *words(command, folder)], input="q,5,151,28800\n", capture_output=True, text=True, env=env, check=True
+    )
+
+
+@pytest.mark.parametrize("command", STAGES)
+def test_a_line_a_stage_where_it_is_asked_for(program: Path, folder: Path, command: str) -> None:
+    told = run(program, command, folder, "1")
+    assert told.stderr.splitlines() == [f"catchup: {stage}" for stage in STAGES[command]]
+    assert told.stdout == run(program, command, folder, None).stdout
+
+
+@pytest.mark.parametrize("command", STAGES)
+@pytest.mark.parametrize("progress", [None, "0", "2", ""])
+def test_silent_where_standard_error_is_no_terminal(program: Path, folder: Path, command: str, progress: str | None) -> None:
+    assert run(program, command, folder, progress).stderr == ""
+
+
+def on_terminal(program: Path, arguments: list[str], env: dict[str, str]) -> tuple[str, str]:
+    """What a command writes to a terminal as its standard error, and on standard output, which is a pipe."""
+    ours, theirs = pty.openpty()
+    child = subprocess.Popen([program, *arguments], stdin=subprocess.DEVNULL, stdout=subprocess.PIPE, stderr=theirs, env=env)
+    os.close(theirs)
+    shown = b""
+    while True:
+        try:
+            piece = os.read(ours, 4096)
+        except OSError:
+            break
+        if not piece:
+            break
+        shown += piece
+    os.close(ours)
+    assert child.stdout is not None
+    output = child.stdout.read().decode()
+    assert child.wait() == 0
+    return shown.decode(), output
+
+
+def test_one_line_written_over_on_a_terminal(program: Path, tmp_path: Path) -> None:
+    names = [str(tmp_path / name) for name in ("nodes.csv", "roads.csv", "profiles.csv")]
+    subprocess.run([program, "make", "7", "96", "96", *names], check=True, capture_output=True)
+    env = {name: value for name, value in os.environ.items() if name != "CATCHUP_PROGRESS"}
+    shown, output = on_terminal(program, ["build", *names, "dissect", str(tmp_path / "grid.cu")], env)
+    assert output.startswith("built 9216 ")
+    assert "\n" not in shown and "built" not in shown
+    assert shown.endswith("\r\x1b[K"), "the line is taken away before the last line is said"
+    percents = [int(one) for one in re.findall(r"settling shortcuts, (\d+) %, \d+ s left", shown)]
+    assert len(percents) > 2 and percents == sorted(percents) and percents[-1] <= 100
+    env["CATCHUP_PROGRESS"] = "0"
+    assert on_terminal(program, ["build", *names, "dissect", str(tmp_path / "grid.cu")], env)[0] == ""
+
+
+def test_a_refused_table_is_told_as_ever(program: Path, tmp_path: Path) -> None:
+    (tmp_path / "nodes.csv").write_text("node,x\n")
+    arguments = words("serve", tmp_path)
+    arguments[1] = str(tmp_path / "nodes.csv")
+    done = subprocess.run(
+        [program, *arguments], stdin=subprocess.DEVNULL, capture_output=True, text=True, env={**os.environ, "CATCHUP_PROGRESS": "1"}
+    )
+    assert (done.returncode, done.stdout) == (4, "network: nodes header\n")

@@ -1,0 +1,105 @@
+"""How commands end."""
+
+from __future__ import annotations
+
+import os
+import signal
+import subprocess
+import sys
+import time
+from pathlib import Path
+
+import pytest
+
+PYTHON = Path(__file__).resolve().parents[1]
+
+CODE = """
+import sys, time
+sys.path.insert(0, {path!r})
+import click
+from catchup import errors
+from catchup.commands._run import run
+
+@click.command()
+@click.argument("how")
+def command(how):
+    "Ends as it is told."
+    if how == "failure": raise errors.Failure("nothing is\\nthere")
+    if how == "status": raise type("Own", (errors.Failure,), {{"status": 7}})("own")
+    if how == "refused": raise errors.Refused("node")
+    if how == "bug": raise RuntimeError("bug")
+    if how == "memory": raise MemoryError
+    if how == "pipe":
+        for _ in range(100000): print("line")
+    if how == "number": return 5
+    if how == "wait":
+        try: print("waiting", flush=True); time.sleep(30)
+        finally: print("cleaned up")
+    if how == "print": print("done")
+
+run(command, "try-it")
+"""
+
+
+def start(*words: str, **more: object) -> subprocess.Popen[str]:
+    code = CODE.format(path=str(PYTHON))
+    pipe = subprocess.PIPE
+    return subprocess.Popen([sys.executable, "-c", code, *words], text=True, stderr=pipe, **{"stdout": pipe, **more})  # type: ignore[call-overload, no-any-return]
+
+
+ENDS = [
+    (["failure"], 1, "try-it: nothing is there\n"),
+    (["status"], 7, "try-it: own\n"),
+    (["refused"], 1, "try-it: the program refused the line: node (docs/FORMATS.md has the checks of each line)\n"),
+    (["memory"], 1, "try-it: out of memory: free some, or give it a smaller input\n"),
+    (["number"], 5, ""),
+    (["print"], 0, ""),
+    ([], 2, "try-it: Missing argument 'HOW'. See: try-it --help\n"),
+    (["print", "more"], 2, "try-it: Got unexpected extra argument (more). See: try-it --help\n"),
+    (["--none"], 2, "try-it: No such option: --none. See: try-it --help\n"),
+]
+
+
+@pytest.mark.parametrize("words, status, said", ENDS)
+def test_ends(words: list[str], status: int, said: str) -> None:
+    run = start(*words)
+    _, error = run.communicate(timeout=60)
+    assert (run.returncode, error) == (status, said)
+
+
+def test_help_goes_to_standard_output() -> None:
+    run = start("--help")
+    output, error = run.communicate(timeout=60)
+    assert (run.returncode, error) == (0, "") and output.startswith("Usage: try-it [OPTIONS] HOW")
+
+
+def test_a_bug_keeps_its_traceback() -> None:
+    run = start("bug")
+    _, error = run.communicate(timeout=60)
+    assert run.returncode == 1 and "RuntimeError: bug" in error
+
+
+def test_a_closed_pipe_is_silent() -> None:
+    reader, writer = os.pipe()
+    run = start("pipe", stdout=writer)
+    os.close(writer)
+    os.close(reader)
+    _, error = run.communicate(timeout=60)
+    assert (run.returncode, error) == (141, "")
+
+
+def test_a_full_device_is_told() -> None:
+    with open("/dev/full", "w") as full:
+        run = start("print", stdout=full)
+        _, error = run.communicate(timeout=60)
+    assert run.returncode == 1 and error.startswith("try-it: ") and "No space left" in error and error.count("\n") == 1
+
+
+@pytest.mark.parametrize("number, status", [(signal.SIGINT, 130), (signal.SIGTERM, 143)])
+def test_an_interrupt_lets_it_clean_up(number: int, status: int) -> None:
+    run = start("wait")
+    assert run.stdout and run.stdout.readline() == "waiting\n"
+    time.sleep(0.1)
+    run.send_signal(number)
+    output, error = run.communicate(timeout=60)
+    assert (run.returncode, output, error) == (status, "cleaned up\n", "")

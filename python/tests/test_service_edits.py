@@ -1,0 +1,416 @@
+"""Edits of a service: all or nothing, on the disk before they are confirmed, one at a time; jobs and the journal."""
+
+from __future__ import annotations
+
+import json
+import os
+import signal
+import stat
+import subprocess
+import time
+from concurrent.futures import ThreadPoolExecutor
+from pathlib import Path
+from typing import Any
+
+import pytest
+from conftest import build
+from hypothesis import given, settings
+from hypothesis import strategies as st
+from serving import Service, ask_program, digest_of, is_there, left_in, wait_for
+
+from catchup.program import run_program
+from catchup.service import packed
+from catchup.service.errors import Refusal
+from catchup.service.roadedits import Profiles, edits_of, lines_of
+
+LINE = "s,0,0,travel,600"
+SLOW = """#!/bin/sh
+if [ "$1" = edit ]; then sleep {seconds} & wait $!; fi
+exec {program} "$@"
+"""
+
+
+@pytest.fixture
+def file(town: Path, tmp_path: Path) -> Path:
+    """A packed file of the town of a test's own, in a folder with nothing else."""
+    folder = tmp_path / "served"
+    folder.mkdir()
+    path = folder / "town.cu"
+    path.write_bytes(town.read_bytes())
+    return path
+
+
+@pytest.fixture
+def slow(program: Path, tmp_path: Path) -> Path:
+    """The program, but that each edit takes its time."""
+    path = tmp_path / "slow"
+    path.write_text(SLOW.format(program=program, seconds=60))
+    path.chmod(path.stat().st_mode | stat.S_IXUSR)
+    return path
+
+
+def edited(path: Path, *lines: str) -> bytes:
+    """The bytes of a packed file after edits, by the program."""
+    edits, out = path.with_name("wanted.txt"), path.with_name("wanted.cu")
+    edits.write_text("".join(line + "\n" for line in lines))
+    assert run_program(["edit", path, edits, out]).status == 0
+    found = out.read_bytes()
+    edits.unlink()
+    out.unlink()
+    return found
+
+
+def journal_of(path: Path) -> list[dict[str, Any]]:
+    return [json.loads(line) for line in path.with_name(path.name + ".journal").read_text().splitlines()]
+
+
+def test_an_edit_is_confirmed_once_it_is_stored_and_served(file: Path) -> None:
+    wanted, before = edited(file, LINE, "a,3,1"), digest_of(file)
+    os.chmod(file, 0o640)
+    with Service(file, workers=2) as service:
+        status, told = service.ask("/edits", "POST", f"{LINE}\r\na,3,1".encode())
+        assert (status, told) == (200, {"before": before, "lines": 2, "version": digest_of(file)})
+        assert file.read_bytes() == wanted
+        assert stat.S_IMODE(file.stat().st_mode) == 0o640
+        [entry] = journal_of(file)
+        assert (entry["before"][:12], entry["after"], entry["entry"]) == (before, wanted[-32:].hex(), None)
+        assert entry["edits"] == [LINE, "a,3,1"]
+        # The worker that made it answers of it at once, others a moment later.
+        query = "/route?from=5&to=151&depart=28800"
+        arrive = int(ask_program(file, "q,5,151,28800")[0].split()[0].removeprefix("arrive="))
+        time.sleep(1)
+        for _ in range(20):
+            with Service.client_of(service) as client:
+                found = client.get(query).json()
+            assert (found["version"], found["arrive"]) == (told["version"], arrive)
+        assert service.end() == (0, "", "")
+    assert left_in(file.parent) == []
+
+
+def test_a_refused_line_undoes_all(file: Path) -> None:
+    before = file.read_bytes()
+    with Service(file) as service:
+        body = "\n".join([LINE, "q,0,2,0", "s,0,0,travel,300,36000,travel,100", "", "a,1"])
+        status, told = service.ask("/edits", "POST", body.encode())
+        assert (status, told["error"], told["count"]) == (400, "refused", 4)
+        assert told["refused"] == [{"line": 2, "word": "line"}, {"line": 3, "word": "fifo 35999"}, {"line": 4, "word": "line"},
+                                   {"line": 5, "word": "line"}]
+        status, told = service.ask("/edits", "POST", b"\n" * 250)
+        assert (told["count"], len(told["refused"]), told["refused"][99]) == (250, 100, {"line": 100, "word": "line"})
+        assert service.get("/health")["version"] == before[-32:].hex()[:12]
+        [job, *_] = service.get("/edits")["jobs"]
+        assert (job["state"], job["count"]) == ("refused", 250)
+    assert file.read_bytes() == before
+    assert not file.with_name("town.cu.journal").exists()
+    assert left_in(file.parent) == []
+
+
+BAD_LINES = [
+    ("s,0", "line"), ("q,0,2,0", "line"), ("step", "line"), ("0,x", "line"), ("a,1,2,3", "line"), ("s,0,0,travel,+1", "line"),
+    ("s,\u0661,0,travel,1", "line"), ("a,99999999999999999999999999,0", "arc"), ("a,0,9999", "profile"),
+    ("s,9999,0,travel,1", "profile"), ("s,0,0,\x07,1", "kind"), ("s,0,0,travel,999999999", "limit"), ("s,0,5,travel,1", "start"),
+    ("s,0,0,travel,1,0,travel,1", "rising"), ("s,0,0,travel,1,5,closed,0", "closed"), ("\ufeffa,0,0", "line"), ("a,0,0\0", "line")]
+
+
+def test_lines_are_refused_by_the_programs_words(file: Path) -> None:
+    with Service(file) as service:
+        status, told = service.ask("/edits", "POST", "\n".join(line for line, _ in BAD_LINES).encode())
+        assert status == 400
+        assert told["refused"] == [{"line": at, "word": word} for at, (_, word) in enumerate(BAD_LINES, 1)]
+        assert service.ask("/edits", "POST", b"") == (400, {
+            "error": "there is no edit line in the body", "version": digest_of(file)})
+
+
+def test_edits_of_all_workers_take_turns(file: Path) -> None:
+    lines = [f"a,{road},1" for road in range(12)]
+    wanted = edited(file, *lines)
+    with Service(file, workers=3) as service, ThreadPoolExecutor(12) as pool:
+        found = list(pool.map(lambda line: Service.once(service, line), lines))
+        assert [status for status, _ in found] == [200] * 12
+    assert file.read_bytes() == wanted
+    entries = journal_of(file)
+    assert sorted(entry["edits"][0] for entry in entries) == sorted(lines)
+    assert all(a["after"] == b["before"] for a, b in zip(entries, entries[1:]))
+
+
+def test_an_edit_with_an_edit_of_another_program_of_the_folder(file: Path) -> None:
+    with Service(file) as service:
+        holder = subprocess.Popen(["flock", file.parent, "sleep", "1.5"])
+        time.sleep(0.3)
+        began = time.monotonic()
+        service.edit(LINE)
+        assert time.monotonic() - began > 0.8
+        holder.wait()
+
+
+# ---- jobs ----
+
+
+def test_a_job_is_asked_for(file: Path) -> None:
+    with Service(file, workers=2) as service:
+        reply = service.client.post("/edits?wait=0", content=LINE)
+        told = reply.json()
+        assert (reply.status_code, told["state"], reply.headers["Location"]) == (202, "waiting", f"/edits/{told['job']}")
+        found = wait_for(lambda: service.get(reply.headers["Location"]), lambda found: found["state"] == "done")
+        assert (found["version"], found["lines"]) == (digest_of(file), 1)
+        assert service.get("/edits")["jobs"][0]["job"] == told["job"]
+        assert service.ask(reply.headers["Location"], "DELETE")[0] == 409
+        for name in ("nothing", "..%2ftown.cu", "%00", "a" * 5000):
+            assert service.ask(f"/edits/{name}")[0] == 404
+        text = service.client.get("/metrics").text
+        assert 'catchup_jobs{state="done"} 1.0' in text
+        status, told = service.ask("/edits?wait=2", "POST", LINE.encode())
+        assert (status, told["error"]) == (400, "wait must be 0 or 1")
+
+
+def test_a_job_is_ended(file: Path, slow: Path) -> None:
+    before = file.read_bytes()
+    with Service(file, workers=2, CATCHUP=str(slow)) as service, ThreadPoolExecutor(2) as pool:
+        waiting = pool.submit(Service.once, service, LINE)
+        [job] = wait_for(lambda: service.get("/edits")["jobs"])
+        wait_for(lambda: service.get(f"/edits/{job['job']}")["state"], lambda state: state == "working")
+        second = service.client.post("/edits?wait=0", content=LINE).json()["job"]
+        began = time.monotonic()
+        status, told = service.ask(f"/edits/{second}", "DELETE")
+        assert (status, told["state"]) == (200, "ended")
+        status, told = service.ask(f"/edits/{job['job']}", "DELETE")
+        assert (status, told["state"]) == (200, "ended")
+        assert time.monotonic() - began < 6
+        status, told = waiting.result()
+        assert status == 503 and "ended" in told["error"]
+        assert service.ask(f"/edits/{job['job']}", "DELETE")[0] == 409
+        assert file.read_bytes() == before
+        assert wait_for(lambda: left_in(file.parent), lambda left: not left) == []
+
+
+def test_the_last_thousand_jobs_are_kept(tmp_path: Path) -> None:
+    from catchup.service.jobs import DONE, Jobs
+
+    jobs = Jobs(tmp_path / "town.cu")
+    for number in range(1020):
+        jobs.end(jobs.add(str(number)), DONE)
+    found = jobs.all()
+    assert [len(found), found[0].id, jobs.find("5")] == [1000, "1019", None]
+
+
+# ---- edits in JSON ----
+
+
+def post_json(service: Service, edits: object, kind: str = "application/json") -> tuple[int, Any]:
+    return service.ask("/edits", "POST", json.dumps(edits).encode(), content_type=kind)
+
+
+@pytest.fixture
+def rush(program: Path, rush_hour: Path, tmp_path: Path) -> Path:
+    """The rush hour with two spare profiles, the closed one 3, and 4 of one second."""
+    folder = tmp_path / "tables"
+    folder.mkdir()
+    for name in ("nodes.csv", "roads.csv"):
+        (folder / name).write_text((rush_hour / name).read_text())
+    (folder / "profiles.csv").write_text((rush_hour / "profiles.csv").read_text() + "3,0,closed,0\n4,0,travel,1\n5,0,travel,1\n")
+    served = tmp_path / "served"
+    served.mkdir()
+    return build(folder, served / "rush.cu", "identity")
+
+
+def test_roads_are_edited_by_their_numbers(rush: Path) -> None:
+    with Service(rush) as service:
+        def arrive() -> int | None:
+            return service.get("/route?from=0&to=2&depart=0").get("arrive")
+
+        assert post_json(service, {"edits": [{"road": 2, "closed": True}]})[1]["lines"] == 1
+        assert service.get("/route?from=0&to=2&depart=0")["roads"] == [0, 1]
+        pieces = [{"from": 0, "kind": "travel", "value": 7}]
+        status, told = post_json(service, {"edits": [{"road": 2, "pieces": pieces}]}, "Application/JSON; charset=utf-8")
+        assert (status, told["lines"]) == (200, 2) and arrive() == 7
+        # It has a profile of its own now, which is used again.
+        status, told = post_json(service, {"edits": [{"road": 2, "pieces": [{"from": 0, "kind": "travel", "value": 9}]}]})
+        assert (status, told["lines"]) == (200, 1) and arrive() == 9
+        assert post_json(service, {"edits": [{"road": 2, "profile": 4}, {"profile": 4, "pieces": pieces}]})[0] == 200
+        assert arrive() == 7
+        status, told = post_json(service, {"edits": [{"road": "road:1", "closed": True}, {"road": 99, "pieces": pieces},
+                                                     {"profile": 99, "pieces": pieces}]})
+        assert (status, told["refused"]) == (400, [{"line": 2, "word": "arc"}, {"line": 3, "word": "profile"}])
+        edits = [entry["edits"] for entry in journal_of(rush)]
+        assert edits[0] == ["a,2,3"] and edits[1] == ["s,2,0,travel,7", "a,2,2"]
+
+
+def test_without_a_spare_profile_nothing_is_done(town: Path, program: Path, rush_hour: Path, tmp_path: Path) -> None:
+    path = build(rush_hour, tmp_path / "rush.cu", "identity")
+    before = path.read_bytes()
+    with Service(path) as service:
+        status, told = post_json(service, {"edits": [{"road": 0, "profile": 1}, {"road": 2, "profile": 1}, {"profile": 0, "pieces": [
+            {"from": 0, "kind": "closed", "value": 0}]}, {"road": 1, "pieces": [{"from": 0, "kind": "travel", "value": 5}]}, {
+                "road": 2, "pieces": [{"from": 0, "kind": "travel", "value": 5}]}]})
+        assert (status, told["error"]) == (409, "no spare profile")
+    assert path.read_bytes() == before
+
+
+BAD_JSON: list[object] = [
+    [], {}, {"edits": []}, {"edits": {}}, {"edits": [1]}, {"edits": [{}]}, {"edits": [{"road": 1}]}, {"edits": [{"road": 1, "closed": False}]},
+    {"edits": [{"road": True, "closed": True}]}, {"edits": [{"road": 1.0, "closed": True}]}, {"edits": [{"road": -1, "closed": True}]},
+    {"edits": [{"road": "Main Street", "closed": True}]}, {"edits": [{"road": 1, "closed": True, "profile": 2}]},
+    {"edits": [{"road": 1, "pieces": []}]}, {"edits": [{"road": 1, "pieces": [{"from": 0, "kind": "travel"}]}]},
+    {"edits": [{"road": 1, "pieces": [{"from": 0, "kind": "wings", "value": 1}]}]},
+    {"edits": [{"road": 1, "pieces": [{"from": "0", "kind": "travel", "value": 1}]}]}, {"edits": [{"profile": 1}]},
+    {"edits": [{"profile": 1, "pieces": [{"from": 0, "kind": "travel", "value": 1, "x": 1}]}]}, {"edits": [], "more": 1}, None, "x", 1]
+
+
+def test_json_that_is_no_edit(file: Path) -> None:
+    with Service(file) as service:
+        for body in BAD_JSON:
+            status, told = post_json(service, body)
+            assert status == 400 and told["error"], body
+        for raw in (b"", b"{", b"\xff", b'{"edits": [], "edits": []}', b'{"edits": [NaN]}', b"[" * 60_000):
+            assert service.ask("/edits", "POST", raw, content_type="application/json")[0] == 400
+        status, told = service.ask("/edits", "POST", b" " * 65_537, content_type="application/json")
+        assert status == 413
+        assert service.get("/edits")["jobs"] == []
+
+
+JSON = st.recursive(st.none() | st.booleans() | st.integers(-2, 10) | st.floats(allow_nan=False) | st.text(max_size=5),
+                    lambda inner: st.lists(inner, max_size=4) | st.dictionaries(st.sampled_from(
+                        ["edits", "road", "profile", "pieces", "closed", "from", "kind", "value", "x"]), inner, max_size=4), max_leaves=12)
+
+
+@settings(max_examples=100)
+@given(st.one_of(JSON, JSON.map(lambda inner: {"edits": [inner]})))
+def test_any_json_is_edits_or_refused(body: object) -> None:
+    try:
+        found = edits_of(json.dumps(body).encode(), lambda text: [])
+    except Refusal as refusal:
+        assert refusal.status == 400
+    else:
+        assert found
+
+
+@settings(max_examples=60)
+@given(st.lists(st.tuples(st.integers(0, 2), st.sampled_from(["closed", "pieces", "profile"]), st.integers(0, 5)), max_size=8))
+def test_edits_of_roads_are_as_they_say(rush_file: Path, edits: list[tuple[int, str, int]]) -> None:
+    """Whatever came before, a road has in the end what was said of it last, and no other road has changed with it."""
+    with open(rush_file, "rb") as opened:
+        profiles = Profiles(opened.fileno())
+    named = [{"road": road, "closed": True} if kind == "closed" else {"road": road, "profile": value} if kind == "profile" else {
+        "road": road, "pieces": [{"from": 0, "kind": "travel", "value": 100 + value}]} for road, kind, value in edits]
+    if not named:
+        return
+    try:
+        lines, of = lines_of(edits_of(json.dumps({"edits": named}).encode(), lambda text: []), profiles)
+    except Refusal as refusal:
+        assert refusal.status == 409
+        return
+    assert len(lines) == len(of) and of == sorted(of)
+    last = {road: (kind, value) for road, kind, value in edits}
+    pieces: dict[int, str] = {}
+    has: dict[int, int] = {}
+    for line in lines:
+        kind, first, *rest = line.split(",")
+        if kind == "s":
+            pieces[int(first)] = ",".join(rest)
+        else:
+            has[int(first)] = int(rest[0])
+    for road, (kind, value) in last.items():
+        profile = has.get(road, road)
+        if kind == "pieces":
+            assert pieces[profile] == f"0,travel,{100 + value}"
+
+
+@pytest.fixture(scope="module")
+def rush_file(program: Path, rush_hour: Path, tmp_path_factory: pytest.TempPathFactory) -> Path:
+    folder = tmp_path_factory.mktemp("rush")
+    for name in ("nodes.csv", "roads.csv"):
+        (folder / name).write_text((rush_hour / name).read_text())
+    (folder / "profiles.csv").write_text((rush_hour / "profiles.csv").read_text() + "3,0,closed,0\n4,0,travel,1\n5,0,travel,1\n")
+    return build(folder, folder / "rush.cu", "identity")
+
+
+# ---- what fails ----
+
+
+def test_a_full_disk_keeps_the_version_before(file: Path, tmp_path: Path) -> None:
+    room = tmp_path / "small"
+    room.mkdir()
+    size = file.stat().st_size
+    if subprocess.run(["mount", "-t", "tmpfs", "-o", f"size={size + size // 2}", "none", room], capture_output=True).returncode:
+        pytest.skip("a file system of a few bytes can't be mounted here")
+    try:
+        path = room / "town.cu"
+        path.write_bytes(file.read_bytes())
+        with Service(path) as service:
+            status, told = service.ask("/edits", "POST", LINE.encode())
+            assert status == 503 and "no space left" in told["error"].lower()
+            assert service.client.post("/edits", content=LINE).headers["Retry-After"]
+            status, told = service.ask("/edits", "POST", b"\n" * (2 * size))
+            assert status == 503 and "no space left" in told["error"].lower()
+            assert service.get("/route?from=5&to=151&depart=0")["version"] == digest_of(file)
+            assert left_in(room) == []
+            assert service.end()[0] == 0
+        assert path.read_bytes() == file.read_bytes()
+    finally:
+        subprocess.run(["umount", room], check=False)
+
+
+def test_a_limit_of_file_sizes_keeps_the_version_before(file: Path) -> None:
+    before = file.read_bytes()
+    assert len(before) > 70_000
+    with Service(file, most_bytes=70_000) as service:
+        status, told = service.ask("/edits", "POST", LINE.encode())
+        assert status == 503 and "stored" in told["error"]
+        assert service.get("/health")["status"] == "ok"
+    assert file.read_bytes() == before and left_in(file.parent) == []
+
+
+def test_an_edit_that_dies_is_told(file: Path, slow: Path) -> None:
+    with Service(file, CATCHUP=str(slow)) as service, ThreadPoolExecutor(1) as pool:
+        waiting = pool.submit(Service.once, service, LINE)
+        edit = wait_for(lambda: [pid for pid in service.children() if b"edit" in Path(f"/proc/{pid}/cmdline").read_bytes()])
+        os.kill(edit[0], signal.SIGKILL)
+        status, told = waiting.result()
+        assert (status, told["error"]) == (503, "catchup edit was ended by SIGKILL")
+    assert left_in(file.parent) == []
+
+
+def test_at_the_end_an_edit_that_is_not_ready_is_ended(file: Path, slow: Path) -> None:
+    before = file.read_bytes()
+    with Service(file, CATCHUP=str(slow)) as service, ThreadPoolExecutor(1) as pool:
+        waiting = pool.submit(Service.once, service, LINE)
+        edit = wait_for(lambda: [pid for pid in service.children() if b"edit" in Path(f"/proc/{pid}/cmdline").read_bytes()])
+        began = time.monotonic()
+        assert service.end() == (0, "", "")
+        # Ten seconds, and what a busy machine adds.
+        assert time.monotonic() - began < 10 + 5
+        status, told = waiting.result()
+        assert status == 503 and "the service ends" in told["error"]
+        assert not is_there(edit[0])
+    assert file.read_bytes() == before and left_in(file.parent) == []
+
+
+# ---- the journal ----
+
+
+def test_a_start_drops_what_never_came_into_place(file: Path) -> None:
+    with Service(file) as service:
+        service.edit(LINE)
+    journal = file.with_name("town.cu.journal")
+    whole = journal.read_bytes()
+    for bad in (b'{"before": "00", "after": "11", "time": "", "entry": null, "edits": ["x"]}\n', b'{"before": "00', b"x\n"):
+        journal.write_bytes(whole + bad)
+        for name in (".catchup-edits-0", ".catchup-next-0", ".catchup-stored-7"):
+            file.with_name(name).write_bytes(b"x")
+        with Service(file) as service:
+            assert service.get("/health")["status"] == "ok"
+            assert journal.read_bytes() == whole
+            assert left_in(file.parent) == []
+
+
+def test_the_journal_makes_the_file_again(file: Path, town: Path) -> None:
+    with Service(file) as service:
+        for number in range(3):
+            service.edit(f"s,{number},0,travel,{number + 70}", f"a,{number},1")
+    again = file.with_name("again.cu")
+    again.write_bytes(town.read_bytes())
+    for entry in journal_of(file):
+        assert packed.digest_of(str(again)) == entry["before"]
+        again.write_bytes(edited(again, *entry["edits"]))
+        assert packed.digest_of(str(again)) == entry["after"]
+    assert again.read_bytes() == file.read_bytes()

@@ -1,0 +1,312 @@
+"""What a service endures: killed and hung processes at any moment, and files that are put in the place of the served one."""
+
+from __future__ import annotations
+
+import os
+import random
+import re
+import signal
+import subprocess
+import threading
+import time
+from pathlib import Path
+
+import httpx
+import pytest
+from conftest import build
+from serving import HTTP, SECONDS, Service, ask_program, children_of, client_of, digest_of, is_there, left_in, wait_for
+
+from catchup.program import run_program
+
+ROUTE = "/route?from=5&to=151&depart=28800"
+
+
+@pytest.fixture
+def file(town: Path, tmp_path: Path) -> Path:
+    folder = tmp_path / "served"
+    folder.mkdir()
+    path = folder / "town.cu"
+    path.write_bytes(town.read_bytes())
+    return path
+
+
+def version_of(service: Service) -> str:
+    """The version that a worker answers of."""
+    with client_of(service.port) as client:
+        return str(client.get("/health").json()["version"])
+
+
+def status_of(service: Service) -> int:
+    """The status of a route, asked on a connection of its own."""
+    with client_of(service.port) as client:
+        return client.get(ROUTE).status_code
+
+
+def put(path: Path, data: bytes) -> None:
+    """Puts a file in a place by renaming."""
+    beside = path.with_name("beside")
+    beside.write_bytes(data)
+    beside.rename(path)
+
+
+def edited(path: Path, line: str) -> bytes:
+    edits, out = path.parent.parent / "edits.txt", path.parent.parent / "edited.cu"
+    edits.write_text(line + "\n")
+    assert run_program(["edit", path, edits, out]).status == 0
+    return out.read_bytes()
+
+
+def test_a_file_that_is_put_in_place_is_served(file: Path) -> None:
+    following = edited(file, "s,0,0,travel,600")
+    with Service(file, workers=2) as service:
+        put(file, following)
+        wanted = digest_of(file)
+        for _ in range(2):
+            assert wait_for(lambda: version_of(service), lambda found: found == wanted)
+        time.sleep(0.5)
+        assert {version_of(service) for _ in range(20)} == {wanted}
+        assert wait_for(lambda: len(service.children()), lambda many: many == 4) == 4
+
+
+def test_a_file_that_is_refused_is_not_served(file: Path, rush_hour: Path, tmp_path: Path) -> None:
+    good, before = file.read_bytes(), digest_of(file)
+    other = build(rush_hour, tmp_path / "rush.cu", "identity").read_bytes()
+    for data, said in ((b"CATCHUPH", "file: short"), (good[:-1] + b"\0", "file: digest"), (other, "another network")):
+        with Service(file, workers=2) as service:
+            put(file, data)
+            told = wait_for(lambda: service.get("/health"), lambda told: "refused" in told)
+            assert told["status"] == "ok" and told["version"] == before and said in told["refused"]
+            assert service.get(ROUTE)["version"] == before
+            status, told = service.ask("/edits", "POST", b"a,0,1")
+            assert status == 503 and "isn't served" in told["error"]
+            time.sleep(0.5)
+            put(file, edited_bytes(good, file))
+            assert wait_for(lambda: service.get("/health").get("refused", ""), lambda said: not said) == ""
+            put(file, good)
+            assert wait_for(lambda: service.get("/health")["version"], lambda found: found == before) == before
+            status, _, errors = service.end()
+            assert status == 0 and errors.count("\n") == 1 and said in errors, errors
+
+
+def edited_bytes(good: bytes, path: Path) -> bytes:
+    beside = path.parent.parent / "good.cu"
+    beside.write_bytes(good)
+    edits, out = path.parent.parent / "edits.txt", path.parent.parent / "edited.cu"
+    edits.write_text("a,0,1\n")
+    assert run_program(["edit", beside, edits, out]).status == 0
+    return out.read_bytes()
+
+
+def test_a_file_that_is_gone_is_served_on(file: Path) -> None:
+    good = file.read_bytes()
+    with Service(file) as service:
+        file.unlink()
+        told = wait_for(lambda: service.get("/health"), lambda told: "refused" in told)
+        assert told["status"] == "ok" and "can't be read" in told["refused"]
+        assert service.get(ROUTE)["answer"] == "arrive"
+        assert service.ask("/edits", "POST", b"a,0,1")[0] == 503
+        put(file, good)
+        assert wait_for(lambda: "refused" in service.get("/health"), lambda refused: not refused) is False
+
+
+def test_a_child_that_dies_is_started_again(file: Path) -> None:
+    with Service(file) as service:
+        before = service.children()
+        assert len(before) == 2
+        for child in before:
+            os.kill(child, signal.SIGKILL)
+            statuses = {service.ask(path)[0] for path in (ROUTE, "/day?from=5&to=151")}
+            assert statuses <= {200, 503}
+            wait_for(lambda: [service.ask(path)[0] for path in (ROUTE, "/day?from=5&to=151")], lambda found: found == [200, 200])
+        assert not set(before) & set(service.children())
+        status, _, errors = service.end()
+        assert status == 0 and "Traceback" not in errors and errors.count("is started again: it has ended") == 2
+
+
+def test_a_child_that_hangs_is_replaced(file: Path) -> None:
+    with Service(file) as service:
+        quick = service.children()[0]
+        os.kill(quick, signal.SIGSTOP)
+        began = time.monotonic()
+        status, told = service.ask(ROUTE)
+        if status == 200:
+            quick = service.children()[1]
+            os.kill(quick, signal.SIGSTOP)
+            began = time.monotonic()
+            status, told = service.ask(ROUTE)
+        assert status == 503 and told["error"] == "the program took too long" and time.monotonic() - began < 15
+        assert wait_for(lambda: service.ask(ROUTE)[0], lambda status: status == 200) == 200
+        assert not is_there(quick)
+
+
+def test_health_says_that_a_child_hangs(file: Path) -> None:
+    with Service(file) as service:
+        for child in service.children():
+            os.kill(child, signal.SIGSTOP)
+        status, told = service.ask("/health")
+        assert (status, told["status"]) == (503, "down")
+        # Nobody asks it anything, and it is found all the same.
+        assert wait_for(lambda: service.ask("/health")[0], lambda status: status == 200, 60) == 200
+
+
+def test_workers_and_children_end_with_the_main_process(file: Path) -> None:
+    with Service(file, workers=2) as service:
+        processes = [*service.workers(), *service.children()]
+        assert len(processes) == 6
+        os.kill(service.process.pid, signal.SIGKILL)
+        assert wait_for(lambda: [pid for pid in processes if is_there(pid)], lambda left: not left, 10) == []
+
+
+def test_a_worker_that_dies_is_started_again(file: Path) -> None:
+    with Service(file, workers=2) as service:
+        for worker in service.workers():
+            children = children_of(worker)
+            os.kill(worker, signal.SIGKILL)
+            wait_for(lambda: [pid for pid in [worker, *children] if is_there(pid)], lambda left: not left)
+        assert wait_for(lambda: len(service.children()), lambda many: many == 4) == 4
+        assert status_of(service) == 200
+
+
+def test_a_hangup_starts_workers_anew(file: Path) -> None:
+    with Service(file, workers=2) as service:
+        before = set(service.workers())
+        service.process.send_signal(signal.SIGHUP)
+        assert wait_for(lambda: (len(service.workers()), set(service.workers()) & before), lambda found: found == (2, set()))
+        assert status_of(service) == 200
+        # Workers that couldn't serve aren't started.
+        before = set(service.workers())
+        good = file.read_bytes()
+        put(file, b"CATCHUPH")
+        service.process.send_signal(signal.SIGHUP)
+        time.sleep(1)
+        assert set(service.workers()) == before
+        put(file, good)
+        assert service.end()[0] == 0
+
+
+# ---- killed at any moment ----
+
+
+class Writer(threading.Thread):
+    """Makes edits one after the other, and notes which were confirmed."""
+
+    def __init__(self, port: int, first: int) -> None:
+        super().__init__(daemon=True)
+        self.port = port
+        self.number = first
+        self.confirmed: list[tuple[int, str]] = []
+        self.is_over = False
+
+    def run(self) -> None:
+        with client_of(self.port) as client:
+            while not self.is_over:
+                try:
+                    reply = client.post("/edits", content=line_of(self.number))
+                except httpx.HTTPError:
+                    time.sleep(0.01)
+                    continue
+                if reply.status_code == 200:
+                    self.confirmed.append((self.number, reply.json()["version"]))
+                    self.number += 1
+
+
+def line_of(number: int) -> str:
+    """An edit that no other is like: its number is a travel time."""
+    return f"s,0,0,travel,{number}"
+
+
+def kill_one(service: subprocess.Popen[bytes], draw: random.Random) -> None:
+    """Ends a process of the service, or all of them."""
+    workers = children_of(service.pid)
+    children = [child for worker in workers for child in children_of(worker)]
+    chosen = draw.choice(["all", "main", "worker", "worker", "child", "child"])
+    if chosen == "all":
+        os.killpg(service.pid, signal.SIGKILL)
+    if chosen in ("all", "main"):
+        service.kill()
+        service.wait()
+        return
+    victims = workers if chosen == "worker" else children
+    if victims:
+        try:
+            os.kill(draw.choice(victims), signal.SIGKILL)
+        except ProcessLookupError:
+            pass
+
+
+def endure(file: Path, rounds: int) -> tuple[int, int]:
+    """Kills processes of services under writes; how many edits were confirmed, and how many starts there were."""
+    draw, service, confirmed, starts, first = random.Random(7), None, 0, 0, 100
+    writer: Writer | None = None
+    for _ in range(rounds):
+        if service is None or service.poll() is not None:
+            service = subprocess.Popen([HTTP, "--port", "0", "--workers", "2", file], stdout=subprocess.PIPE,
+                                       stderr=subprocess.DEVNULL, start_new_session=True)
+            assert service.stdout is not None
+            port = int(re.findall(rb":(\d+)/", service.stdout.readline())[0])
+            starts += 1
+            assert wait_for(lambda: left_in(file.parent), lambda left: not [name for name in left if "-next-" in name], 10) is not None
+            writer = Writer(port, first)
+            writer.start()
+        assert writer is not None
+        many = len(writer.confirmed)
+        assert wait_for(lambda: len(writer.confirmed) > many)
+        time.sleep(draw.random() * 0.15)
+        kill_one(service, draw)
+        time.sleep(0.05)
+        if service.poll() is not None:
+            first = end_round(file, writer, service)
+            confirmed += len(writer.confirmed)
+    if service is not None and service.poll() is None:
+        service.send_signal(signal.SIGTERM)
+        assert writer is not None
+        writer.is_over = True
+        service.wait(SECONDS)
+        first = end_round(file, writer, service)
+        confirmed += len(writer.confirmed)
+    return confirmed, starts
+
+
+def end_round(file: Path, writer: Writer, service: subprocess.Popen[bytes]) -> int:
+    """All is over: the last edit that was confirmed is in the file, or one behind it whose answer was on its way."""
+    writer.is_over = True
+    writer.join(2 * SECONDS)
+    assert service.stdout is not None
+    service.stdout.close()
+    [reply] = ask_program(file, "q,0,0,0")
+    assert reply.startswith("arrive="), reply
+    if writer.confirmed:
+        number, version = writer.confirmed[-1]
+        entries = file.with_name(file.name + ".journal").read_text().splitlines()
+        made = [entry for entry in entries if line_of(number) in entry]
+        assert made and f'"after": "{version}' in made[-1]
+        behind = "".join(entries[entries.index(made[-1]) + 1:])
+        assert digest_of(file) == version or line_of(number + 1) in behind
+    return writer.number + 1000
+
+
+def test_no_confirmed_edit_is_lost_by_a_kill(file: Path, capsys: pytest.CaptureFixture[str]) -> None:
+    began = time.monotonic()
+    confirmed, starts = endure(file, 20)
+    check_left(file)
+    with capsys.disabled():
+        print(f"\n  20 kills, {starts} starts, {confirmed} edits confirmed, {time.monotonic() - began:.0f} s")
+
+
+@pytest.mark.long
+def test_no_confirmed_edit_is_lost_by_many_kills(file: Path, capsys: pytest.CaptureFixture[str]) -> None:
+    confirmed, starts = endure(file, 200)
+    check_left(file)
+    with capsys.disabled():
+        print(f"\n  200 kills, {starts} starts, {confirmed} edits confirmed")
+
+
+def check_left(file: Path) -> None:
+    """After the next start nothing is left of what was killed, and the journal tells where each version came from."""
+    with Service(file) as service:
+        assert service.get("/health")["version"] == digest_of(file)
+        assert wait_for(lambda: left_in(file.parent), lambda left: not left) == []
+        assert wait_for(lambda: [job for job in service.get("/edits")["jobs"] if job["state"] in ("waiting", "working")],
+                        lambda active: not active) == []
+        assert service.end()[0] == 0
+    assert sorted(each.name for each in file.parent.iterdir()) == ["town.cu", "town.cu.jobs", "town.cu.journal"]

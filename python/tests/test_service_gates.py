@@ -1,0 +1,185 @@
+"""Who gets into a service: names, origins, tokens, and words of a start."""
+
+from __future__ import annotations
+
+import os
+import signal
+import socket
+import subprocess
+from collections.abc import Iterator
+from pathlib import Path
+
+import pytest
+from conftest import EXAMPLES
+from serving import HTTP, SECONDS, Service, digest_of, read_all
+
+from catchup.service.gates import Gates
+
+TOKEN = "0123456789abcdef0123456789abcdef"
+ORIGIN = "https://maps.example.org"
+
+
+@pytest.fixture(scope="module")
+def guarded(town: Path, tmp_path_factory: pytest.TempPathFactory) -> Iterator[Service]:
+    """A service with a token, a name and an origin; its file is its own."""
+    folder = tmp_path_factory.mktemp("guarded")
+    path = folder / "town.cu"
+    path.write_bytes(town.read_bytes())
+    token = folder / "token"
+    token.write_text(TOKEN + "\n")
+    with Service(path, "--token", token, "--name", "Roads.Example.org", "--origin", ORIGIN) as service:
+        yield service
+
+
+HOSTS = [
+    ("localhost", 200), ("LOCALHOST:8080", 200), ("127.0.0.1", 200), ("[::1]:99", 200), ("roads.example.org", 200),
+    ("ROADS.example.org:443", 200), ("evil.example", 421), ("evil.example:8080", 421), ("localhost.evil.example", 421),
+    ("localhost:x", 421), ("localhost@evil", 421), ("", 421), ("127.0.0.2", 421), ("[::1", 421), ("localhost:80:80", 421)]
+
+
+@pytest.mark.parametrize(("host", "wanted"), HOSTS)
+def test_names_that_are_served(guarded: Service, host: str, wanted: int) -> None:
+    for path in ("/health", "/metrics", "/route?from=0&to=2&depart=0", "/nothing", "/"):
+        reply = guarded.client.get(path, headers={"Host": host})
+        assert reply.status_code == (404 if wanted == 200 and path == "/nothing" else wanted)
+        if wanted == 421:
+            assert reply.json()["error"] == "this name isn't served here" and reply.json()["version"]
+
+
+def test_a_request_without_a_name(guarded: Service) -> None:
+    assert guarded.raw(b"GET /health HTTP/1.0\r\n\r\n")[0].startswith("421")
+    assert guarded.raw(b"GET /health HTTP/1.1\r\n\r\n")[0].startswith("400")
+
+
+WRITES = [
+    ({}, 401), ({"Authorization": "Bearer " + TOKEN[:-1]}, 401), ({"Authorization": TOKEN}, 401), ({"Authorization": "Basic " + TOKEN}, 401),
+    ({"Authorization": "Bearer " + TOKEN}, 400), ({"Authorization": "bearer " + TOKEN}, 400),
+    ({"Authorization": "Bearer " + TOKEN, "Origin": "http://elsewhere.example"}, 403),
+    ({"Authorization": "Bearer " + TOKEN, "Origin": "null"}, 403), ({"Authorization": "Bearer " + TOKEN, "Origin": ""}, 403),
+    ({"Authorization": "Bearer " + TOKEN, "Origin": "http://127.0.0.1:1"}, 403), ({"Origin": ORIGIN}, 401),
+    ({"Authorization": "Bearer " + TOKEN, "Origin": ORIGIN}, 400),
+    ({"Authorization": "Bearer " + TOKEN, "Origin": "{own}"}, 400)]
+
+
+@pytest.mark.parametrize(("headers", "wanted"), WRITES)
+def test_who_may_write(guarded: Service, headers: dict[str, str], wanted: int) -> None:
+    own = {name: value.format(own=f"http://127.0.0.1:{guarded.port}") for name, value in headers.items()}
+    reply = guarded.client.post("/edits", content="q,0,0,0", headers=own)
+    assert reply.status_code == wanted, reply.text
+    assert guarded.client.delete("/edits/none", headers=own).status_code == (404 if wanted == 400 else wanted)
+    if wanted == 401:
+        assert reply.headers["WWW-Authenticate"] == "Bearer"
+
+
+def test_pages_of_a_named_origin_may_read(guarded: Service) -> None:
+    for path in ("/health", "/route?from=0&to=2&depart=0", "/nothing"):
+        headers = guarded.client.get(path, headers={"Origin": ORIGIN}).headers
+        assert (headers["Access-Control-Allow-Origin"], headers["Vary"]) == (ORIGIN, "Origin")
+        assert "Access-Control-Allow-Origin" not in guarded.client.get(path, headers={"Origin": "http://elsewhere"}).headers
+    reply = guarded.client.options("/edits", headers={"Origin": ORIGIN, "Access-Control-Request-Method": "POST"})
+    assert reply.status_code == 204 and "Authorization" in reply.headers["Access-Control-Allow-Headers"]
+    assert guarded.client.options("/edits", headers={"Origin": "http://elsewhere"}).status_code == 405
+
+
+def test_an_own_page_may_write_without_a_token_on_this_machine(town: Path, tmp_path: Path) -> None:
+    path = tmp_path / "town.cu"
+    path.write_bytes(town.read_bytes())
+    with Service(path) as service:
+        assert service.ask("/edits", "POST", b"q,0,0,0", Origin="http://evil.example:8080", Host="evil.example:8080")[0] == 421
+        assert service.ask("/edits", "POST", b"q,0,0,0", Origin="http://evil.example:8080")[0] == 403
+        assert service.ask("/edits", "POST", b"q,0,0,0", Origin=f"http://localhost:{service.port}", Host=f"localhost:{service.port}")[0] == 400
+
+
+@pytest.mark.parametrize(("origin", "host", "wanted"), [
+    ("http://a.example", "a.example", False), ("http://a.example:80", "a.example", False), ("https://a.example", "a.example:443", False),
+    ("https://a.example", "a.example", False), ("http://a.example:81", "a.example", True), ("http://[::1]:8080", "[::1]:8080", False),
+    ("http://b.example", "a.example", True), ("ftp://a.example", "a.example", True), ("http://a.example:x", "a.example", True),
+    ("file://", "a.example", True), ("http://a.example/", "a.example", True)])
+def test_origins_of_elsewhere(origin: str, host: str, wanted: bool) -> None:
+    assert Gates(frozenset(), frozenset(), None).is_elsewhere(origin, host) is wanted
+
+
+# ---- starts and ends ----
+
+
+def refused(*words: str | Path, **environment: str) -> tuple[int, str, str]:
+    found = subprocess.run([HTTP, *words], capture_output=True, text=True, timeout=SECONDS, env={**os.environ, **environment}, check=False)
+    return found.returncode, found.stdout, found.stderr
+
+
+def test_words_that_start_nothing(town: Path, tmp_path: Path) -> None:
+    short = tmp_path / "short.cu"
+    short.write_text("CATCHUPH")
+    bad = tmp_path / "bad"
+    bad.write_text("short")
+    cases: list[tuple[tuple[str | Path, ...], int, str]] = [
+        ((), 2, "Missing argument"), ((town, "--port", "65536"), 2, "65535"), ((town, "--port", "1_8_0"), 2, "number"),
+        ((town, "--port", "\u0661\u0662"), 2, "number"), ((town, "--keep", "x"), 2, "--keep"), ((town, "--workers", "0"), 2, "number"),
+        ((tmp_path / "none.cu",), 1, "No such file"), ((tmp_path,), 1, "is no file"), ((short,), 6, "file: short"),
+        ((town, "--host", "0.0.0.0"), 1, "--token"), ((town, "--token", tmp_path / "none"), 1, "can't be read"),
+        ((town, "--token", bad), 1, "holds no token"), ((town, "--origin", "x"), 1, "is no origin"), ((town, "--name", "a b"), 1, "is no name"),
+        ((town, "--tables", EXAMPLES / "rush_hour"), 1, "aren't tables of"), ((town, "--tables", "/dev/zero"), 1, "can't be read"),
+        ((f"car={town}", f"car={town}"), 1, "named twice"), ((town, "--tables", f"car={EXAMPLES / 'town'}"), 1, "names no served file"),
+        ((town, "--host", "203.0.113.1", "--token", "{token}"), 1, "can't listen on 203.0.113.1")]
+    token = tmp_path / "token"
+    token.write_text(TOKEN)
+    for words, status, said in cases:
+        found = refused(*(str(word).replace("{token}", str(token)) for word in words))
+        assert (found[0], found[1], found[2].count("\n")) == (status, "", 1), found
+        assert found[2].startswith("catchup-http: ") and said in found[2], found
+    assert refused(town, CATCHUP=str(tmp_path / "none"))[0] == 1
+    with socket.create_server(("127.0.0.1", 0)) as other:
+        status, _, error = refused(town, "--port", str(other.getsockname()[1]))
+        assert status == 1 and "can't listen on 127.0.0.1 port" in error
+
+
+@pytest.mark.parametrize("number", [signal.SIGTERM, signal.SIGINT])
+def test_it_ends_by_a_signal_to_it_or_to_all(town: Path, number: int) -> None:
+    with Service(town, workers=2) as service:
+        with service.connect() as client:
+            # A client that reads nothing holds up no end.
+            client.sendall(b"GET /reach?from=5&depart=0 HTTP/1.1\r\nHost: localhost\r\n\r\n" * 3000)
+            pids = [*service.workers(), *service.children()]
+            assert service.get("/health")["version"] == digest_of(town)
+            for pid in pids:
+                os.kill(pid, number)
+            assert service.end(number) == (0, "", "")
+
+
+def test_closed_or_full_outputs_stop_nothing(town: Path) -> None:
+    with open("/dev/full", "wb") as full:
+        process = subprocess.Popen([HTTP, "--port", "0", "--workers", "1", "--access-log", town], stdout=full, stderr=full)
+    try:
+        # Its port isn't told, so the sockets of the process are looked at.
+        port = wait_for_port(process.pid)
+        with socket.create_connection(("127.0.0.1", port), timeout=SECONDS) as client:
+            client.sendall(b"GET /health HTTP/1.0\r\nHost: localhost\r\n\r\n")
+            assert b" 200 OK" in read_all(client)
+    finally:
+        process.terminate()
+    assert process.wait(SECONDS) == 0
+
+
+def wait_for_port(pid: int) -> int:
+    from serving import wait_for
+
+    def port() -> int | None:
+        found = subprocess.run(["ss", "-tlnpH"], capture_output=True, text=True, check=True).stdout
+        for line in found.splitlines():
+            if f"pid={pid}," in line:
+                return int(line.split()[3].rpartition(":")[2])
+        return None
+
+    found = wait_for(port)
+    assert found is not None
+    return found
+
+
+def test_an_access_log_says_what_was_asked(town: Path) -> None:
+    with Service(town, "--access-log") as service:
+        service.get("/route?from=0&to=2&depart=0")
+        service.ask("/nothing")
+        status, _, said = service.end()
+    assert status == 0
+    first, second = said.splitlines()[-2:]
+    assert first.startswith("127.0.0.1 GET /route?from=0&to=2&depart=0 200 ") and second.startswith("127.0.0.1 GET /nothing 404 ")

@@ -1,0 +1,230 @@
+"""Replicas: two services with a file each, a stream of Redis between them, and nginx before them; each is ended in turn."""
+
+from __future__ import annotations
+
+import os
+import shutil
+import signal
+import socket
+import subprocess
+import threading
+import time
+from collections.abc import Iterator
+from contextlib import contextmanager
+from pathlib import Path
+
+import httpx
+import pytest
+from serving import HTTP, SECONDS, client_of, digest_of, left_in, wait_for
+
+pytest.importorskip("redis", reason="python3-redis isn't installed")
+
+SITE = """
+user root; pid {room}/nginx.pid; error_log {room}/nginx.log; daemon off; worker_processes 1;
+events {{ worker_connections 256; }}
+http {{
+  access_log off; client_body_temp_path {room}/body; proxy_temp_path {room}/proxy; fastcgi_temp_path {room}/f;
+  uwsgi_temp_path {room}/u; scgi_temp_path {room}/s;
+{upstream}
+{server}
+}}
+"""
+
+
+def free_port() -> int:
+    with socket.create_server(("127.0.0.1", 0)) as taken:
+        return int(taken.getsockname()[1])
+
+
+class Running:
+    """A process that is started again with the same words."""
+
+    def __init__(self, *words: str | Path, port: int) -> None:
+        self.words = words
+        self.port = port
+        self.start()
+
+    def start(self) -> None:
+        self.process = subprocess.Popen(self.words, stdout=subprocess.DEVNULL, stderr=subprocess.DEVNULL, start_new_session=True)
+        wait_for(self.is_open)
+
+    def is_open(self) -> bool:
+        try:
+            socket.create_connection(("127.0.0.1", self.port), timeout=1).close()
+        except OSError:
+            return False
+        return True
+
+    def kill(self) -> None:
+        """Ends it by SIGKILL, and waits until nobody listens there. The workers of nginx don't end with it, those of a service do."""
+        if self.words[0] == HTTP:
+            self.process.kill()
+        else:
+            os.killpg(self.process.pid, signal.SIGKILL)
+        self.process.wait()
+        assert not wait_for(self.is_open, lambda found: not found)
+
+
+@pytest.fixture(scope="module")
+def room(tmp_path_factory: pytest.TempPathFactory) -> Path:
+    for name in ("redis-server", "nginx"):
+        if shutil.which(name) is None and not Path(f"/usr/sbin/{name}").exists():
+            pytest.skip(f"{name} isn't installed")
+    return tmp_path_factory.mktemp("replicas")
+
+
+def start_redis(room: Path, port: int) -> Running:
+    data = room / "redis"
+    data.mkdir(exist_ok=True)
+    return Running("redis-server", "--port", str(port), "--bind", "127.0.0.1", "--dir", data, "--appendonly", "yes", "--appendfsync",
+                   "always", "--save", "", port=port)
+
+
+def start_replica(room: Path, town: Path, name: str, redis: int, port: int) -> tuple[Running, Path]:
+    folder = room / name
+    folder.mkdir(exist_ok=True)
+    path = folder / "town.cu"
+    if not path.exists():
+        path.write_bytes(town.read_bytes())
+    return Running(HTTP, "--port", str(port), "--workers", "2", "--log", f"redis://127.0.0.1:{redis}/0/{room.name}", path, port=port), path
+
+
+def start_nginx(room: Path, ports: list[int], port: int) -> Running:
+    """nginx with the example site, for two ports of this machine."""
+    text = (Path(__file__).resolve().parents[2] / "packaging" / "service" / "nginx.conf").read_text()
+    for at, own in enumerate(ports, 1):
+        text = text.replace(f"10.0.0.{at}:8080", f"127.0.0.1:{own}")
+    text = text.replace("listen 80;", f"listen 127.0.0.1:{port};").replace("proxy_set_header Host $host", "proxy_set_header Host localhost")
+    config = room / "nginx.conf"
+    config.write_text(SITE.format(room=room, upstream=text, server=""))
+    return Running("/usr/sbin/nginx", "-c", config, "-p", room, port=port)
+
+
+class Reader(threading.Thread):
+    """Asks for routes all the time, and notes which statuses come."""
+
+    def __init__(self, port: int) -> None:
+        super().__init__(daemon=True)
+        self.port = port
+        self.statuses: list[int] = []
+        self.is_over = False
+
+    def run(self) -> None:
+        with client_of(self.port) as client:
+            while not self.is_over:
+                try:
+                    self.statuses.append(client.get("/route?from=5&to=151&depart=28800").status_code)
+                except httpx.HTTPError:
+                    self.statuses.append(0)
+                time.sleep(0.02)
+
+
+@contextmanager
+def reading(port: int) -> Iterator[list[int]]:
+    reader = Reader(port)
+    reader.start()
+    try:
+        yield reader.statuses
+    finally:
+        reader.is_over = True
+        reader.join()
+
+
+def edit(port: int, number: int) -> bool:
+    """Makes an edit of a number; whether it was confirmed."""
+    with client_of(port) as client:
+        try:
+            return client.post("/edits", content=f"s,0,0,travel,{number}").status_code == 200
+        except httpx.HTTPError:
+            return False
+
+
+def lines(path: Path) -> str:
+    journal = path.with_name("town.cu.journal")
+    return journal.read_text() if journal.exists() else ""
+
+
+def test_replicas_have_the_same_bytes_whatever_is_killed(room: Path, town: Path) -> None:
+    redis_port, ports, front = free_port(), [free_port(), free_port()], free_port()
+    redis = start_redis(room, redis_port)
+    replicas = [start_replica(room, town, name, redis_port, port) for name, port in zip(("north", "south"), ports)]
+    nginx = start_nginx(room, ports, front)
+    everything = [redis, nginx, *(running for running, _ in replicas)]
+    paths = [path for _, path in replicas]
+    confirmed = []
+    try:
+        wait_for(lambda: edit(front, 99), bool)
+        for turn, victim in enumerate([replicas[0][0], replicas[1][0], redis, nginx]):
+            number = 100 + 10 * turn
+            assert wait_for(lambda: edit(front, number), bool)
+            confirmed.append(number)
+            with reading(ports[0] if victim is redis else front) as statuses:
+                time.sleep(0.2)
+                victim.kill()
+                if victim is redis:
+                    began = time.monotonic()
+                    assert not edit(ports[0], number + 1)
+                    assert time.monotonic() - began < 10 + 5
+                elif victim is not nginx:
+                    assert wait_for(lambda: edit(front, number + 2), bool)
+                    confirmed.append(number + 2)
+                time.sleep(0.3)
+                many = len(statuses)
+                assert set(statuses[:many]) <= {200} or victim is nginx, statuses
+                victim.start()
+            assert wait_for(lambda: edit(front, number + 3), bool)
+            confirmed.append(number + 3)
+        assert wait_for(lambda: digest_of(paths[0]) == digest_of(paths[1]), bool)
+        for path in paths:
+            text = lines(path)
+            assert [number for number in confirmed if f'"s,0,0,travel,{number}"' not in text] == []
+            assert '"entry": "' in text
+            assert wait_for(lambda: left_in(path.parent), lambda left: not left) == []
+        with client_of(ports[1]) as client:
+            refused = client.post("/edits", content="s,0,0,travel,1\nq,0,0,0")
+            assert (refused.status_code, refused.json()["refused"]) == (400, [{"line": 2, "word": "line"}])
+            assert client.get("/health").json()["log"] == "ok"
+        check_diverged(replicas, ports, town)
+    finally:
+        for each in everything:
+            each.kill()
+
+
+def check_diverged(replicas: list[tuple[Running, Path]], ports: list[int], town: Path) -> None:
+    """A replica whose file is another than the others' says so, makes nothing, and goes on once it has theirs."""
+    (running, path), (_, other) = replicas
+    running.kill()
+    beside = path.with_name("beside")
+    beside.write_bytes(edited(town, path.parent.parent))
+    beside.rename(path)
+    running.start()
+
+    def health() -> tuple[int, object]:
+        with client_of(ports[0]) as client:
+            reply = client.get("/health")
+            return reply.status_code, reply.json()["status"]
+
+    assert wait_for(health, lambda found: found == (503, "diverged")) == (503, "diverged")
+    assert not edit(ports[0], 500)
+    assert wait_for(lambda: edit(ports[1], 501), bool)
+    beside.write_bytes(other.read_bytes())
+    beside.rename(path)
+    assert wait_for(health, lambda found: found == (200, "ok")) == (200, "ok")
+    assert wait_for(lambda: edit(ports[0], 502), bool)
+    assert wait_for(lambda: digest_of(path) == digest_of(other), bool)
+
+
+def edited(town: Path, folder: Path) -> bytes:
+    """A version that no entry of the stream made."""
+    from catchup.program import run_program
+
+    edits, out = folder / "other.txt", folder / "other.cu"
+    edits.write_text("s,1,0,travel,4321\n")
+    assert run_program(["edit", town, edits, out]).status == 0
+    return out.read_bytes()
+
+
+def test_a_stream_that_is_none(town: Path) -> None:
+    for address in ("redis://", "http://x/0/y", "redis://127.0.0.1:1", "redis://127.0.0.1:1/0/"):
+        found = subprocess.run([HTTP, town, "--log", address], capture_output=True, text=True, timeout=SECONDS, check=False)
+        assert found.returncode == 1 and "redis://HOST:PORT/0/NAME" in found.stderr and found.stderr.count("\n") == 1
