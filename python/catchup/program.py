@@ -118,6 +118,8 @@ class Child:
             try:
                 return self._exchange(said)
             except BaseException:
+                # What it still says, before it is gone, is no reply to the next line.
+                self._end = self._end or Ended(None, "a call was broken off, so nothing more can be asked")
                 self.kill()
                 raise
 
