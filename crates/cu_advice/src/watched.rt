@@ -1,34 +1,28 @@
-//! A sink that remembers its last line.
+//! A writer that remembers its last line.
 
-ghost use Rattle.std.specs.Prelude.{◌≡◌, ◌<◌, ◌≤◌, length, take, is_some, IfOk, IfSome, OnOk, OnErr};
-ghost use Rattle.cu_advice.specs.Watching.{watched_state};
-ghost use Rattle.cu_io.specs.Counts.{Rose};
-ghost use Rattle.cu_io.specs.Sinks.{IsFlushed};
-ghost use Rattle.cu_io.specs.Transfers.{Appends};
-
-use cu_io::{Sink, SinkFailed};
+use std::io;
+use std::io::Write;
 
 // How many bytes of a line are kept. No line that says why a run ended is as long.
 const KEPT: usize = 256;
 
-/// A sink that hands on all that is written to it, and remembers what was written behind the last but one flush: the last line, as
-/// each line is flushed. Of a longer one than 256 bytes nothing is kept. It takes no memory.
+/// A writer that hands on all that is written to it, and remembers what was written behind the last but one flush: the last line, as
+/// each line is flushed. Of a longer one than 256 bytes nothing is kept. It takes no memory. It belongs below a buffer, where a line
+/// is one write.
 #[derive(Drop)]
-pub struct Watched<K: Sink + Drop> {
-    sink: K,
+pub struct Watched<W: Write + Drop> {
+    writer: W,
     line: [u8; KEPT],
     length: usize,
     // Whether the line has ended, so that the next byte is of another.
     ended: bool,
 }
 
-impl<K: Sink + Drop> Watched<K> {
-    /// Watches a sink to which nothing was written yet.
-    pub fn new(sink: K) -> Watched<K>
-        ensures { watched_state K.state result ≡ K.state sink }
-    {
+impl<W: Write + Drop> Watched<W> {
+    /// Watches a writer to which nothing was written yet.
+    pub fn new(writer: W) -> Watched<W> {
         Watched {
-            sink,
+            writer,
             line: [0; KEPT],
             length: 0,
             ended: false,
@@ -44,9 +38,7 @@ impl<K: Sink + Drop> Watched<K> {
     }
 
     // Keeps bytes that were written.
-    fn keep(&mut self, written: &[u8])
-        ensures { watched_state K.state self.new ≡ watched_state K.state self.old }
-    {
+    fn keep(&mut self, written: &[u8]) {
         if self.ended {
             self.length = 0;
             self.ended = false;
@@ -58,45 +50,15 @@ impl<K: Sink + Drop> Watched<K> {
     }
 }
 
-impl<K: Sink + Drop> Sink for Watched<K> {
-    ghost state = { watched_state K.state };
-
-    fn write(&mut self, piece: &[u8]) -> Result<usize, SinkFailed>
-        ensures some { IfOk result (λ n. 0 < length piece.now → 0 < n) }
-        ensures within { IfOk result (λ n. n ≤ length piece.now) }
-        ensures appends { IfOk result (λ n. Appends (watched_state K.state self.old).written
-            (watched_state K.state self.new).written (take n piece.now)) }
-        ensures err { OnErr result ((watched_state K.state self.new).written
-            ≡ (watched_state K.state self.old).written) }
-        ensures tells { is_some (watched_state K.state self.new).written
-            ≡ is_some (watched_state K.state self.old).written }
-        ensures rises { (watched_state K.state self.old).flushed ≤ (watched_state K.state self.new).flushed }
-        ensures bounded { IfSome (watched_state K.state self.new).written
-            (λ bytes. (watched_state K.state self.new).flushed ≤ length bytes) }
-        ensures later { (watched_state K.state self.old).faults ≤ (watched_state K.state self.new).faults }
-        ensures cause { OnErr result (Rose (watched_state K.state self.old).faults
-            (watched_state K.state self.new).faults) }
-        ensures quiet { OnOk result ((watched_state K.state self.new).faults
-            ≡ (watched_state K.state self.old).faults) }
-    {
-        let count = self.sink.write(piece)?;
+impl<W: Write + Drop> Write for Watched<W> {
+    fn write(&mut self, piece: &[u8]) -> io::Result<usize> {
+        let count = self.writer.write(piece)?;
         self.keep(&piece[..count]);
         Ok(count)
     }
 
-    fn flush(&mut self) -> Result<(), SinkFailed>
-        ensures all { OnOk result (IsFlushed (watched_state K.state self.new)) }
-        ensures same { (watched_state K.state self.new).written ≡ (watched_state K.state self.old).written }
-        ensures rises { (watched_state K.state self.old).flushed ≤ (watched_state K.state self.new).flushed }
-        ensures bounded { IfSome (watched_state K.state self.new).written
-            (λ bytes. (watched_state K.state self.new).flushed ≤ length bytes) }
-        ensures later { (watched_state K.state self.old).faults ≤ (watched_state K.state self.new).faults }
-        ensures cause { OnErr result (Rose (watched_state K.state self.old).faults
-            (watched_state K.state self.new).faults) }
-        ensures quiet { OnOk result ((watched_state K.state self.new).faults
-            ≡ (watched_state K.state self.old).faults) }
-    {
+    fn flush(&mut self) -> io::Result<()> {
         self.ended = true;
-        self.sink.flush()
+        self.writer.flush()
     }
 }

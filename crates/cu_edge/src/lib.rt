@@ -20,7 +20,7 @@ use cu_io::{DiskShelf, Shelf, Sink, Source, StdSink, StdSource};
 use cu_model::NoMemory;
 use cu_progress::{Progress, Shown, choose_showing};
 use std::alloc::{AllocError, Global};
-use std::io::{self, BufWriter, ErrorKind, IsTerminal};
+use std::io::{self, BufWriter, ErrorKind, IsTerminal, Read, Write};
 use std::process::ExitCode;
 use std::{env, str};
 
@@ -41,22 +41,11 @@ pub fn catchup(rt: HostRuntime) -> ExitCode {
     };
     let input = Fault::none();
     let output = Fault::none();
-    let Ok(writer) = BufWriter::new(rt.alloc(), Noted::new(io::writer(&rt), &output)) else {
+    let mut watched = Watched::new(Noted::new(io::writer(&rt), &output));
+    let Ok(code) = run_over_streams(&rt, &words, Noted::new(rt.reader(), &input), &mut watched)
+    else {
         return without_memory(&rt);
     };
-    let mut shelf = DiskShelf::new(&rt);
-    let mut source = StdSource::new(Noted::new(rt.reader(), &input));
-    let mut sink = Watched::new(StdSink::new(writer));
-    let how = choose_showing(&rt, &rt.stderr());
-    let mut shown = Shown::new(&rt, how, rt.stdout().is_terminal());
-    let code = end_by_run(
-        rt.alloc(),
-        &words,
-        &mut shelf,
-        &mut source,
-        &mut sink,
-        &mut shown,
-    );
     let status = status_of(code);
     // Whoever reads no longer is told nothing.
     if status != WRITE_FAILED || !output.is_closed_pipe() {
@@ -65,9 +54,32 @@ pub fn catchup(rt: HostRuntime) -> ExitCode {
         } else {
             &input
         };
-        say(&rt, status, words.as_slice(), sink.last_line(), fault);
+        say(&rt, status, words.as_slice(), watched.last_line(), fault);
     }
     code
+}
+
+// Does what the words ask for, over the real files, a reader and a writer. Refused where there is no memory for the writer's buffer.
+fn run_over_streams<R: Read + Drop, W: Write + Drop>(
+    rt: &HostRuntime,
+    words: &Vec<String>,
+    reader: R,
+    writer: W,
+) -> io::Result<ExitCode> {
+    let writer = BufWriter::new(rt.alloc(), writer)?;
+    let mut shelf = DiskShelf::new(rt);
+    let mut source = StdSource::new(reader);
+    let mut sink = StdSink::new(writer);
+    let how = choose_showing(rt, &rt.stderr());
+    let mut shown = Shown::new(rt, how, rt.stdout().is_terminal());
+    Ok(end_by_run(
+        rt.alloc(),
+        words,
+        &mut shelf,
+        &mut source,
+        &mut sink,
+        &mut shown,
+    ))
 }
 
 /// The last step of a process: does what these words ask for, over the files of the shelf and the script of the source, with the
