@@ -1,5 +1,9 @@
 #!/usr/bin/python3
-"""Prints the manual page of a command of the Python package, made of its help: manual.py NAME VERSION DATE."""
+"""Writes the manual pages of commands of the Python package, made of their help, into a folder, as NAME.1:
+manual.py FOLDER VERSION DATE NAME..
+
+All in one run, since each run would load the same libraries.
+"""
 
 from __future__ import annotations
 
@@ -103,5 +107,6 @@ def page(name: str, version: str, date: str) -> Iterator[str]:
 
 
 if __name__ == "__main__":
-    name, version, date = sys.argv[1:]
-    print("\n".join(page(name, version, date)))
+    folder, version, date, *names = sys.argv[1:]
+    for name in names:
+        Path(folder, f"{name}.1").write_text("".join(f"{line}\n" for line in page(name, version, date)), encoding="utf-8")

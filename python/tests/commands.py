@@ -2,13 +2,19 @@
 
 from __future__ import annotations
 
+import io
 import os
+import runpy
 import signal
 import subprocess
+import sys
+import tempfile
 import time
 from collections.abc import Mapping
+from contextlib import ExitStack
 from pathlib import Path
 from typing import NamedTuple
+from unittest import mock
 
 BIN = Path(__file__).resolve().parents[2] / "bin"
 
@@ -30,6 +36,30 @@ def run(
         [BIN / name, *words], input=said, capture_output=True, timeout=120, cwd=cwd, env={**os.environ, **(env or {})}
     )
     return Ran(done.returncode, done.stdout.decode(), done.stderr.decode())
+
+
+def call(name: str, *words: str | Path, input: str | bytes = b"", env: Mapping[str, str] | None = None) -> Ran:
+    """As `run`, but in this process: for the many cases of a command that other tests start as a process of its own."""
+    said = input.encode() if isinstance(input, str) else input
+    with ExitStack() as stack:
+        files = [stack.enter_context(tempfile.TemporaryFile()) for _ in range(3)]
+        os.pwrite(files[0].fileno(), said, 0)
+        for stream, file in zip(("stdin", "stdout", "stderr"), files):
+            text = stack.enter_context(open(os.dup(file.fileno()), "r+", encoding="utf-8"))
+            stack.enter_context(mock.patch.object(sys, stream, text))
+        stack.enter_context(mock.patch.object(sys, "argv", [str(BIN / name), *map(str, words)]))
+        stack.enter_context(mock.patch.object(sys, "path", list(sys.path)))
+        stack.enter_context(mock.patch.dict(os.environ, env or {}))
+        stack.callback(signal.signal, signal.SIGTERM, signal.getsignal(signal.SIGTERM))
+        try:
+            runpy.run_path(str(BIN / name), run_name="__main__")
+        except SystemExit as end:
+            status = end.code
+        sys.stdout.flush()
+        sys.stderr.flush()
+        output, error = (os.pread(file.fileno(), os.fstat(file.fileno()).st_size, 0).decode() for file in files[1:])
+    assert isinstance(status, int)
+    return Ran(status, output, error)
 
 
 def check_refused(ran: Ran, status: int, said: str) -> None:

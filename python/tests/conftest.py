@@ -4,6 +4,7 @@ from __future__ import annotations
 
 import os
 import shutil
+import signal
 import sys
 import tempfile
 from collections.abc import Iterator
@@ -12,6 +13,9 @@ from pathlib import Path
 # Hypothesis keeps tables of characters in a folder; it must not be one of the checkout.
 os.environ.setdefault("HYPOTHESIS_STORAGE_DIRECTORY", os.path.join(tempfile.gettempdir(), "catchup-hypothesis"))
 sys.dont_write_bytecode = True
+# A shell that runs the tests in the background has interrupts ignored, and whatever a test starts would ignore them too.
+if signal.getsignal(signal.SIGINT) is signal.SIG_IGN:
+    signal.signal(signal.SIGINT, signal.default_int_handler)
 
 import pytest  # noqa: E402
 from reporting import pytest_make_collect_report, pytest_terminal_summary  # noqa: E402, F401

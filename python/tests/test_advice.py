@@ -24,15 +24,6 @@ MAKES_BUILD = "Build it again: catchup build .."
 HEADER = "profile,from,kind,value\n"
 
 
-@pytest.fixture(scope="module")
-def program() -> Path:
-    """The program that CATCHUP names, else the launcher of the checkout; skips where it doesn't run."""
-    found = Path(os.environ.get("CATCHUP") or TOP / "bin" / "catchup").absolute()
-    if not os.access(found, os.X_OK):
-        pytest.skip(f"there is no program {found}")
-    return found
-
-
 @pytest.fixture
 def folder(tmp_path: Path) -> Path:
     """A folder with three tables that are accepted: 3 nodes, and the roads and profiles of the example."""

@@ -5,9 +5,11 @@ from __future__ import annotations
 
 import os
 import random
+from contextlib import chdir
 from pathlib import Path
 
 import pytest
+from commands import call
 from scripts import TOP, Run, run
 
 pytestmark = pytest.mark.usefixtures("program")
@@ -64,10 +66,17 @@ def everything(room: Path) -> list[str]:
     return sorted(str(place) for place in room.rglob("*"))
 
 
-def try_badly(room: Path, words: list[str], statuses: tuple[int, ...] = (1,), input: str = "", **env: str) -> Run:
-    """Runs a command and looks at how it refuses."""
+def try_badly(
+    room: Path, words: list[str], statuses: tuple[int, ...] = (1,), input: str = "", here: bool = False, **env: str
+) -> Run:
+    """Runs a command, as a process of its own unless `here`, and looks at how it refuses."""
     before = everything(room)
-    ran = run([TOP / "bin" / words[0], *words[1:]], folder=room, input=input, env={"TMPDIR": f"{room}/rests"} | env)
+    env = {"TMPDIR": f"{room}/rests"} | env
+    if here:
+        with chdir(room):
+            ran = Run(*call(*words, input=input, env=env))
+    else:
+        ran = run([TOP / "bin" / words[0], *words[1:]], folder=room, input=input, env=env)
     assert ran.status in statuses and ran.out == "", ran
     assert ran.err.startswith(f"{words[0]}: ") and ran.err.count("\n") == 1, ran
     assert everything(room) == before
@@ -81,7 +90,8 @@ def is_python(command: str) -> bool:
 @pytest.mark.parametrize("bad", ["missing", "folder", *BAD])
 @pytest.mark.parametrize(("words", "input"), PLACES)
 def test_a_file(room: Path, words: str, input: str, bad: str) -> None:
-    try_badly(room, words.replace("BAD", f"bad/{bad}").split(), input=input)
+    """Each place with one bad file by a process of its own, and with the others here, since to start takes the longest."""
+    try_badly(room, words.replace("BAD", f"bad/{bad}").split(), input=input, here=bad != "garbage")
 
 
 @pytest.mark.parametrize(("words", "bad"), BAD_REPLIES)

@@ -12,7 +12,7 @@ from pathlib import Path
 
 import numpy as np
 import pytest
-from commands import BIN, check_refused, run, run_into_closed_pipe
+from commands import BIN, call, check_refused, run, run_into_closed_pipe
 from scipy.sparse import coo_matrix
 from scipy.sparse.csgraph import connected_components
 
@@ -90,9 +90,9 @@ def test_arrivals_that_differ_are_told(program: Path, tmp_path: Path) -> None:
 
 def test_refusals(tmp_path: Path) -> None:
     for words in (["--sizes", "5"], ["--sizes", "a,b"], ["--sizes", ""], ["--sizes", "262145"], ["--queries", "1"], ["more"]):
-        check_refused(run("catchup-bench", *words), 2, "See: catchup-bench --help")
+        check_refused(call("catchup-bench", *words), 2, "See: catchup-bench --help")
     (tmp_path / "file").write_text("")
-    ran = run("catchup-bench", "--sizes", "100", "--queries", "100", "--keep", tmp_path / "file")
+    ran = call("catchup-bench", "--sizes", "100", "--queries", "100", "--keep", tmp_path / "file")
     assert ran.status == 1 and "Not a directory" in ran.error and ran.error.count("\n") == 1, ran
 
 

@@ -52,6 +52,8 @@ class Machine:
         for number, text in enumerate(texts):
             (self.room / f"tests/test_{number}.py").write_text(text)
         words = {"PATH": f"{self.room}/tools:{plain_path()}", "ROOM": str(self.room), "NEEDS": f"{TOP}/packaging/needs.txt"}
+        # No plug-in of pytest is needed here, and to import them takes longer than all else.
+        words["PYTEST_DISABLE_PLUGIN_AUTOLOAD"] = "1"
         return run([TOP / "bin/check", self.room / "tests"], folder=self.room, env=words | env)
 
     def asked(self) -> list[str]:

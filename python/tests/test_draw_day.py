@@ -13,7 +13,7 @@ from collections.abc import Callable, Mapping, Sequence
 from pathlib import Path
 
 import pytest
-from commands import BIN, Ran, check_refused, run, run_into_closed_pipe
+from commands import BIN, Ran, call, check_refused, run, run_into_closed_pipe
 from conftest import EXAMPLES
 from drawings import SVG, Drawn
 
@@ -41,8 +41,9 @@ def hidden(second: int) -> tuple[int, str]:
 
 
 def turns(second: int) -> tuple[int, str]:
-    """Twelve routes hold an hour each, and then two take turns for half a day: they hold six hours each."""
-    return 3000 + second % 2 * 600, str(second // 3600 if second < 43200 else 20 + second % 2)
+    """Twelve routes hold an hour each, and then two take turns of 8 seconds for half a day: they hold six hours each."""
+    turn = second // 8 % 2
+    return 3000 + turn * 600, str(second // 3600 if second < 43200 else 20 + turn)
 
 
 def late(second: int) -> tuple[int, str]:
@@ -255,14 +256,14 @@ def stub(tmp_path: Path, monkeypatch: pytest.MonkeyPatch) -> Path:
 
 
 def day(*words: str, env: Mapping[str, str] | None = None) -> Ran:
-    return run("draw-day", *words, env=env)
+    return call("draw-day", *words, env=env)
 
 
 def test_over_tables_and_over_a_packed_file(stub: Path) -> None:
-    ran = day(*TABLES, "0", "3")
+    ran = run("draw-day", *TABLES, "0", "3")
     assert (ran.status, ran.error) == (0, "")
     assert Drawn(ran.output).words("routes") == ["route 1, road 7: all day"]
-    assert day("a town.cu", "0", "3", env={"LC_ALL": "de_DE.UTF-8"}) == ran
+    assert run("draw-day", "a town.cu", "0", "3", env={"LC_ALL": "de_DE.UTF-8"}) == ran
     assert day("--every", "300", "a town.cu", "0", "3") == ran
 
 

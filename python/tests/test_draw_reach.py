@@ -10,7 +10,7 @@ from collections.abc import Callable
 from pathlib import Path
 
 import pytest
-from commands import BIN, check_refused, interrupt, run, run_into_closed_pipe
+from commands import BIN, call, check_refused, interrupt, run, run_into_closed_pipe
 from conftest import EXAMPLES
 from drawings import SVG, Drawn, grid, small, steps, write_small, write_tables
 from hypothesis import given
@@ -217,7 +217,7 @@ def test_refusals(folder: Path, reply: str, words: list[str], status: int, said:
     (folder / "wrong").write_text((folder / "roads").read_text().replace("\n3,", "\n4,", 1))
     (folder / "one").write_text("node,x,y\n0,0,0\n")
     before = sorted(folder.iterdir())
-    ran = run("draw-reach", *words, input=reply)
+    ran = call("draw-reach", *words, input=reply)
     check_refused(ran, status, said)
     assert ran.error.startswith("draw-reach: ") and sorted(folder.iterdir()) == before
 

@@ -10,7 +10,7 @@ import time
 from pathlib import Path
 
 import pytest
-from commands import BIN, check_refused, interrupt, run, run_into_closed_pipe
+from commands import BIN, call, check_refused, interrupt, run, run_into_closed_pipe
 from conftest import EXAMPLES
 from drawings import FIVE, PLACES, SVG, Drawn, draw, grid, small, steps, write_small, write_tables
 
@@ -291,7 +291,7 @@ def test_refusals(folder: Path, words: list[str], replies: str, status: int, sai
     (folder / "wrong").write_text("node,x,y\n0,0,0\n1,five,0\n")
     (folder / "one").write_text("node,x,y\n0,0,0\n")
     before = sorted(folder.iterdir())
-    ran = run("draw-route", *words, input=replies and replies + "\n")
+    ran = call("draw-route", *words, input=replies and replies + "\n")
     check_refused(ran, status, said)
     assert ran.error.startswith("draw-route: ") and sorted(folder.iterdir()) == before
 

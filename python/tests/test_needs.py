@@ -7,6 +7,7 @@ import importlib.util
 import shutil
 import sys
 from collections.abc import Iterator
+from functools import cache
 from pathlib import Path
 
 import pytest
@@ -25,11 +26,24 @@ def imported(place: Path) -> Iterator[str]:
             yield node.module.partition(".")[0]
 
 
+@cache
 def others(folder: Path) -> list[str]:
     """What the modules of a folder import of others: not of Python itself, nor of the folder and its neighbours."""
     own = {place.stem for place in folder.iterdir()} | {"catchup"}
     names = {name for place in folder.rglob("*.py") for name in imported(place)}
     return sorted(names - own - sys.stdlib_module_names)
+
+
+def place_of(module: str) -> str:
+    """Where a module stands; nothing where it isn't installed."""
+    found = importlib.util.find_spec(module)
+    return found.origin or next(iter(found.submodule_search_locations or []), "") if found else ""
+
+
+@cache
+def files_of(package: str) -> frozenset[str]:
+    """What an installed package put in place. To ask whose a file is would take longer: all packages' lists are read for it."""
+    return frozenset(run(["dpkg-query", "-L", package]).out.splitlines())
 
 
 def test_lines() -> None:
@@ -48,11 +62,8 @@ def test_lines() -> None:
 def test_what_is_imported_is_in_the_list(module: str, kinds: set[str]) -> None:
     if not shutil.which("dpkg-query"):
         pytest.skip("dpkg-query isn't installed, which tells whose a module is")
-    found = importlib.util.find_spec(module)
-    if found is None or not (found.origin or found.submodule_search_locations):
+    place = place_of(module)
+    if not place:
         pytest.skip(f"the module {module} isn't installed")
-    place = found.origin or list(found.submodule_search_locations or [])[0]
-    status, out, err = run(["dpkg-query", "-S", place])
-    assert status == 0, err
-    owner = out.partition(":")[0]
-    assert [line[1] in kinds for line in NEEDS if line[0] == owner] == [True], f"{module} is of {owner}"
+    owners = {package: kind for package, kind, _ in NEEDS if place in files_of(package)}
+    assert len(owners) == 1 and kinds.issuperset(owners.values()), f"{module} is of {owners or 'no package of the list'}"

@@ -11,7 +11,7 @@ from pathlib import Path
 
 import numpy as np
 import pytest
-from commands import BIN, check_refused, interrupt, run, run_into_closed_pipe, without_tools
+from commands import BIN, call, check_refused, interrupt, run, run_into_closed_pipe, without_tools
 from hypothesis import given, settings
 from hypothesis import strategies as st
 
@@ -195,7 +195,7 @@ STUBS = [
 @pytest.mark.parametrize("text, said", STUBS)
 def test_an_ndmetis_that_fails(tables: Path, monkeypatch: pytest.MonkeyPatch, text: str, said: str) -> None:
     stub(tables, text, monkeypatch)
-    check_refused(run("order-by-metis", "nodes", "roads"), 1, f"order-by-metis: {said}")
+    check_refused(call("order-by-metis", "nodes", "roads"), 1, f"order-by-metis: {said}")
     assert os.listdir("rests") == []
 
 
@@ -203,11 +203,11 @@ def test_without_ndmetis(tables: Path) -> None:
     env = without_tools(tables / "few")
     check_refused(run("order-by-metis", "nodes", "roads", env=env), 1, "apt-get install metis")
     check_refused(run("catchup-order", "--plain", "nodes", "roads", env=env), 1, "catchup order NODES ROADS PROFILES OUT")
-    assert run("order-by-metis", "nodes", "loops", env=env) == (0, "0\n1\n2\n3\n4\n", "")
+    assert call("order-by-metis", "nodes", "loops", env=env) == (0, "0\n1\n2\n3\n4\n", "")
     assert run("catchup-order", "nodes", "roads", env=env).status == 0
     Path("none").write_text("node,x,y\n")
     Path("no_roads").write_text("arc,tail,head,profile\n")
-    assert run("order-by-metis", "none", "no_roads", env=env) == (0, "", "")
+    assert call("order-by-metis", "none", "no_roads", env=env) == (0, "", "")
 
 
 BAD = [
@@ -228,13 +228,13 @@ BAD = [
 def test_refusals(tables: Path, name: str, words: list[str], status: int, said: str) -> None:
     Path("other").write_text("arc,tail,head,profile\n0,0,1,0\n1,4,5,0\n")
     Path("word").write_text("arc,tail,head,profile\n0,x,1,0\n")
-    check_refused(run(name, *words), status, f"{name}: {said}" if status == 1 else said)
+    check_refused(call(name, *words), status, f"{name}: {said}" if status == 1 else said)
 
 
 def test_profiles_of_another_network(tables: Path) -> None:
     Path("profiles").write_text("profile,from,kind,value\n0,0,travel,5\n")
     check_refused(
-        run("catchup-order", "nodes", "roads", "profiles"), 1, "roads, line 4, column profile: found '1', allowed: profiles 0 to 0"
+        call("catchup-order", "nodes", "roads", "profiles"), 1, "roads, line 4, column profile: found '1', allowed: profiles 0 to 0"
     )
 
 

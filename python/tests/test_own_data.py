@@ -11,7 +11,7 @@ from pathlib import Path
 
 import numpy as np
 import pytest
-from commands import BIN, check_refused, run, run_into_closed_pipe
+from commands import BIN, call, check_refused, run, run_into_closed_pipe
 from conftest import EXAMPLES
 from hypothesis import given, settings
 from hypothesis import strategies as st
@@ -38,7 +38,7 @@ def tables(places: str, streets: str, *words: str) -> str:
     """Runs the command over such files; what it printed. The tables are in the folder `made`."""
     Path("places.csv").write_text(places, newline="")
     Path("streets.csv").write_text(streets, newline="")
-    ran = run("catchup-tables", "places.csv", "streets.csv", "--out", "made", *words)
+    ran = call("catchup-tables", "places.csv", "streets.csv", "--out", "made", *words)
     assert ran.status == 0 and ran.error == "", ran
     return ran.output
 
@@ -236,21 +236,21 @@ def test_refusals(folder: Path, places: str | bytes | None, streets: str | None,
         if text is not None:
             Path(name).write_bytes(text if isinstance(text, bytes) else text.encode())
     before = sorted(os.listdir())
-    check_refused(run("catchup-tables", "places.csv", "streets.csv"), 1, f"catchup-tables: {said}" if said[0] in "ps" else said)
+    check_refused(call("catchup-tables", "places.csv", "streets.csv"), 1, f"catchup-tables: {said}" if said[0] in "ps" else said)
     assert sorted(os.listdir()) == before
 
 
 def test_words(folder: Path) -> None:
     for words in ([], ["places.csv"], ["a", "b", "c"], ["--none", "a", "b"], ["--out"]):
-        check_refused(run("catchup-tables", *words), 2, "See: catchup-tables --help")
+        check_refused(call("catchup-tables", *words), 2, "See: catchup-tables --help")
 
 
 def test_a_folder_that_cannot_be_written(folder: Path) -> None:
     Path("file").write_text("")
     words = [OWN / "places.csv", OWN / "streets.csv", "--out"]
     check_refused(run("catchup-tables", *words, "file"), 1, "file can't be made")
-    check_refused(run("catchup-tables", *words, "/proc/none"), 1, "/proc/none can't be made")
-    check_refused(run("catchup-tables", *words, "/proc/self"), 1, "can't be written")
+    check_refused(call("catchup-tables", *words, "/proc/none"), 1, "/proc/none can't be made")
+    check_refused(call("catchup-tables", *words, "/proc/self"), 1, "can't be written")
 
 
 def test_where_one_file_cannot_be_written_none_is_changed(folder: Path) -> None:

@@ -94,10 +94,10 @@ def on_terminal(program: Path, arguments: list[str], env: dict[str, str]) -> tup
 
 def test_one_line_written_over_on_a_terminal(program: Path, tmp_path: Path) -> None:
     names = [str(tmp_path / name) for name in ("nodes.csv", "roads.csv", "profiles.csv")]
-    subprocess.run([program, "make", "7", "96", "96", *names], check=True, capture_output=True)
+    subprocess.run([program, "make", "7", "40", "40", *names], check=True, capture_output=True)
     env = {name: value for name, value in os.environ.items() if name != "CATCHUP_PROGRESS"}
     shown, output = on_terminal(program, ["build", *names, "dissect", str(tmp_path / "grid.cu")], env)
-    assert output.startswith("built 9216 ")
+    assert output.startswith("built 1600 ")
     assert "\n" not in shown and "built" not in shown
     assert shown.endswith("\r\x1b[K"), "the line is taken away before the last line is said"
     percents = [int(one) for one in re.findall(r"settling shortcuts, (\d+) %, \d+ s left", shown)]

@@ -10,7 +10,7 @@ import subprocess
 from pathlib import Path
 
 import pytest
-from commands import BIN, Ran, check_refused, run, run_into_closed_pipe
+from commands import BIN, Ran, call, check_refused, run, run_into_closed_pipe
 
 from catchup.program import run_program
 
@@ -26,7 +26,7 @@ def folder(tmp_path: Path, monkeypatch: pytest.MonkeyPatch) -> Path:
 
 def table(line: str, reply: str, *words: str) -> Ran:
     Path("line").write_text(line, newline="")
-    return run("table-csv", *words, "line", input=reply)
+    return call("table-csv", *words, "line", input=reply)
 
 
 TABLES = [
@@ -57,7 +57,8 @@ def test_a_row_for_each_entry(folder: Path) -> None:
 
 def test_the_largest_table(folder: Path) -> None:
     line = "t,7,1024," + ",".join(map(str, range(2048))) + "\n"
-    ran = table(line, "table " + " ".join(str(7 + entry) for entry in range(2**20)) + "\n")
+    Path("line").write_text(line)
+    ran = run("table-csv", "line", input="table " + " ".join(str(7 + entry) for entry in range(2**20)) + "\n")
     rows = ran.output.splitlines()
     assert ran.status == 0 and len(rows) == 1025 and rows[-1].startswith("1023,1047559,")
 
@@ -99,9 +100,9 @@ def test_refusals(folder: Path, line: str, reply: str, said: str) -> None:
 
 def test_words(folder: Path) -> None:
     check_refused(run("table-csv", "not there"), 1, "table-csv: not there can't be read: No such file")
-    check_refused(run("table-csv", "."), 1, "table-csv: . can't be read: Is a directory")
+    check_refused(call("table-csv", "."), 1, "table-csv: . can't be read: Is a directory")
     for words in ([], ["a", "b"], ["--rows"], ["--none", "line"]):
-        check_refused(run("table-csv", *words), 2, "See: table-csv --help")
+        check_refused(call("table-csv", *words), 2, "See: table-csv --help")
 
 
 def test_a_closed_pipe_is_silent(folder: Path) -> None:

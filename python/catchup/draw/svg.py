@@ -4,8 +4,8 @@ from __future__ import annotations
 
 import contextlib
 from collections.abc import Iterable, Iterator
+from html import escape
 from typing import TypeAlias
-from xml.sax.saxutils import escape
 
 Value: TypeAlias = str | float
 
@@ -134,4 +134,4 @@ def _text(value: Value) -> str:
 
 
 def _escaped(text: str) -> str:
-    return escape(text, {'"': "&quot;"})
+    return escape(text, quote=False).replace("\"", "&quot;")
