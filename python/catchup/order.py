@@ -21,6 +21,11 @@ from catchup.tables import Ints, Shorts, characters
 # Of the settings tried on road-like networks these gave the fewest edges and triangles.
 _TUNED = ("-ufactor=400", "-nseps=20", "-niter=20")
 _FEW = 2
+# ndmetis tries one separator alone where a part has less than some thousand nodes, and below 120 it looks at degrees and no
+# longer at how long the ways up get. What is left behind the nodes of few neighbours comes to that three times as soon. So
+# leaves hang on each node of it, which no separator takes: 8, or as many as there are this many nodes with them.
+_MOST_LEAVES = 8
+_WITH_LEAVES = 30_000
 
 
 class MetisMissing(Failure):
@@ -51,11 +56,12 @@ def metis_order(nodes: int, tail: npt.ArrayLike, head: npt.ArrayLike, *, tuned: 
     tail, head: the ends of the roads, int[m]. `tuned` gives ndmetis the settings that suit roads. Raises MetisMissing,
     or Failure where ndmetis fails.
     """
-    edges = _edges(nodes, tail, head)
-    low, rest = _low_degree_first(nodes, edges)
+    low, rest = _low_degree_first(nodes, _edges(nodes, tail, head))
     left = np.ones(nodes, bool)
     left[low] = False
-    return np.asarray(np.concatenate([low, _dissected(np.flatnonzero(left), rest, nodes, tuned)]), np.int32)
+    core = np.flatnonzero(left)
+    leaves = min(_MOST_LEAVES, _WITH_LEAVES // len(core)) if tuned and len(core) else 0
+    return np.asarray(np.concatenate([low, _dissected(core, rest, nodes, tuned, leaves)]), np.int32)
 
 
 def order_by_ndmetis(nodes: int, tail: npt.ArrayLike, head: npt.ArrayLike, *, tuned: bool = True) -> Shorts:
@@ -182,20 +188,22 @@ def _lots(nodes: int, seed: int) -> npt.NDArray[np.uint64]:
     return lot ^ (lot >> np.uint64(31))
 
 
-def _dissected(members: Ints, edges: Ints, nodes: int, tuned: bool) -> Ints:
-    """The members, which are the ends of the edges, rising, as ndmetis orders them."""
+def _dissected(members: Ints, edges: Ints, nodes: int, tuned: bool, leaves: int = 0) -> Ints:
+    """The members, which are the ends of the edges, rising, as ndmetis orders them with so many leaves on each."""
     if not len(edges):
         return members
     number = np.zeros(nodes, np.int64)
     number[members] = np.arange(len(members))
-    rank = _ndmetis(len(members), number[edges], tuned)
-    order = np.full(len(members), -1, np.int64)
-    if len(rank) != len(members) or rank.min() < 0 or rank.max() >= len(members):
-        raise Failure("ndmetis wrote no ranks of the nodes: install METIS 5.1 or newer")
-    order[rank] = members
+    stems = np.repeat(np.arange(len(members)), leaves)
+    hung = np.stack([stems, len(members) + np.arange(len(stems))], axis=1)
+    count = len(members) + len(stems)
+    rank = _ndmetis(count, np.concatenate([number[edges], hung]), tuned)
+    order = np.full(count, -1, np.int64)
+    if len(rank) == count and rank.min() >= 0 and rank.max() < count:
+        order[rank] = np.arange(count)
     if (order < 0).any():
         raise Failure("ndmetis wrote no ranks of the nodes: install METIS 5.1 or newer")
-    return order
+    return members[order[order < len(members)]]
 
 
 def _ndmetis(nodes: int, edges: Ints, tuned: bool) -> Ints:

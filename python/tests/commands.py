@@ -11,7 +11,7 @@ import sys
 import tempfile
 import time
 from collections.abc import Mapping
-from contextlib import ExitStack
+from contextlib import ExitStack, chdir
 from pathlib import Path
 from typing import NamedTuple
 from unittest import mock
@@ -38,7 +38,9 @@ def run(
     return Ran(done.returncode, done.stdout.decode(), done.stderr.decode())
 
 
-def call(name: str, *words: str | Path, input: str | bytes = b"", env: Mapping[str, str] | None = None) -> Ran:
+def call(
+    name: str, *words: str | Path, input: str | bytes = b"", cwd: Path | None = None, env: Mapping[str, str] | None = None
+) -> Ran:
     """As `run`, but in this process: for the many cases of a command that other tests start as a process of its own."""
     said = input.encode() if isinstance(input, str) else input
     with ExitStack() as stack:
@@ -50,6 +52,7 @@ def call(name: str, *words: str | Path, input: str | bytes = b"", env: Mapping[s
         stack.enter_context(mock.patch.object(sys, "argv", [str(BIN / name), *map(str, words)]))
         stack.enter_context(mock.patch.object(sys, "path", list(sys.path)))
         stack.enter_context(mock.patch.dict(os.environ, env or {}))
+        stack.enter_context(chdir(cwd or "."))
         stack.callback(signal.signal, signal.SIGTERM, signal.getsignal(signal.SIGTERM))
         try:
             runpy.run_path(str(BIN / name), run_name="__main__")

@@ -5,7 +5,6 @@ from __future__ import annotations
 
 import os
 import random
-from contextlib import chdir
 from pathlib import Path
 
 import pytest
@@ -73,8 +72,7 @@ def try_badly(
     before = everything(room)
     env = {"TMPDIR": f"{room}/rests"} | env
     if here:
-        with chdir(room):
-            ran = Run(*call(*words, input=input, env=env))
+        ran = Run(*call(*words, input=input, cwd=room, env=env))
     else:
         ran = run([TOP / "bin" / words[0], *words[1:]], folder=room, input=input, env=env)
     assert ran.status in statuses and ran.out == "", ran

@@ -146,13 +146,16 @@ def test_bands(seconds: list[int]) -> None:
     assert len({bands.colour(number) for number in range(bands.count + 1)}) == bands.count + 1
 
 
-def test_ninety_thousand_nodes_are_quick_and_small(tmp_path: Path) -> None:
-    write_tables(tmp_path, *grid(300))
-    reply = "reach " + " ".join(str(n // 300 * 5 + n % 300 * 7) for n in range(90_000))
+@pytest.mark.parametrize("side", [150, pytest.param(300, marks=pytest.mark.long)])
+def test_many_nodes_are_quick_and_small(tmp_path: Path, side: int) -> None:
+    """22,500 nodes and, with --long, 90,000: a step that took the square of that would be seen at either."""
+    write_tables(tmp_path, *grid(side))
+    nodes = side * side
+    reply = "reach " + " ".join(str(n // side * 5 + n % side * 7) for n in range(nodes))
     before = sum(resource.getrusage(resource.RUSAGE_CHILDREN)[:2])
     ran = run("draw-reach", "nodes", "roads", input=reply, cwd=tmp_path)
-    assert ran.status == 0 and sum(resource.getrusage(resource.RUSAGE_CHILDREN)[:2]) - before < 10
-    assert len(ran.output) < 2_000_000 and "all 90000 nodes" in Drawn(ran.output).description
+    assert ran.status == 0 and sum(resource.getrusage(resource.RUSAGE_CHILDREN)[:2]) - before < 10 * nodes / 90_000 + 1
+    assert len(ran.output) < 22 * nodes and f"all {nodes} nodes" in Drawn(ran.output).description
 
 
 # ---- the command ----

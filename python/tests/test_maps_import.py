@@ -10,7 +10,7 @@ from pathlib import Path
 
 import numpy as np
 import pytest
-from commands import BIN, check_refused, interrupt, run, run_into_closed_pipe
+from commands import BIN, call, check_refused, interrupt, run, run_into_closed_pipe
 from osm_maps import Net, OsmMap
 
 from catchup import tables
@@ -94,7 +94,7 @@ def test_the_same_map_makes_the_same_bytes(small: Path, tmp_path: Path, program:
 
 def test_an_empty_folder_is_taken(small: Path, tmp_path: Path, program: Path) -> None:
     (tmp_path / "out").mkdir()
-    assert run("catchup-import", "osm", small, "out", cwd=tmp_path).status == 0 and left(tmp_path / "out") == FILES
+    assert call("catchup-import", "osm", small, "out", cwd=tmp_path).status == 0 and left(tmp_path / "out") == FILES
 
 
 def test_a_folder_that_isnt_empty(small: Path, tmp_path: Path, program: Path) -> None:
@@ -104,9 +104,9 @@ def test_a_folder_that_isnt_empty(small: Path, tmp_path: Path, program: Path) ->
     (out / "mine.txt").write_text("mine", encoding="utf-8")
     (out / "roads.csv").write_text("old", encoding="utf-8")
     (out / "map.cu").write_text("old", encoding="utf-8")
-    check_refused(run("catchup-import", "osm", small, out), 1, "isn't empty; name another, or replace")
+    check_refused(call("catchup-import", "osm", small, out), 1, "isn't empty; name another, or replace")
     assert left(out) == ["map.cu", "mine.txt", "roads.csv"] and (out / "roads.csv").read_text(encoding="utf-8") == "old"
-    assert run("catchup-import", "osm", small, out, "--force").status == 0
+    assert call("catchup-import", "osm", small, out, "--force").status == 0
     assert left(out) == sorted([*FILES, "mine.txt"]) and (out / "mine.txt").read_text(encoding="utf-8") == "mine"
     assert (out / "roads.csv").read_text(encoding="utf-8") != "old" and left(tmp_path) == ["out", "small.osm"]
 
@@ -125,7 +125,7 @@ def test_files_that_are_no_map(tmp_path: Path, name: str, content: bytes | None,
     if content is not None:
         (tmp_path / name).write_bytes(content)
     before = left(tmp_path)
-    check_refused(run("catchup-import", "osm", name, "out", cwd=tmp_path), 1, f"catchup-import: {says}")
+    check_refused(call("catchup-import", "osm", name, "out", cwd=tmp_path), 1, f"catchup-import: {says}")
     assert left(tmp_path) == before
 
 
@@ -133,7 +133,7 @@ def test_files_that_are_no_map(tmp_path: Path, name: str, content: bytes | None,
 def test_a_map_that_is_cut(real_map: Path, tmp_path: Path, part: float) -> None:
     content = real_map.read_bytes()
     (tmp_path / "cut.osm.pbf").write_bytes(content[:int(len(content) * part)])
-    check_refused(run("catchup-import", "osm", tmp_path / "cut.osm.pbf", tmp_path / "out"), 1, "this isn't a whole file of OpenStreetMap")
+    check_refused(call("catchup-import", "osm", tmp_path / "cut.osm.pbf", tmp_path / "out"), 1, "this isn't a whole file of OpenStreetMap")
     assert left(tmp_path) == ["cut.osm.pbf"]
 
 
@@ -141,13 +141,13 @@ def test_a_map_that_is_damaged(real_map: Path, tmp_path: Path) -> None:
     content = bytearray(real_map.read_bytes())
     content[len(content) // 2:len(content) // 2 + 50] = bytes(50)
     (tmp_path / "bad.osm.pbf").write_bytes(content)
-    check_refused(run("catchup-import", "osm", tmp_path / "bad.osm.pbf", tmp_path / "out"), 1, "this isn't a whole file of OpenStreetMap")
+    check_refused(call("catchup-import", "osm", tmp_path / "bad.osm.pbf", tmp_path / "out"), 1, "this isn't a whole file of OpenStreetMap")
     assert left(tmp_path) == ["bad.osm.pbf"]
 
 
 def test_folders_that_cant_be_made(small: Path, tmp_path: Path) -> None:
-    check_refused(run("catchup-import", "osm", small, small), 1, "this is a file, and no folder")
-    check_refused(run("catchup-import", "osm", small, tmp_path / "no" / "out"), 1, "there is no folder to make it in")
+    check_refused(call("catchup-import", "osm", small, small), 1, "this is a file, and no folder")
+    check_refused(call("catchup-import", "osm", small, tmp_path / "no" / "out"), 1, "there is no folder to make it in")
     check_refused(run("catchup-import", "osm", tmp_path, tmp_path / "out"), 1, "this isn't a file")
 
 
@@ -156,15 +156,15 @@ def test_folders_that_cant_be_made(small: Path, tmp_path: Path) -> None:
     (["out", "--bbox", "9,47,8,48"], "west before east"), (["out", "--weekday", "monday"], "is not one of"), (["out", "--spare", "-1"], "not in the range"),
     (["out", "--quickly"], "No such option"), (["out", "more"], "unexpected extra argument")])
 def test_wrong_words(small: Path, tmp_path: Path, words: list[str], says: str) -> None:
-    check_refused(run("catchup-import", "osm", small, *words, cwd=tmp_path), 2, says)
+    check_refused(call("catchup-import", "osm", small, *words, cwd=tmp_path), 2, says)
     assert left(tmp_path) == ["small.osm"]
 
 
 def test_speeds_of_ones_own(small: Path, tmp_path: Path, program: Path) -> None:
     (tmp_path / "fast.toml").write_text("[car.classes]\nresidential = 50\n", encoding="utf-8")
-    assert run("catchup-import", "osm", small, tmp_path / "out", "--speeds", tmp_path / "fast.toml", "--without", "service").status == 0
+    assert call("catchup-import", "osm", small, tmp_path / "out", "--speeds", tmp_path / "fast.toml", "--without", "service").status == 0
     assert MapFile.open(tmp_path / "out" / "map.gpkg").road_seconds.tolist() == [144, 144]
-    check_refused(run("catchup-import", "osm", small, tmp_path / "no", "--speeds", tmp_path / "none.toml"), 1, "none.toml: there is no such file")
+    check_refused(call("catchup-import", "osm", small, tmp_path / "no", "--speeds", tmp_path / "none.toml"), 1, "none.toml: there is no such file")
 
 
 def test_without_metis(tmp_path: Path, program: Path) -> None:
@@ -196,7 +196,7 @@ def test_the_program_fails(small: Path, tmp_path: Path) -> None:
     ran = run("catchup-import", "osm", small, tmp_path / "out", "--build", env={"CATCHUP": str(fails)})
     check_refused(ran, 1, "catchup build ended with status 11: too many shortcuts")
     assert left(tmp_path) == ["catchup", "small.osm"]
-    check_refused(run("catchup-import", "osm", small, tmp_path / "out", "--build", env={"CATCHUP": "/none"}), 1, "CATCHUP names /none")
+    check_refused(call("catchup-import", "osm", small, tmp_path / "out", "--build", env={"CATCHUP": "/none"}), 1, "CATCHUP names /none")
 
 
 def test_interrupted(small: Path, tmp_path: Path) -> None:
@@ -329,13 +329,13 @@ def test_every_restriction_of_the_real_map(real_map: Path) -> None:
 
 @pytest.mark.parametrize("vehicle, fewer, more", [("truck", 5000, 6000), ("bicycle", 8000, 16000), ("foot", 8000, 20000)])
 def test_the_real_map_for_others(real_map: Path, tmp_path: Path, program: Path, vehicle: str, fewer: int, more: int) -> None:
-    assert run("catchup-import", "osm", real_map, tmp_path / "out", "--vehicle", vehicle).status == 0
+    assert call("catchup-import", "osm", real_map, tmp_path / "out", "--vehicle", vehicle).status == 0
     assert fewer < len(MapFile.open(tmp_path / "out" / "map.gpkg")) < more
 
 
 def test_the_real_map_with_rush_hours(real_map: Path, tmp_path: Path, program: Path) -> None:
     """With the hours' factors a drive over main roads takes longer at 8 than at 12."""
-    assert run("catchup-import", "osm", real_map, tmp_path / "out", "--rush", "--build").status == 0
+    assert call("catchup-import", "osm", real_map, tmp_path / "out", "--rush", "--build").status == 0
     with Child(["ask", tmp_path / "out" / "map.cu"]) as child:
         arrivals = [int(child.ask(f"q,100,2000,{second}")[7:].split()[0]) - second for second in (8 * 3600, 12 * 3600)]
     assert arrivals[0] > 1.2 * arrivals[1]

@@ -169,6 +169,18 @@ def test_orders_of_a_grid_are_good_and_always_the_same() -> None:
         assert (make(nodes, tail, head) == order).all()
 
 
+@needs_metis
+@pytest.mark.parametrize("size", [1_000, 5_000, pytest.param(20_000, marks=pytest.mark.long)])
+def test_few_neighbours_first_is_better_on_roads(size: int) -> None:
+    """Fewer edges and triangles than ndmetis makes of all nodes, and ways up that are no longer."""
+    networks = pytest.importorskip("catchup.bench.networks", reason="the networks to measure on can't be made")
+    network = networks.make_network(size)
+    roads = len(network.nodes), network.roads.tail, network.roads.head
+    few_first, all_nodes = (figures(*roads, make(*roads)) for make in (metis_order, order_by_ndmetis))
+    assert few_first.edges < all_nodes.edges and few_first.triangles < all_nodes.triangles
+    assert few_first.mean_ahead <= all_nodes.mean_ahead
+
+
 # ---- the commands ----
 
 
