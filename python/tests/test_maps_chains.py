@@ -69,8 +69,8 @@ def test_groups(numbers: list[int]) -> None:
     assert [groups[number] for number in range(6)] == [[thing for thing, of in enumerate(numbers) if of == number] for number in range(6)]
 
 
-@given(st.integers(1, 8), st.lists(st.tuples(st.integers(0, 7), st.integers(0, 7)), max_size=20))
-def test_parts(count: int, links: list[tuple[int, int]]) -> None:
+@given(st.integers(1, 8), st.lists(st.tuples(st.integers(0, 7), st.integers(0, 7)), max_size=20), st.integers(0, 255))
+def test_parts(count: int, links: list[tuple[int, int]], starts: int) -> None:
     links = [(a % count, b % count) for a, b in links]
     tail, head = (np.array([link[i] for link in links], dtype=np.int64) for i in range(2))
 
@@ -88,7 +88,9 @@ def test_parts(count: int, links: list[tuple[int, int]]) -> None:
     largest, number = largest_part(count, tail, head)
     found = set(np.flatnonzero(largest).tolist())
     assert found in parts and len(found) == max(map(len, parts)) and number == len({frozenset(part) for part in parts})
-    assert set(np.flatnonzero(reached_from(count, tail, head, largest)).tolist()) == reach(min(found))
+    begins = {node for node in range(count) if starts >> node & 1}
+    met = reached_from(count, tail, head, np.isin(np.arange(count), sorted(begins)))
+    assert set(np.flatnonzero(met).tolist()) == {other for node in begins for other in reach(node)}
     label = joined_parts(count, tail, head)
     assert all((label[a] == label[b]) == (b in reach(a, True)) for a in range(count) for b in range(count))
     first = np.zeros(count, dtype=bool)

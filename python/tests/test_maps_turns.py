@@ -237,6 +237,20 @@ def test_no_turn_in_the_middle_of_a_road(tmp_path: Path) -> None:
     assert path(net, 1, 3) == [1, 2, 4, 5, 4, 2, 3]
 
 
+def test_a_road_that_is_driven_by_who_begins_there_alone(tmp_path: Path) -> None:
+    """A ring 1 2 3 4. Nobody turns onto the road from 1 to 2, and it leads nowhere on: still one drives it from 1 to 2."""
+    made = OsmMap()
+    for number, place in enumerate(((0, 0), (0, 1000), (1000, 1000), (1000, 0)), 1):
+        made.node(number, *place)
+    ways = {(a, b): made.way([a, b], highway="residential") for a, b in ((1, 2), (2, 3), (3, 4), (4, 1))}
+    made.restrict(ways[4, 1], 1, ways[1, 2], "no_left_turn")
+    made.restrict(ways[1, 2], 2, ways[2, 3], "no_right_turn")
+    for node in (1, 2):
+        made.restrict(ways[1, 2], node, ways[1, 2], "no_u_turn")
+    net = made.network(tmp_path)
+    assert net.takes(1, 2) == net.takes(2, 1) == 144
+
+
 def test_a_private_drive_is_no_place_to_turn(crossing: OsmMap, tmp_path: Path) -> None:
     """The dead ends at 21 to 24 and 11 to 14 are private or far: one doesn't turn in a private one on the way elsewhere."""
     crossing.ways = [(number, nodes, dict(tags, access="private") if number > 20 else tags, attributes)

@@ -35,12 +35,14 @@ def largest_part(count: int, tail: Ints, head: Ints, first: Bools | None = None)
     return label == sizes.argmax(), int(parts)
 
 
-def reached_from(count: int, tail: Ints, head: Ints, part: Bools) -> Bools:
-    """The nodes that are reached from a part in which each leads to each other."""
-    found = np.zeros(count, dtype=bool)
-    if part.any():
-        found[breadth_first_order(_matrix(count, tail, head), int(part.argmax()), return_predecessors=False)] = True
-    return found
+def reached_from(count: int, tail: Ints, head: Ints, starts: Bools) -> Bools:
+    """The nodes that are reached from any of `starts`, those with them."""
+    at = np.flatnonzero(starts)
+    # One node more, that leads to each of them.
+    links = _matrix(count + 1, np.append(tail, np.full(len(at), count)), np.append(head, at))
+    found = np.zeros(count + 1, dtype=bool)
+    found[breadth_first_order(links, count, return_predecessors=False)] = True
+    return found[:-1]
 
 
 def joined_parts(count: int, tail: Ints, head: Ints) -> Ints:

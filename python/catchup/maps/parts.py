@@ -35,7 +35,8 @@ class Lost:
 
 
 def largest(network: Network, counts: Counts, islands: bool = False) -> Bools:
-    """The states of the nodes that are reached from the largest part and lead to it; with `islands` all of them."""
+    """The states of the nodes that are reached from the largest part and lead to it, so far as a drive that begins at one
+    of these nodes gets to them; with `islands` all states."""
     count = len(network.node)
     part, parts = largest_part(count, network.tail, network.head, network.open)
     counts.add("parts", number=parts)
@@ -50,8 +51,9 @@ def largest(network: Network, counts: Counts, islands: bool = False) -> Bools:
     for text, one, other in (("not joined at all", ~reached, ~begins), ("not reached", ~reached, begins),
                              ("without a way out", reached, ~begins)):
         counts.add(f"junctions lost: {text}", number=int((one & other)[firsts].sum()))
-    good: Bools = (reached & begins)[network.node] & (fore | rear)
-    return good
+    good = (reached & begins)[network.node]
+    inside = good[network.tail] & good[network.head]
+    return reached_from(count, network.tail[inside], network.head[inside], good & (network.copy == 0))
 
 
 def lost_of(directed: Directed, labels: Labels, kept: Network, whole: Network) -> Lost:
