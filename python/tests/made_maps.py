@@ -21,6 +21,7 @@ class Made:
     ways: dict[int, tuple[list[int], Tags]] = field(default_factory=dict)
     relations: list[tuple[list[tuple[str, int, str]], Tags]] = field(default_factory=list)
     gone: set[int] = field(default_factory=set)
+    deleted: set[int] = field(default_factory=set)
 
     def node(self, x: float, y: float) -> int:
         """A new node's number."""
@@ -38,7 +39,8 @@ class Made:
         self.relations.append((members, {"type": "restriction", **{k.replace("__", ":"): v for k, v in tags.items()}}))
 
     def write(self, path: Path) -> None:
-        """Writes the map; nodes that are gone are left out, as at the edge of a map that was cut."""
+        """Writes the map; nodes that are gone are left out, as at the edge of a map that was cut. Ways that are deleted
+        are there, and said to be none."""
         lines = ["<?xml version='1.0' encoding='UTF-8'?>", "<osm version='0.6' generator='made_maps'>"]
         for number, (x, y) in self.nodes.items():
             if number not in self.gone:
@@ -46,7 +48,8 @@ class Made:
                 lines.append(f"<node id='{number}' version='1' {place}>{_tags(self.node_tags.get(number, {}))}</node>")
         for number, (nodes, tags) in self.ways.items():
             refs = "".join(f"<nd ref='{node}'/>" for node in nodes)
-            lines.append(f"<way id='{number}' version='1'>{refs}{_tags(tags)}</way>")
+            seen = " visible='false'" * (number in self.deleted)
+            lines.append(f"<way id='{number}' version='1'{seen}>{refs}{_tags(tags)}</way>")
         for number, (members, tags) in enumerate(self.relations, 1):
             parts = "".join(f"<member type='{kind}' ref='{ref}' role='{role}'/>" for kind, ref, role in members)
             lines.append(f"<relation id='{number}' version='1'>{parts}{_tags(tags)}</relation>")
@@ -99,38 +102,37 @@ def _hours(draw: random.Random) -> str:
     return f"{days}{begin:02}:{draw.choice(['00', '30'])}-{end:02}:{draw.choice(['15', '45'])}"
 
 
+def at_hours(draw: random.Random) -> Tags:
+    """Tags of a street, two of three times with hours."""
+    found = plain(draw)
+    kind = draw.randrange(9)
+    if kind == 0:
+        found[draw.choice(["access", "motor_vehicle", "motorcar"]) + "__conditional"] = f"no @ ({_hours(draw)})"
+    elif kind == 1:
+        found["motor_vehicle__conditional"] = f"destination @ ({_hours(draw)})"
+    elif kind == 2:
+        found["opening_hours"] = f"{_hours(draw)}; Su off" if draw.random() < 0.5 else _hours(draw)
+    elif kind == 3:
+        found.pop("oneway", None)
+        found["oneway__conditional"] = f"{draw.choice(['yes', '-1'])} @ ({_hours(draw)})"
+    elif kind == 4:
+        found["maxspeed"] = "50"
+        found["maxspeed__conditional"] = f"{draw.choice(['30', '100'])} @ ({_hours(draw)})"
+    elif kind == 5:
+        found["access"] = "no"
+        found["access__conditional"] = f"yes @ ({_hours(draw)}); destination @ ({_hours(draw)})"
+    return found
+
+
 def hours_town(seed: int) -> Made:
     """Streets that are open, one-way or slow at some hours."""
     draw = random.Random(seed)
-
-    def tags() -> Tags:
-        found = plain(draw)
-        kind = draw.randrange(9)
-        if kind == 0:
-            found[draw.choice(["access", "motor_vehicle", "motorcar"]) + "__conditional"] = f"no @ ({_hours(draw)})"
-        elif kind == 1:
-            found["motor_vehicle__conditional"] = f"destination @ ({_hours(draw)})"
-        elif kind == 2:
-            found["opening_hours"] = f"{_hours(draw)}; Su off" if draw.random() < 0.5 else _hours(draw)
-        elif kind == 3:
-            found.pop("oneway", None)
-            found["oneway__conditional"] = f"{draw.choice(['yes', '-1'])} @ ({_hours(draw)})"
-        elif kind == 4:
-            found["maxspeed"] = "50"
-            found["maxspeed__conditional"] = f"{draw.choice(['30', '100'])} @ ({_hours(draw)})"
-        elif kind == 5:
-            found["access"] = "no"
-            found["access__conditional"] = f"yes @ ({_hours(draw)}); destination @ ({_hours(draw)})"
-        return found
-
-    return grid(f"hours {seed}", draw, 6, tags)[0]
+    return grid(f"hours {seed}", draw, 6, lambda: at_hours(draw))[0]
 
 
-def turns_town(seed: int) -> Made:
-    """Turn restrictions of all kinds."""
-    draw = random.Random(seed)
-    made, streets = grid(f"turns {seed}", draw, 6, lambda: plain(draw))
-    for _ in range(30):
+def restrict(draw: random.Random, made: Made, streets: list[Street], count: int) -> None:
+    """Adds up to so many turn restrictions of all kinds."""
+    for _ in range(count):
         via = draw.choice(streets)
         first = [street for street in streets if via[1] in street[1:3] and street is not via]
         last = [street for street in streets if via[2] in street[1:3] and street is not via]
@@ -146,16 +148,21 @@ def turns_town(seed: int) -> Made:
         else:
             to = one if kind == "no_u_turn" else via[0]
             made.turn([("way", one, "from"), ("node", via[1], "via"), ("way", to, "to")], **said, **more)
+
+
+def turns_town(seed: int) -> Made:
+    """Turn restrictions of all kinds."""
+    draw = random.Random(seed)
+    made, streets = grid(f"turns {seed}", draw, 6, lambda: plain(draw))
+    restrict(draw, made, streets, 30)
     return made
 
 
-def ferry_town(seed: int) -> Made:
-    """Two towns with ferries between them."""
-    draw = random.Random(seed)
-    made, streets = grid(f"ferries {seed}", draw, 5, lambda: plain(draw))
+def sail(draw: random.Random, made: Made, streets: list[Street], count: int) -> None:
+    """Adds so many ferries, and streets between their far ends."""
     corners = sorted({node for street in streets for node in street[1:3]})
     quays = []
-    for _ in range(5):
+    for _ in range(count):
         shore, middle, far = draw.choice(corners), made.node(6 + draw.random(), 6), made.node(8 + draw.random(), 8 + draw.random())
         tags = {"route": "ferry", "duration": draw.choice(["10", "00:12", "PT15M", "00:07:30"])}
         kind = draw.randrange(5)
@@ -171,36 +178,66 @@ def ferry_town(seed: int) -> Made:
         quays.append(far)
     for one, other in zip(quays, quays[1:]):
         made.way([one, made.node(9, 9 + draw.random()), other], **plain(draw))
+
+
+def ferry_town(seed: int) -> Made:
+    """Two towns with ferries between them."""
+    draw = random.Random(seed)
+    made, streets = grid(f"ferries {seed}", draw, 5, lambda: plain(draw))
+    sail(draw, made, streets, 5)
     return made
+
+
+def for_some(draw: random.Random) -> Tags:
+    """Tags of a street that may be for destinations alone, barred, or a track."""
+    found = plain(draw)
+    kind = draw.randrange(8)
+    if kind < 2:
+        found[draw.choice(["access", "motor_vehicle", "vehicle"])] = draw.choice(
+            ["destination", "private", "customers", "no", "agricultural;destination", "permissive"])
+    elif kind == 2:
+        found.update(highway="track", motorcar=draw.choice(["yes", "no", "destination"]))
+    return found
+
+
+BARRIERS: list[Tags] = [
+    {"barrier": "bollard"}, {"barrier": "gate"}, {"barrier": "gate", "locked": "yes"}, {"barrier": "gate", "access": "no"},
+    {"barrier": "lift_gate", "access": "private"}, {"barrier": "bollard", "motorcar": "yes"},
+    {"barrier": "gate", "motor_vehicle:conditional": "no @ (20:00-06:00)"}, {"barrier": "gate", "opening_hours": "06:00-21:00"}]
+
+
+def put_rings(draw: random.Random, made: Made, streets: list[Street], count: int) -> None:
+    """Adds so many streets that lead back to where they begin."""
+    for street in draw.sample(streets, count):
+        x, y = made.nodes[street[1]]
+        ring = [made.node(x + dx, y + dy) for dx, dy in ((0.2, 0.1), (0.35, 0.3), (0.1, 0.4))]
+        made.way([street[1], *ring, street[1]], highway="residential")
 
 
 def edge_town(seed: int) -> Made:
     """Roads for destinations alone, barriers, loops, nodes that are gone, and a way that stands twice."""
     draw = random.Random(seed)
-
-    def tags() -> Tags:
-        found = plain(draw)
-        kind = draw.randrange(8)
-        if kind < 2:
-            found[draw.choice(["access", "motor_vehicle", "vehicle"])] = draw.choice(
-                ["destination", "private", "customers", "no", "agricultural;destination", "permissive"])
-        elif kind == 2:
-            found.update(highway="track", motorcar=draw.choice(["yes", "no", "destination"]))
-        return found
-
-    made, streets = grid(f"edges {seed}", draw, 7, tags)
+    made, streets = grid(f"edges {seed}", draw, 7, lambda: for_some(draw))
     for street in draw.sample(streets, 8):
-        node = street[3][len(street[3]) // 2]
-        made.node_tags[node] = draw.choice([
-            {"barrier": "bollard"}, {"barrier": "gate"}, {"barrier": "gate", "locked": "yes"}, {"barrier": "gate", "access": "no"},
-            {"barrier": "lift_gate", "access": "private"}, {"barrier": "bollard", "motorcar": "yes"},
-            {"barrier": "gate", "motor_vehicle:conditional": "no @ (20:00-06:00)"}, {"barrier": "gate", "opening_hours": "06:00-21:00"}])
-    for street in draw.sample(streets, 5):
-        x, y = made.nodes[street[1]]
-        ring = [made.node(x + dx, y + dy) for dx, dy in ((0.2, 0.1), (0.35, 0.3), (0.1, 0.4))]
-        made.way([street[1], *ring, street[1]], highway="residential")
+        made.node_tags[street[3][len(street[3]) // 2]] = draw.choice(BARRIERS)
+    put_rings(draw, made, streets, 5)
     made.gone = set(draw.sample(sorted(made.nodes), 6))
     return made
 
 
-THEMES: dict[str, Callable[[int], Made]] = {"hours": hours_town, "turns": turns_town, "ferries": ferry_town, "edges": edge_town}
+def mixed_town(seed: int) -> Made:
+    """All of the others at once: barriers stand at junctions too, and the edge cuts what turns are restricted at."""
+    draw = random.Random(seed)
+    made, streets = grid(f"mixed {seed}", draw, 7, lambda: draw.choice((plain, plain, at_hours, for_some))(draw))
+    restrict(draw, made, streets, 20)
+    sail(draw, made, streets, 4)
+    put_rings(draw, made, streets, 3)
+    for street in draw.sample(streets, 10):
+        made.node_tags[draw.choice(street[3])] = draw.choice([*BARRIERS, {"barrier": "bollard", "access": "destination"}])
+    made.gone = set(draw.sample(sorted(made.nodes), 4))
+    made.deleted = {street[0] for street in draw.sample(streets, 2)}
+    return made
+
+
+THEMES: dict[str, Callable[[int], Made]] = {"hours": hours_town, "turns": turns_town, "ferries": ferry_town, "edges": edge_town,
+                                            "mixed": mixed_town}

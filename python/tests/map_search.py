@@ -17,9 +17,9 @@ from typing import Any
 from xml.etree import ElementTree
 
 import numpy as np
-from map_tags import BARRED, ENDS, OPEN, Rules, at_time, changes, departures, spans_today
+from map_tags import BARRED, ENDS, OPEN, Rules, Span, at_time, changes, departures, spans_today
 from scipy.sparse import coo_matrix
-from scipy.sparse.csgraph import connected_components
+from scipy.sparse.csgraph import breadth_first_order, connected_components
 
 DAY = 86400
 RADIUS = 6371008.8
@@ -43,7 +43,7 @@ def read_xml(path: Path) -> Osm:
     """Reads a map in XML. Of a way that is there twice the first counts."""
     osm = Osm()
     for _, item in ElementTree.iterparse(path):
-        if item.tag not in ("node", "way", "relation"):
+        if item.tag not in ("node", "way", "relation") or item.get("visible") == "false":
             continue
         tags = {tag.attrib["k"]: tag.attrib["v"] for tag in item.iter("tag")}
         number = int(item.attrib["id"])
@@ -134,6 +134,7 @@ class Builder:
         self.single: dict[int, int] = {}
         self.at: dict[int, list[tuple[int, int]]] = defaultdict(list)  # vertex: segments and which end of each it is
         self.forced: set[int] = set()
+        self.way_ends: dict[int, set[int]] = {}  # a way that is cut has those of all its parts
         self.gates: dict[int, list[Piece]] = {}
         self.blocked: set[int] = set()
 
@@ -179,12 +180,13 @@ class Builder:
         if sides == [None, None]:
             return
         ferry = self.rules.is_ferry(tags)
-        here = [k for k in range(len(nodes) - 1)
-                if nodes[k] != nodes[k + 1] and nodes[k] in self.osm.places and nodes[k + 1] in self.osm.places]
+        nodes = [node for k, node in enumerate(nodes) if k == 0 or node != nodes[k - 1]]
+        here = [k for k in range(len(nodes) - 1) if nodes[k] in self.osm.places and nodes[k + 1] in self.osm.places]
+        self.way_ends[number] = ({nodes[k] for k in here if k - 1 not in here} | {nodes[k + 1] for k in here if k + 1 not in here})
         lengths = {k: metres(self.osm.places[nodes[k]], self.osm.places[nodes[k + 1]]) for k in here}
         duration = self.rules.duration(tags) if ferry else None
         if ferry:
-            self.forced |= {nodes[0], nodes[-1]}
+            self.forced |= self.way_ends[number]
         for k in here:
             speeds = [self.rules.speed(tags, direction) for direction in (0, 1)]
             seconds = ([duration * lengths[k] / sum(lengths.values())] * 2 if duration is not None
@@ -212,13 +214,18 @@ class Builder:
     def _force_ends(self) -> None:
         """Each via node of a restriction is an end, and so are both ends of its via ways."""
         for _, members, tags in self.osm.relations:
-            if not self.rules.restriction(tags):
+            if not restriction_of(members) or not self.restricted(tags):
                 continue
             for kind, ref, role in members:
                 if role == "via" and kind == "node":
                     self.forced.add(ref)
-                elif role == "via" and kind == "way" and ref in self.osm.ways:
-                    self.forced |= {self.osm.ways[ref][0][0], self.osm.ways[ref][0][-1]}
+                elif role == "via" and kind == "way":
+                    self.forced |= self.way_ends.get(ref, set())
+
+    def restricted(self, tags: Tags) -> list[tuple[str, tuple[Span, ...] | None]]:
+        """The kinds of restriction that a relation says on this day, each with its hours, or None for all."""
+        said = [(kind, None if when is None else tuple(spans_today(when, self.weekday))) for kind, when in self.rules.restriction(tags)]
+        return [(kind, hours) for kind, hours in said if hours != ()]
 
     def _is_end(self, vertex: int) -> bool:
         around = self.at[vertex]
@@ -267,6 +274,8 @@ class Builder:
                     continue
                 parts = self._walk(segment, direction, ends)
                 road = self._road(parts)
+                if all(piece[1] == BARRED for piece in road.pieces) or road.boards == []:
+                    continue  # nobody may ever enter it
                 seen[parts[0]] = len(roads)
                 roads.append(road)
         for road in roads:
@@ -293,8 +302,8 @@ class Builder:
                 pieces = _through(pieces, gate, leaves)
         seconds = sum(self.segments[s].seconds[d] for s, d in parts)
         boards = None
-        nodes, tags = self.osm.ways[first.way]
-        if first.ferry and self.vertex_osm[tail] in (nodes[0], nodes[-1]):
+        tags = self.osm.ways[first.way][1]
+        if first.ferry and self.vertex_osm[tail] in self.way_ends[first.way]:
             every = self.rules.interval(tags)
             if every is not None:
                 boards = departures(tags.get("opening_hours"), every, self.weekday)
@@ -374,25 +383,18 @@ def _pockets(network: Network) -> None:
             weight[int(labels[road.tail])] += 1
     largest = max(weight, key=lambda label: weight[label])
     network.core = {v for v in range(count) if labels[v] == largest}
-    ahead, behind = (_reached(network, side) for side in (True, False))
-    for node, places in network.starts.items():
-        network.starts[node] = [vertex for vertex in places if vertex in ahead or vertex in behind]
     for road in roads:
         if road.tail not in network.core or road.head not in network.core:
             road.pieces = _merged([(s, ENDS if a == OPEN else a, r) for s, a, r in road.pieces])
 
 
-def _reached(network: Network, forward: bool) -> set[int]:
-    """The vertices that are reached from the largest open part, or those that lead to it."""
-    found, queue = set(network.core), list(network.core)
-    while queue:
-        vertex = queue.pop()
-        for number in (network.out if forward else network.into)[vertex]:
-            other = network.roads[number].head if forward else network.roads[number].tail
-            if other not in found:
-                found.add(other)
-                queue.append(other)
-    return found
+def restriction_of(members: list[tuple[str, int, str]]) -> tuple[set[int], list[int], list[int], set[int]] | None:
+    """The ways from which, the node or the ways over which, and the ways to which one may not turn; None where one lacks."""
+    of = {(role, what): [ref for w, ref, r in members if (r, w) == (role, what)] for role in ("from", "via", "to") for what in ("way", "node")}
+    froms, nodes, ways, tos = of["from", "way"], of["via", "node"], of["via", "way"], of["to", "way"]
+    if not froms or not tos or bool(nodes) == bool(ways) or len(nodes) > 1:
+        return None
+    return set(froms), nodes, ways, set(tos)
 
 
 class RestrictionReader:
@@ -406,10 +408,8 @@ class RestrictionReader:
     def read(self) -> None:
         """Adds the chains of all restrictions to the network."""
         for _, members, tags in self.builder.osm.relations:
-            for kind, condition in self.builder.rules.restriction(tags):
-                hours = None if condition is None else tuple(spans_today(condition, self.builder.weekday))
-                if hours != ():
-                    self._one(kind, members, hours)
+            for kind, hours in self.builder.restricted(tags):
+                self._one(kind, members, hours)
         for (prefix, hours), allowed in self.only.items():
             head = self.network.roads[prefix[-1]].head
             rest = frozenset(self.network.out[head]) - allowed
@@ -417,12 +417,10 @@ class RestrictionReader:
                 self._add([*(frozenset([road]) for road in prefix), rest], hours)
 
     def _one(self, kind: str, members: list[tuple[str, int, str]], hours: Any) -> None:
-        froms = {ref for what, ref, role in members if role == "from" and what == "way"}
-        tos = {ref for what, ref, role in members if role == "to" and what == "way"}
-        nodes = [ref for what, ref, role in members if role == "via" and what == "node"]
-        ways = [ref for what, ref, role in members if role == "via" and what == "way"]
-        if not froms or not tos or bool(nodes) == bool(ways) or len(nodes) > 1:
+        parts = restriction_of(members)
+        if parts is None:
             return
+        froms, nodes, ways, tos = parts
         roads = self.network.roads
         begins = [n for n, road in enumerate(roads) if self._way(road.parts[-1]) in froms
                   and (ways or self.network.vertex_osm[road.head] == nodes[0])]
@@ -442,10 +440,9 @@ class RestrictionReader:
             return
         for road in ahead:
             way = self._way(roads[road].parts[0])
-            nodes = self.builder.osm.ways[way][0]
             if way not in left or road in path or road == roads[path[-1]].back:
                 continue
-            ended = self.network.vertex_osm[roads[road].head] in (nodes[0], nodes[-1])
+            ended = self.network.vertex_osm[roads[road].head] in self.builder.way_ends[way]
             yield from self._paths([*path, road], left - {way} if ended else left, tos)
 
     def _forbid(self, kind: str, path: list[int], ahead: set[int], hours: Any) -> None:
@@ -477,23 +474,49 @@ class Search:
             for road in chain.roads[0]:
                 self.begun[road].append((number, 0))
 
+        self.kept: set[int] | None = None
+        self.kept = self._find_kept()
+        for node, vertices in network.starts.items():
+            network.starts[node] = [vertex for vertex in vertices if vertex in self.kept]
+
+    def _beginning(self, vertex: int) -> State:
+        """Where a drive is that begins at a vertex."""
+        meets = self.network.out[vertex] + self.network.into[vertex]
+        ends = any(piece[1] == ENDS for road in meets for piece in self.network.roads[road].pieces)
+        return vertex, -1, 0 if ends else 1, frozenset(), 0
+
+    def _find_kept(self) -> set[int]:
+        """The vertices that are reached from the largest part of the map, and lead to it, at whatever time."""
+        firsts = [self._beginning(vertex) for vertices in self.network.starts.values() for vertex in vertices]
+        number = {state: k for k, state in enumerate(firsts)}
+        states, links = list(firsts), []
+        for state in states:
+            for _, following in self._ahead(0.0, state):
+                if following not in number:
+                    number[following] = len(states)
+                    states.append(following)
+                links.append((number[state], number[following]))
+        graph = coo_matrix((np.ones(len(links)), np.array(links).T), shape=(len(states), len(states))).tocsr()
+        labels = connected_components(graph, connection="strong")[1]
+        vertices: dict[int, set[int]] = defaultdict(set)
+        for state, label in zip(states, labels.tolist()):
+            vertices[label] |= {state[0]} if state[2] == 1 else set()
+        largest = int(np.argmax(labels == max(vertices, key=lambda label: len(vertices[label]))))
+        ahead, behind = (set(breadth_first_order(g, largest, return_predecessors=False).tolist()) for g in (graph, graph.T.tocsr()))
+        return {states[k][0] for k in ahead} & {state[0] for state in firsts if number[state] in behind}
+
     def reach(self, osm: int, second: int) -> dict[int, tuple[float, int]]:
         """The earliest arrival at each node in OpenStreetMap, and how many roads that drive has."""
         best: dict[int, tuple[float, int]] = {}
-        queue: list[tuple[float, int, int, State]] = []
-        for vertex in self.network.vertices(osm):
-            meets = self.network.out[vertex] + self.network.into[vertex]
-            ends = any(piece[1] == ENDS for road in meets for piece in self.network.roads[road].pieces)
-            queue.append((second, 0, len(queue), (vertex, -1, 0 if ends else 1, frozenset(), 0)))
-        heapq.heapify(queue)
+        queue: list[tuple[float, int, int, State]] = [
+            (second, 0, k, self._beginning(vertex)) for k, vertex in enumerate(self.network.vertices(osm))]
         pushed, settled = len(queue), set()
         while queue:
             now, roads, _, state = heapq.heappop(queue)
             if state in settled:
                 continue
             settled.add(state)
-            if state[0] in self.network.starts[self.network.vertex_osm[state[0]]]:
-                best.setdefault(self.network.vertex_osm[state[0]], (now, roads))
+            best.setdefault(self.network.vertex_osm[state[0]], (now, roads))
             for then, following in self._ahead(now, state):
                 if following not in settled:
                     pushed += 1
@@ -506,7 +529,10 @@ class Search:
         back = self.network.roads[came].back if came >= 0 else -1
         ways_on = sum(1 for road in out if road != back)
         for road in out:
-            if road == back and guard and ways_on and not self.turn_back:
+            # From the third junction on one may turn at the next one, but not on the way there.
+            if road == back and not self.turn_back and ways_on and (guard > 1 or guard == 1 and ways_on == 1):
+                continue
+            if self.kept is not None and self.network.roads[road].head not in self.kept:
                 continue
             waits = [self.network.chains[c].hours for c, k in begun
                      if k + 2 == len(self.network.chains[c].roads) and road in self.network.chains[c].roads[-1]]
@@ -514,7 +540,7 @@ class Search:
                 continue
             left = guard - (1 if guard and ways_on >= 2 else 0)
             if begun and road != back:
-                left = 3
+                left = 4
             following = frozenset([*self.begun.get(road, ()), *(
                 (c, k + 1) for c, k in begun
                 if k + 2 < len(self.network.chains[c].roads) and road in self.network.chains[c].roads[k + 1])])

@@ -126,9 +126,7 @@ def to_xml(source: Path, xml: Path) -> None:
 
 
 def test_the_junctions_of_a_real_map_are_those_of_the_search(real: Both) -> None:
-    ends = {real.network.vertex_osm[vertex] for road in real.network.roads for vertex in (road.tail, road.head)}
-    assert set(real.rows) <= ends
-    assert {real.network.vertex_osm[vertex] for vertex in real.network.core} <= set(real.rows)
+    assert set(real.rows) == {osm for osm, vertices in real.network.starts.items() if vertices}
 
 
 def test_drives_over_a_real_map(real: Both) -> None:

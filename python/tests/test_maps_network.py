@@ -187,6 +187,50 @@ def test_a_street_that_is_shut_all_day_joins_nothing(town: OsmMap, tmp_path: Pat
     assert town.network(tmp_path).takes(1, 5) == 4 * 144
 
 
+@pytest.mark.parametrize("way, gate", [
+    (dict(opening_hours="06:00-12:00"), dict(opening_hours="12:00-18:00")),
+    (dict(access__conditional="no @ (08:00-20:00)"), dict(motor_vehicle__conditional="no @ (20:00-08:00)"))])
+def test_a_street_and_its_gate_that_are_never_open_at_once_join_nothing(town: OsmMap, tmp_path: Path, way: dict[str, str],
+                                                                        gate: dict[str, str]) -> None:
+    """From 3 on one gets to 4 and 5, and nobody gets past the gate at 3 to there."""
+    town.node(3, 0, 2000, barrier="gate", **gate)
+    street(town, [1, 2, 3])
+    street(town, [3, 4], **way)
+    street(town, [4, 5])
+    assert town.network(tmp_path).junctions == [1, 3]
+
+
+def test_a_turn_that_is_never_allowed_while_the_street_is_open(town: OsmMap, tmp_path: Path) -> None:
+    """Nobody turns from 1 2 to 6 before noon, and the street there closes at noon: so there is no road for that turn."""
+    town.node(6, 1000, 1000)
+    one, _, other = street(town, [1, 2]), street(town, [2, 3]), street(town, [2, 6], opening_hours="00:00-12:00")
+    town.restrict(one, 2, other, restriction__conditional="no_right_turn @ (00:00-12:00)")
+    net = town.network(tmp_path)
+    assert not net.may(1, 2, 6) and net.takes(2, 6) == 144 and net.takes(3, 6) == 288
+
+
+@pytest.mark.parametrize("gate, way", [(dict(barrier="gate", opening_hours="06:00-20:00"), {}), ({}, dict(opening_hours="06:00-20:00"))])
+def test_a_street_that_is_for_destinations_alone_whenever_its_open(town: OsmMap, tmp_path: Path, gate: dict[str, str],
+                                                                   way: dict[str, str]) -> None:
+    town.node(2, 0, 1000, **gate)
+    street(town, [1, 2])
+    street(town, [2, 3, 4], motor_vehicle__conditional="destination @ (06:00-20:00)", **way)
+    net = town.network(tmp_path)
+    assert net.takes(2, 4, 12 * H) == 288 and net.takes(2, 4) == 6 * H + 288 and net.takes(4, 2, 12 * H) == 288
+
+
+def test_a_ferry_that_goes_on_other_days_joins_nothing(town: OsmMap, tmp_path: Path) -> None:
+    """On a Monday 1 to 3 is lost, 2 km of 5: the ferry is one of them."""
+    town.node(6, 1000, 3000)
+    street(town, [1, 2])
+    town.way([2, 3], route="ferry", duration="00:10", interval="01:00", opening_hours="Sa,Su 08:00-20:00")
+    street(town, [3, 4, 5])
+    street(town, [4, 6])
+    assert town.network(tmp_path, weekday="sa").junctions == [1, 2, 3, 4, 5, 6]
+    net = town.network(tmp_path)
+    assert net.junctions == [3, 4, 5, 6] and net.made.lines[3].startswith("lost      2 km (40.0 %) in 2 junctions")
+
+
 def test_open_streets_behind_private_ones_belong_to_them(town: OsmMap, tmp_path: Path) -> None:
     """2 to 4 is open, but can be reached over private roads alone: nobody drives through."""
     street(town, [1, 2], access="private")

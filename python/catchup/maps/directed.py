@@ -11,6 +11,7 @@ from catchup.maps.arrays import Bools, Ints, offsets, pairs, ranges
 from catchup.maps.graph import Groups
 from catchup.maps.reading import RawMap
 from catchup.maps.streets import Segments, Streets
+from catchup.maps.timing import Timings
 
 
 
@@ -34,6 +35,9 @@ class Directed:
     """Of each street, itself or the one that it stands beside."""
     exists: Bools
     """Of each directed street, whether it may be driven at all."""
+    timings: Timings
+    timing: Ints
+    """Of each directed street, the number of its timing among these; 0 where it is the same all day."""
     _ahead: "dict[int, Ahead]" = field(default_factory=dict)
 
     @cached_property
@@ -105,7 +109,8 @@ def directed_of(segments: Segments, raw: RawMap, streets: Streets) -> Directed:
     doubled = Streets(offsets(sizes), streets.steps[at], streets.a[original], streets.b[original])
     ends = np.array([of.ends for of in raw.rules], dtype=bool)[rule][original]
     ends[count:] = True
-    return Directed(segments, raw, doubled, ends, original, _existing(segments, raw, doubled, count))
+    exists = _existing(segments, raw, doubled, count)
+    return Directed(segments, raw, doubled, ends, original, exists, Timings(), np.zeros(len(exists), dtype=np.int64))
 
 
 def _existing(segments: Segments, raw: RawMap, streets: Streets, count: int) -> Bools:

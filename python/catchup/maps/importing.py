@@ -19,7 +19,7 @@ from catchup.maps.hours import WEEKDAYS
 from catchup.maps.labels import Labels
 from catchup.maps.parts import Lost, largest, lost_of
 from catchup.maps.pockets import mark_gates, spread, through_streets
-from catchup.maps.profiles import Shapes, Timings, rush_timings, shapes_of, street_timings
+from catchup.maps.profiles import Shapes, rush_timings, shapes_of, time_streets
 from catchup.maps.reading import RawMap, Wanted, check_file, read_nodes, read_ways
 from catchup.maps.seconds import exact_seconds, step_seconds, whole_seconds
 from catchup.maps.sides import slow_turns
@@ -102,6 +102,7 @@ def _streets(path: Path, raw: RawMap, counts: Counts) -> Directed:
 
 def _network(directed: Directed, options: Options, counts: Counts) -> tuple[Network, Bools]:
     """The roads between nodes and their copies, and the open streets that are joined by roads for destinations alone."""
+    time_streets(directed)
     mark_gates(directed)
     if options.through:
         directed.ends[:] = False
@@ -136,11 +137,9 @@ def _check_size(path: Path, network: Network, labels: Labels) -> None:
 
 def _made(path: Path, directed: Directed, labels: Labels, network: Network, lost: Lost, options: Options, counts: Counts) -> Made:
     """The tables and the map's file of a network."""
-    timings = Timings()
-    timing = street_timings(directed, timings)
-    rush = rush_timings(labels, read_rush(options.weekday) if options.rush else None, timings)
+    rush = rush_timings(labels, read_rush(options.weekday) if options.rush else None)
     seconds = whole_seconds(directed, exact_seconds(directed, step_seconds(directed.segments, directed.raw)))
-    shapes = shapes_of(network, seconds, timing, rush, timings, options.spare)
+    shapes = shapes_of(network, directed, seconds, rush, options.spare)
     content = tables.Network(_places(directed, network), tables.Roads(
         *(values.astype(np.int32) for values in (network.tail, network.head, shapes.profile))),
         tables.profiles_of(shapes.pieces))

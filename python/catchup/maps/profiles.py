@@ -10,26 +10,8 @@ from catchup.maps.directed import Directed
 from catchup.maps.labels import Labels
 from catchup.maps.states import Network
 from catchup.maps.timing import CLOSED, Timing, closed_in, combined, pieces
-from catchup.replies import Piece
 from catchup.maps.vehicles import Rush
-
-
-
-class Timings:
-    """Timings under numbers; 0 is none."""
-
-    def __init__(self) -> None:
-        self.all: list[Timing | None] = [None]
-        self._number: dict[Timing | None, int] = {None: 0}
-
-    def number(self, of: Timing | None) -> int:
-        """The number of a timing."""
-        if of is not None and of.plain:
-            of = None
-        if of not in self._number:
-            self._number[of] = len(self.all)
-            self.all.append(of)
-        return self._number[of]
+from catchup.replies import Piece
 
 
 @dataclass
@@ -40,9 +22,10 @@ class Shapes:
     spare: int
 
 
-def street_timings(directed: Directed, timings: Timings) -> Ints:
-    """The timing of each directed street, by its rule, and by a gate that it begins at. A ferry's is for who boards it."""
-    raw, segments, streets = directed.raw, directed.segments, directed.streets
+def time_streets(directed: Directed) -> None:
+    """Finds the timing of each directed street, by its rule, and by a gate that it begins at; a ferry's is for who boards
+    it. Those that are never open are taken away, so that they join nothing. Comes before what asks which streets there are."""
+    raw, segments, streets, timings = directed.raw, directed.segments, directed.streets, directed.timings
     table = np.zeros((2, 2, len(raw.rules)), dtype=np.int64)
     for number, rule in enumerate(raw.rules):
         for row, one in enumerate((rule, rule.too)):
@@ -56,21 +39,23 @@ def street_timings(directed: Directed, timings: Timings) -> Ints:
     boarding = np.where(step & 1, segments.finishes[step >> 1], segments.begins[step >> 1])
     found[ferry & ~boarding] = 0
     gates = {number: barrier.timing for number, barrier in raw.barriers.items() if barrier.timing is not None}
-    for node in np.flatnonzero(np.isin(segments.osm, np.array(sorted(gates), dtype=np.int64))).tolist():
-        for d in directed.leaving[node]:
-            found[d] = timings.number(combined(timings.all[found[d]], gates[int(segments.osm[node])]))
-    return found
+    leaving = segments.osm[directed.tail]
+    for d in np.flatnonzero(np.isin(leaving, np.array(sorted(gates), dtype=np.int64))).tolist():
+        found[d] = timings.number(combined(timings.all[found[d]], gates[int(leaving[d])]))
+    directed.timing = found
+    directed.exists &= ~np.array([timings.never(number) for number in range(len(timings.all))], dtype=bool)[found]
 
 
-def rush_timings(labels: Labels, rush: Rush | None, timings: Timings) -> Ints:
+def rush_timings(labels: Labels, rush: Rush | None) -> Ints:
     """The timing of each street by its class, where rush hours are asked for."""
+    timings = labels.of.timings
     of_class = [timings.number(Timing(rush.steps[kind]) if rush and kind in rush.steps else None) for kind in labels.classes]
     return np.array(of_class, dtype=np.int64)[labels.kind]
 
 
-def shapes_of(network: Network, seconds: Ints, timing: Ints, rush: Ints, timings: Timings, spare: int) -> Shapes:
-    """The profiles of the roads. `seconds` and `timing` are of directed streets, `rush` is of streets."""
-    street = network.street
+def shapes_of(network: Network, directed: Directed, seconds: Ints, rush: Ints, spare: int) -> Shapes:
+    """The profiles of the roads. `seconds` are of directed streets, `rush` has the timings of streets."""
+    street, timings, timing = network.street, directed.timings, directed.timing
     count, spans = len(timings.all), len(network.spans)
     key = (((seconds[street] + network.delay) * count + timing[street]) * count + rush[street >> 1]) * spans + network.closed
     keys, profile = np.unique(key, return_inverse=True)

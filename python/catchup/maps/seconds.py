@@ -11,15 +11,14 @@ from catchup.maps.arrays import Floats, Ints, pairs
 from catchup.maps.chains import cut_rings
 from catchup.maps.directed import Directed
 from catchup.maps.reading import RawMap
+from catchup.maps.rules import Rule
 from catchup.maps.streets import Segments
-
 
 
 def step_seconds(segments: Segments, raw: RawMap) -> Floats:
     """How long each step takes, not rounded, delays at its end with it. Where nobody may go it means nothing."""
     rule = raw.way_rule[segments.way]
-    speeds = np.array([[1.0 if side is None else side.kmh for side in (of.forth, of.back)] for of in raw.rules])
-    seconds = segments.metres[:, None] * 3.6 / speeds.reshape(-1, 2)[rule]
+    seconds = segments.metres[:, None] * 3.6 / np.array([_speeds(of) for of in raw.rules]).reshape(-1, 2)[rule]
     takes = np.array([of.seconds if of.ferry and of.seconds else 0 for of in raw.rules], dtype=np.float64)[rule]
     whole = np.bincount(segments.way, weights=segments.metres, minlength=len(raw.way_ids))[segments.way]
     sails = (takes > 0) & (whole > 0)
@@ -29,6 +28,13 @@ def step_seconds(segments: Segments, raw: RawMap) -> Floats:
     seconds[:, 1] += against[segments.a]
     done: Floats = seconds.reshape(-1)
     return done
+
+
+def _speeds(rule: Rule) -> tuple[float, float]:
+    """The speeds along a way and against it, in km/h; 1 where nobody may go."""
+    too = rule.too or rule
+    forth, back = rule.forth or too.forth, rule.back or too.back
+    return forth.kmh if forth else 1.0, back.kmh if back else 1.0
 
 
 def _delays(segments: Segments, raw: RawMap) -> tuple[Floats, Floats]:
@@ -58,8 +64,8 @@ def _next_in_way(segments: Segments, steps: Ints) -> Ints:
 def whole_seconds(directed: Directed, exact: Floats) -> Ints:
     """The seconds of each directed street, rounded along its way."""
     count = len(exact)
-    own = directed.original == np.arange(len(directed.original))
-    here = np.flatnonzero(directed.exists & np.repeat(own, 2))
+    itself = pairs(2 * directed.original, 2 * directed.original + 1)
+    here = np.unique(itself[directed.exists])
     starting = np.full(directed.segments.steps, -1, dtype=np.int64)
     starting[directed.first_step[here]] = here
     going_on = _next_in_way(directed.segments, directed.first_step[here ^ 1] ^ 1)
@@ -73,5 +79,5 @@ def whole_seconds(directed: Directed, exact: Floats) -> Ints:
     until = np.floor(total - before + 0.5).astype(np.int64)
     done = np.zeros(count, dtype=np.int64)
     done[order] = until - np.where(begins, 0, np.append(0, until[:-1]))
-    shared: Ints = done[pairs(2 * directed.original, 2 * directed.original + 1)]
+    shared: Ints = done[itself]
     return shared

@@ -14,7 +14,6 @@ import numpy as np
 from catchup.maps.arrays import Bools, Ints
 from catchup.maps.directed import Directed
 from catchup.maps.hours import Spans, merged
-from catchup.maps.timing import ALWAYS
 from catchup.maps.turns import Chain
 
 Left = frozenset[tuple[Chain, Spans, int]]
@@ -102,7 +101,7 @@ class _Builder:
     def _drive(self, state: int, phase: int, left: Left, d: int) -> None:
         inside = bool(self.ends[d >> 1])
         closed = merged(span for rest, spans, _ in left if rest == (d,) for span in spans)
-        if closed == ALWAYS or phase == 2 and not inside:
+        if phase == 2 and not inside or closed and self.of.timings.never(int(self.of.timing[d]), closed):
             return
         then = frozenset((rest[1:], spans, 0) for rest, spans, _ in left if rest[0] == d and len(rest) > 1)
         delay = max((seconds for rest, _, seconds in left if rest == (d,)), default=0)

@@ -90,6 +90,32 @@ def combined(one: Timing | None, other: Timing | None) -> Timing | None:
     return timing(steps, departures)
 
 
+class Timings:
+    """Timings under numbers; 0 is none."""
+
+    def __init__(self) -> None:
+        self.all: list[Timing | None] = [None]
+        self._number: dict[Timing | None, int] = {None: 0}
+        self._never: dict[tuple[int, Spans], bool] = {}
+
+    def number(self, of: Timing | None) -> int:
+        """The number of a timing."""
+        if of is not None and of.plain:
+            of = None
+        if of not in self._number:
+            self._number[of] = len(self.all)
+            self.all.append(of)
+        return self._number[of]
+
+    def never(self, number: int, closed: Spans = ()) -> bool:
+        """Whether a timing opens at no second of the day that isn't in these hours."""
+        key = number, closed
+        if key not in self._never:
+            of = combined(self.all[number], closed_in(closed) if closed else None)
+            self._never[key] = pieces(of, 0) == CLOSED
+        return self._never[key]
+
+
 def rounded(value: float) -> int:
     """The nearest whole number, a half upwards."""
     return floor(value + 0.5)
