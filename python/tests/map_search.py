@@ -90,7 +90,6 @@ class Road:
     seconds: float
     pieces: list[Piece]
     back: int = -1
-    whole: int = 0
     boards: list[int] | None = None
 
 
@@ -147,7 +146,6 @@ class Builder:
         ends = {v for v in self.at if self._is_end(v)}
         self._cut_loops(ends)
         network = self._roads(ends)
-        _share_seconds(network)
         _pockets(network)
         RestrictionReader(self, network).read()
         return network
@@ -344,8 +342,8 @@ def _through(pieces: list[Piece], gate: list[Piece], leaves: bool) -> list[Piece
     return _merged(found)
 
 
-def _share_seconds(network: Network) -> None:
-    """Whole seconds, shared out along the roads of one way."""
+def whole_seconds(network: Network, ratio: float) -> list[int]:
+    """The whole seconds of all roads, each so many times as slow as usually: the nearest, but for what that does to a way."""
     starts = {road.parts[0]: number for number, road in enumerate(network.roads)}
     by_place = {(s.way, s.index): k for k, s in enumerate(network.segments)}
     follows: dict[int, int] = {}
@@ -356,16 +354,27 @@ def _share_seconds(network: Network) -> None:
         if ahead is not None and (ahead, direction) in starts:
             follows[number] = starts[(ahead, direction)]
     behind = set(follows.values())
-    done: set[int] = set()
+    whole = [-1] * len(network.roads)
     # Roads without a beginning, round a roundabout of two ways, come last: from any of them on.
     for first in sorted(range(len(network.roads)), key=lambda number: number in behind):
-        total, said, number = 0.0, 0, first
-        while number not in done:
-            done.add(number)
-            total += network.roads[number].seconds
-            whole = math.floor(total + 0.5)
-            network.roads[number].whole, said = whole - said, whole
+        number, exact, done = first, list[float](), list[int]()
+        while whole[number] < 0:
+            exact.append(network.roads[number].seconds * ratio)
+            done.append(_rounded(exact, done))
+            whole[number] = done[-1]
             number = follows.get(number, number)
+    return whole
+
+
+def _rounded(exact: list[float], before: list[int]) -> int:
+    """The whole seconds of the last road of a way, so that no stretch that ends with it is much too long or too short."""
+    nearest = math.floor(exact[-1] + 0.5)
+    off, seconds = nearest - exact[-1], exact[-1]
+    for own, whole in zip(reversed(exact[:-1]), reversed(before)):
+        off, seconds = off + whole - own, seconds + own
+        if abs(off) > 1.5 + seconds / 20:
+            return nearest - (1 if off > 0 else -1)
+    return nearest
 
 
 def _pockets(network: Network) -> None:
@@ -469,6 +478,7 @@ class Search:
 
     def __init__(self, network: Network, whole: bool = True, turn_back: bool = False) -> None:
         self.network, self.whole, self.turn_back = network, whole, turn_back
+        self.seconds: dict[float, list[int]] = {}
         self.begun: dict[int, list[tuple[int, int]]] = defaultdict(list)
         for number, chain in enumerate(network.chains):
             for road in chain.roads[0]:
@@ -505,8 +515,16 @@ class Search:
         ahead, behind = (set(breadth_first_order(g, largest, return_predecessors=False).tolist()) for g in (graph, graph.T.tocsr()))
         return {states[k][0] for k in ahead} & {state[0] for state in firsts if number[state] in behind}
 
-    def reach(self, osm: int, second: int) -> dict[int, tuple[float, int]]:
-        """The earliest arrival at each node in OpenStreetMap, and how many roads that drive has."""
+    def near(self, osm: int, second: int, most: int) -> dict[int, tuple[float, int]]:
+        """As `reach`, of those nodes alone whose drive has up to so many roads."""
+        layer, last = [(float(second), self._beginning(vertex)) for vertex in self.network.vertices(osm)], float(second)
+        for _ in range(most):
+            layer = [ahead for now, state in layer for ahead in self._ahead(now, state)]
+            last = max([last, *(now for now, _ in layer)])
+        return {node: found for node, found in self.reach(osm, second, last).items() if found[1] <= most}
+
+    def reach(self, osm: int, second: int, last: float = math.inf) -> dict[int, tuple[float, int]]:
+        """The earliest arrival at each node in OpenStreetMap, and how many roads that drive has; none behind `last`."""
         best: dict[int, tuple[float, int]] = {}
         queue: list[tuple[float, int, int, State]] = [
             (second, 0, k, self._beginning(vertex)) for k, vertex in enumerate(self.network.vertices(osm))]
@@ -515,6 +533,8 @@ class Search:
             now, roads, _, state = heapq.heappop(queue)
             if state in settled:
                 continue
+            if now > last:
+                break
             settled.add(state)
             best.setdefault(self.network.vertex_osm[state[0]], (now, roads))
             for then, following in self._ahead(now, state):
@@ -563,9 +583,8 @@ class Search:
     def _arrival(self, number: int, now: float, kinds: tuple[int, ...], closed: list[tuple[int, int]]) -> float | None:
         """The least arrival of all who enter now or later; only where something changes it may pay to be later."""
         road = self.network.roads[number]
-        usual = float(road.whole) if self.whole else road.seconds
         if len(road.pieces) == 1 and not closed and road.boards is None:
-            return now + usual
+            return now + self._takes(number, 1.0)
         midnight = math.floor(now / DAY) * DAY
         times = {piece[0] for piece in road.pieces} | {second for span in closed for second in span}
         found = []
@@ -578,8 +597,13 @@ class Search:
                 continue
             if road.boards:
                 enter = next(midnight + d + k * DAY for k in range(3) for d in road.boards if midnight + d + k * DAY >= enter)
-            found.append(enter + (usual if ratio == 1.0 else self._slowed(usual, ratio)))
+            found.append(enter + self._takes(number, ratio))
         return min(found, default=None)
 
-    def _slowed(self, usual: float, ratio: float) -> float:
-        return math.floor(usual * ratio + 0.5) if self.whole else usual * ratio
+    def _takes(self, number: int, ratio: float) -> float:
+        """The seconds of a road, so many times as slow as usually."""
+        if not self.whole:
+            return self.network.roads[number].seconds * ratio
+        if ratio not in self.seconds:
+            self.seconds[ratio] = whole_seconds(self.network, ratio)
+        return self.seconds[ratio][number]

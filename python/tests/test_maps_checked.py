@@ -1,7 +1,7 @@
 """The importer's networks beside a search of another kind over the map itself: real maps, and maps made here.
 
 A drive is compared from one node to all others: the search says when each is reached, and so does the program over the
-imported tables. Roads take whole seconds there, so an arrival may be half a second away for each road of the drive.
+imported tables. Roads take whole seconds there, so an arrival is up to half a second away for each road of the drive.
 """
 
 from __future__ import annotations
@@ -75,20 +75,21 @@ def said(both: Both, child: Child, osm: int, second: int) -> dict[int, float]:
     return best
 
 
-def differing(both: Both, drives: Sequence[tuple[int, int]], within: float = 0.5) -> tuple[int, list[str]]:
-    """How many drives from these nodes at these seconds were compared, and those that differ by more seconds a road."""
+def differing(both: Both, drives: Sequence[tuple[int, int]], within: float = 0.5, most: int | None = None) -> tuple[int, list[str]]:
+    """How many drives from these nodes at these seconds were compared, and those that differ by more seconds a road; where
+    `most` is said, drives of up to so many roads alone."""
     compared, wrong = 0, []
     with Child(["ask", both.folder / "map.cu"]) as child:
         for osm, second in drives:
-            theirs, ours = said(both, child, osm, second), both.search.reach(osm, second)
-            for target in both.rows:
+            theirs = said(both, child, osm, second)
+            ours = both.search.reach(osm, second) if most is None else both.search.near(osm, second, most)
+            for target in both.rows if most is None else ours.keys() & both.rows.keys():
                 compared += 1
                 here, (own, roads) = theirs.get(target), ours.get(target, (math.inf, 0))
                 if here is None or own == math.inf:
                     if here is not None or own < math.inf:
                         wrong.append(f"{osm} to {target} at {second}: {here}, and {own} by the search")
-                # Each stretch of a way may be a second off, since whole seconds are shared out along it.
-                elif abs(here - own) > within * (roads + 2) + 1e-6:
+                elif abs(here - own) > within * roads + 1e-6:
                     wrong.append(f"{osm} to {target} at {second}: {here}, and {own:.2f} by the search ({roads} roads)")
     return compared, wrong
 
@@ -142,6 +143,20 @@ def test_a_thousand_drives_and_more_over_a_real_map(real: Both) -> None:
     assert wrong == []
 
 
+def test_drives_of_one_road_and_of_two(real: Both) -> None:
+    drives = random.Random(7).sample([(osm, 30000) for osm in real.junctions()], 100)
+    compared, wrong = differing(real, drives, most=2)
+    assert compared > 500
+    assert wrong == []
+
+
+@pytest.mark.long
+def test_all_drives_of_one_road_and_of_two(real: Both) -> None:
+    compared, wrong = differing(real, [(osm, 30000) for osm in real.junctions()], most=2)
+    assert compared > 12_000
+    assert wrong == []
+
+
 @pytest.mark.long
 def test_each_restriction_of_a_real_map_from_each_approach(real: Both) -> None:
     assert real.network.chains
@@ -183,7 +198,7 @@ def compare_made(made: Made, folder: Path, weekday: str, sources: int, seconds: 
     folder.mkdir(exist_ok=True)
     made.write(folder / "map.osm")
     both = load(folder / "map.osm", folder / "map.osm", folder / "made", weekday)
-    both.search.whole = True  # hours multiply what rounding does, so these are compared to the second
+    both.search.whole = True  # a second may be a missed ferry, so these are compared with the same whole seconds
     compared, wrong = differing(both, random_drives(both, sources, seed, seconds), within=0)
     assert wrong == [], f"{made.name}, {weekday}: {len(wrong)} of {compared}"
     return compared

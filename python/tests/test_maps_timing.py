@@ -5,7 +5,7 @@ import pytest
 from hypothesis import given
 from hypothesis import strategies as st
 
-from catchup.maps.timing import ALWAYS, CLOSED, NEVER, Timing, closed_in, closed_spans, combined, open_in, pieces, rounded, timing
+from catchup.maps.timing import ALWAYS, CLOSED, NEVER, Timing, Timings, closed_in, closed_spans, combined, open_in, pieces, timing
 from catchup.maps.values import DAY
 from catchup.replies import Piece
 
@@ -13,7 +13,7 @@ H = 3600
 
 
 def rows(of: Timing | None, seconds: int) -> list[tuple[int, str, int]]:
-    return [(piece.start, piece.kind, piece.value) for piece in pieces(of, seconds)]
+    return [(piece.start, piece.kind, piece.value) for piece in pieces(of, lambda factor: round(factor * seconds))]
 
 
 @pytest.mark.parametrize("of, seconds, expected", [
@@ -63,14 +63,14 @@ steps = st.lists(st.tuples(st.integers(1, DAY - 1), factors), max_size=5, unique
 @given(factors, steps, st.integers(0, 20_000), st.lists(st.integers(0, DAY - 1), max_size=20))
 def test_pieces_are_the_least_over_all_waits(first: float | None, rest: list[tuple[int, float | None]], seconds: int, asked: list[int]) -> None:
     of = timing([(0, first), *rest])
-    found = pieces(of, seconds)
+    found = pieces(of, lambda factor: round(factor * seconds))
     if all(factor is None for _, factor in of.steps):
         assert found == CLOSED
         return
     begins = [start + day * DAY for day in range(3) for start, _ in of.steps]
     for second in [*asked, *(piece.start for piece in found), *(max(0, piece.start - 1) for piece in found)]:
         goes = [second, *(start for start in begins if start > second)]
-        best = min(go + rounded(factor * seconds) for go in goes if (factor := of.at(go % DAY)) is not None)
+        best = min(go + round(factor * seconds) for go in goes if (factor := of.at(go % DAY)) is not None)
         assert arrival(found, second) == best
     assert [piece.start for piece in found] == sorted({piece.start for piece in found}) and found[0].start == 0
 
@@ -83,6 +83,9 @@ def test_combined() -> None:
     assert closed_spans(both) == ((22 * H, DAY),)
 
 
-@pytest.mark.parametrize("value, whole", [(0.0, 0), (0.49, 0), (0.5, 1), (1.5, 2), (2.5, 3), (2.4999, 2)])
-def test_rounded(value: float, whole: int) -> None:
-    assert rounded(value) == whole
+def test_never() -> None:
+    timings = Timings()
+    day, boat = timings.number(open_in(((6 * H, 20 * H),))), timings.number(Timing(departures=(9 * H,)))
+    assert not timings.never(0) and not timings.never(day) and not timings.never(boat) and timings.never(timings.number(NEVER))
+    assert timings.never(day, ((0, 7 * H), (7 * H, 20 * H))) and not timings.never(day, ((0, 19 * H),)) and timings.never(0, ALWAYS)
+    assert timings.never(boat, ((9 * H, 10 * H),)) and not timings.never(boat, ((10 * H, 11 * H),))

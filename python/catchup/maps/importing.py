@@ -21,7 +21,7 @@ from catchup.maps.parts import Lost, largest, lost_of
 from catchup.maps.pockets import mark_gates, spread, through_streets
 from catchup.maps.profiles import Shapes, rush_timings, shapes_of, time_streets
 from catchup.maps.reading import RawMap, Wanted, check_file, read_nodes, read_ways
-from catchup.maps.seconds import exact_seconds, step_seconds, whole_seconds
+from catchup.maps.seconds import WholeSeconds, exact_seconds, step_seconds
 from catchup.maps.sides import slow_turns
 from catchup.maps.states import Network, network_of
 from catchup.maps.streets import block, segments_of, streets_of
@@ -87,7 +87,7 @@ def import_osm(path: Path, options: Options, tell: Tell) -> Made:
     counts.add("metres behind roads for destinations alone", number=float(labels.metres[_used(directed, kept) & behind].sum()))
     _check_size(path, kept, labels)
     tell("times and names")
-    return _made(path, directed, labels, kept, lost_of(directed, labels, kept, network), options, counts)
+    return _made(path, labels, kept, lost_of(directed, labels, kept, network), options, counts)
 
 
 def _streets(path: Path, raw: RawMap, counts: Counts) -> Directed:
@@ -135,16 +135,17 @@ def _check_size(path: Path, network: Network, labels: Labels) -> None:
                   f"these: {shares or 'none'}), or take a part of the map by --bbox WEST,SOUTH,EAST,NORTH")
 
 
-def _made(path: Path, directed: Directed, labels: Labels, network: Network, lost: Lost, options: Options, counts: Counts) -> Made:
+def _made(path: Path, labels: Labels, network: Network, lost: Lost, options: Options, counts: Counts) -> Made:
     """The tables and the map's file of a network."""
+    directed = labels.of
     rush = rush_timings(labels, read_rush(options.weekday) if options.rush else None)
-    seconds = whole_seconds(directed, exact_seconds(directed, step_seconds(directed.segments, directed.raw)))
+    seconds = WholeSeconds(directed, exact_seconds(directed, step_seconds(directed.segments, directed.raw)))
     shapes = shapes_of(network, directed, seconds, rush, options.spare)
     content = tables.Network(_places(directed, network), tables.Roads(
         *(values.astype(np.int32) for values in (network.tail, network.head, shapes.profile))),
         tables.profiles_of(shapes.pieces))
-    map_file, point_osm = _map(path, directed, labels, network, shapes, seconds, options)
-    names = _names(directed, labels, network)
+    map_file, point_osm = _map(path, labels, network, shapes, options)
+    names = _names(labels, network)
     sizes = report.Sizes(len(network.node), int((network.copy > 0).sum()), len(network.street), len(shapes.pieces),
                          len(names.texts), int((np.diff(names.first) > 1).sum()), options.spare)
     lines = report.summary(path.name, sizes, counts, lost)
@@ -159,10 +160,9 @@ def _places(directed: Directed, network: Network) -> tables.Nodes:
     return tables.Nodes(np.rint(x * 10).astype(np.int64), np.rint(y * 10).astype(np.int64))
 
 
-def _map(path: Path, directed: Directed, labels: Labels, network: Network, shapes: Shapes, seconds: Ints,
-         options: Options) -> tuple[MapFile, Ints]:
+def _map(path: Path, labels: Labels, network: Network, shapes: Shapes, options: Options) -> tuple[MapFile, Ints]:
     """What the network is outside."""
-    segments, street = directed.segments, network.street
+    directed, segments, street = labels.of, labels.of.segments, network.street
     first, points = labels.points(street)
     properties = {"source": path.name, "vehicle": options.vehicle, "weekday": options.weekday,
                   "closed_profile": "0", "spare_profiles": str(options.spare),
@@ -170,7 +170,7 @@ def _map(path: Path, directed: Directed, labels: Labels, network: Network, shape
     osm = segments.osm
     content = MapFile(
         segments.lon[network.node], segments.lat[network.node], osm[network.node], _small(network.copy), _small(network.tail),
-        _small(network.head), _small(shapes.profile), labels.metres[street >> 1], _small(seconds[street] + network.delay),
+        _small(network.head), _small(shapes.profile), labels.metres[street >> 1], _small(shapes.seconds),
         labels.way[street >> 1], osm[directed.tail[street]], osm[directed.head[street]], _small(labels.kind[street >> 1]), first,
         segments.lon[points], segments.lat[points], labels.classes, properties)
     return content, osm[points]
@@ -180,11 +180,11 @@ def _small(values: Ints) -> NDArray[np.int32]:
     return values.astype(np.int32)
 
 
-def _names(directed: Directed, labels: Labels, network: Network) -> RoadNames:
+def _names(labels: Labels, network: Network) -> RoadNames:
     """The named parts of the roads."""
     spans = labels.spans(network.street)
     named = spans.name > 0
     sums = offsets(named)
     used, text = np.unique(spans.name[named], return_inverse=True)
-    texts = [directed.raw.names[number] for number in used.tolist()]
+    texts = [labels.of.raw.names[number] for number in used.tolist()]
     return RoadNames(sums[spans.first], spans.begin[named], spans.end[named], text.astype(np.int32), texts)

@@ -7,7 +7,9 @@ import numpy as np
 
 from catchup.maps.arrays import Ints
 from catchup.maps.directed import Directed
+from catchup.maps.graph import Groups
 from catchup.maps.labels import Labels
+from catchup.maps.seconds import WholeSeconds
 from catchup.maps.states import Network
 from catchup.maps.timing import CLOSED, Timing, closed_in, combined, pieces
 from catchup.maps.vehicles import Rush
@@ -17,6 +19,8 @@ from catchup.replies import Piece
 @dataclass
 class Shapes:
     """The profile of each road, and the pieces of each profile. Profile 0 is closed; the last `spare` are of no road."""
+    seconds: Ints
+    """What each road takes at its usual speed."""
     profile: Ints
     pieces: list[tuple[Piece, ...]]
     spare: int
@@ -53,20 +57,31 @@ def rush_timings(labels: Labels, rush: Rush | None) -> Ints:
     return np.array(of_class, dtype=np.int64)[labels.kind]
 
 
-def shapes_of(network: Network, directed: Directed, seconds: Ints, rush: Ints, spare: int) -> Shapes:
-    """The profiles of the roads. `seconds` are of directed streets, `rush` has the timings of streets."""
-    street, timings, timing = network.street, directed.timings, directed.timing
+def shapes_of(network: Network, directed: Directed, seconds: WholeSeconds, rush: Ints, spare: int) -> Shapes:
+    """The profiles of the roads. `rush` has the timings of streets at rush hours."""
+    timings, street = directed.timings, network.street
     count, spans = len(timings.all), len(network.spans)
-    key = (((seconds[street] + network.delay) * count + timing[street]) * count + rush[street >> 1]) * spans + network.closed
-    keys, profile = np.unique(key, return_inverse=True)
+    kinds, kind = np.unique((directed.timing[street] * count + rush[street >> 1]) * spans + network.closed, return_inverse=True)
+    roads_of = Groups(kind, np.arange(len(street)), len(kinds))
     known: dict[tuple[Piece, ...], int] = {CLOSED: 0}
-    number = []
-    for value in keys.tolist():
+    profile = np.zeros(len(street), dtype=np.int64)
+    for number, value in enumerate(kinds.tolist()):
         value, closed = divmod(value, spans)
-        value, by_class = divmod(value, count)
-        whole, by_rule = divmod(value, count)
-        of = combined(timings.all[by_rule], timings.all[by_class])
+        of = combined(*(timings.all[timing] for timing in divmod(value, count)))
         if closed:
             of = combined(of, closed_in(network.spans[closed]))
-        number.append(known.setdefault(pieces(of, whole), len(known)))
-    return Shapes(np.array(number, dtype=np.int64)[profile], list(known) + [CLOSED] * spare, spare)
+        roads = np.array(roads_of[number], dtype=np.int64)
+        factors = [1.0] if of is None else of.factors
+        takes, row = _different([seconds.at(factor, street[roads]) + network.delay[roads] for factor in factors])
+        shapes = [pieces(of, dict(zip(factors, seconds_of)).__getitem__) for seconds_of in takes]
+        profile[roads] = np.array([known.setdefault(shape, len(known)) for shape in shapes], dtype=np.int64)[row]
+    return Shapes(seconds.at(1.0, street) + network.delay, profile, list(known) + [CLOSED] * spare, spare)
+
+
+def _different(columns: list[Ints]) -> tuple[list[tuple[int, ...]], Ints]:
+    """The different rows of columns of numbers, 0 and more, and which of them each row is."""
+    which = columns[0]
+    for column in columns[1:]:
+        which = np.unique(which, return_inverse=True)[1] * (int(column.max()) + 1) + column
+    _, first, row = np.unique(which, return_index=True, return_inverse=True)
+    return list(zip(*(column[first].tolist() for column in columns))), row

@@ -1,18 +1,22 @@
 """How long each directed street takes, in whole seconds.
 
-The seconds of the parts of a way are rounded so that what rounding takes from one part the next one along the way gets:
-from the beginning of a way on to any junction of it, the sum is the nearest whole number.
+A street takes the nearest whole second, a half upwards. So none is off by more than half a second, but many short ones
+along a way might together gain or lose much. Where by that a stretch of a way would be off by more than SPARE and a SHARE
+of its seconds, its last street is rounded the other way, and is off by less than a second.
 """
 from __future__ import annotations
 
 import numpy as np
 
-from catchup.maps.arrays import Floats, Ints, pairs
+from catchup.maps.arrays import Floats, Ints, offsets, pairs, ranges
 from catchup.maps.chains import cut_rings
 from catchup.maps.directed import Directed
 from catchup.maps.reading import RawMap
 from catchup.maps.rules import Rule
 from catchup.maps.streets import Segments
+
+SPARE, SHARE = 1.5, 0.05
+"""So many seconds, and this part of what it takes, a stretch along a way may be off: from 30 s on a tenth at most."""
 
 
 def step_seconds(segments: Segments, raw: RawMap) -> Floats:
@@ -61,23 +65,52 @@ def _next_in_way(segments: Segments, steps: Ints) -> Ints:
     return np.where(ends, -1, steps + np.where(back, -2, 2))
 
 
-def whole_seconds(directed: Directed, exact: Floats) -> Ints:
-    """The seconds of each directed street, rounded along its way."""
-    count = len(exact)
-    itself = pairs(2 * directed.original, 2 * directed.original + 1)
-    here = np.unique(itself[directed.exists])
-    starting = np.full(directed.segments.steps, -1, dtype=np.int64)
-    starting[directed.first_step[here]] = here
-    going_on = _next_in_way(directed.segments, directed.first_step[here ^ 1] ^ 1)
-    after = np.full(count, -1, dtype=np.int64)
-    after[here] = np.where(going_on >= 0, starting[going_on], -1)
-    first, rank = cut_rings(after)
-    order = here[np.lexsort((rank[here], first[here]))]
-    begins = rank[order] == 0
-    total = np.cumsum(exact[order])
-    before = np.repeat((total - exact[order])[begins], np.diff(np.append(np.flatnonzero(begins), len(order))))
-    until = np.floor(total - before + 0.5).astype(np.int64)
-    done = np.zeros(count, dtype=np.int64)
-    done[order] = until - np.where(begins, 0, np.append(0, until[:-1]))
-    shared: Ints = done[itself]
-    return shared
+class WholeSeconds:
+    """The whole seconds of directed streets. Those that follow one another along a way, in one direction, are a chain."""
+
+    def __init__(self, directed: Directed, exact: Floats) -> None:
+        """`exact` has the seconds of each, not rounded."""
+        self._exact = exact
+        self._itself = pairs(2 * directed.original, 2 * directed.original + 1)
+        here = np.unique(self._itself[directed.exists])
+        starting = np.full(directed.segments.steps, -1, dtype=np.int64)
+        starting[directed.first_step[here]] = here
+        going_on = _next_in_way(directed.segments, directed.first_step[here ^ 1] ^ 1)
+        after = np.full(len(exact), -1, dtype=np.int64)
+        after[here] = np.where(going_on >= 0, starting[going_on], -1)
+        first, self._rank = cut_rings(after)
+        self._order = here[np.lexsort((self._rank[here], first[here]))]
+        self._begins = np.flatnonzero(self._rank[self._order] == 0)
+        self._sizes = np.diff(np.append(self._begins, len(self._order)))
+        self._chain = np.full(len(exact), -1, dtype=np.int64)
+        self._chain[self._order] = np.repeat(np.arange(len(self._begins)), self._sizes)
+
+    def at(self, factor: float, streets: Ints) -> Ints:
+        """What these directed streets take where all take so many times their usual seconds."""
+        own = self._itself[streets]
+        chains, place = np.unique(self._chain[own], return_inverse=True)
+        sizes = self._sizes[chains]
+        members = self._order[ranges(self._begins[chains], sizes)]
+        whole = rounded_along(self._exact[members] * factor, sizes)
+        found: Ints = whole[offsets(sizes)[place] + self._rank[own]]
+        return found
+
+
+def rounded_along(exact: Floats, sizes: Ints) -> Ints:
+    """Whole numbers for these, 0 and more, in chains of these sizes, 1 and more, that stand behind one another."""
+    whole = np.floor(exact + 0.5)
+    longest_first = np.argsort(-sizes, kind="stable")
+    starts, falling = offsets(sizes)[:-1][longest_first], -sizes[longest_first]
+    # What the stretches that end here have gained and lost at most, beyond their share.
+    gained, lost = np.zeros(len(sizes)), np.zeros(len(sizes))
+    for place in range(int(sizes.max(initial=0))):
+        there = slice(int(np.searchsorted(falling, -place)))
+        at = starts[there] + place
+        over, share = whole[at] - exact[at], SHARE * exact[at]
+        turn = (lost[there] - over - share > SPARE).astype(np.float64) - (gained[there] + over - share > SPARE)
+        whole[at] += turn
+        over += turn
+        gained[there] = np.maximum(gained[there] + over - share, 0.0)
+        lost[there] = np.maximum(lost[there] - over - share, 0.0)
+    found: Ints = whole.astype(np.int64)
+    return found

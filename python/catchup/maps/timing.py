@@ -6,8 +6,7 @@ is slow and then fast again, nobody who enters it while it is slow arrives later
 from __future__ import annotations
 
 from dataclasses import dataclass
-from math import floor
-from typing import Sequence
+from typing import Callable, Sequence
 
 from catchup.maps.hours import Spans, merged
 from catchup.maps.values import DAY
@@ -27,6 +26,11 @@ class Timing:
     def at(self, second: int) -> float | None:
         """The factor at a second of the day; None while it is closed."""
         return [factor for start, factor in self.steps if start <= second][-1]
+
+    @property
+    def factors(self) -> list[float]:
+        """All factors that it has; of departures 1."""
+        return [1.0] if self.departures else sorted({factor for _, factor in self.steps if factor is not None})
 
     @property
     def plain(self) -> bool:
@@ -112,22 +116,17 @@ class Timings:
         key = number, closed
         if key not in self._never:
             of = combined(self.all[number], closed_in(closed) if closed else None)
-            self._never[key] = pieces(of, 0) == CLOSED
+            self._never[key] = pieces(of, lambda factor: 0) == CLOSED
         return self._never[key]
 
 
-def rounded(value: float) -> int:
-    """The nearest whole number, a half upwards."""
-    return floor(value + 0.5)
-
-
-def pieces(of: Timing | None, seconds: int) -> tuple[Piece, ...]:
-    """The pieces of a road that takes so many seconds by itself, its waits with them."""
+def pieces(of: Timing | None, takes: Callable[[float], int]) -> tuple[Piece, ...]:
+    """The pieces of a road, its waits with them; `takes` says its seconds at each of its factors, and at 1."""
     if of is None or of.plain:
-        return (Piece(0, "travel", seconds),)
+        return (Piece(0, "travel", takes(1.0)),)
     if of.departures:
-        return _departures(of, seconds)
-    travels = [None if factor is None else rounded(factor * seconds) for _, factor in of.steps]
+        return _departures(of, takes(1.0))
+    travels = [None if factor is None else takes(factor) for _, factor in of.steps]
     starts = [start for start, _ in of.steps]
     if all(travel is None for travel in travels):
         return CLOSED
