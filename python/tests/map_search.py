@@ -91,6 +91,7 @@ class Road:
     pieces: list[Piece]
     back: int = -1
     boards: list[int] | None = None
+    entry: list[Piece] | None = None  # of who comes to a ferry through a gate
 
 
 @dataclass(frozen=True)
@@ -294,20 +295,23 @@ class Builder:
         tail, head = first.ends[parts[0][1]], last.ends[1 - parts[-1][1]]
         pieces = first.sides[parts[0][1]]
         assert pieces is not None
-        for place, leaves in ((tail, True), (head, False)):
-            gate = self.gates.get(self.vertex_osm[place])
-            if gate:
-                pieces = _through(pieces, gate, leaves)
         seconds = sum(self.segments[s].seconds[d] for s, d in parts)
-        boards = None
+        boards, entry = None, None
         tags = self.osm.ways[first.way][1]
         if first.ferry and self.vertex_osm[tail] in self.way_ends[first.way]:
             every = self.rules.interval(tags)
             if every is not None:
                 boards = departures(tags.get("opening_hours"), every, self.weekday)
+                entry = self.gates.get(self.vertex_osm[tail])
             else:
                 pieces = _through(pieces, self._hours(tags), True)
-        return Road(parts, tail, head, seconds, pieces, boards=boards)
+        for place, leaves in ((tail, entry is None), (head, False)):
+            gate = self.gates.get(self.vertex_osm[place])
+            if gate:
+                pieces = _through(pieces, gate, leaves)
+        if boards is not None:
+            boards = [second for second in boards if _piece_at(pieces, second)[1] != BARRED]
+        return Road(parts, tail, head, seconds, pieces, boards=boards, entry=entry)
 
     def _hours(self, tags: Tags) -> list[Piece]:
         """When a ferry without departures lets one board."""
@@ -586,18 +590,21 @@ class Search:
         if len(road.pieces) == 1 and not closed and road.boards is None:
             return now + self._takes(number, 1.0)
         midnight = math.floor(now / DAY) * DAY
-        times = {piece[0] for piece in road.pieces} | {second for span in closed for second in span}
+        times = {piece[0] for piece in road.pieces + (road.entry or [])} | {second for span in closed for second in span}
         found = []
         for enter in [now, *(midnight + day * DAY + second for second in times for day in (0, 1))]:
             second = enter % DAY
+            if enter < now or any(a <= second < b for a, b in closed) or road.entry and _piece_at(road.entry, second)[1] == BARRED:
+                continue
+            if road.boards is not None:
+                goes = [d for d in road.boards if _piece_at(road.pieces, d)[1] in kinds]
+                if goes:
+                    leaves = min(midnight + d + k * DAY for k in range(4) for d in goes if midnight + d + k * DAY >= enter)
+                    found.append(leaves + self._takes(number, 1.0))
+                continue
             _, access, ratio = _piece_at(road.pieces, second)
-            if enter < now or access not in kinds or any(a <= second < b for a, b in closed):
-                continue
-            if road.boards is not None and not road.boards:
-                continue
-            if road.boards:
-                enter = next(midnight + d + k * DAY for k in range(3) for d in road.boards if midnight + d + k * DAY >= enter)
-            found.append(enter + self._takes(number, ratio))
+            if access in kinds:
+                found.append(enter + self._takes(number, ratio))
         return min(found, default=None)
 
     def _takes(self, number: int, ratio: float) -> float:

@@ -219,6 +219,18 @@ def test_a_street_that_is_for_destinations_alone_whenever_its_open(town: OsmMap,
     assert net.takes(2, 4, 12 * H) == 288 and net.takes(2, 4) == 6 * H + 288 and net.takes(4, 2, 12 * H) == 288
 
 
+def test_a_ferry_behind_a_gate_and_one_that_isnt_for_it_at_some_hours(town: OsmMap, tmp_path: Path) -> None:
+    """Who is past the gate at 2 before it closes gets the ferry behind it; who wants to board one at night waits for 6 o'clock."""
+    town.node(2, 0, 1000, barrier="gate", opening_hours="06:00-20:10")
+    street(town, [1, 2])
+    town.way([2, 3], route="ferry", duration="00:10", interval="00:30")
+    street(town, [3, 4])
+    town.way([4, 5], route="ferry", duration="00:10", interval="00:30", motor_vehicle__conditional="no @ (22:00-06:00)")
+    net = town.network(tmp_path)
+    assert net.takes(2, 3, 20 * H + 599) == 1201 + 600 and net.takes(2, 3, 20 * H + 600) == 10 * H - 600 + 600
+    assert net.takes(4, 5, 21 * H + 1800) == 600 and net.takes(4, 5, 21 * H + 1801) == 8 * H + 1799 + 600
+
+
 def test_a_ferry_that_goes_on_other_days_joins_nothing(town: OsmMap, tmp_path: Path) -> None:
     """On a Monday 1 to 3 is lost, 2 km of 5: the ferry is one of them."""
     town.node(6, 1000, 3000)

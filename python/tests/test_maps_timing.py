@@ -39,10 +39,16 @@ def rows(of: Timing | None, seconds: int) -> list[tuple[int, str, int]]:
     (Timing(departures=(6 * H, 18 * H)), 600,
      [(0, "until", 6 * H + 600), (6 * H + 1, "until", 18 * H + 600), (18 * H + 1, "until", DAY + 6 * H + 600)]),
     (Timing(departures=(DAY - 1,)), 600, [(0, "until", DAY - 1 + 600)]),
-    # Of which one falls into hours in which it is closed.
+    # One may not come from 17 to 19: who does so later waits for the next day's; who came before goes at 18.
     (combined(Timing(departures=(6 * H, 18 * H)), closed_in(((17 * H, 19 * H),))), 600,
-     [(0, "until", 6 * H + 600), (6 * H + 1, "until", DAY + 6 * H + 600)]),
-    (combined(Timing(departures=(6 * H,)), closed_in(((0, 12 * H),))), 600, [(0, "closed", 0)]),
+     [(0, "until", 6 * H + 600), (6 * H + 1, "until", 18 * H + 600), (17 * H, "until", DAY + 6 * H + 600)]),
+    # One may come by night alone, over midnight.
+    (combined(Timing(departures=(6 * H, 18 * H)), closed_in(((5 * H, 22 * H),))), 600,
+     [(0, "until", 6 * H + 600), (5 * H, "until", DAY + 6 * H + 600)]),
+    # One may not come by night, over midnight: from 20 o'clock on one comes to it at 7.
+    (combined(Timing(departures=(6 * H, 18 * H)), closed_in(((0, 7 * H), (20 * H, DAY)))), 600,
+     [(0, "until", 18 * H + 600), (18 * H + 1, "until", DAY + 6 * H + 600), (20 * H, "until", DAY + 18 * H + 600)]),
+    (combined(Timing(departures=(6 * H,)), NEVER), 600, [(0, "closed", 0)]),
 ])
 def test_pieces(of: Timing | None, seconds: int, expected: list[tuple[int, str, int]]) -> None:
     assert rows(of, seconds) == expected
@@ -88,4 +94,4 @@ def test_never() -> None:
     day, boat = timings.number(open_in(((6 * H, 20 * H),))), timings.number(Timing(departures=(9 * H,)))
     assert not timings.never(0) and not timings.never(day) and not timings.never(boat) and timings.never(timings.number(NEVER))
     assert timings.never(day, ((0, 7 * H), (7 * H, 20 * H))) and not timings.never(day, ((0, 19 * H),)) and timings.never(0, ALWAYS)
-    assert timings.never(boat, ((9 * H, 10 * H),)) and not timings.never(boat, ((10 * H, 11 * H),))
+    assert timings.never(boat, ALWAYS) and not timings.never(boat, ((0, 20 * H),))

@@ -257,15 +257,20 @@ def _sailing(rule: Rule, sides: list[Side | None], tags: Tags, weekday: int) -> 
         takes = None
     if "interval" in tags and every is None:
         notes.append(f"intervals not understood, taken as none: {tags['interval']}")
-    goes: Timing | None
-    if every:
-        departures = starts(tags.get("opening_hours", "24/7"), every, weekday)
-        if departures is None:
-            notes.append("opening hours not understood, taken as all day")
-            departures = tuple(range(0, DAY, every))
-        goes = Timing(departures=departures) if departures else timing([(0, None)])
-        notes.append("ferries with departures")
-    else:
+    if not every:
         goes = _open_hours(tags, weekday, notes)
-    forth, back = (None if side is None else Side(side.kmh, combined(side.timing, goes)) for side in sides)
+        forth, back = (None if side is None else Side(side.kmh, combined(side.timing, goes)) for side in sides)
+        return replace(rule, forth=forth, back=back, seconds=takes, notes=tuple(dict.fromkeys(notes)))
+    departures = starts(tags.get("opening_hours", "24/7"), every, weekday)
+    if departures is None:
+        notes.append("opening hours not understood, taken as all day")
+        departures = tuple(range(0, DAY, every))
+    notes.append("ferries with departures")
+    forth, back = (None if side is None else Side(side.kmh, _leaving(departures, side.timing)) for side in sides)
     return replace(rule, forth=forth, back=back, seconds=takes, notes=tuple(dict.fromkeys(notes)))
+
+
+def _leaving(departures: tuple[int, ...], of: Timing | None) -> Timing:
+    """The timing of a ferry with these departures, without those at which its way is closed."""
+    goes = tuple(second for second in departures if of is None or of.at(second) is not None)
+    return Timing(departures=goes) if goes else NEVER

@@ -5,6 +5,7 @@ is slow and then fast again, nobody who enters it while it is slow arrives later
 """
 from __future__ import annotations
 
+from bisect import bisect_left
 from dataclasses import dataclass
 from typing import Callable, Sequence
 
@@ -18,8 +19,8 @@ ALWAYS: Spans = ((0, DAY),)
 
 @dataclass(frozen=True)
 class Timing:
-    """How a road is over the day: from each second on a factor of its seconds, or None while it is closed; and where it is
-    a ferry's, its departures. The first step is at second 0."""
+    """How a road is over the day: from each second on a factor of its seconds, or None while it is closed. The first step
+    is at second 0. Where it is a ferry's, its departures: then the steps say when one may come to wait for them."""
     steps: tuple[tuple[int, float | None], ...] = ((0, 1.0),)
     departures: tuple[int, ...] = ()
 
@@ -124,12 +125,12 @@ def pieces(of: Timing | None, takes: Callable[[float], int]) -> tuple[Piece, ...
     """The pieces of a road, its waits with them; `takes` says its seconds at each of its factors, and at 1."""
     if of is None or of.plain:
         return (Piece(0, "travel", takes(1.0)),)
+    if all(factor is None for _, factor in of.steps):
+        return CLOSED
     if of.departures:
         return _departures(of, takes(1.0))
     travels = [None if factor is None else takes(factor) for _, factor in of.steps]
     starts = [start for start, _ in of.steps]
-    if all(travel is None for travel in travels):
-        return CLOSED
     done: list[Piece] = []
     for i, (start, travel) in enumerate(zip(starts, travels)):
         end = starts[i + 1] if i + 1 < len(starts) else DAY
@@ -144,15 +145,16 @@ def pieces(of: Timing | None, takes: Callable[[float], int]) -> tuple[Piece, ...
 
 
 def _departures(of: Timing, seconds: int) -> tuple[Piece, ...]:
-    """The pieces of who waits for the next departure of the day, or for the first one of the next."""
-    goes = [second for second in of.departures if of.at(second) is not None]
-    if not goes:
-        return CLOSED
+    """The pieces of who waits for the next departure, today's or tomorrow's, where one may come to it by the steps."""
+    closed = closed_spans(of)
+    turns = {0} | {second + 1 for second in of.departures} | {second for span in closed for second in span}
+    goes = [second + day * DAY for day in range(3) for second in of.departures]
     done: list[Piece] = []
-    begin = 0
-    for second in goes:
-        done.append(Piece(begin, "until", second + seconds))
-        begin = second + 1
-    if begin < DAY:
-        done.append(Piece(begin, "until", goes[0] + DAY + seconds))
+    for second in sorted(turn for turn in turns if turn < DAY):
+        comes = next((end for begin, end in closed if begin <= second < end), second)
+        if comes == DAY and closed and closed[0][0] == 0:
+            comes += closed[0][1]
+        then = goes[bisect_left(goes, comes)] + seconds
+        if not done or done[-1].value != then:
+            done.append(Piece(second, "until", then))
     return tuple(done)
