@@ -70,16 +70,17 @@ def ask(server: Path, text: str) -> list[list[str]]:
 def write_plain(source: Path, to: Path) -> None:
     """Writes the map of the plain streets of a map in XML: no other ways, no tags of nodes, no relations."""
     tree = ElementTree.parse(source)
-    top = tree.getroot()
-    for item in list(top):
+    kept = []
+    for item in tree.getroot():
         tags = {tag.attrib["k"]: tag.attrib["v"] for tag in item.iter("tag")}
         known = set(tags) & {"access", "vehicle", "motor_vehicle", "motorcar", "abandoned", "disused", "impassable"}
         plain = item.tag == "way" and tags.get("highway") in CLASSES and tags.get("area") != "yes" and not known
-        if item.tag != "node" and not plain:
-            top.remove(item)
+        if item.tag == "node" or plain:
+            kept.append(item)
         for tag in item.findall("tag"):
             if item.tag == "node" or tag.attrib["k"] not in ("highway", "oneway", "junction", "name"):
                 item.remove(tag)
+    tree.getroot()[:] = kept
     tree.write(to, encoding="utf-8", xml_declaration=True)
 
 
