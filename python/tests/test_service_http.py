@@ -1,15 +1,12 @@
-"""Connections of a service: what is no request, clients that do harm, and limits of size, time and memory."""
+"""Connections of a service: what is a request and what is none, bodies in one piece and in chunks."""
 
 from __future__ import annotations
 
 import os
 import re
 import socket
-import subprocess
-import sys
 import time
 from collections.abc import Iterator
-from concurrent.futures import ThreadPoolExecutor
 from pathlib import Path
 
 import pytest
@@ -48,9 +45,15 @@ BAD_BYTES = [
     (b"POST /edits HTTP/1.1\r\n" + H + b"Content-Length: 1\r\nContent-Length: 2\r\n\r\nab", "400 the request's head can't be read"),
     (b"POST /edits HTTP/1.1\r\n" + H + b"Content-Length: -1\r\n\r\n", "400 the request's head can't be read"),
     (b"POST /edits HTTP/1.1\r\n" + H + b"Content-Length: +5\r\n\r\nabcde", "400 the request's head can't be read"),
-    (b"POST /edits HTTP/1.1\r\n" + H + b"Transfer-Encoding: chunked\r\n\r\n0\r\n\r\n", "411 a body needs a Content-Length"),
     (b"POST /edits HTTP/1.1\r\n" + H + b"Content-Length: 5\r\nTransfer-Encoding: chunked\r\n\r\n0\r\n\r\n",
      "400 the request's head can't be read"),
+    (b"POST /edits HTTP/1.1\r\n" + H + b"Transfer-Encoding: gzip\r\n\r\n",
+     "400 of transfer codings only chunked is known here, in HTTP/1.1"),
+    (b"POST /edits HTTP/1.0\r\n" + H + b"Transfer-Encoding: chunked\r\n\r\n0\r\n\r\n",
+     "400 of transfer codings only chunked is known here, in HTTP/1.1"),
+    (b"POST /edits HTTP/1.1\r\n" + H + b"Transfer-Encoding: chunked\r\nTransfer-Encoding: chunked\r\n\r\n0\r\n\r\n",
+     "400 the header transfer-encoding is there twice"),
+    (b"\r\n" * 40 + b"GET /health HTTP/1.1\r\n" + H + b"\r\n", "400 the first line is no request"),
     (b"POST /edits HTTP/1.1\r\n" + H + b"Content-Length: 67108865\r\n\r\n", "413 a body has at most 67108864 bytes"),
     (b"POST /edits HTTP/1.1\r\n" + H + b"Content-Length: " + b"9" * 5000 + b"\r\n\r\n", "400 the request's head can't be read"),
     (b"POST /day HTTP/1.1\r\n" + H + b"Content-Length: 65537\r\n\r\n", "413 a body has at most 65536 bytes here"),
@@ -152,177 +155,3 @@ def test_many_clients_at_once(service: Service, town: Path) -> None:
 def open_files(service: Service) -> int:
     [worker] = service.workers()
     return len(os.listdir(f"/proc/{worker}/fd"))
-
-
-def memory_of(service: Service) -> int:
-    """The most memory that the worker has had, in MB."""
-    [worker] = service.workers()
-    found = re.search(r"VmHWM:\s+(\d+)", Path(f"/proc/{worker}/status").read_text())
-    assert found
-    return int(found[1]) // 1024
-
-
-# ---- clients that do harm, each a process of its own so that it doesn't slow the one that measures ----
-
-
-HARMS = {
-    "pipelines": """
-while True:
-    client = connect()
-    try:
-        while True:
-            client.sendall(b"GET /edit HTTP/1.1\\r\\nHost: localhost\\r\\n\\r\\n" * 3000)
-    except OSError:
-        pass
-""",
-    "what is no request": """
-while True:
-    client = connect()
-    try:
-        while True:
-            client.sendall(b"GET /edit HTTP/1.1\\r\\n\\r" * 3000)
-    except OSError:
-        pass
-""",
-    "large lines": """
-body = b"s" + b",0" * (1 << 21)
-while True:
-    client = connect()
-    client.sendall(b"POST /edits HTTP/1.1\\r\\nHost: localhost\\r\\nContent-Length: %d\\r\\n\\r\\n" % len(body) + body)
-    client.recv(1000)
-""",
-    "large bodies": """
-while True:
-    client = connect()
-    try:
-        client.sendall(b"POST /edits HTTP/1.1\\r\\nHost: localhost\\r\\nContent-Length: 67108864\\r\\n\\r\\n" + b"\\n" * (1 << 20))
-    except OSError:
-        pass
-    client.close()
-""",
-    "reads nothing": """
-client = connect()
-client.settimeout(None)
-while True:
-    client.sendall(b"GET /reach?from=5&depart=0 HTTP/1.1\\r\\nHost: localhost\\r\\n\\r\\n" * 1000)
-""",
-    "comes and goes": """
-while True:
-    client = connect()
-    client.sendall(b"GET /day?from=5&to=151 HTTP/1.1\\r\\nHost: localhost\\r\\n\\r\\n")
-    client.close()
-""",
-}
-
-
-class Harm:
-    """Two processes that do harm of a kind, until the end of a block."""
-
-    def __init__(self, service: Service, name: str) -> None:
-        self.text = ("import socket, sys\ndef connect():\n    return socket.create_connection(('127.0.0.1', int(sys.argv[1])), 5)\n"
-                     + HARMS[name])
-        self.service = service
-
-    def __enter__(self) -> None:
-        self.clients = [subprocess.Popen([sys.executable, "-c", self.text, str(self.service.port)], stderr=subprocess.DEVNULL)
-                        for _ in range(2)]
-
-    def __exit__(self, *_: object) -> None:
-        for client in self.clients:
-            client.kill()
-            client.wait()
-
-
-def late(service: Service, seconds: float) -> float:
-    """The 99th percentile of another client's routes meanwhile, in seconds."""
-    found, until = [], time.monotonic() + seconds
-    with service.connect() as client:
-        while time.monotonic() < until:
-            began = time.monotonic()
-            client.sendall(ROUTE)
-            assert client.recv(65_536).startswith(b"HTTP/1.1 200")
-            found.append(time.monotonic() - began)
-            time.sleep(0.002)
-    return sorted(found)[int(len(found) * 0.99)]
-
-
-def test_no_client_stalls_another(town: Path, capsys: pytest.CaptureFixture[str]) -> None:
-    """Others' 99th percentile under each kind of harm stays within five seconds, whatever else the machine does; it is printed."""
-    said = []
-    with Service(town) as service:
-        quiet = late(service, 1)
-        for name in HARMS:
-            with Harm(service, name):
-                time.sleep(0.2)
-                # Other work on the machine may add to a turn, and not to each.
-                found = min(late(service, 0.6) for _ in range(2))
-            said.append(f"{name} {found * 1000:.0f} ms")
-            assert found < 5, said
-        assert memory_of(service) < 200
-        assert service.end() == (0, "", "")
-    with capsys.disabled():
-        print(f"\n  99th percentile, quiet {quiet * 1000:.0f} ms: " + ", ".join(said))
-
-
-def send_slowly(service: Service) -> bytes:
-    """A byte of a head now and then, and what becomes of it."""
-    with service.connect() as client:
-        try:
-            for byte in b"GET /route?from=5&to=151 HTTP/1.1\r\n":
-                client.sendall(bytes([byte]))
-                time.sleep(0.5)
-        except OSError:
-            pass
-        return read_all(client).split(b"\r\n")[0]
-
-
-def send_much(service: Service, size: int) -> bytes:
-    """A body of a gigabyte, as far as it is taken."""
-    with service.connect() as client:
-        client.sendall(b"POST /edits HTTP/1.1\r\n" + H + b"Content-Length: %d\r\n\r\n" % size)
-        try:
-            for _ in range(size >> 20):
-                client.sendall(bytes(1 << 20))
-        except OSError:
-            pass
-        try:
-            return client.recv(12)
-        except OSError:
-            return b""
-
-
-def test_slow_and_large_clients_are_told_so(town: Path) -> None:
-    with Service(town) as service, ThreadPoolExecutor(12) as pool:
-        slow = [pool.submit(send_slowly, service) for _ in range(10)]
-        status, told = service.raw(b"POST /edits HTTP/1.1\r\n" + H + b"Content-Length: 4194306\r\n\r\n" + b"0" * 4194306)
-        assert (status.split()[0], told["error"]) == ("413", "a line has at most 4194304 bytes")
-        assert {send_much(service, 1 << 30) for _ in range(3)} <= {b"HTTP/1.1 413", b""}
-        assert {each.result() for each in slow} == {b"HTTP/1.1 408 Request Timeout"}
-        assert memory_of(service) < 200
-
-
-def test_a_thousand_idle_connections_take_little_memory(town: Path, capsys: pytest.CaptureFixture[str]) -> None:
-    with Service(town, workers=4) as service:
-        clients = [service.connect() for _ in range(1000)]
-        wait_for(lambda: service.ask("/health")[0], lambda status: status == 200)
-        time.sleep(0.5)
-        processes = [service.process.pid, *service.workers()]
-        whole = sum(int(Path(f"/proc/{pid}/smaps_rollup").read_text().split("Pss:")[1].split()[0]) for pid in processes) // 1024
-        for client in clients:
-            client.close()
-    with capsys.disabled():
-        print(f"\n  1,000 idle connections, 4 workers: {whole} MB")
-    assert whole < 200
-
-
-def test_idle_clients_go_where_there_are_too_many(town: Path) -> None:
-    """With few open files allowed, a new client takes the place of the one that has been idle for the longest."""
-    with Service(town, most_files=180) as service:
-        clients = [service.connect() for _ in range(80)]
-        assert service.get("/health")["status"] == "ok"
-        clients[0].settimeout(5)
-        assert clients[0].recv(1) == b""
-        clients[-1].sendall(HEALTH)
-        assert clients[-1].recv(1000).startswith(b"HTTP/1.1 200")
-        for client in clients:
-            client.close()

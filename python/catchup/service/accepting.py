@@ -1,22 +1,39 @@
-"""How workers share the clients that come: each takes one where no other has fewer.
+"""How workers share the clients that come, and in which order each worker takes them.
 
 All workers wait on one socket. Left to the system, the first that wakes takes most clients, and another none. So each tells
 how many it has in memory that all share, and one that has more than another leaves a client to the others for a moment.
+
+A storm of clients must not keep others waiting. So the line is walked through quickly: those that have hung up already, and
+those that bring large bodies, are put aside, which costs little, and come in one by one when nobody else waits.
 """
 
 from __future__ import annotations
 
 import asyncio
+import enum
 import mmap
+import re
 import socket
+import time
+from collections import deque
 from collections.abc import Callable
-from typing import Final
+from typing import Any, Final
+
+from catchup.service.limits import LARGE_BODY
 
 SLOTS: Final = 256
 UNUSED: Final = 0xFFFF_FFFF
 LEAVE_SECONDS: Final = 0.002            # for which a client is left to others
 FAILED_SECONDS: Final = 0.1             # until another try where no more files may be open
-BURST: Final = 8                        # clients that are taken in one turn
+LOOK_SECONDS: Final = 0.003             # for which one turn looks at clients that wait
+PEEKED: Final = 2_048                   # bytes of a client that are looked at before it is taken
+WELCOMED: Final = 8                     # clients that are taken in one turn
+CLOSE_WAIT: Final = 8                   # the system's state of a connection whose other side sends nothing more
+RECEIVED: Final = 65_536                # bytes that the system takes of a client before they are read
+
+BODY: Final = re.compile(rb"\r\n(?:content-length:[ \t]*([0-9]+)|transfer-encoding:)", re.IGNORECASE)
+
+Address = tuple[Any, ...]
 
 
 class Counts:
@@ -37,45 +54,116 @@ class Counts:
         return min(self.cells)
 
 
-class Acceptor:
-    """Takes clients from a listening socket for one worker."""
+class Sort(enum.Enum):
+    """What is to become of a client."""
 
-    def __init__(self, listener: socket.socket, make: Callable[[], asyncio.BaseProtocol], counts: Counts, slot: int,
-                 many: Callable[[], int]) -> None:
+    WELCOME = enum.auto()
+    HUNG_UP = enum.auto()               # it sends nothing more, and may yet wait for an answer
+    LARGE = enum.auto()                 # it brings a large body
+    GONE = enum.auto()
+
+
+def sort_of(client: socket.socket) -> Sort:
+    """What is to become of a client, by what it has sent up to now."""
+    if client.getsockopt(socket.IPPROTO_TCP, socket.TCP_INFO, 1)[0] == CLOSE_WAIT:
+        return Sort.HUNG_UP
+    try:
+        head = client.recv(PEEKED, socket.MSG_PEEK)
+    except BlockingIOError:
+        return Sort.WELCOME
+    except OSError:
+        return Sort.GONE
+    return Sort.LARGE if brings_much(head) else Sort.WELCOME
+
+
+def brings_much(head: bytes) -> bool:
+    """Whether a request's head says that a large body follows."""
+    if head.startswith((b"GET ", b"HEAD ")):
+        return False
+    found = BODY.search(head)
+    return found is not None and (found[1] is None or len(found[1]) > 9 or int(found[1]) > LARGE_BODY)
+
+
+class Acceptor:
+    """Takes clients from a listening socket for one worker. `make` makes a connection of a client's address; of each sort
+    `most_aside` are put aside, and more aren't taken."""
+
+    def __init__(self, listener: socket.socket, make: Callable[[Address], asyncio.BaseProtocol], counts: Counts, slot: int,
+                 many: Callable[[], int], most_aside: int) -> None:
         self.loop = asyncio.get_running_loop()
         self.listener = listener
         self.make = make
         self.counts = counts
         self.slot = slot
         self.many = many
+        self.most_aside = most_aside
         self.has_left = False           # a client was left to others, and none took it
         self.is_closed = False
+        self.aside: dict[Sort, deque[tuple[socket.socket, Address]]] = {Sort.HUNG_UP: deque(), Sort.LARGE: deque()}
+        self.is_aside_due = False
+        self.is_crowded = False         # more clients may wait than were looked at
         self.tasks: set[asyncio.Task[object]] = set()
+        # The system holds so much of each client, and a turn reads no more of one.
+        listener.setsockopt(socket.SOL_SOCKET, socket.SO_RCVBUF, RECEIVED)
         listener.setblocking(False)
         counts.cells[slot] = many()
         self.loop.add_reader(listener.fileno(), self.ready)
 
     def ready(self) -> None:
-        """A client waits."""
-        for _ in range(BURST):
-            mine = self.many() + len(self.tasks)
-            self.counts.cells[self.slot] = mine
-            if mine > self.counts.least() and not self.has_left:
-                self.has_left = True
-                self.pause(LEAVE_SECONDS)
-                return
-            self.has_left = False
+        """Clients wait."""
+        until = time.monotonic() + LOOK_SECONDS
+        self.is_crowded = True
+        welcomed = 0
+        while welcomed < WELCOMED and time.monotonic() < until and not self.leaves():
             try:
-                client, _ = self.listener.accept()
+                client, address = self.listener.accept()
             except (BlockingIOError, InterruptedError, ConnectionAbortedError):
+                self.is_crowded = False
+                self.call_aside()
                 return
             except OSError:
                 self.pause(FAILED_SECONDS)
                 return
             client.setblocking(False)
-            task: asyncio.Task[object] = self.loop.create_task(self.loop.connect_accepted_socket(self.make, client))
-            self.tasks.add(task)
-            task.add_done_callback(self.let_go)
+            sort = sort_of(client)
+            if sort is Sort.WELCOME:
+                welcomed += 1
+                self.welcome(client, address)
+            elif sort in self.aside and len(self.aside[sort]) < self.most_aside:
+                self.aside[sort].append((client, address))
+            else:
+                client.close()
+
+    def leaves(self) -> bool:
+        """Whether the next client is left to other workers, since one has fewer than this one."""
+        mine = self.many() + len(self.tasks)
+        self.counts.cells[self.slot] = mine
+        self.has_left = mine > self.counts.least() and not self.has_left
+        if self.has_left:
+            self.pause(LEAVE_SECONDS)
+        return self.has_left
+
+    def call_aside(self) -> None:
+        """Nobody waits: of each sort that was put aside one is taken in the next turn."""
+        if any(self.aside.values()) and not self.is_aside_due:
+            self.is_aside_due = True
+            self.loop.call_soon(self.take_aside)
+
+    def take_aside(self) -> None:
+        self.is_aside_due = False
+        if self.is_crowded:
+            return
+        for line in self.aside.values():
+            if line:
+                self.welcome(*line.popleft())
+        self.call_aside()
+
+    def welcome(self, client: socket.socket, address: Address) -> None:
+        """Takes a client."""
+        task: asyncio.Task[object] = self.loop.create_task(
+            self.loop.connect_accepted_socket(lambda: self.make(address), client))
+        self.tasks.add(task)
+        task.add_done_callback(self.let_go)
 
     def let_go(self, task: asyncio.Task[object]) -> None:
         self.tasks.discard(task)
@@ -102,3 +190,6 @@ class Acceptor:
         self.loop.remove_reader(self.listener.fileno())
         self.counts.cells[self.slot] = UNUSED
         self.listener.close()
+        for line in self.aside.values():
+            while line:
+                line.popleft()[0].close()

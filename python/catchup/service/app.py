@@ -2,6 +2,7 @@
 
 from __future__ import annotations
 
+import re
 from collections.abc import Awaitable, Callable, MutableMapping
 from typing import Any, Final
 
@@ -15,8 +16,9 @@ from catchup.service import edits, openapi, reads, state
 from catchup.service.answers import refusal_answer
 from catchup.service.errors import Refusal
 from catchup.service.gates import PREFLIGHT, READS
-from catchup.service.limits import LONGEST_JSON
-from catchup.service.reads import PLAIN_ROUTE, plain_route
+from catchup.service.limits import LONGEST_JSON, MOST_WORDS
+from catchup.service.protocol import Cycle
+from catchup.service.reads import PlainRoute
 from catchup.service.versions import tell
 from catchup.service.worker import Worker, said_of
 
@@ -77,6 +79,31 @@ class Front:
         self.worker = worker
         self.app = app
 
+    def begin_plain(self, cycle: Cycle, found: re.Match[bytes]) -> bool:
+        """Has a plain route answered without a task of its own; False where its Host has to be looked at first."""
+        gates, read, version = self.worker.gates, cycle.scope["catchup.read"], self.worker.networks[0].current
+        if read.get(b"host", b"") not in gates.seen:
+            return False
+        plain = PlainRoute.of(found)
+        headers = [JSON_HEADER, (VERSION_HEADER, version.name_bytes)]
+        if gates.origins:
+            headers += encoded(gates.shared(read))
+
+        def take(reply: bytes | Refusal) -> None:
+            try:
+                if isinstance(reply, Refusal):
+                    raise reply
+                cycle.answer(200, headers, plain.answer(version, reply))
+            except Refusal as refusal:
+                response = refusal_answer(refusal, version.name)
+                cycle.answer(response.status_code, [*response.raw_headers, *headers[2:]], response.body)
+            except Exception as problem:
+                tell(f"an error that should not be: {said_of(problem)}")
+                cycle.connection.abort()
+
+        version.quick.ask_for(plain.line(version), take)
+        return True
+
     async def __call__(self, scope: Scope, receive: Receive, send: Send) -> None:
         try:
             await self.answer(scope, receive, send)
@@ -92,16 +119,6 @@ class Front:
     async def answer(self, scope: Scope, receive: Receive, send: Send) -> None:
         worker, read, method = self.worker, scope["catchup.read"], scope["method"]
         worker.gates.check_host(read)
-        if scope["path"] == "/route" and method == "GET":
-            found = PLAIN_ROUTE.fullmatch(scope["query_string"])
-            if found is not None:
-                body, version = await plain_route(worker.networks[0], found)
-                headers = [JSON_HEADER, (VERSION_HEADER, version.name_bytes)]
-                if worker.gates.origins:
-                    headers += encoded(worker.gates.shared(read))
-                await send({"type": "http.response.start", "status": 200, "headers": headers})
-                await send({"type": "http.response.body", "body": body})
-                return
         if method == "OPTIONS" and b"origin" in read and (shared := worker.gates.shared(read)).get("Access-Control-Allow-Origin"):
             await Response(status_code=204, headers={**shared, **PREFLIGHT})(scope, receive, send)
             return
@@ -111,11 +128,13 @@ class Front:
         await self.app(passed, receive, with_headers(send, worker, worker.gates.shared(read)))
 
     def check(self, scope: Scope, read: dict[bytes, bytes], method: str) -> None:
-        """Refuses writes of those who may not, and bodies that nobody wants."""
+        """Refuses writes of those who may not, bodies that nobody wants, and more words than any path knows."""
         if method not in READS:
             self.worker.gates.check_write(read)
         if scope["path"] != "/edits" and int(read.get(b"content-length", b"0")) > LONGEST_JSON:
             raise Refusal(413, f"a body has at most {LONGEST_JSON} bytes here")
+        if scope["query_string"].count(b"&") >= MOST_WORDS:
+            raise Refusal(400, f"an address has at most {MOST_WORDS} words")
 
     async def refuse(self, refusal: Refusal, scope: Scope, receive: Receive, send: Send) -> None:
         """Answers a refusal, where no answer has begun."""

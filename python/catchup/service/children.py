@@ -3,15 +3,16 @@
 from __future__ import annotations
 
 import asyncio
-import contextlib
+import subprocess
 from collections import deque
 from collections.abc import Callable
-from typing import Any
 
 from catchup.service.errors import Refusal, ended
 from catchup.service.limits import START_SECONDS
-from catchup.service.process import child_start, child_words, said_of
+from catchup.service.process import Start, said_of
 
+LEAVE_SECONDS = 1.0                     # for which a process that has closed its streams may still run
+LEAVE_PAUSE = 0.005
 # A line that asks nothing, and its reply from a child that has opened its file.
 PROBE = b"-"
 READY = b"refused: line"
@@ -19,21 +20,28 @@ READY = b"refused: line"
 DRIVE_PROBE = b"v,0,0,0"
 
 
+# Takes a reply without its line end, or why there is none.
+Take = Callable[[bytes | Refusal], None]
+
+
 class NotOpened(Exception):
     """The program didn't open the file: str() is its line."""
 
 
-class Child(asyncio.SubprocessProtocol):
+class Child(asyncio.Protocol):
     """One process. `limit` is how many seconds it gets for its next reply before it is ended."""
 
-    def __init__(self, limit: float) -> None:
+    def __init__(self, process: subprocess.Popen[bytes], writer: asyncio.WriteTransport, limit: float) -> None:
+        self.process = process
+        self.writer = writer
         self.limit = limit
         self.loop = asyncio.get_running_loop()
-        self.waiting: deque[asyncio.Future[bytes]] = deque()
+        self.waiting: deque[Take] = deque()
         self.unsent: list[bytes] = []
         self.parts: list[bytes] = []
         self.progress = self.loop.time()
-        self.gone = asyncio.Event()
+        self.is_lost = False            # it says nothing more
+        self.gone = asyncio.Event()     # and it has ended
         self.on_gone: Callable[[Child], None] | None = None
         self.is_overdue = False
 
@@ -41,13 +49,13 @@ class Child(asyncio.SubprocessProtocol):
     async def start(cls, program: str, descriptor: int, limit: float) -> Child:
         """A child over an open file that has answered; NotOpened where the program refuses the file."""
         loop = asyncio.get_running_loop()
-        path = f"/dev/fd/{descriptor}"
         try:
-            _, child = await loop.subprocess_exec(
-                lambda: cls(limit), *child_words(program, "ask", path), stderr=asyncio.subprocess.DEVNULL, pass_fds=(descriptor,),
-                preexec_fn=child_start())
+            process = await Start((program, "ask", f"/dev/fd/{descriptor}"), descriptor, stdin=subprocess.PIPE,
+                                  stderr=subprocess.DEVNULL).process()
         except OSError as problem:
             raise NotOpened(f"{program} can't be started: {problem.strerror}") from None
+        writer, _ = await loop.connect_write_pipe(asyncio.BaseProtocol, process.stdin)
+        _, child = await loop.connect_read_pipe(lambda: cls(process, writer, limit), process.stdout)
         try:
             async with asyncio.timeout(START_SECONDS):
                 said = await child.ask(PROBE)
@@ -61,37 +69,44 @@ class Child(asyncio.SubprocessProtocol):
         return child
 
     @property
-    def pid(self) -> int:
-        """The process's number."""
-        return int(self.transport.get_pid())
-
-    @property
     def status(self) -> int:
         """Its status once it has gone, negative of a signal."""
-        found = self.transport.get_returncode()
-        return 0 if found is None else int(found)
+        return self.process.returncode or 0
 
     def ask(self, line: bytes) -> asyncio.Future[bytes]:
         """The reply to come, without line ends; it fails with a Refusal where the child ends before."""
         reply: asyncio.Future[bytes] = self.loop.create_future()
-        if self.gone.is_set():
-            reply.set_exception(ended())
-            return reply
+
+        def take(said: bytes | Refusal) -> None:
+            if reply.done():
+                return
+            if isinstance(said, Refusal):
+                reply.set_exception(said)
+            else:
+                reply.set_result(said)
+
+        self.ask_for(line, take)
+        return reply
+
+    def ask_for(self, line: bytes, take: Take) -> None:
+        """Hands the reply to `take` as soon as it comes, in the same turn of the loop."""
+        if self.is_lost:
+            take(ended())
+            return
         if not self.waiting:
             self.progress = self.loop.time()
         if not self.unsent:
             self.loop.call_soon(self.send)
         self.unsent.append(line)
-        self.waiting.append(reply)
-        return reply
+        self.waiting.append(take)
 
     def send(self) -> None:
         """Writes what was asked in this turn of the loop, at once."""
         lines, self.unsent = self.unsent, []
         # Where the process has closed its end, whoever asked learns it as that is seen to have gone.
-        if not self.gone.is_set() and not self.input.is_closing():
+        if not self.is_lost and not self.writer.is_closing():
             lines.append(b"")
-            self.input.write(b"\n".join(lines))
+            self.writer.write(b"\n".join(lines))
 
     def is_late(self, now: float) -> bool:
         """Whether the next reply takes longer than it may."""
@@ -99,20 +114,15 @@ class Child(asyncio.SubprocessProtocol):
 
     def kill(self) -> None:
         """Ends the process at once."""
-        with contextlib.suppress(ProcessLookupError):
-            self.transport.kill()
+        self.process.kill()
 
     def close(self) -> None:
         """Ends the process once it has answered all that it was asked: its input ends."""
         if self.unsent:
             self.send()
-        self.input.close()
+        self.writer.close()
 
-    def connection_made(self, transport: Any) -> None:
-        self.transport: asyncio.SubprocessTransport = transport
-        self.input: asyncio.WriteTransport = transport.get_pipe_transport(0)
-
-    def pipe_data_received(self, fd: int, data: bytes) -> None:
+    def data_received(self, data: bytes) -> None:
         self.progress = self.loop.time()
         if b"\n" not in data:
             self.parts.append(data)
@@ -124,19 +134,22 @@ class Child(asyncio.SubprocessProtocol):
         self.parts = [rest] if rest else []
         for said in replies:
             if self.waiting:
-                reply = self.waiting.popleft()
-                if not reply.done():
-                    reply.set_result(said)
-
-    def process_exited(self) -> None:
-        # What it has still said is read before `connection_lost`.
-        pass
+                self.waiting.popleft()(said)
 
     def connection_lost(self, exc: Exception | None) -> None:
-        self.gone.set()
+        self.is_lost = True
+        self.writer.close()
         while self.waiting:
-            reply = self.waiting.popleft()
-            if not reply.done():
-                reply.set_exception(ended("the program took too long" if self.is_overdue else "the program has ended"))
+            self.waiting.popleft()(ended("the program took too long" if self.is_overdue else "the program has ended"))
+        self.see_off(self.loop.time() + LEAVE_SECONDS)
+
+    def see_off(self, last: float) -> None:
+        """Waits until the process has ended, which it does in a moment; else it is made to."""
+        if self.process.poll() is None:
+            if self.loop.time() > last:
+                self.kill()
+            self.loop.call_later(LEAVE_PAUSE, self.see_off, last)
+            return
+        self.gone.set()
         if self.on_gone is not None:
             self.on_gone(self)

@@ -11,16 +11,18 @@ import contextlib
 import os
 import signal
 import sqlite3
+import subprocess
 from collections.abc import AsyncIterator
+from concurrent.futures import ThreadPoolExecutor
 from dataclasses import dataclass, field
 from pathlib import Path
-from typing import Final
+from typing import Any, Final
 
 from catchup.service import journal, packed
 from catchup.service.errors import Refusal
 from catchup.service.jobs import DONE, ENDED, REFUSED, Job, Jobs
 from catchup.service.limits import TOLD_REFUSALS
-from catchup.service.process import child_start, child_words, said_of, try_lock
+from catchup.service.process import Start, said_of, try_lock
 from catchup.service.roadedits import Edit, Profiles, lines_of
 from catchup.service.spool import Spool, next_of, recover, sweep
 from catchup.service.versions import Network, identity_of, tell
@@ -111,6 +113,8 @@ class Editor:
         self.jobs = Jobs(network.path)
         self.turn = asyncio.Lock()
         self.works: dict[str, Work] = {}
+        # For the replies of `catchup edit`, which may come for long.
+        self.reader = ThreadPoolExecutor(1, "replies")
 
     async def start(self) -> None:
         """Takes away what killed services left, where nobody is at work in the folder: else whoever is has done it."""
@@ -249,34 +253,33 @@ class Editor:
 
     async def run_edit(self, work: Work, source: int, lines: Path, following: Path) -> Replies:
         """Runs `catchup edit`; where it doesn't come to its end a Refusal says why."""
-        process = await asyncio.create_subprocess_exec(
-            *child_words(self.program, "edit", f"/dev/fd/{source}", lines, following), stdin=asyncio.subprocess.DEVNULL,
-            stdout=asyncio.subprocess.PIPE, pass_fds=(source,), preexec_fn=child_start(), start_new_session=True)
+        words = (self.program, "edit", f"/dev/fd/{source}", lines, following)
+        process = await Start(words, source, has_group=True).process()
         replies = Replies()
-        reading = asyncio.create_task(read_replies(process, replies))
+        reading = asyncio.get_running_loop().run_in_executor(self.reader, read_replies, process, replies)
         ending = asyncio.create_task(work.cancelled.wait())
+        either: list[asyncio.Future[Any]] = [reading, ending]
         try:
-            await asyncio.wait({reading, ending}, return_when=asyncio.FIRST_COMPLETED)
-            work.check()
-            status = await reading
+            await asyncio.wait(either, return_when=asyncio.FIRST_COMPLETED)
         finally:
             ending.cancel()
-            if process.returncode is None:
+            if not reading.done():
                 with contextlib.suppress(ProcessLookupError):
                     os.killpg(process.pid, signal.SIGKILL)
-                await process.wait()
-            reading.cancel()
+        status = await reading
+        work.check()
         if status:
             raise not_made(status, replies, self.network.path)
         return replies
 
 
-async def read_replies(process: asyncio.subprocess.Process, replies: Replies) -> int:
+def read_replies(process: subprocess.Popen[bytes], replies: Replies) -> int:
     """Reads all that the process says, and answers its status."""
     assert process.stdout is not None
-    while piece := await process.stdout.read(PIECE):
-        replies.feed(piece)
-    return await process.wait()
+    with process.stdout as said:
+        while piece := os.read(said.fileno(), PIECE):
+            replies.feed(piece)
+    return process.wait()
 
 
 def put_in_place(path: Path, following: Path, folder: int, entry: journal.Entry, lines: Path,

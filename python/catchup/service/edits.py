@@ -5,6 +5,7 @@ from __future__ import annotations
 import asyncio
 import os
 import sqlite3
+from pathlib import Path
 from typing import Any
 
 from fastapi import APIRouter, Request
@@ -16,7 +17,7 @@ from catchup.service.answers import answer, refusal_answer
 from catchup.service.editor import Editor, Made, Refused, Work, cancelled, why
 from catchup.service.errors import Refusal, told_briefly
 from catchup.service.jobs import ENDED, Job, new_name
-from catchup.service.limits import CANCEL_SECONDS, LONGEST_JSON, LONGEST_LINES, MOST_WAITING
+from catchup.service.limits import CANCEL_SECONDS, LARGE_BODY, LONGEST_JSON, LONGEST_LINES, MOST_WAITING
 from catchup.service.roadedits import Edit, edits_of
 from catchup.service.spool import EDITS, Spool
 from catchup.service.words import take
@@ -52,7 +53,7 @@ async def post_edits(request: Request) -> Response:
         worker.log.check(network)
     spool = await take_body(request, editor)
     try:
-        edits = await read_edits(spool, worker) if is_json(request) else None
+        edits = await asyncio.to_thread(read_edits, spool, worker) if is_json(request) else None
         if not spool.size:
             raise Refusal(400, "there is no edit line in the body")
         job = await asyncio.to_thread(editor.jobs.add, spool.name)
@@ -72,18 +73,23 @@ async def post_edits(request: Request) -> Response:
 async def take_body(request: Request, editor: Editor) -> Spool:
     """Writes a body to a file as it comes."""
     most = LONGEST_JSON if is_json(request) else LONGEST_LINES
-    if int(request.headers.get("content-length", "0")) > most:
+    length = request.headers.get("content-length")
+    if length is not None and int(length) > most:
         raise Refusal(413, f"a body of this kind has at most {most} bytes")
+    path = editor.network.path
     spool: Spool | None = None
+    pieces: list[bytes] = []
     try:
         # In threads: where the disk is busy, a write waits for it.
-        spool = await asyncio.to_thread(Spool, editor.network.path, new_name(), most)
         async for piece in request.stream():
-            await asyncio.to_thread(spool.write, piece, has_lines=most == LONGEST_LINES)
-        return spool
+            pieces.append(piece)
+            if sum(map(len, pieces)) >= LARGE_BODY:
+                spool = await asyncio.to_thread(stored, spool, path, most, b"".join(pieces))
+                pieces = []
+        return await asyncio.to_thread(stored, spool, path, most, b"".join(pieces))
     except OSError as problem:
         await let_go(spool)
-        raise Refusal(503, why(problem), hint=f"see to {editor.network.path.parent}") from None
+        raise Refusal(503, why(problem), hint=f"see to {path.parent}") from None
     except ClientDisconnect:
         await let_go(spool)
         raise Refusal(400, "the client went before its body was there") from None
@@ -92,12 +98,24 @@ async def take_body(request: Request, editor: Editor) -> Spool:
         raise
 
 
+def stored(spool: Spool | None, path: Path, most: int, piece: bytes) -> Spool:
+    """A body's file with one more piece of it; it is made for the first one."""
+    found = spool or Spool(path, new_name(), most)
+    try:
+        found.write(piece, has_lines=most == LONGEST_LINES)
+    except BaseException:
+        found.close()
+        raise
+    return found
+
+
 async def let_go(spool: Spool | None) -> None:
     if spool is not None:
         await asyncio.to_thread(spool.close)
 
 
-async def read_edits(spool: Spool, worker: Worker) -> list[Edit]:
+def read_edits(spool: Spool, worker: Worker) -> list[Edit]:
+    """The edits of a body of JSON."""
     return edits_of(spool.read(), worker.roads_of)
 
 
@@ -123,8 +141,8 @@ async def list_edits(request: Request) -> Response:
     asked = take(request.scope["query_string"], {})
     worker = worker_of(request)
     network = worker.network(asked.get("profile"))
-    jobs = await asyncio.to_thread(worker.editors[network].jobs.all)
-    return answer({"jobs": [job.answer() for job in jobs]}, network.current.name)
+    jobs = await asyncio.to_thread(worker.editors[network].jobs.told)
+    return answer({}, network.current.name, raw=("jobs", jobs))
 
 
 async def find_job(worker: Worker, name: str) -> tuple[Editor, Job]:

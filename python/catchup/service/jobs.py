@@ -106,6 +106,14 @@ class Jobs:
                                 (KEPT_JOBS,)).fetchall()
         return [job_of(row) for row in rows]
 
+    def told(self) -> bytes:
+        """The objects of all that are kept as a list in JSON, the newest first; what was told of each is JSON already."""
+        if not self.path.exists():
+            return b"[]"
+        with self.opened() as base:
+            rows = base.execute("SELECT id, state, told FROM jobs ORDER BY number DESC LIMIT ?", (KEPT_JOBS,)).fetchall()
+        return ("[" + ",".join(object_of(*row) for row in rows) + "]").encode()
+
     def counts(self) -> dict[str, int]:
         """How many jobs there are in each state."""
         found = dict.fromkeys(STATES, 0)
@@ -125,12 +133,17 @@ class Jobs:
         """Notes what became of a job."""
         job.state, job.told = state, told or {}
         with self.opened() as base:
-            base.execute("UPDATE jobs SET state = ?, told = ? WHERE id = ?", (state, json.dumps(job.told), job.id))
+            base.execute("UPDATE jobs SET state = ?, told = ? WHERE id = ?", (state, json.dumps(job.told, separators=(",", ":")), job.id))
 
     def cancel(self, name: str) -> None:
         """Asks whoever works at a job to end it."""
         with self.opened() as base:
             base.execute("UPDATE jobs SET cancel = 1 WHERE id = ? AND after IS NULL", (name,))
+
+
+def object_of(name: str, state: str, told: str) -> str:
+    """A job's object in JSON."""
+    return f'{{"job":"{name}","state":"{state}"{"," * (told != "{}")}{told[1:]}'
 
 
 def job_of(row: tuple[str, str, float, int, str | None, str]) -> Job:

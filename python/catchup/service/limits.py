@@ -3,9 +3,12 @@ from typing import Final
 
 LONGEST_TARGET: Final = 16_384          # bytes of an address
 LONGEST_HEAD: Final = 32_768            # bytes of a request's head
+MOST_BLANK: Final = 64                  # bytes of empty lines before it
 LONGEST_LINE: Final = 4_194_304         # bytes of an edit line, as the program's
 LONGEST_LINES: Final = 67_108_864       # bytes of a body of edit lines
 LONGEST_JSON: Final = 65_536            # bytes of a body of JSON
+LARGE_BODY: Final = 65_536              # bytes of a body before which other requests go
+MOST_WORDS: Final = 32                  # of an address
 MOST_ENTRIES: Final = 1_048_576         # of a table
 LARGE_TABLE: Final = 65_536             # entries from which a table counts as large
 LARGE_TABLES: Final = 4                 # large tables that a worker makes at once

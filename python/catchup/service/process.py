@@ -2,17 +2,24 @@
 
 from __future__ import annotations
 
+import asyncio
 import ctypes
 import fcntl
 import functools
 import os
 import signal
-from collections.abc import Callable
+import subprocess
+from collections.abc import Sequence
+from concurrent.futures import ThreadPoolExecutor
+from dataclasses import dataclass
 from pathlib import Path
+from typing import IO, Any, Final
 
-PR_SET_PDEATHSIG = 1
-# For the service to end its children by itself: what is in work is answered before.
-LEFT_TO_THE_SERVICE = "TERM,INT,HUP,QUIT"
+PR_SET_PDEATHSIG: Final = 1
+# Signals to the whole group are for the service: it ends its children by itself, once what is in work is answered.
+LEFT_TO_THE_SERVICE: Final = frozenset([signal.SIGTERM, signal.SIGINT, signal.SIGHUP, signal.SIGQUIT])
+# A child asks the system for its end with its parent, and then looks whether that is still there.
+BOUND: Final = ("/usr/bin/setpriv", "--pdeathsig", "KILL", "/bin/sh", "-c", 'test "$PPID" = "$0" && exec "$@"')
 
 _libc = ctypes.CDLL(None, use_errno=True)
 
@@ -24,14 +31,36 @@ def end_with(parent: int) -> None:
         os.kill(os.getpid(), signal.SIGKILL)
 
 
-def child_start() -> Callable[[], None]:
-    """What a child does before it becomes the program: it ends with this process."""
-    return functools.partial(end_with, os.getpid())
+@dataclass(frozen=True, slots=True)
+class Start:
+    """How a program is started: its words, the open file that it has besides, its streams, and whether it leads a group of its
+    own."""
+
+    words: Sequence[str | Path]
+    descriptor: int
+    stdin: int | IO[Any] = subprocess.DEVNULL
+    stdout: int | IO[Any] = subprocess.PIPE
+    stderr: int | None = None
+    has_group: bool = False
+
+    async def process(self) -> subprocess.Popen[bytes]:
+        """The process, which ends with this one."""
+        return await asyncio.get_running_loop().run_in_executor(_starter, self.begin)
+
+    def begin(self) -> subprocess.Popen[bytes]:
+        """Starts it from this thread. The system doesn't copy this process's memory for it as long as nothing is done between;
+        all other files are closed as it becomes the program."""
+        os.set_inheritable(self.descriptor, True)
+        try:
+            return subprocess.Popen([*BOUND, str(os.getpid()), *map(str, self.words)], stdin=self.stdin, stdout=self.stdout,
+                                    stderr=self.stderr, close_fds=False, start_new_session=self.has_group)
+        finally:
+            os.set_inheritable(self.descriptor, False)
 
 
-def child_words(*words: str | Path) -> list[str]:
-    """The words that start a child which no signal to the whole group ends. uvloop resets signals behind `child_start`."""
-    return ["/usr/bin/env", f"--ignore-signal={LEFT_TO_THE_SERVICE}", *map(str, words)]
+# The system takes the thread that started a process for its parent: this one lasts as long as the process does, and has these
+# signals blocked, as has all that it starts.
+_starter: Final = ThreadPoolExecutor(1, "starter", functools.partial(signal.pthread_sigmask, signal.SIG_BLOCK, LEFT_TO_THE_SERVICE))
 
 
 def try_lock(descriptor: int) -> bool:

@@ -1,8 +1,9 @@
 """Connections: how requests are read, one after the other, each with limits of size and of time.
 
-uvicorn's protocol, but for four things. A request is begun only when the one before it is answered, in a later turn of the
-loop, so that no client has more than its share however much it sends at once. What is no request is refused in JSON.
-Heads, bodies, pauses and replies have limits. Who holds much for long is let go where all hold too much.
+uvicorn's protocol, but for five things. A request is begun only when the one before it is answered, in a later turn of the
+loop, so that no client has more than its share however much it sends at once; and but for plain routes, a few of all clients
+in a turn. What is no request is refused in JSON. Heads, bodies, pauses and replies have limits. A body may come in chunks,
+which are read strictly. Who holds much for long is let go where all hold too much.
 """
 
 from __future__ import annotations
@@ -17,16 +18,21 @@ from email.utils import formatdate
 from typing import Any, Final, Protocol
 
 import httptools
+from uvicorn.protocols.http.flow_control import HIGH_WATER_LIMIT, FlowControl
 from uvicorn.protocols.http.httptools_impl import STATUS_LINE, HttpToolsProtocol, RequestResponseCycle
 
+from catchup.service.bodies import BadBody, Body, Chunked, Sized
 from catchup.service.limits import (
-    BODY_RATE, BODY_SECONDS, HEAD_SECONDS, IDLE_SECONDS, LARGE, LINGER_SECONDS, LONGEST_HEAD, LONGEST_LINES, LONGEST_TARGET,
-    MOST_DROPPED, MOST_HELD, TAKE_SECONDS)
+    BODY_RATE, BODY_SECONDS, HEAD_SECONDS, IDLE_SECONDS, LARGE, LARGE_BODY, LINGER_SECONDS, LONGEST_HEAD, LONGEST_LINES,
+    LONGEST_TARGET, MOST_BLANK, MOST_DROPPED, MOST_HELD, TAKE_SECONDS)
+from catchup.service.turns import Turns
+from catchup.service.words import PLAIN_ROUTE
 
 HEAD_END: Final = b"\r\n\r\n"
 FIRST_LINE: Final = re.compile(rb"[A-Z]{1,32} /[!-~]{0,16383} HTTP/1\.[01]")
 # Ends of lines that are none, and NUL.
 BAD_ENDS: Final = re.compile(rb"\x00|\r(?=[^\n])|(?<!\r)\n")
+BLANK: Final = re.compile(rb"(?:\r?\n)*")
 # A line that is no header: one that goes on the one before, or a name with blanks, which others would read in another way.
 BAD_LINE: Final = re.compile(rb"\r\n(?![!#$%&'*+.^_`|~0-9A-Za-z-]+:)")
 # Bytes that a header nobody reads here may hold, and the parser wouldn't take.
@@ -36,12 +42,19 @@ READ: Final = frozenset([b"host", b"origin", b"authorization", b"content-length"
 NUMBER: Final = re.compile(rb"[0-9]+")
 
 Headers = list[tuple[bytes, bytes]]
+Address = tuple[Any, ...]
 
 
 class Told(Protocol):
     """What connections tell of each answer: the path, the status and how many seconds it took."""
 
     def __call__(self, path: str, status: int, seconds: float) -> None: ...
+
+
+class BeginPlain(Protocol):
+    """Has a plain route answered in a quick way, where it may go that way."""
+
+    def __call__(self, cycle: Cycle, found: re.Match[bytes], /) -> bool: ...
 
 
 class Crowd:
@@ -53,6 +66,8 @@ class Crowd:
         self.error = error          # the headers and the body of an error
         self.told = told
         self.log = log
+        self.begin_plain: BeginPlain = lambda cycle, found: False
+        self.turns = Turns()
         self.everyone: set[Connection] = set()
         self.idlers: dict[Connection, None] = {}    # those with no request in work, the longest such first
         self.holders: dict[Connection, int] = {}    # those with many bytes on their way, and how many
@@ -90,6 +105,7 @@ class Crowd:
         self.everyone.discard(connection)
         self.idlers.pop(connection, None)
         self.holders.pop(connection, None)
+        self.turns.forget(connection)
 
     def end(self) -> None:
         """No connection gets another request: idle ones are closed, others once they are answered."""
@@ -118,6 +134,25 @@ class Cycle(RequestResponseCycle):  # type: ignore[misc]
             self.on_response = None
         if not self.response_complete and not self.disconnected:
             self.transport.close()
+
+    def answer(self, status: int, headers: Headers, body: bytes) -> None:
+        """Sends an answer that is whole, outside the application."""
+        if not self.disconnected:
+            self.start = {"status": status, "headers": headers}
+            self.response_started = True
+            self.write(self.head(self.start, len(body)), body)
+            self.complete()
+        self.on_response = None
+
+    async def receive(self) -> Any:
+        """The next piece of the body; its time counts from the first one on that is asked for."""
+        connection = self.connection
+        if connection.has_ended and connection.body is not None and not self.body:
+            return {"type": "http.disconnect"}
+        connection.expect_body()
+        if connection.is_large and self.flow.read_paused and not self.disconnected:
+            await connection.crowd.turns.piece()
+        return await super().receive()
 
     async def send(self, message: Any) -> None:
         """Takes the answer's start, and its body in pieces."""
@@ -186,7 +221,7 @@ class Cycle(RequestResponseCycle):  # type: ignore[misc]
         assert self.start is not None
         self.response_complete = True
         self.message_event.set()
-        seconds = connection.loop.time() - self.began
+        seconds = time.monotonic() - self.began
         connection.crowd.told(scope["path"], self.start["status"], seconds)
         if connection.crowd.log is not None:
             query = scope["query_string"].decode("latin-1")
@@ -200,15 +235,22 @@ class Cycle(RequestResponseCycle):  # type: ignore[misc]
 class Connection(HttpToolsProtocol):  # type: ignore[misc]
     """A client's connection."""
 
-    def __init__(self, crowd: Crowd, config: Any, server_state: Any, _loop: Any = None) -> None:
-        super().__init__(config, server_state, _loop)
+    cycle: Any
+    parser: Any
+
+    def __init__(self, crowd: Crowd, address: Address, config: Any, server_state: Any) -> None:
+        super().__init__(config, server_state)
         self.crowd = crowd
+        self.client, self.scheme = address[:2], "http"
         self.held, self.at = b"", 0     # what came and isn't read yet, from this place on
+        self.looked, self.blank = 0, 0  # how far a head that isn't whole was looked at, and bytes of empty lines before it
         self.is_busy = False            # a request is in work
         self.is_closing = False         # nothing more is read
         self.has_ended = False          # the client sends nothing more
         self.dropped = 0                # bytes that came behind a refusal
-        self.body_left = 0
+        self.body: Body | None = None   # what is still to come of the request's body
+        self.body_began, self.body_size = 0.0, 0
+        self.is_large = False           # others go before its body
         self.deadline = self.loop.time() + IDLE_SECONDS
         self.unsent = 0                 # bytes that the client hadn't taken when it was last looked at
         self.read: dict[bytes, bytes] = {}
@@ -216,7 +258,9 @@ class Connection(HttpToolsProtocol):  # type: ignore[misc]
     # ---- what comes ----
 
     def connection_made(self, transport: Any) -> None:
-        super().connection_made(transport)
+        # As uvicorn's, but that the system isn't asked for addresses.
+        self.connections.add(self)
+        self.transport, self.flow = transport, FlowControl(transport)
         if not self.crowd.admit(self):
             self.refuse(503, "too many clients at once", b"retry-after: 1\r\n")
         elif self.crowd.is_ending:
@@ -236,19 +280,23 @@ class Connection(HttpToolsProtocol):  # type: ignore[misc]
                 self.abort()
             return
         self.held = self.held[self.at:] + data if self.at < len(self.held) else data
-        self.at = 0
-        if self.body_left:
+        self.looked, self.at = max(self.looked - self.at, 0), 0
+        if self.body is not None:
             self.take_body()
         elif not self.is_busy:
             self.begin()
-        if self.is_busy and not self.body_left and self.at < len(self.held):
+        if self.is_busy and self.body is None and self.at < len(self.held):
             self.flow.pause_reading()
 
     def eof_received(self) -> bool:
         """Keeps the connection open where an answer is still owed to a client that sends nothing more."""
         self.has_ended = True
-        if self.is_closing or self.body_left:
+        if self.is_closing:
             return False
+        if self.body is not None:
+            # The application learns that no more of it comes.
+            self.cycle.message_event.set()
+            return True
         if not self.is_busy and self.at < len(self.held):
             self.loop.call_soon(self.begin)
         return self.is_busy or self.at < len(self.held)
@@ -257,14 +305,15 @@ class Connection(HttpToolsProtocol):  # type: ignore[misc]
         """Begins the next request where its head is there."""
         if self.is_busy or self.is_closing or self.transport.is_closing():
             return
-        while self.held.startswith((b"\r\n", b"\n"), self.at):
-            self.at += 1 + self.held.startswith(b"\r\n", self.at)
-        end = self.held.find(HEAD_END, self.at)
+        if not self.skip_blank():
+            self.refuse(400, "the first line is no request")
+            return
+        end = self.held.find(HEAD_END, max(self.at, self.looked - 3))
         size = (len(self.held) if end < 0 else end) - self.at
         if size > LONGEST_HEAD:
             self.refuse_long()
         elif end >= 0:
-            head, self.at = self.held[self.at:end + 4], end + 4
+            head, self.at, self.looked, self.blank = self.held[self.at:end + 4], end + 4, 0, 0
             self.take_head(head)
         elif self.has_ended:
             self.transport.close()
@@ -273,8 +322,18 @@ class Connection(HttpToolsProtocol):  # type: ignore[misc]
             if size:
                 self.wait_for_head()
 
+    def skip_blank(self) -> bool:
+        """Skips ends of lines before a request, and answers whether they are few."""
+        found = BLANK.match(self.held, self.at)
+        assert found is not None
+        self.blank += found.end() - self.at
+        self.at = found.end()
+        return self.blank <= MOST_BLANK
+
     def wait_for_head(self) -> None:
-        if BAD_ENDS.search(self.held, self.at):
+        """The rest of a head is still to come; what is there is looked at once."""
+        looked, self.looked = max(self.at, self.looked - 1), len(self.held)
+        if BAD_ENDS.search(self.held, looked):
             self.refuse(400, "the request's head has bytes that have no place there")
         elif self in self.crowd.idlers:
             del self.crowd.idlers[self]
@@ -345,34 +404,38 @@ class Connection(HttpToolsProtocol):  # type: ignore[misc]
             return
         raw_path, _, query = self.url.partition(b"?")
         path = raw_path.decode("ascii")
+        plain = PLAIN_ROUTE.fullmatch(query) if path == "/route" and method == b"GET" else None
         self.scope = {
             "type": "http", "asgi": {"version": self.config.asgi_version, "spec_version": "2.3"}, "http_version": version,
             "server": self.server, "client": self.client, "scheme": self.scheme, "root_path": self.root_path,
             "headers": self.headers, "method": method.decode("ascii"), "raw_path": raw_path, "query_string": query,
-            "path": urllib.parse.unquote(path) if "%" in path else path, "catchup.read": self.read}
+            "path": urllib.parse.unquote(path) if "%" in path else path, "catchup.read": self.read, "catchup.plain": plain}
         self.start_cycle(version)
 
     def wrong_headers(self, version: str) -> tuple[int, str] | None:
         """What is wrong with a request's headers, with its status."""
         if self.twice is not None:
             return 400, f"the header {self.twice.decode()} is there twice"
-        if b"transfer-encoding" in self.read:
+        if version == "1.1" and b"host" not in self.read:
+            return 400, "the header host is missing"
+        coding = self.read.get(b"transfer-encoding")
+        if coding is not None:
             if b"content-length" in self.read:
                 return 400, "a request has Content-Length or Transfer-Encoding, and not both"
-            return 411, "a body needs a Content-Length"
+            if version == "1.0" or coding.lower() != b"chunked":
+                return 400, "of transfer codings only chunked is known here, in HTTP/1.1"
+            self.body = Chunked()
+            return None
         length = self.read.get(b"content-length", b"0")
         if not NUMBER.fullmatch(length):
             return 400, "Content-Length is no number"
-        if version == "1.1" and b"host" not in self.read:
-            return 400, "the header host is missing"
-        short = length.lstrip(b"0")
-        if len(short) > 9 or int(short or b"0") > LONGEST_LINES:
+        short = length.lstrip(b"0") or b"0"
+        if len(short) > 9 or int(short) > LONGEST_LINES:
             return 413, f"a body has at most {LONGEST_LINES} bytes"
-        self.body_left = int(short or b"0")
+        self.body = Sized(int(short)) if short != b"0" else None
         return None
 
     def start_cycle(self, version: str) -> None:
-        now = self.loop.time()
         kept = self.read.get(b"connection", b"")
         keeps = b"keep-alive" in kept if version == "1.0" else b"close" not in kept
         self.cycle = Cycle(
@@ -380,48 +443,96 @@ class Connection(HttpToolsProtocol):  # type: ignore[misc]
             access_log=False, default_headers=[], message_event=asyncio.Event(),
             expect_100_continue=self.read.get(b"expect", b"").lower() == b"100-continue", keep_alive=keeps,
             on_response=self.on_response_complete)
-        self.cycle.connection, self.cycle.began = self, now
+        self.cycle.connection, self.cycle.began = self, time.monotonic()
         self.is_busy = True
         self.crowd.idlers.pop(self, None)
-        self.deadline = now + BODY_SECONDS + self.body_left / BODY_RATE if self.body_left else float("inf")
+        self.deadline = float("inf")
+        self.is_large = self.body is not None and (not isinstance(self.body, Sized) or self.body.left > LARGE_BODY)
+        if self.body is None:
+            self.hand_on(b"")
+        else:
+            self.body_began, self.body_size = 0.0, 0
+            # The parser waits for the body, which it doesn't get.
+            self.parser = httptools.HttpRequestParser(self)
+            self.loop.call_soon(self.take_body)
+        plain = self.scope["catchup.plain"]
+        if plain is None or not self.crowd.begin_plain(self.cycle, plain):
+            self.crowd.turns.add(self)
+
+    def go(self) -> None:
+        """Has the application answer the request."""
         task = self.loop.create_task(self.cycle.run_asgi(self.app))
         task.add_done_callback(self.tasks.discard)
         self.tasks.add(task)
-        if self.body_left:
-            self.loop.call_soon(self.take_body)
+
+    def turn_away(self) -> None:
+        """Too many requests wait that others go before."""
+        if self.has_ended:
+            self.abort()
+        else:
+            self.refuse(503, "too many requests with large bodies at once", b"retry-after: 1\r\n")
+
+    # ---- bodies ----
+
+    def on_message_complete(self) -> None:
+        """The parser gets heads alone."""
+
+    def expect_body(self) -> None:
+        """The application asks for the body: from now on it must come."""
+        if self.body is not None and not self.body_began:
+            self.body_began = self.loop.time()
+            self.deadline = self.body_began + BODY_SECONDS
 
     def take_body(self) -> None:
         """Hands on what there is of a body."""
-        if self.is_closing or not self.body_left or self.at >= len(self.held):
+        if self.is_closing or self.body is None or self.at >= len(self.held):
             return
-        piece = self.held[self.at:self.at + self.body_left]
-        self.at += len(piece)
-        self.body_left -= len(piece)
-        if not self.body_left:
-            self.deadline = float("inf")
-        with contextlib.suppress(httptools.HttpParserError):
-            self.parser.feed_data(piece)
+        try:
+            piece, self.at = self.body.take(self.held, self.at)
+        except BadBody as problem:
+            self.break_off(400, str(problem))
+            return
+        self.body_size += len(piece)
+        if self.body_began:
+            self.deadline = self.body_began + BODY_SECONDS + self.body_size / BODY_RATE
+        if self.body.is_over:
+            self.body, self.deadline = None, float("inf")
+            self.crowd.turns.forget(self)
+        self.hand_on(piece)
+        if self.body is None and self.at < len(self.held):
+            self.flow.pause_reading()
 
-    def on_body(self, body: bytes) -> None:
-        if not self.is_closing and self.cycle is not None and not self.cycle.response_complete:
-            super().on_body(body)
+    def hand_on(self, piece: bytes) -> None:
+        """Gives the application a piece of the body, the last one where no more is to come."""
+        cycle = self.cycle
+        cycle.body += piece
+        cycle.more_body = self.body is not None
+        if self.is_large or len(cycle.body) > HIGH_WATER_LIMIT:
+            self.flow.pause_reading()
+        cycle.message_event.set()
 
-    def on_message_complete(self) -> None:
-        if not self.is_closing and self.cycle is not None and not self.cycle.response_complete:
-            super().on_message_complete()
+    def break_off(self, status: int, error: str) -> None:
+        """Refuses a request whose body comes to no good end; the application learns that its client is gone."""
+        self.is_closing = True
+        self.cycle.disconnected = True
+        self.cycle.message_event.set()
+        if self.cycle.response_started:
+            self.abort()
+        else:
+            self.refuse(status, error)
 
     # ---- answers ----
 
     def must_close(self) -> bool:
         """Whether the connection can't have another request: the service ends, or a body is left that nobody wants."""
-        return self.crowd.is_ending or self.body_left > 0
+        return self.crowd.is_ending or self.body is not None
 
     def on_response_complete(self) -> None:
         """The answer of the request in work is on its way: the next one begins in another turn, once this one is taken."""
         self.server_state.total_requests += 1
         if self.transport.is_closing():
             return
-        if self.body_left:
+        if self.body is not None:
             self.linger()
         elif not self.cycle.keep_alive:
             self.is_closing = True
@@ -461,9 +572,13 @@ class Connection(HttpToolsProtocol):  # type: ignore[misc]
     def linger(self) -> None:
         """Closes, but first lets go of what the client still sends, which would otherwise cost it the answer."""
         self.is_closing = True
+        if self.has_ended:
+            self.transport.close()
+            return
         self.is_busy = True
         self.crowd.idlers.pop(self, None)
-        self.held, self.at, self.body_left = b"", 0, 0
+        self.held, self.at, self.body = b"", 0, None
+        self.crowd.turns.forget(self)
         self.deadline = self.loop.time() + LINGER_SECONDS
         with contextlib.suppress(OSError, RuntimeError, NotImplementedError):
             self.transport.write_eof()
@@ -480,12 +595,12 @@ class Connection(HttpToolsProtocol):  # type: ignore[misc]
                 return
         if self.is_closing or self.flow.write_paused or self in self.crowd.idlers:
             self.abort()
-        elif self.body_left and not self.cycle.response_started:
-            # The application waits for the body; it learns that the client is gone.
-            self.is_closing = True
-            self.cycle.disconnected = True
-            self.cycle.message_event.set()
-            self.refuse(408, "the request comes too slowly")
+        elif self.body is not None and self.flow.read_paused:
+            # What has come isn't taken yet: that isn't its client's fault.
+            self.body_began += BODY_SECONDS
+            self.deadline = now + BODY_SECONDS
+        elif self.body is not None:
+            self.break_off(408, "the request comes too slowly")
         elif not self.is_busy:
             self.refuse(408, "the request comes too slowly")
 

@@ -19,9 +19,6 @@ from catchup.service.words import DAY, exclusive, node_of, nodes_of, second_of, 
 
 router = APIRouter()
 ENDS: Final = {"from": node_of, "to": node_of}
-# An address of a route as most are: its words in this order, and nothing to be read with care.
-PLAIN_ROUTE: Final = re.compile(
-    rb"from=([0-9]{1,9})&to=([0-9]{1,9})&depart=(?:([0-9]{1,9})|([01]?[0-9]|2[0-3])(?::|%3A)([0-5][0-9])(?:(?::|%3A)([0-5][0-9]))?)")
 # The longest drive takes so many days of a limit's roads that nobody asks for it; behind that `l` says `too late`.
 MOST_DAYS_BACK: Final = 8
 
@@ -67,23 +64,37 @@ def drive_told(asked: dict[str, Any], legs: list[Leg], version: Version, word: s
         as_json(told)[:-1], roads, b",".join(leg.told() for leg in legs), version.name_bytes)
 
 
-async def plain_route(network: Network, found: re.Match[bytes]) -> tuple[bytes, Version]:
-    """The answer to a plain address of a route: few steps, since most requests are this one."""
-    start, end, second, hours, minutes, seconds = found.groups()
-    depart = int(second) if second is not None else int(hours) * 3600 + int(minutes) * 60 + int(seconds or 0)
-    version = network.current
-    start, end = int(start), int(end)
-    reply = await version.quick.ask((b"v,%d,%d,%d" if version.has_seconds else b"q,%d,%d,%d") % (start, end, depart))
-    time = time_of_day(depart)
-    if not reply.startswith(b"arrive="):
-        if checked(reply) == b"unreachable":
-            return b'{"answer":"unreachable","from":%d,"to":%d,"depart":%d,"depart_time":"%b","version":"%b"}' % (
-                start, end, depart, time.encode(), version.name_bytes), version
-    leg = leg_of(reply, start, end, depart)
-    return (b'{"answer":"arrive","from":%d,"to":%d,"depart":%d,"depart_time":"%b","arrive":%d,"arrive_time":"%b","days_later":%d,'
-            b'"travel":%d,"roads":[%b],"legs":[%b],"version":"%b"}' % (
-                start, end, depart, time.encode(), leg.arrive, time_of_day(leg.arrive).encode(), leg.arrive // DAY,
-                leg.arrive - depart, leg.roads, leg.told(), version.name_bytes)), version
+@dataclass(frozen=True, slots=True)
+class PlainRoute:
+    """What a plain address of a route asks: few steps, since most requests are this one."""
+
+    start: int
+    end: int
+    depart: int
+
+    @classmethod
+    def of(cls, found: re.Match[bytes]) -> PlainRoute:
+        """The route of an address that PLAIN_ROUTE knows."""
+        start, end, second, hours, minutes, seconds = found.groups()
+        depart = int(second) if second is not None else int(hours) * 3600 + int(minutes) * 60 + int(seconds or 0)
+        return cls(int(start), int(end), depart)
+
+    def line(self, version: Version) -> bytes:
+        """What the program is asked."""
+        return (b"v,%d,%d,%d" if version.has_seconds else b"q,%d,%d,%d") % (self.start, self.end, self.depart)
+
+    def answer(self, version: Version, reply: bytes) -> bytes:
+        """The answer of a reply; a Refusal where it is none."""
+        start, end, depart, time = self.start, self.end, self.depart, time_of_day(self.depart).encode()
+        if not reply.startswith(b"arrive="):
+            if checked(reply) == b"unreachable":
+                return b'{"answer":"unreachable","from":%d,"to":%d,"depart":%d,"depart_time":"%b","version":"%b"}' % (
+                    start, end, depart, time, version.name_bytes)
+        leg = leg_of(reply, start, end, depart)
+        return (b'{"answer":"arrive","from":%d,"to":%d,"depart":%d,"depart_time":"%b","arrive":%d,"arrive_time":"%b",'
+                b'"days_later":%d,"travel":%d,"roads":[%b],"legs":[%b],"version":"%b"}' % (
+                    start, end, depart, time, leg.arrive, time_of_day(leg.arrive).encode(), leg.arrive // DAY,
+                    leg.arrive - depart, leg.roads, leg.told(), version.name_bytes))
 
 
 def network_of(request: Request, asked: dict[str, Any]) -> Network:
@@ -175,14 +186,23 @@ async def day(request: Request) -> Response:
     """The least arrival at each second of the day, as pieces."""
     asked = take(request.scope["query_string"], ENDS)
     version = network_of(request, asked).current
-    pieces = await pieces_of(version, asked["from"], asked["to"])
-    if pieces is None:
+    reply = checked(await version.slow.ask(b"d,%d,%d" % (asked["from"], asked["to"])))
+    if reply == b"unreachable":
         return answer({"answer": "unreachable", **asked}, version.name)
-    return answer({"answer": "day", **asked, "pieces": [
-        {"from": second, "kind": kind, "value": value} for second, kind, value in pieces]}, version.name)
+    return answer({"answer": "day", **asked}, version.name, raw=("pieces", pieces_told(reply)))
 
 
 Piece = tuple[int, str, int]
+KINDS: Final = (b"travel", b"until", b"closed")
+PIECE: Final = re.compile(rb" ([0-9]+),([a-z]+),([0-9]+)")
+
+
+def pieces_told(reply: bytes) -> bytes:
+    """The pieces of a day's reply as a JSON list."""
+    pieces = reply.removeprefix(b"day ")
+    for kind in KINDS:
+        pieces = pieces.replace(b",%b," % kind, b',"kind":"%b","value":' % kind)
+    return b'[{"from":%b}]' % pieces.replace(b" ", b'},{"from":')
 
 
 async def pieces_of(version: Version, start: int, end: int) -> list[Piece] | None:
@@ -190,8 +210,7 @@ async def pieces_of(version: Version, start: int, end: int) -> list[Piece] | Non
     reply = checked(await version.slow.ask(b"d,%d,%d" % (start, end)))
     if reply == b"unreachable":
         return None
-    parts = (piece.split(",") for piece in reply.decode("ascii").split(" ")[1:])
-    return [(int(second), kind, int(value)) for second, kind, value in parts]
+    return [(int(second), kind.decode(), int(value)) for second, kind, value in PIECE.findall(reply)]
 
 
 @router.get("/best", **openapi.BEST)
@@ -267,7 +286,7 @@ async def table(request: Request) -> Response:
 
 async def make_table(version: Version, asked: dict[str, Any], request: Request) -> Response:
     """A table by a line for each source, so that others are answered between them; all of one version."""
-    places = b",".join(b"%d" % node for node in asked["to"])
+    places = ",".join(map(str, asked["to"])).encode()
     rows: list[bytes] = []
     with version.held():
         for source in asked["from"]:

@@ -4,7 +4,7 @@ from __future__ import annotations
 
 import asyncio
 import contextlib
-import functools
+import gc
 import logging
 import os
 import resource
@@ -21,7 +21,7 @@ from uvicorn.server import Server
 
 from catchup.errors import Failure
 from catchup.program import Child, find_program, run_program
-from catchup.service.accepting import UNUSED, Acceptor, Counts
+from catchup.service.accepting import UNUSED, Acceptor, Address, Counts
 from catchup.service.app import Front, make_app
 from catchup.service.limits import DRAIN_SECONDS, LAST_SECONDS, MOST_CONNECTIONS
 from catchup.service.metrics import forget_worker, make_folder
@@ -32,10 +32,12 @@ from catchup.service.tables import draw_networks
 from catchup.service.versions import Kept, tell
 from catchup.service.worker import Worker, said_of
 
-BACKLOG: Final = 2_048
+BACKLOG: Final = 1_024                  # clients that wait to be taken
 SPARE_FILES: Final = 128                # for all but connections
+ASIDE: Final = 16                       # of each sort, one of so many connections may be put aside before it is taken
 LARGE_PAGES: Final = "glibc.malloc.hugetlb=1"   # as the launcher has them
 STUCK_SECONDS: Final = 20               # after which a worker that gives no sign is ended
+SWITCH_SECONDS: Final = 0.001           # after which a thread that works lets the loop go on
 DRAIN_PAUSE: Final = 0.05
 START_PAUSE: Final = 0.1
 ASK_SECONDS: Final = 0.5                # after which workers are asked again to end: one that has just begun missed it
@@ -81,11 +83,20 @@ class DrainingServer(Server):  # type: ignore[misc]
             starting.cancel()
             return
         await starting
-        make = functools.partial(self.config.http_protocol_class, config=self.config, server_state=self.server_state)
-        everyone = self.worker.crowd.everyone
-        self.acceptors = [Acceptor(each, make, Setting.counts, self.slot, everyone.__len__) for each in sockets or []]
+        # What is there now stays: it needn't be looked through for what is no longer used, which takes its time.
+        gc.collect()
+        gc.freeze()
+        sys.setswitchinterval(SWITCH_SECONDS)
+        crowd = self.worker.crowd
+        self.acceptors = [
+            Acceptor(each, self.connection, Setting.counts, self.slot, crowd.everyone.__len__, crowd.most // ASIDE)
+            for each in sockets or []]
         self.worker.acceptors = self.acceptors
         self.started = True
+
+    def connection(self, address: Address) -> Connection:
+        """The connection of a client."""
+        return Connection(self.worker.crowd, address, self.config, self.server_state)
 
     async def shutdown(self, sockets: list[socket.socket] | None = None) -> None:
         """Takes no more connections, answers what is in work, and ends edits that aren't ready in time."""
@@ -115,8 +126,8 @@ async def serve(sockets: list[socket.socket], slot: int, notify: Any = None, pau
     asyncio.get_running_loop().set_exception_handler(tell_error)
     worker = Worker(Setting.options, Setting.folder, Setting.drawn, Setting.kept, Setting.most)
     front = Front(worker, make_app(worker))
-    config = Config(front, http=functools.partial(Connection, worker.crowd), backlog=BACKLOG, callback_notify=notify,
-                    timeout_notify=pause, **UVICORN)
+    worker.crowd.begin_plain = front.begin_plain
+    config = Config(front, http=Connection, backlog=BACKLOG, callback_notify=notify, timeout_notify=pause, **UVICORN)
     server = DrainingServer(config)
     server.worker, server.slot = worker, slot
     await server.serve(sockets=sockets)
@@ -153,6 +164,9 @@ if HAS_GUNICORN:
             signal.signal(signal.SIGTERM, lambda *_: sys.exit(0))
 
     async def serve_sockets(worker: Any) -> None:
+        for each in worker.sockets:
+            # gunicorn would let the program have it.
+            each.sock.set_inheritable(False)
         await serve([each.sock for each in worker.sockets], worker.slot, worker.callback_notify, worker.timeout / 2)
 
     class ServiceArbiter(Arbiter):  # type: ignore[misc]

@@ -11,7 +11,12 @@ DAY: Final = 86_400
 TOO_LARGE: Final = 10**15               # stands for each number that is too long to matter: the program refuses it
 NUMBER: Final = re.compile(r"[0-9]+")
 TIME: Final = re.compile(r"([01]?[0-9]|2[0-3]):([0-5][0-9])(?::([0-5][0-9]))?")
+# Short ones with one sign between, as most lists are.
+NUMBERS: Final = re.compile(r"[0-9]{1,15}(?:(?:,[0-9]{1,15})*|(?:;[0-9]{1,15})*)")
 PROFILE: Final = re.compile(r"[A-Za-z0-9_.-]{1,64}")
+# An address of a route as most are: its words in this order, and nothing to be read with care.
+PLAIN_ROUTE: Final = re.compile(
+    rb"from=([0-9]{1,9})&to=([0-9]{1,9})&depart=(?:([0-9]{1,9})|([01]?[0-9]|2[0-3])(?::|%3A)([0-5][0-9])(?:(?::|%3A)([0-5][0-9]))?)")
 
 
 def number_of(word: str) -> int:
@@ -38,6 +43,8 @@ def node_of(word: str) -> int:
 
 def nodes_of(word: str) -> list[int]:
     """Nodes with commas or semicolons between."""
+    if NUMBERS.fullmatch(word):
+        return list(map(int, word.replace(";", ",").split(",")))
     parts = word.split(";" if ";" in word else ",", MOST_ENTRIES + 1)
     return [node_of(part) for part in parts]
 
