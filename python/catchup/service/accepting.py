@@ -24,6 +24,7 @@ from catchup.service.limits import LARGE_BODY
 SLOTS: Final = 256
 UNUSED: Final = 0xFFFF_FFFF
 LEAVE_SECONDS: Final = 0.002            # for which a client is left to others
+LIKE: Final = 16                        # of so many clients one more or less doesn't matter
 FAILED_SECONDS: Final = 0.1             # until another try where no more files may be open
 LOOK_SECONDS: Final = 0.003             # for which one turn looks at clients that wait
 PEEKED: Final = 2_048                   # bytes of a client that are looked at before it is taken
@@ -128,6 +129,7 @@ class Acceptor:
             sort = sort_of(client)
             if sort is Sort.WELCOME:
                 welcomed += 1
+                self.has_left = False
                 self.welcome(client, address)
             elif sort in self.aside and len(self.aside[sort]) < self.most_aside:
                 self.aside[sort].append((client, address))
@@ -138,10 +140,12 @@ class Acceptor:
         """Whether the next client is left to other workers, since one has fewer than this one."""
         mine = self.many() + len(self.tasks)
         self.counts.cells[self.slot] = mine
-        self.has_left = mine > self.counts.least() and not self.has_left
-        if self.has_left:
-            self.pause(LEAVE_SECONDS)
-        return self.has_left
+        least = self.counts.least()
+        if self.has_left or mine <= least + least // LIKE:
+            return False
+        self.has_left = True
+        self.pause(LEAVE_SECONDS)
+        return True
 
     def call_aside(self) -> None:
         """Nobody waits: of each sort that was put aside one is taken in the next turn."""
