@@ -231,7 +231,13 @@ class Editor:
         work.check()
         await self.begin(work, after)
         entry = journal.Entry(before, after, journal.now(), work.entry)
-        await asyncio.to_thread(put_in_place, path, following, folder, entry, lines, identity_of(os.fstat(source)))
+        # Its children open it while it is stored.
+        self.network.prepare(following)
+        try:
+            await asyncio.to_thread(put_in_place, path, following, folder, entry, lines, identity_of(os.fstat(source)))
+        except BaseException:
+            self.network.forget_prepared()
+            raise
         made = Made(before, after, replies.lines - 1)
         await self.note(job, DONE, {"version": after[:packed.SHORT], **made.told()})
         return made

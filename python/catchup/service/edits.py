@@ -20,6 +20,7 @@ from catchup.service.jobs import ENDED, Job, new_name
 from catchup.service.limits import CANCEL_SECONDS, LARGE_BODY, LONGEST_JSON, LONGEST_LINES, MOST_WAITING
 from catchup.service.roadedits import Edit, edits_of
 from catchup.service.spool import EDITS, Spool
+from catchup.service.streets import Streets
 from catchup.service.words import take
 from catchup.service.worker import Worker, worker_of
 
@@ -53,7 +54,7 @@ async def post_edits(request: Request) -> Response:
         worker.log.check(network)
     spool = await take_body(request, editor)
     try:
-        edits = await asyncio.to_thread(read_edits, spool, worker) if is_json(request) else None
+        edits = await asyncio.to_thread(read_edits, spool, worker.streets[network]) if is_json(request) else None
         if not spool.size:
             raise Refusal(400, "there is no edit line in the body")
         job = await asyncio.to_thread(editor.jobs.add, spool.name)
@@ -114,9 +115,9 @@ async def let_go(spool: Spool | None) -> None:
         await asyncio.to_thread(spool.close)
 
 
-def read_edits(spool: Spool, worker: Worker) -> list[Edit]:
+def read_edits(spool: Spool, streets: Streets) -> list[Edit]:
     """The edits of a body of JSON."""
-    return edits_of(spool.read(), worker.roads_of)
+    return edits_of(spool.read(), streets.find)
 
 
 async def confirmed(made: asyncio.Task[Made], worker: Worker, editor: Editor) -> Response:

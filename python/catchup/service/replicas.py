@@ -13,7 +13,7 @@ import os
 import re
 import sqlite3
 from pathlib import Path
-from typing import TYPE_CHECKING, Any, Final
+from typing import Any, Final
 
 from redis.asyncio import Redis
 from redis.exceptions import RedisError
@@ -25,12 +25,9 @@ from catchup.service.errors import Refusal
 from catchup.service.jobs import ENDED, REFUSED, WAITING, Job, new_name
 from catchup.service.limits import LOG_SECONDS, LONGEST_LINES
 from catchup.service.process import try_lock
-from catchup.service.roadedits import edits_of
+from catchup.service.roadedits import edits_of_entry, entry_of
 from catchup.service.spool import Spool
 from catchup.service.versions import Network, tell
-
-if TYPE_CHECKING:
-    from catchup.service.roadedits import Roads
 
 ADDRESS: Final = re.compile(r"(rediss?://[^/]+/[0-9]+)/([A-Za-z0-9_.:-]{1,200})")
 FIRST: Final = "0"                      # stands for the entry before the first
@@ -61,13 +58,12 @@ class Diverged(Exception):
 class Log:
     """The stream, for one worker. `folder` is shared by the workers of a service: one of them takes the entries."""
 
-    def __init__(self, address: str, network: Network, editor: Editor, folder: Path | None, roads: Roads) -> None:
+    def __init__(self, address: str, network: Network, editor: Editor, folder: Path | None) -> None:
         server, self.name = parted(address)
         self.redis: Redis[bytes] = Redis.from_url(server, socket_timeout=SOCKET_SECONDS, socket_connect_timeout=SOCKET_SECONDS)
         self.digests = self.name + ":digests"
         self.network = network
         self.editor = editor
-        self.roads = roads
         self.leader = (folder or network.path.parent) / "leader"
         self.trouble = (folder or network.path.parent) / "diverged"
         self.is_reached = True
@@ -113,8 +109,9 @@ class Log:
             await asyncio.to_thread(work.spool.close)
 
     async def add(self, work: Work) -> None:
-        fields = {"job": work.job.id, "type": "lines" if work.edits is None else "json",
-                  "edits": await asyncio.to_thread(work.spool.read)}
+        # Roads go by their numbers: another machine may know other names.
+        fields = {"job": work.job.id, "type": "lines" if work.edits is None else "roads",
+                  "edits": await asyncio.to_thread(work.spool.read) if work.edits is None else entry_of(work.edits)}
         try:
             async with asyncio.timeout(LOG_SECONDS):
                 await self.redis.xadd(self.name, fields)
@@ -244,13 +241,7 @@ class Log:
         spool = Spool(self.network.path, new_name(), LONGEST_LINES)
         spool.write(body, has_lines=False)
         job = Job(fields.get(b"job", b"").decode("ascii", "replace"), WAITING, 0)
-        edits = None
-        if fields.get(b"type") == b"json":
-            try:
-                edits = edits_of(body, self.roads)
-            except Refusal:
-                edits = []
-        return Work(job, spool, edits, entry)
+        return Work(job, spool, None if fields.get(b"type") == b"lines" else edits_of_entry(body), entry)
 
     async def close(self) -> None:
         """Lets the server go."""

@@ -19,6 +19,7 @@ if TYPE_CHECKING:
 
 KINDS: Final = ("travel", "until", "closed")
 CLOSED: Final = 2
+MOST_NAMED: Final = 100_000             # roads that the edits of one body may be of
 FORM: Final = 'a body is {"edits": [..]}, each with "road" and "closed", "pieces" or "profile", or with "profile" and "pieces"'
 # Roads of an outside name, or of a number as text.
 Roads = Callable[[str], list[int]]
@@ -33,6 +34,25 @@ class Edit:
     pieces: str | None
     is_closed: bool
 
+    def entry(self) -> list[object]:
+        """What is told to other machines, which may know other names: its fields."""
+        return [self.roads, self.profile, self.pieces, self.is_closed]
+
+
+def entry_of(edits: list[Edit]) -> bytes:
+    """Edits as an entry of a stream tells them."""
+    return json.dumps([edit.entry() for edit in edits], separators=(",", ":")).encode()
+
+
+def edits_of_entry(entry: bytes) -> list[Edit]:
+    """The edits of an entry; none where it isn't one."""
+    try:
+        return [Edit(None if roads is None else tuple(map(int, roads)), None if profile is None else int(profile),
+                     None if pieces is None else str(pieces), bool(is_closed))
+                for roads, profile, pieces, is_closed in json.loads(entry)]
+    except (ValueError, TypeError):
+        return []
+
 
 def edits_of(body: bytes, roads: Roads) -> list[Edit]:
     """The edits of a body; a Refusal says what isn't as it must be."""
@@ -44,7 +64,10 @@ def edits_of(body: bytes, roads: Roads) -> list[Edit]:
         raise Refusal(400, FORM)
     if not found["edits"]:
         raise Refusal(400, "there is no edit in the body", hint=FORM)
-    return [edit_of(each, number, roads) for number, each in enumerate(found["edits"], 1)]
+    edits = [edit_of(each, number, roads) for number, each in enumerate(found["edits"], 1)]
+    if sum(len(edit.roads or ()) for edit in edits) > MOST_NAMED:
+        raise Refusal(400, f"the roads of a body are at most {MOST_NAMED}, those of names counted one by one")
+    return edits
 
 
 def not_json(word: str) -> object:
@@ -135,10 +158,11 @@ class Profiles:
             raise Refusal(409, "no spare profile", hint="build the file from tables with more profiles that no road has")
         return int(found[0])
 
-    def is_own(self, road: int) -> bool:
-        """Whether no other road has a road's profile, and that isn't kept for closed roads."""
-        profile = int(self.of_road[road])
-        return int(self.count[profile]) == 1 and profile != self.lowest_closed()
+    def own(self, roads: tuple[int, ...]) -> list[int]:
+        """The profiles that none but these roads have, rising, without the one that is kept for closed roads."""
+        found, counts = self.np.unique(self.of_road[self.np.unique(roads)], return_counts=True)
+        alone = found[counts == self.count[found]]
+        return [int(profile) for profile in alone if profile != self.lowest_closed()]
 
     def set_pieces(self, profile: int, pieces: str) -> str:
         """The line that gives a profile pieces. One that isn't there is refused by the program."""
@@ -172,22 +196,26 @@ def lines_of_edit(edit: Edit, profiles: Profiles) -> list[str]:
         return [profiles.set_pieces(edit.profile, edit.pieces)]
     if edit.profile is not None:
         return [profiles.set_profile(road, edit.profile) for road in edit.roads]
-    lines: list[str] = []
-    for road in edit.roads:
-        lines += closed_road(road, profiles) if edit.is_closed else own_pieces(road, edit.pieces or "", profiles)
-    return lines
-
-
-def closed_road(road: int, profiles: Profiles) -> list[str]:
+    if not edit.is_closed:
+        return own_pieces(edit.roads, edit.pieces or "", profiles)
     closed = profiles.lowest_closed()
-    return own_pieces(road, "0,closed,0", profiles) if closed is None else [profiles.set_profile(road, closed)]
+    if closed is None:
+        return own_pieces(edit.roads, "0,closed,0", profiles)
+    return [profiles.set_profile(road, closed) for road in edit.roads]
 
 
-def own_pieces(road: int, pieces: str, profiles: Profiles) -> list[str]:
-    if road >= len(profiles.of_road):
+def own_pieces(roads: tuple[int, ...], pieces: str, profiles: Profiles) -> list[str]:
+    """The lines that give roads pieces: those profiles that only these roads have are used again, and the other roads get one
+    spare profile together."""
+    unknown = [road for road in roads if road >= len(profiles.of_road)]
+    if unknown:
         # The program says what is wrong with it.
-        return [profiles.set_profile(road, 0)]
-    if profiles.is_own(road):
-        return [profiles.set_pieces(int(profiles.of_road[road]), pieces)]
-    profile = profiles.spare()
-    return [profiles.set_pieces(profile, pieces), profiles.set_profile(road, profile)]
+        return [profiles.set_profile(unknown[0], 0)]
+    own = profiles.own(roads)
+    lines = [profiles.set_pieces(profile, pieces) for profile in own]
+    others = [road for road in roads if int(profiles.of_road[road]) not in own]
+    if others:
+        profile = profiles.spare()
+        lines.append(profiles.set_pieces(profile, pieces))
+        lines += [profiles.set_profile(road, profile) for road in others]
+    return lines

@@ -28,9 +28,10 @@ from catchup.service.metrics import forget_worker, make_folder
 from catchup.service.options import Options
 from catchup.service.process import end_with
 from catchup.service.protocol import Connection
+from catchup.service.streets import streets_of
 from catchup.service.tables import draw_networks
 from catchup.service.versions import Kept, tell
-from catchup.service.worker import Worker, said_of
+from catchup.service.worker import Shared, Worker, said_of
 
 BACKLOG: Final = 1_024                  # clients that wait to be taken
 SPARE_FILES: Final = 128                # for all but connections
@@ -62,9 +63,7 @@ class Setting:
 
     options: Options
     folder: Path
-    drawn: dict[Path, bytes]
-    kept: dict[Path, Kept]
-    most: int
+    shared: Shared
     counts: Counts
 
 
@@ -124,7 +123,7 @@ class DrainingServer(Server):  # type: ignore[misc]
 async def serve(sockets: list[socket.socket], slot: int, notify: Any = None, pause: float = 0.0) -> None:
     """Serves in this process until a signal comes."""
     asyncio.get_running_loop().set_exception_handler(tell_error)
-    worker = Worker(Setting.options, Setting.folder, Setting.drawn, Setting.kept, Setting.most)
+    worker = Worker(Setting.options, Setting.folder, Setting.shared)
     front = Front(worker, make_app(worker))
     worker.crowd.begin_plain = front.begin_plain
     config = Config(front, http=Connection, backlog=BACKLOG, callback_notify=notify, timeout_notify=pause, **UVICORN)
@@ -187,7 +186,7 @@ if HAS_GUNICORN:
 
         def manage_workers(self) -> None:
             """Starts workers where there are too few, over the files that the others serve."""
-            for kept in Setting.kept.values():
+            for kept in Setting.shared.kept.values():
                 kept.follow()
             super().manage_workers()
 
@@ -208,7 +207,8 @@ if HAS_GUNICORN:
             try:
                 check_files(Setting.options)
                 Setting.options.gates()
-                Setting.drawn = draw_networks(Setting.options)
+                Setting.shared.drawn = draw_networks(Setting.options)
+                Setting.shared.streets = streets_of(Setting.options)
             except Failure as problem:
                 tell(f"nothing is reloaded: {problem}")
                 return
@@ -327,15 +327,15 @@ def start(options: Options) -> None:
     check_files(options)
     find_at_once(options)
     Setting.options = options
-    Setting.drawn = draw_networks(options)
-    Setting.most = allow_files()
+    Setting.shared = Shared(draw_networks(options), streets_of(options), {}, allow_files())
     Setting.counts = Counts()
     listener = listen(options)
     logging.raiseExceptions = False
     Setting.folder = make_folder()
     main = os.getpid()
     try:
-        Setting.kept = {file.path: Kept(file.path, Setting.folder / f"served{at}") for at, file in enumerate(options.files)}
+        for at, file in enumerate(options.files):
+            Setting.shared.kept[file.path] = Kept(file.path, Setting.folder / f"served{at}")
         if HAS_GUNICORN:
             ServiceArbiter(Service(listener)).run()
         else:

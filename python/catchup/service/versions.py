@@ -72,32 +72,35 @@ class Version:
         self.restarts: set[asyncio.Task[None]] = set()
 
     async def start(self) -> None:
-        """Starts both children, which check the file; NotOpened where the program refuses it."""
-        quick, slow = await asyncio.gather(
-            Child.start(self.program, self.descriptor, QUICK_SECONDS), Child.start(self.program, self.descriptor, SLOW_SECONDS),
-            return_exceptions=True)
-        for each in (quick, slow):
-            if isinstance(each, BaseException):
-                for other in (quick, slow):
-                    if isinstance(other, Child):
-                        self.end_child(other)
-                raise each
-        assert isinstance(quick, Child) and isinstance(slow, Child)
-        self.quick, self.slow = quick, slow
+        """Starts both children, which check the file, and reads it meanwhile; NotOpened where the program refuses it."""
+        found = await asyncio.gather(
+            Child.start(self.program, self.descriptor, QUICK_SECONDS),
+            Child.start(self.program, self.descriptor, SLOW_SECONDS), asyncio.to_thread(self.read), return_exceptions=True)
+        problems = [each for each in found if isinstance(each, BaseException)]
+        children = [each for each in found if isinstance(each, Child)]
+        if problems:
+            for child in children:
+                self.end_child(child)
+            raise problems[0]
+        self.quick, self.slow = children
         try:
-            self.has_seconds = (await quick.ask(DRIVE_PROBE)).startswith(b"arrive=")
+            self.has_seconds = (await self.quick.ask(DRIVE_PROBE)).startswith(b"arrive=")
         except Refusal:
             # It opened the file, and was ended behind that.
             self.end_now()
-            raise NotOpened(f"the program {said_of(quick.status)}") from None
-        for child in (quick, slow):
+            raise NotOpened(f"the program {said_of(self.quick.status)}") from None
+        for child in children:
             child.on_gone = self.replace
             if child.gone.is_set():
                 self.replace(child)
+
+    def read(self) -> None:
+        """Reads what the file says of itself."""
         self.header = packed.read_header(self.descriptor)
         self.digest = packed.read_digest(self.descriptor)
         self.name = self.digest[:packed.SHORT]
         self.name_bytes = self.name.encode()
+        self.shape = packed.shape_of(self.descriptor)
 
     async def start_child(self, limit: float) -> Child:
         """A child that has opened the file, and that is started again where it ends by itself."""
@@ -156,6 +159,14 @@ class Version:
             # One that hangs isn't looked at any more.
             child.loop.call_later(SLOW_SECONDS, child.kill)
 
+    def let_go(self, has_started: bool) -> None:
+        """Ends a version that nobody has asked anything."""
+        if has_started:
+            self.end_now()
+        if self.descriptor >= 0:
+            os.close(self.descriptor)
+            self.descriptor = -1
+
     def end_now(self) -> None:
         """Ends the children at once, whatever they were asked."""
         self.is_retired = True
@@ -213,6 +224,7 @@ class Network:
         self.shape: bytes | None = None
         self.refused: str | None = None
         self.tried: Identity | None = None
+        self.prepared: tuple[Identity, Version, asyncio.Task[None]] | None = None
         self.turn = asyncio.Lock()
         self.on_change: Callable[[Version], None] | None = None
         self.current: Version
@@ -242,20 +254,49 @@ class Network:
                 return
             await self.try_version(descriptor, identity)
 
-    async def try_version(self, descriptor: int, identity: Identity) -> None:
+    def prepare(self, path: Path) -> None:
+        """Begins to open a file that is about to be put in the place, so that `load` needn't begin then."""
+        self.forget_prepared()
+        descriptor = os.open(path, os.O_RDONLY | os.O_CLOEXEC)
         version = Version(descriptor, self.program)
-        try:
-            await version.start()
-            shape = await asyncio.to_thread(packed.shape_of, descriptor)
-        except (packed.NotPacked, NotOpened, Refusal, OSError) as problem:
+        starting = asyncio.get_running_loop().create_task(version.start())
+        self.prepared = identity_of(os.fstat(descriptor)), version, starting
+
+    def take_prepared(self, identity: Identity) -> tuple[Version, asyncio.Task[None]] | None:
+        """The version that was prepared, where it is of this file."""
+        if self.prepared is None or self.prepared[0] != identity:
+            return None
+        _, version, starting = self.prepared
+        self.prepared = None
+        return version, starting
+
+    def forget_prepared(self) -> None:
+        """Ends what was prepared, where nobody has taken it."""
+        if self.prepared is not None:
+            _, version, starting = self.prepared
+            self.prepared = None
+            starting.add_done_callback(lambda done: version.let_go(not done.cancelled() and done.exception() is None))
+
+    async def try_version(self, descriptor: int, identity: Identity) -> None:
+        """Serves an open file, where it is one of this network."""
+        prepared = self.take_prepared(identity)
+        if prepared is None:
+            version = Version(descriptor, self.program)
+            starting = asyncio.get_running_loop().create_task(version.start())
+        else:
             os.close(descriptor)
+            version, starting = prepared
+        try:
+            await starting
+        except (packed.NotPacked, NotOpened, Refusal, OSError) as problem:
+            version.let_go(has_started=False)
             self.refuse(str(problem), None if was_killed(problem) else identity)
             return
-        if self.shape is not None and shape != self.shape:
+        if self.shape is not None and version.shape != self.shape:
             version.retire()
             self.refuse("file: another network, with other nodes or roads than the one that is served", identity)
             return
-        self.tried, self.shape, self.refused = identity, shape, None
+        self.tried, self.shape, self.refused = identity, version.shape, None
         before = getattr(self, "current", None)
         self.current = version
         if self.kept is not None:

@@ -7,6 +7,7 @@ import contextlib
 import os
 import sqlite3
 from collections.abc import Coroutine
+from dataclasses import dataclass
 from pathlib import Path
 from typing import TYPE_CHECKING, Any
 
@@ -22,31 +23,43 @@ from catchup.service.metrics import Metrics, first_to_tell
 from catchup.service.options import Options
 from catchup.service.protocol import Crowd, Headers
 from catchup.service.reads import Tables
+from catchup.service.streets import Streets
 from catchup.service.versions import AGAIN_SECONDS, Kept, Network, tell, watch
-from catchup.service.words import number_of
 
 if TYPE_CHECKING:
     from catchup.service.replicas import Log
 
 
+@dataclass(slots=True)
+class Shared:
+    """What the main process has found out of each file, and all workers share: what the page draws, what roads are called, and
+    the last version that was served; and how many connections a worker may have."""
+
+    drawn: dict[Path, bytes]
+    streets: dict[Path, Streets]
+    kept: dict[Path, Kept]
+    most: int
+
+
 class Worker:
     """One process of a service."""
 
-    def __init__(self, options: Options, folder: Path | None, drawn: dict[Path, bytes], kept: dict[Path, Kept], most: int) -> None:
+    def __init__(self, options: Options, folder: Path | None, shared: Shared) -> None:
         self.options = options
         self.folder = folder
         self.gates = options.gates()
         self.program = str(find_program())
         self.metrics = Metrics()
         self.networks = [
-            Network(file.name, file.path, self.program, kept.get(file.path), lambda line: first_to_tell(folder, line))
+            Network(file.name, file.path, self.program, shared.kept.get(file.path), lambda line: first_to_tell(folder, line))
             for file in options.files]
         self.by_name = {network.name: network for network in self.networks}
         # A file without a name answers to every name.
         self.unnamed = self.by_name.get(None)
-        self.drawn = {network: drawn[file.path] for network, file in zip(self.networks, options.files) if file.path in drawn}
+        self.drawn = {network: shared.drawn[network.path] for network in self.networks if network.path in shared.drawn}
+        self.streets = {network: shared.streets.get(network.path, Streets()) for network in self.networks}
         self.editors = {network: Editor(network, self.program) for network in self.networks}
-        self.crowd = Crowd(most, self.error, self.metrics.told, log_access if options.has_access_log else None)
+        self.crowd = Crowd(shared.most, self.error, self.metrics.told, log_access if options.has_access_log else None)
         self.acceptors: list[Acceptor] = []
         self.tables = Tables()
         self.log: Log | None = None
@@ -66,7 +79,7 @@ class Worker:
         if self.options.log is not None:
             from catchup.service.replicas import Log
 
-            self.log = Log(self.options.log, self.networks[0], self.editors[self.networks[0]], self.folder, self.roads_of)
+            self.log = Log(self.options.log, self.networks[0], self.editors[self.networks[0]], self.folder)
             self.keep(self.log.run())
         await self.each_second()
         self.keep(watch(self.networks, WATCH_SECONDS, self.each_second))
@@ -115,12 +128,6 @@ class Worker:
             known = ", ".join(str(network.name) for network in self.networks)
             raise Refusal(400, "InvalidValue", hint=f"there is no profile {told_briefly(profile)}: {known}")
         return found
-
-    def roads_of(self, text: str) -> list[int]:
-        """The roads of an outside name; without such names a road is its number."""
-        with contextlib.suppress(ValueError):
-            return [number_of(text.removeprefix("road:"))]
-        return []
 
     def version(self) -> str:
         """The version that this worker serves of the first file."""
