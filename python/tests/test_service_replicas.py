@@ -180,6 +180,11 @@ def test_replicas_have_the_same_bytes_whatever_is_killed(room: Path, town: Path)
             assert [number for number in confirmed if f'"s,0,0,travel,{number}"' not in text] == []
             assert '"entry": "' in text
             assert wait_for(lambda: left_in(path.parent), lambda left: not left) == []
+        with client_of(ports[0]) as client:
+            told = client.post("/edits", json={"edits": [{"road": "road:3", "profile": 1}, {"road": 4, "profile": 1}]})
+            assert (told.status_code, told.json()["lines"]) == (200, 2)
+        assert wait_for(lambda: digest_of(paths[0]) == digest_of(paths[1]), bool)
+        assert '["a,3,1", "a,4,1"]' in lines(paths[1])
         with client_of(ports[1]) as client:
             refused = client.post("/edits", content="s,0,0,travel,1\nq,0,0,0")
             assert (refused.status_code, refused.json()["refused"]) == (400, [{"line": 2, "word": "line"}])

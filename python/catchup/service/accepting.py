@@ -10,6 +10,7 @@ those that bring large bodies, are put aside, which costs little, and come in on
 from __future__ import annotations
 
 import asyncio
+import contextlib
 import enum
 import mmap
 import re
@@ -25,6 +26,7 @@ SLOTS: Final = 256
 UNUSED: Final = 0xFFFF_FFFF
 LEAVE_SECONDS: Final = 0.002            # for which a client is left to others
 LIKE: Final = 16                        # of so many clients one more or less doesn't matter
+LAST: Final = 1_024                     # clients that are taken at most when the worker ends
 FAILED_SECONDS: Final = 0.1             # until another try where no more files may be open
 LOOK_SECONDS: Final = 0.003             # for which one turn looks at clients that wait
 PEEKED: Final = 2_048                   # bytes of a client that are looked at before it is taken
@@ -189,11 +191,16 @@ class Acceptor:
         self.counts.cells[self.slot] = self.many()
 
     def close(self) -> None:
-        """Takes no more clients."""
+        """Takes those that wait already, and then no more clients."""
         self.is_closed = True
         self.loop.remove_reader(self.listener.fileno())
         self.counts.cells[self.slot] = UNUSED
+        with contextlib.suppress(OSError):
+            for _ in range(LAST):
+                client, address = self.listener.accept()
+                client.setblocking(False)
+                self.welcome(client, address)
         self.listener.close()
         for line in self.aside.values():
             while line:
-                line.popleft()[0].close()
+                self.welcome(*line.popleft())

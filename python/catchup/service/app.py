@@ -34,9 +34,7 @@ VERSION_HEADER: Final = b"catchup-version"
 
 def make_app(worker: Worker) -> FastAPI:
     """The application over a worker."""
-    app = FastAPI(
-        title="catchup", version=__version__, description=openapi.DESCRIPTION, redoc_url=None,
-        docs_url="/docs" if worker.options.has_docs else None)
+    app = FastAPI(title="catchup", version=__version__, description=openapi.DESCRIPTION, openapi_url=None)
     app.router.redirect_slashes = False
     app.state.worker = worker
     for router in ROUTERS:
@@ -120,7 +118,8 @@ class Front:
         worker, read, method = self.worker, scope["catchup.read"], scope["method"]
         worker.gates.check_host(read)
         if method == "OPTIONS" and b"origin" in read and (shared := worker.gates.shared(read)).get("Access-Control-Allow-Origin"):
-            await Response(status_code=204, headers={**shared, **PREFLIGHT})(scope, receive, send)
+            allowed = Response(status_code=204, headers={**shared, **PREFLIGHT, "Catchup-Version": worker.version()})
+            await allowed(scope, receive, send)
             return
         self.check(scope, read, method)
         # Each path that has GET has HEAD: the body is left out as it is sent.

@@ -14,6 +14,7 @@ OWN_NAMES: Final = ("localhost", "127.0.0.1", "[::1]")
 READS: Final = frozenset(["GET", "HEAD", "OPTIONS"])
 DEFAULT_PORTS: Final = {"http": 80, "https": 443}
 MOST_SEEN: Final = 256
+EXPOSED: Final = "Catchup-Version, Location, Retry-After"
 
 Read = Mapping[bytes, bytes]
 
@@ -49,7 +50,7 @@ class Gates:
         text = host.decode("latin-1")
         name = name_of(text)
         rest = text.strip()[len(name):]
-        if name not in self.names or (rest and port_of(text) is None):
+        if name not in self.names or (rest not in ("", ":") and port_of(text) is None):
             raise Refusal(421, "this name isn't served here", hint="--name NAME serves another one")
         if len(self.seen) < MOST_SEEN:
             self.seen.add(host)
@@ -86,12 +87,13 @@ class Gates:
         origin = read.get(b"origin", b"").decode("latin-1")
         if not self.origins:
             return {}
-        return {"Vary": "Origin", **({"Access-Control-Allow-Origin": origin} if origin in self.origins else {})}
+        if origin not in self.origins:
+            return {"Vary": "Origin"}
+        return {"Vary": "Origin", "Access-Control-Allow-Origin": origin, "Access-Control-Expose-Headers": EXPOSED}
 
 
 PREFLIGHT: Final = {
     "Access-Control-Allow-Methods": "GET, HEAD, POST, DELETE",
     "Access-Control-Allow-Headers": "Authorization, Content-Type",
-    "Access-Control-Expose-Headers": "Catchup-Version, Location, Retry-After",
     "Access-Control-Max-Age": "600",
 }

@@ -19,7 +19,7 @@ TOLD_REFUSALS: Final = 100              # refused lines that an answer tells
 
 MOST_CONNECTIONS: Final = 4_096         # of one worker
 LARGE: Final = 65_536                   # bytes on their way to a client that count as held
-MOST_DROPPED: Final = 4_194_304         # bytes that are let go behind a refusal before the connection is cut
+MOST_DROPPED: Final = 134_217_728       # bytes that are let go behind a refusal before the connection is cut
 MOST_HELD: Final = 67_108_864           # bytes that the clients of one worker hold together
 
 IDLE_SECONDS: Final = 60.0              # until a connection's first request, and between two
@@ -27,7 +27,7 @@ HEAD_SECONDS: Final = 10.0              # for a request's head, from its first b
 BODY_SECONDS: Final = 30.0              # for a body, and besides as long as its bytes take at BODY_RATE
 BODY_RATE: Final = 262_144              # bytes a second
 TAKE_SECONDS: Final = 60.0              # in which a client that takes a reply must take some of it
-LINGER_SECONDS: Final = 5.0             # for what a client goes on sending behind a refusal
+LINGER_SECONDS: Final = 5.0             # for what a client goes on sending behind a refusal, and as long as BODY_RATE says
 
 QUICK_SECONDS: Final = 5.0              # for a child's next reply to a route
 SLOW_SECONDS: Final = 30.0              # and to any other line

@@ -108,7 +108,7 @@ class Crowd:
         self.turns.forget(connection)
 
     def end(self) -> None:
-        """No connection gets another request: idle ones are closed, others once they are answered."""
+        """Closes idle connections, and others once they are answered."""
         self.is_ending = True
         for each in list(self.everyone):
             each.shutdown()
@@ -251,6 +251,7 @@ class Connection(HttpToolsProtocol):  # type: ignore[misc]
         self.body: Body | None = None   # what is still to come of the request's body
         self.body_began, self.body_size = 0.0, 0
         self.is_large = False           # others go before its body
+        self.is_head = False            # its answer has no body
         self.deadline = self.loop.time() + IDLE_SECONDS
         self.unsent = 0                 # bytes that the client hadn't taken when it was last looked at
         self.read: dict[bytes, bytes] = {}
@@ -261,12 +262,10 @@ class Connection(HttpToolsProtocol):  # type: ignore[misc]
         # As uvicorn's, but that the system isn't asked for addresses.
         self.connections.add(self)
         self.transport, self.flow = transport, FlowControl(transport)
-        if not self.crowd.admit(self):
-            self.refuse(503, "too many clients at once", b"retry-after: 1\r\n")
-        elif self.crowd.is_ending:
-            transport.close()
-        else:
+        if self.crowd.admit(self):
             self.crowd.idlers[self] = None
+        else:
+            self.refuse(503, "too many clients at once", b"retry-after: 1\r\n")
 
     def connection_lost(self, exc: Exception | None) -> None:
         self.crowd.forget(self)
@@ -276,6 +275,7 @@ class Connection(HttpToolsProtocol):  # type: ignore[misc]
     def data_received(self, data: bytes) -> None:
         if self.is_closing:
             self.dropped += len(data)
+            self.deadline += len(data) / BODY_RATE
             if self.dropped > MOST_DROPPED:
                 self.abort()
             return
@@ -348,6 +348,7 @@ class Connection(HttpToolsProtocol):  # type: ignore[misc]
     def take_head(self, head: bytes) -> None:
         """Hands a whole head to the parser, which calls back."""
         first = head[:head.find(b"\r\n")]
+        self.is_head = first.startswith(b"HEAD ")
         if not FIRST_LINE.fullmatch(first):
             self.refuse_first(first)
         elif BAD_ENDS.search(head[:-4]):
@@ -362,7 +363,9 @@ class Connection(HttpToolsProtocol):  # type: ignore[misc]
             except httptools.HttpParserUpgrade:
                 self.refuse(400, "no other protocol is spoken here")
             except httptools.HttpParserError:
-                self.refuse(400, "the request's head can't be read")
+                # What was refused already may be more than the parser takes.
+                if not self.is_closing:
+                    self.refuse(400, "the request's head can't be read")
 
     def refuse_first(self, first: bytes) -> None:
         words = first.split(b" ")
@@ -422,7 +425,7 @@ class Connection(HttpToolsProtocol):  # type: ignore[misc]
         if coding is not None:
             if b"content-length" in self.read:
                 return 400, "a request has Content-Length or Transfer-Encoding, and not both"
-            if version == "1.0" or coding.lower() != b"chunked":
+            if version == "1.0" or coding.strip().lower() != b"chunked":
                 return 400, "of transfer codings only chunked is known here, in HTTP/1.1"
             self.body = Chunked()
             return None
@@ -566,7 +569,7 @@ class Connection(HttpToolsProtocol):  # type: ignore[misc]
         if self.crowd.log is not None:
             self.crowd.log(f"{self.client[0] if self.client else '-'} - - {status} 0.0")
         self.transport.write(STATUS_LINE[status] + self.crowd.date + lines + headers
-                             + b"content-length: %d\r\nconnection: close\r\n\r\n" % len(body) + body)
+                             + b"content-length: %d\r\nconnection: close\r\n\r\n" % len(body) + body * (not self.is_head))
         self.linger()
 
     def linger(self) -> None:

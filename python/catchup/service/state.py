@@ -7,10 +7,11 @@ from pathlib import Path
 from typing import Any, Final
 
 from fastapi import APIRouter, Request
+from fastapi.openapi.docs import get_swagger_ui_html
 from starlette.responses import Response
 
 from catchup.service import openapi
-from catchup.service.answers import answer
+from catchup.service.answers import KIND, answer, as_json
 from catchup.service.errors import Refusal
 from catchup.service.versions import Network
 from catchup.service.words import take
@@ -78,6 +79,23 @@ async def network(request: Request) -> Response:
     # The places are the same for all versions.
     body = b'%b,"version":"%b"}' % (worker.drawn[found][:-1], version.encode())
     return Response(body, media_type="application/json", headers={"Catchup-Version": version})
+
+
+@router.get("/openapi.json", include_in_schema=False)
+async def described(request: Request) -> Response:
+    """What each path takes and answers."""
+    take(request.scope["query_string"], {})
+    body = as_json(request.app.openapi())
+    return Response(body, media_type=KIND, headers={"Catchup-Version": worker_of(request).version()})
+
+
+@router.get("/docs", include_in_schema=False)
+async def docs(request: Request) -> Response:
+    """The same for people, by scripts from elsewhere."""
+    take(request.scope["query_string"], {})
+    if not worker_of(request).options.has_docs:
+        raise Refusal(404, "there is nothing of this path", hint="--docs shows it")
+    return get_swagger_ui_html(openapi_url="/openapi.json", title="catchup")
 
 
 @router.get("/", include_in_schema=False)

@@ -39,7 +39,8 @@ ASIDE: Final = 16                       # of each sort, one of so many connectio
 LARGE_PAGES: Final = "glibc.malloc.hugetlb=1"   # as the launcher has them
 STUCK_SECONDS: Final = 20               # after which a worker that gives no sign is ended
 SWITCH_SECONDS: Final = 0.001           # after which a thread that works lets the loop go on
-DRAIN_PAUSE: Final = 0.05
+DRAIN_PAUSE: Final = 0.02
+GRACE_SECONDS: Final = 0.5              # for requests that are on their way as the service ends
 START_PAUSE: Final = 0.1
 ASK_SECONDS: Final = 0.5                # after which workers are asked again to end: one that has just begun missed it
 UVICORN: Final[dict[str, Any]] = {
@@ -101,9 +102,12 @@ class DrainingServer(Server):  # type: ignore[misc]
         """Takes no more connections, answers what is in work, and ends edits that aren't ready in time."""
         worker, loop = self.worker, asyncio.get_running_loop()
         began = loop.time()
-        worker.is_ending = True
+        worker.is_ending = worker.crowd.is_ending = True
         for each in self.acceptors:
             each.close()
+        # A request that is on its way is answered too, and told that the connection ends.
+        while self.has_clients() and loop.time() < began + GRACE_SECONDS:
+            await asyncio.sleep(DRAIN_PAUSE)
         worker.crowd.end()
         has_ended_edits = False
         while self.is_busy() and loop.time() < began + LAST_SECONDS:
@@ -115,9 +119,13 @@ class DrainingServer(Server):  # type: ignore[misc]
             connection.abort()
         await worker.end()
 
+    def has_clients(self) -> bool:
+        """Whether somebody is connected, or is about to be."""
+        return bool(self.worker.crowd.everyone) or any(each.tasks for each in self.acceptors)
+
     def is_busy(self) -> bool:
         """Whether something is in work."""
-        return bool(self.worker.crowd.everyone) or any(editor.works for editor in self.worker.editors.values())
+        return self.has_clients() or any(editor.works for editor in self.worker.editors.values())
 
 
 async def serve(sockets: list[socket.socket], slot: int, notify: Any = None, pause: float = 0.0) -> None:
