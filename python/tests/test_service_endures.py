@@ -1,4 +1,5 @@
-"""What a service endures: killed and hung processes at any moment, and files that are put in the place of the served one."""
+"""What a service endures: killed and hung processes at any moment, and files that are put in the place of the served
+one."""
 
 from __future__ import annotations
 

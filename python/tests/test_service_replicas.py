@@ -1,4 +1,5 @@
-"""Replicas: two services with a file each, a stream of Redis between them, and nginx before them; each is ended in turn."""
+"""Replicas: two services with a file each, a stream of Redis between them, and nginx before them; each is ended in
+turn."""
 
 from __future__ import annotations
 
@@ -56,7 +57,8 @@ class Running:
         return True
 
     def kill(self) -> None:
-        """Ends it by SIGKILL, and waits until nobody listens there. The workers of nginx don't end with it, those of a service do."""
+        """Ends it by SIGKILL, and waits until nobody listens there. The workers of nginx don't end with it, those of
+        a service do."""
         if self.words[0] == HTTP:
             self.process.kill()
         else:

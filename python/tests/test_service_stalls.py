@@ -1,4 +1,5 @@
-"""Clients that do harm, each a process of its own so that it doesn't slow the one that measures, and how long others wait."""
+"""Clients that do harm, each a process of its own so that it doesn't slow the one that measures, and how long others
+wait."""
 
 from __future__ import annotations
 
@@ -141,8 +142,8 @@ class Harm:
 
 @contextlib.contextmanager
 def preferred(pid: int) -> Iterator[None]:
-    """Has the system prefer a process and those of its session, where it may be asked to: how long a client waits tells little
-    where the service gets a tenth of a processor."""
+    """Has the system prefer a process and those of its session, where it may be asked to: how long a client waits
+    tells little where the service gets a tenth of a processor."""
     path = Path(f"/proc/{pid}/autogroup")
     before = re.search(r"nice (-?\d+)", path.read_text()) if path.exists() else None
     with contextlib.suppress(OSError):
@@ -156,7 +157,8 @@ def preferred(pid: int) -> Iterator[None]:
 
 
 def late(service: Service, seconds: float, *, anew: bool = False) -> float:
-    """The 99th percentile of another client's routes meanwhile, in seconds: by one connection, or each by one of its own."""
+    """The 99th percentile of another client's routes meanwhile, in seconds: by one connection, or each by one of its
+    own."""
     found: list[float] = []
     client = service.connect()
     until = time.monotonic() + seconds
@@ -174,8 +176,8 @@ def late(service: Service, seconds: float, *, anew: bool = False) -> float:
 
 
 def later(service: Service, name: str) -> tuple[float, float]:
-    """The 99th percentile in quiet times and under harm, the worse of one connection and of new ones each time, of the try in
-    which they are nearest: other work on the machine may add to one, and not to each."""
+    """The 99th percentile in quiet times and under harm, the worse of one connection and of new ones each time, of
+    the try in which they are nearest: other work on the machine may add to one, and not to each."""
     found: list[tuple[float, float]] = []
     while len(found) < TRIES and not (found and found[-1][1] < found[-1][0] + MOST_SECONDS / 5):
         quiet = max(late(service, 0.3, anew=anew) for anew in (False, True))

@@ -108,7 +108,8 @@ def test_an_entry_that_is_none(entry: bytes) -> None:
 
 @pytest.fixture(scope="module")
 def imported(program: Path, tmp_path_factory: pytest.TempPathFactory) -> Path:
-    """The tables of a map: a street of two ways over nodes 1 to 3, a way beside it from 1 over 4 to 3, and three dead ends."""
+    """The tables of a map: a street of two ways over nodes 1 to 3, a way beside it from 1 over 4 to 3, and three
+    dead ends."""
     pytest.importorskip("osmium", reason="python3-pyosmium isn't installed")
     folder = tmp_path_factory.mktemp("map")
     made = OsmMap()

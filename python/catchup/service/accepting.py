@@ -1,10 +1,11 @@
 """How workers share the clients that come, and in which order each worker takes them.
 
-All workers wait on one socket. Left to the system, the first that wakes takes most clients, and another none. So each tells
-how many it has in memory that all share, and one that has more than another leaves a client to the others for a moment.
+All workers wait on one socket. Left to the system, the first that wakes takes most clients, and another none. So each
+tells how many it has in memory that all share, and one that has more than another leaves a client to the others for a
+moment.
 
-A storm of clients must not keep others waiting. So the line is walked through quickly: those that have hung up already, and
-those that bring large bodies, are put aside, which costs little, and come in one by one when nobody else waits.
+A storm of clients must not keep others waiting. So the line is walked through quickly: those that have hung up already,
+and those that bring large bodies, are put aside, which costs little, and come in one by one when nobody else waits.
 """
 
 from __future__ import annotations
@@ -88,11 +89,11 @@ def brings_much(head: bytes) -> bool:
 
 
 class Acceptor:
-    """Takes clients from a listening socket for one worker. `make` makes a connection of a client's address; of each sort
-    `most_aside` are put aside, and more aren't taken."""
+    """Takes clients from a listening socket for one worker. `make` makes a connection of a client's address; of each
+    sort `most_aside` are put aside, and more aren't taken."""
 
-    def __init__(self, listener: socket.socket, make: Callable[[Address], asyncio.BaseProtocol], counts: Counts, slot: int,
-                 many: Callable[[], int], most_aside: int) -> None:
+    def __init__(self, listener: socket.socket, make: Callable[[Address], asyncio.BaseProtocol], counts: Counts,
+                 slot: int, many: Callable[[], int], most_aside: int) -> None:
         self.loop = asyncio.get_running_loop()
         self.listener = listener
         self.make = make

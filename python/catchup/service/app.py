@@ -117,14 +117,15 @@ class Front:
     async def answer(self, scope: Scope, receive: Receive, send: Send) -> None:
         worker, read, method = self.worker, scope["catchup.read"], scope["method"]
         worker.gates.check_host(read)
-        if method == "OPTIONS" and b"origin" in read and (shared := worker.gates.shared(read)).get("Access-Control-Allow-Origin"):
+        shared = worker.gates.shared(read)
+        if method == "OPTIONS" and "Access-Control-Allow-Origin" in shared:
             allowed = Response(status_code=204, headers={**shared, **PREFLIGHT, "Catchup-Version": worker.version()})
             await allowed(scope, receive, send)
             return
         self.check(scope, read, method)
         # Each path that has GET has HEAD: the body is left out as it is sent.
         passed = {**scope, "method": "GET"} if method == "HEAD" else scope
-        await self.app(passed, receive, with_headers(send, worker, worker.gates.shared(read)))
+        await self.app(passed, receive, with_headers(send, worker, shared))
 
     def check(self, scope: Scope, read: dict[bytes, bytes], method: str) -> None:
         """Refuses writes of those who may not, bodies that nobody wants, and more words than any path knows."""

@@ -39,8 +39,8 @@ class Sized:
 
 
 class Chunked:
-    """A body in chunks: a line with a size in hexadecimal digits, so many bytes, and the end of a line; the last one is empty,
-    and lines may follow it up to an empty one. BadBody where something else comes."""
+    """A body in chunks: a line with a size in hexadecimal digits, so many bytes, and the end of a line; the last one
+    is empty, and lines may follow it up to an empty one. BadBody where something else comes."""
 
     def __init__(self) -> None:
         self.is_over = False

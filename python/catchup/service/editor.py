@@ -226,7 +226,8 @@ class Editor:
         lines, of = await self.lines(work, source, following)
         replies = await self.run_edit(work, source, lines, following)
         if replies.refused:
-            raise Refused([{"line": of[line - 1] if of else line, "word": word} for line, word in replies.refused], replies.count)
+            raise Refused([{"line": of[line - 1] if of else line, "word": word} for line, word in replies.refused],
+                          replies.count)
         after = packed.digest_of(str(following))
         work.check()
         await self.begin(work, after)
@@ -300,7 +301,8 @@ def put_in_place(path: Path, following: Path, folder: int, entry: journal.Entry,
     journal.append(path, entry, lines)
     try:
         if identity_of(os.stat(path)) != expected:
-            raise Refusal(503, "another file was put in place while the edit was made", hint="try it again over that one")
+            raise Refusal(503, "another file was put in place while the edit was made",
+                          hint="try it again over that one")
         os.rename(following, path)
     except (OSError, Refusal):
         journal.drop_last_where_not(path, entry.before)
@@ -330,7 +332,8 @@ def not_made(status: int, replies: Replies, path: Path) -> Refusal:
         room, needed = free.f_bavail * free.f_frsize, os.stat(path).st_size
         may = os.access(path.parent, os.W_OK | os.X_OK)
         reason = f"no space left on the disk, {room} bytes are free" if may else "the folder may not be written"
-        return Refusal(503, f"the edited file can't be stored: {reason}", hint=f"it needs some {needed} bytes in {path.parent}")
+        return Refusal(503, f"the edited file can't be stored: {reason}",
+                       hint=f"it needs some {needed} bytes in {path.parent}")
     return Refusal(503, f"catchup edit {said_of(status)}" + (f": {said}" if said else ""), hint="nothing has changed")
 
 

@@ -35,7 +35,8 @@ def port_of(host: str) -> int | None:
 
 @dataclass(slots=True)
 class Gates:
-    """What a service lets in. `token` is None where writes need none; `origins` are other origins that may read and write."""
+    """What a service lets in. `token` is None where writes need none; `origins` are other origins that may read and
+    write."""
 
     names: frozenset[str]
     origins: frozenset[str]

@@ -1,5 +1,5 @@
-"""The edits of a file that were asked for, each with what became of it: an SQLite database beside the file, so that every
-worker knows them and the next start too."""
+"""The edits of a file that were asked for, each with what became of it: an SQLite database beside the file, so that
+every worker knows them and the next start too."""
 
 from __future__ import annotations
 
@@ -33,7 +33,8 @@ CREATE TABLE IF NOT EXISTS jobs (
 
 @dataclass(slots=True)
 class Job:
-    """One edit: `told` is what its answer says besides its state, `after` the digest of the file that it was about to make."""
+    """One edit: `told` is what its answer says besides its state, `after` the digest of the file that it was about
+    to make."""
 
     id: str
     state: str
@@ -90,7 +91,8 @@ class Jobs:
         if not self.path.exists():
             return None
         with self.opened() as base:
-            row = base.execute("SELECT id, state, asked, cancel, after, told FROM jobs WHERE id = ?", (name,)).fetchone()
+            row = base.execute("SELECT id, state, asked, cancel, after, told FROM jobs WHERE id = ?",
+                               (name,)).fetchone()
         return None if row is None else job_of(row)
 
     def active(self) -> list[Job]:
@@ -107,11 +109,13 @@ class Jobs:
         return [job_of(row) for row in rows]
 
     def told(self) -> bytes:
-        """The objects of all that are kept as a list in JSON, the newest first; what was told of each is JSON already."""
+        """The objects of all that are kept as a list in JSON, the newest first; what was told of each is JSON
+        already."""
         if not self.path.exists():
             return b"[]"
         with self.opened() as base:
-            rows = base.execute("SELECT id, state, told FROM jobs ORDER BY number DESC LIMIT ?", (KEPT_JOBS,)).fetchall()
+            rows = base.execute("SELECT id, state, told FROM jobs ORDER BY number DESC LIMIT ?",
+                                (KEPT_JOBS,)).fetchall()
         return ("[" + ",".join(object_of(*row) for row in rows) + "]").encode()
 
     def counts(self) -> dict[str, int]:
@@ -132,8 +136,9 @@ class Jobs:
     def end(self, job: Job, state: str, told: dict[str, object] | None = None) -> None:
         """Notes what became of a job."""
         job.state, job.told = state, told or {}
+        text = json.dumps(job.told, separators=(",", ":"))
         with self.opened() as base:
-            base.execute("UPDATE jobs SET state = ?, told = ? WHERE id = ?", (state, json.dumps(job.told, separators=(",", ":")), job.id))
+            base.execute("UPDATE jobs SET state = ?, told = ? WHERE id = ?", (state, text, job.id))
 
     def cancel(self, name: str) -> None:
         """Asks whoever works at a job to end it."""

@@ -1,4 +1,5 @@
-"""The journal of a file: a line of JSON for each version, with the digests before and after it and the edits between."""
+"""The journal of a file: a line of JSON for each version, with the digests before and after it and the edits
+between."""
 
 from __future__ import annotations
 

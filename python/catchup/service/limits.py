@@ -27,7 +27,7 @@ HEAD_SECONDS: Final = 10.0              # for a request's head, from its first b
 BODY_SECONDS: Final = 30.0              # for a body, and besides as long as its bytes take at BODY_RATE
 BODY_RATE: Final = 262_144              # bytes a second
 TAKE_SECONDS: Final = 60.0              # in which a client that takes a reply must take some of it
-LINGER_SECONDS: Final = 5.0             # for what a client goes on sending behind a refusal, and as long as BODY_RATE says
+LINGER_SECONDS: Final = 5.0             # for what a client goes on sending behind a refusal, and besides as BODY_RATE
 
 QUICK_SECONDS: Final = 5.0              # for a child's next reply to a route
 SLOW_SECONDS: Final = 30.0              # and to any other line

@@ -1,4 +1,5 @@
-"""What operators count, of all workers together: files in a folder of this service that each worker writes by itself."""
+"""What operators count, of all workers together: files in a folder of this service that each worker writes by
+itself."""
 
 from __future__ import annotations
 
@@ -73,7 +74,8 @@ class Metrics:
         from prometheus_client import CollectorRegistry, Counter, Gauge, Histogram
 
         self.registry = CollectorRegistry()
-        self.requests = Counter("catchup_requests", "Requests that were answered", ["path", "status"], registry=self.registry)
+        self.requests = Counter(
+            "catchup_requests", "Requests that were answered", ["path", "status"], registry=self.registry)
         self.seconds = Histogram(
             "catchup_request_seconds", "Seconds from a request's head to its answer", registry=self.registry,
             buckets=(0.001, 0.002, 0.005, 0.01, 0.02, 0.05, 0.1, 0.2, 0.5, 1, 2, 5, 10, 30))
@@ -111,7 +113,8 @@ class Metrics:
             """What is so just now."""
 
             def collect(self) -> Iterable[GaugeMetricFamily]:
-                served = GaugeMetricFamily("catchup_version_info", "The version that is served", labels=["version", "profile"])
+                served = GaugeMetricFamily(
+                    "catchup_version_info", "The version that is served", labels=["version", "profile"])
                 for profile, version in versions:
                     served.add_metric([version, profile], 1)
                 states = GaugeMetricFamily("catchup_jobs", "Edits that are kept in mind", labels=["state"])

@@ -7,8 +7,8 @@ from typing import Any, Final
 from starlette.responses import PlainTextResponse
 
 DESCRIPTION: Final = (
-    "The least arrivals on roads whose travel times change over the day. Each answer says which version of the network it is of, "
-    "in `version` and in the header `Catchup-Version`. Errors have `error` and, where it helps, `hint`.")
+    "The least arrivals on roads whose travel times change over the day. Each answer says which version of the network "
+    "it is of, in `version` and in the header `Catchup-Version`. Errors have `error` and, where it helps, `hint`.")
 
 VERSION: Final = "3f2a9c01b7de"
 DRIVE: Final[dict[str, Any]] = {
@@ -17,12 +17,14 @@ DRIVE: Final[dict[str, Any]] = {
     "legs": [{"from": 5, "to": 151, "depart": 28800, "arrive": 29575, "travel": 775, "roads": [22, 80, 136],
               "seconds": [28800, 28845, 29100]}], "version": VERSION}
 CHOICE: Final[dict[str, Any]] = {
-    "depart": 28739, "depart_time": "07:58:59", "arrive": 28899, "arrive_time": "08:01:39", "days_later": 0, "travel": 160}
+    "depart": 28739, "depart_time": "07:58:59", "arrive": 28899, "arrive_time": "08:01:39", "days_later": 0,
+    "travel": 160}
 NODE: Final = "a node by its number, as 17 or node:17"
 NODES: Final = "nodes with commas between"
 TIME: Final = "a second, or a time of day as 08:00 or 08:00:00"
 ERRORS: Final = {
-    400: ("words that aren't as they must be, or that the program refuses", {"error": "refused: node", "version": VERSION}),
+    400: ("words that aren't as they must be, or that the program refuses",
+          {"error": "refused: node", "version": VERSION}),
     421: ("a Host that isn't served", {"error": "this name isn't served here", "version": VERSION}),
     503: ("the program was ended or has no memory: ask again", {"error": "the program has ended", "version": VERSION}),
 }
@@ -36,7 +38,8 @@ Responses = dict[int, tuple[str, dict[str, Any]]]
 
 def word(name: str, said: str, example: object, *, needed: bool = True, where: str = "query") -> dict[str, Any]:
     """A word of an address."""
-    return {"name": name, "in": where, "required": needed, "description": said, "schema": {"type": "string"}, "example": example}
+    return {"name": name, "in": where, "required": needed, "description": said, "schema": {"type": "string"},
+            "example": example}
 
 
 def response(said: str, example: object) -> dict[str, Any]:
@@ -64,8 +67,9 @@ ROUTE: Final = path("The best drive", [
     *ENDS, word("via", "places between, in this order, with semicolons between", "20;80", needed=False),
     word("depart", TIME + "; or `arrive`", "08:00", needed=False),
     word("arrive", "by when to be there, in place of `depart`", "09:00", needed=False)], DRIVE)
-LATEST: Final = path("The last departure in time", [*ENDS, word("by", TIME + ", counted from the midnight before leaving", "09:00")],
-                     {**DRIVE, "answer": "depart", "by": 32400})
+LATEST: Final = path(
+    "The last departure in time", [*ENDS, word("by", TIME + ", counted from the midnight before leaving", "09:00")],
+    {**DRIVE, "answer": "depart", "by": 32400})
 DAY: Final = path("The whole day", ENDS, {
     "answer": "day", "from": 5, "to": 151, "pieces": [{"from": 0, "kind": "travel", "value": 160}], "version": VERSION})
 BEST: Final = path("The shortest drive that leaves in a window", [
@@ -73,11 +77,12 @@ BEST: Final = path("The shortest drive that leaves in a window", [
         "answer": "best", "from": 5, "to": 151, "after": 25200, "before": 32400, "best": CHOICE, "choices": [CHOICE],
         "version": VERSION})
 REACH: Final = path("How soon each node is reached", [word("from", NODE, "5"), DEPART], {
-    "answer": "reach", "from": 5, "depart": 28800, "depart_time": "08:00:00", "version": VERSION, "arrive": [29025, None, 28800]})
+    "answer": "reach", "from": 5, "depart": 28800, "depart_time": "08:00:00", "version": VERSION,
+    "arrive": [29025, None, 28800]})
 TABLE: Final = path("How soon each target is reached from each source", [
     word("from", NODES, "5,20"), word("to", NODES, "0,80,151"), DEPART], {
-        "answer": "table", "from": [5, 20], "to": [0, 80, 151], "depart": 28800, "depart_time": "08:00:00", "version": VERSION,
-        "arrive": [[29025, 29445, 29575], [29055, 29400, 29530]]})
+        "answer": "table", "from": [5, 20], "to": [0, 80, 151], "depart": 28800, "depart_time": "08:00:00",
+        "version": VERSION, "arrive": [[29025, 29445, 29575], [29055, 29400, 29530]]})
 NETWORK: Final = path("Places of nodes and ends of roads", [], {
     "nodes": [[0, 0], [100, 50]], "roads": [[0, 1], [1, 0]], "version": VERSION},
     more={404: ("the service has no tables", {"error": "the service knows no places", "version": VERSION})})
@@ -93,17 +98,19 @@ EDITS: Final = {"edits": [
     {"road": 12, "closed": True}, {"road": 13, "pieces": [{"from": 0, "kind": "travel", "value": 60}]},
     {"road": 14, "profile": 3}, {"profile": 5, "pieces": [{"from": 0, "kind": "travel", "value": 90}]}]}
 POST_EDITS: Final = path(
-    "Makes a batch of edits: all of them, or none", [word("wait", "0 answers at once, with a job to ask for", "1", needed=False)],
+    "Makes a batch of edits: all of them, or none",
+    [word("wait", "0 answers at once, with a job to ask for", "1", needed=False)],
     {"before": "0a1b2c3d4e5f", "lines": 2, "version": VERSION}, "the edits are made, stored and served",
     more={**WRITE_ERRORS, 202: ("with wait=0: a job", JOB), 400: ("lines that are refused, so nothing is made", {
         "error": "refused", "refused": [{"line": 3, "word": "fifo 99"}], "count": 1, "version": VERSION}),
         409: ("no profile is spare for a road of its own", {"error": "no spare profile", "version": VERSION}),
         413: ("too long", {"error": "a line has at most 4194304 bytes", "version": VERSION})},
     body={"required": True, "content": {"text/plain": {"example": LINES}, "application/json": {"example": EDITS}}})
-GET_EDITS: Final = path("The jobs, newest first", [], {"jobs": [{"job": "9f86d081884c7d65", "state": "done", "version": VERSION}],
-                                                     "version": VERSION})
+GET_EDITS: Final = path("The jobs, newest first", [], {
+    "jobs": [{"job": "9f86d081884c7d65", "state": "done", "version": VERSION}], "version": VERSION})
 NAME: Final = word("name", "the job's ID", "9f86d081884c7d65", where="path")
 UNKNOWN: Final[Responses] = {404: ("no such job", {"error": "there is no edit 9f86", "version": VERSION})}
 GET_EDIT: Final = path("What became of a job", [NAME], {**JOB, "state": "done"}, more=UNKNOWN)
-DELETE_EDIT: Final = path("Ends a job", [NAME], {**JOB, "state": "ended"}, "it is ended, and nothing has changed", more={
-    **UNKNOWN, **WRITE_ERRORS, 409: ("it is over", {"error": "the edit is done", "version": VERSION})})
+DELETE_EDIT: Final = path(
+    "Ends a job", [NAME], {**JOB, "state": "ended"}, "it is ended, and nothing has changed", more={
+        **UNKNOWN, **WRITE_ERRORS, 409: ("it is over", {"error": "the edit is done", "version": VERSION})})

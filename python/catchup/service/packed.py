@@ -1,4 +1,5 @@
-"""What a packed file says of itself: its counts, its digest, its roads' ends and its profiles. Numbers are little-endian."""
+"""What a packed file says of itself: its counts, its digest, its roads' ends and its profiles. Numbers are
+little-endian."""
 import hashlib
 import os
 import struct
@@ -86,7 +87,8 @@ def read_roads(descriptor: int, header: Header) -> "array[int]":
 
 
 def shape_of(descriptor: int) -> bytes:
-    """A checksum of the network's nodes and roads without their profiles: files with the same one are versions of one network."""
+    """A checksum of the network's nodes and roads without their profiles: files with the same one are versions of
+    one network."""
     header = read_header(descriptor)
     roads = read_roads(descriptor, header)
     found = hashlib.blake2b(struct.pack("<2I", header.nodes, header.roads), digest_size=16)

@@ -33,8 +33,8 @@ def end_with(parent: int) -> None:
 
 @dataclass(frozen=True, slots=True)
 class Start:
-    """How a program is started: its words, the open file that it has besides, its streams, and whether it leads a group of its
-    own."""
+    """How a program is started: its words, the open file that it has besides, its streams, and whether it leads a
+    group of its own."""
 
     words: Sequence[str | Path]
     descriptor: int
@@ -48,19 +48,21 @@ class Start:
         return await asyncio.get_running_loop().run_in_executor(_starter, self.begin)
 
     def begin(self) -> subprocess.Popen[bytes]:
-        """Starts it from this thread. The system doesn't copy this process's memory for it as long as nothing is done between;
-        all other files are closed as it becomes the program."""
+        """Starts it from this thread. The system doesn't copy this process's memory for it as long as nothing is
+        done between; all other files are closed as it becomes the program."""
+        words = [*BOUND, str(os.getpid()), *map(str, self.words)]
         os.set_inheritable(self.descriptor, True)
         try:
-            return subprocess.Popen([*BOUND, str(os.getpid()), *map(str, self.words)], stdin=self.stdin, stdout=self.stdout,
-                                    stderr=self.stderr, close_fds=False, start_new_session=self.has_group)
+            return subprocess.Popen(words, stdin=self.stdin, stdout=self.stdout, stderr=self.stderr, close_fds=False,
+                                    start_new_session=self.has_group)
         finally:
             os.set_inheritable(self.descriptor, False)
 
 
-# The system takes the thread that started a process for its parent: this one lasts as long as the process does, and has these
-# signals blocked, as has all that it starts.
-_starter: Final = ThreadPoolExecutor(1, "starter", functools.partial(signal.pthread_sigmask, signal.SIG_BLOCK, LEFT_TO_THE_SERVICE))
+# The system takes the thread that started a process for its parent: this one lasts as long as the process does, and has
+# these signals blocked, as has all that it starts.
+_starter: Final = ThreadPoolExecutor(
+    1, "starter", functools.partial(signal.pthread_sigmask, signal.SIG_BLOCK, LEFT_TO_THE_SERVICE))
 
 
 def try_lock(descriptor: int) -> bool:

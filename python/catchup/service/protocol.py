@@ -1,9 +1,9 @@
 """Connections: how requests are read, one after the other, each with limits of size and of time.
 
-uvicorn's protocol, but for five things. A request is begun only when the one before it is answered, in a later turn of the
-loop, so that no client has more than its share however much it sends at once; and but for plain routes, a few of all clients
-in a turn. What is no request is refused in JSON. Heads, bodies, pauses and replies have limits. A body may come in chunks,
-which are read strictly. Who holds much for long is let go where all hold too much.
+uvicorn's protocol, but for five things. A request is begun only when the one before it is answered, in a later turn of
+the loop, so that no client has more than its share however much it sends at once; and but for plain routes, a few of
+all clients in a turn. What is no request is refused in JSON. Heads, bodies, pauses and replies have limits. A body may
+come in chunks, which are read strictly. Who holds much for long is let go where all hold too much.
 """
 
 from __future__ import annotations
@@ -33,12 +33,14 @@ FIRST_LINE: Final = re.compile(rb"[A-Z]{1,32} /[!-~]{0,16383} HTTP/1\.[01]")
 # Ends of lines that are none, and NUL.
 BAD_ENDS: Final = re.compile(rb"\x00|\r(?=[^\n])|(?<!\r)\n")
 BLANK: Final = re.compile(rb"(?:\r?\n)*")
-# A line that is no header: one that goes on the one before, or a name with blanks, which others would read in another way.
+# A line that is no header: one that goes on the one before, or a name with blanks, which others would read in another
+# way.
 BAD_LINE: Final = re.compile(rb"\r\n(?![!#$%&'*+.^_`|~0-9A-Za-z-]+:)")
 # Bytes that a header nobody reads here may hold, and the parser wouldn't take.
 CONTROLS: Final = re.compile(rb"[\x01-\x08\x0b\x0c\x0e-\x1f\x7f]")
 HARMLESS: Final = bytes.maketrans(bytes([*range(1, 9), 11, 12, *range(14, 32), 127]), b"?" * 29)
-READ: Final = frozenset([b"host", b"origin", b"authorization", b"content-length", b"content-type", b"transfer-encoding", b"expect"])
+READ: Final = frozenset([
+    b"host", b"origin", b"authorization", b"content-length", b"content-type", b"transfer-encoding", b"expect"])
 NUMBER: Final = re.compile(rb"[0-9]+")
 
 Headers = list[tuple[bytes, bytes]]
@@ -125,7 +127,8 @@ class Cycle(RequestResponseCycle):  # type: ignore[misc]
     on_response: Callable[[], None] | None
 
     async def run_asgi(self, app: Any) -> None:
-        """Has the application answer. It tells what goes wrong by itself; where it is ended meanwhile, the client is let go."""
+        """Has the application answer. It tells what goes wrong by itself; where it is ended meanwhile, the client is
+        let go."""
         try:
             await app(self.scope, self.receive, self.send)
         except asyncio.CancelledError:
@@ -224,9 +227,9 @@ class Cycle(RequestResponseCycle):  # type: ignore[misc]
         seconds = time.monotonic() - self.began
         connection.crowd.told(scope["path"], self.start["status"], seconds)
         if connection.crowd.log is not None:
-            query = scope["query_string"].decode("latin-1")
-            client = scope["client"] or ("-", 0)
-            connection.crowd.log(f"{client[0]} {scope['method']} {scope['raw_path'].decode('latin-1')}{'?' * bool(query)}{query} "
+            query = scope["query_string"]
+            address = scope["raw_path"] + b"?" * bool(query) + query
+            connection.crowd.log(f"{scope['client'][0]} {scope['method']} {address.decode('latin-1')} "
                                  f"{self.start['status']} {seconds * 1000:.1f}")
         if self.on_response is not None:
             self.on_response()
@@ -243,7 +246,8 @@ class Connection(HttpToolsProtocol):  # type: ignore[misc]
         self.crowd = crowd
         self.client, self.scheme = address[:2], "http"
         self.held, self.at = b"", 0     # what came and isn't read yet, from this place on
-        self.looked, self.blank = 0, 0  # how far a head that isn't whole was looked at, and bytes of empty lines before it
+        self.looked = 0                 # how far a head that isn't whole was looked at
+        self.blank = 0                  # bytes of empty lines before it
         self.is_busy = False            # a request is in work
         self.is_closing = False         # nothing more is read
         self.has_ended = False          # the client sends nothing more
@@ -409,10 +413,11 @@ class Connection(HttpToolsProtocol):  # type: ignore[misc]
         path = raw_path.decode("ascii")
         plain = PLAIN_ROUTE.fullmatch(query) if path == "/route" and method == b"GET" else None
         self.scope = {
-            "type": "http", "asgi": {"version": self.config.asgi_version, "spec_version": "2.3"}, "http_version": version,
-            "server": self.server, "client": self.client, "scheme": self.scheme, "root_path": self.root_path,
-            "headers": self.headers, "method": method.decode("ascii"), "raw_path": raw_path, "query_string": query,
-            "path": urllib.parse.unquote(path) if "%" in path else path, "catchup.read": self.read, "catchup.plain": plain}
+            "type": "http", "asgi": {"version": self.config.asgi_version, "spec_version": "2.3"},
+            "http_version": version, "server": self.server, "client": self.client, "scheme": self.scheme,
+            "root_path": self.root_path, "headers": self.headers, "method": method.decode("ascii"),
+            "raw_path": raw_path, "query_string": query, "path": urllib.parse.unquote(path) if "%" in path else path,
+            "catchup.read": self.read, "catchup.plain": plain}
         self.start_cycle(version)
 
     def wrong_headers(self, version: str) -> tuple[int, str] | None:
@@ -442,8 +447,8 @@ class Connection(HttpToolsProtocol):  # type: ignore[misc]
         kept = self.read.get(b"connection", b"")
         keeps = b"keep-alive" in kept if version == "1.0" else b"close" not in kept
         self.cycle = Cycle(
-            scope=self.scope, transport=self.transport, flow=self.flow, logger=self.logger, access_logger=self.access_logger,
-            access_log=False, default_headers=[], message_event=asyncio.Event(),
+            scope=self.scope, transport=self.transport, flow=self.flow, logger=self.logger,
+            access_logger=self.access_logger, access_log=False, default_headers=[], message_event=asyncio.Event(),
             expect_100_continue=self.read.get(b"expect", b"").lower() == b"100-continue", keep_alive=keeps,
             on_response=self.on_response_complete)
         self.cycle.connection, self.cycle.began = self, time.monotonic()
@@ -531,7 +536,8 @@ class Connection(HttpToolsProtocol):  # type: ignore[misc]
         return self.crowd.is_ending or self.body is not None
 
     def on_response_complete(self) -> None:
-        """The answer of the request in work is on its way: the next one begins in another turn, once this one is taken."""
+        """The answer of the request in work is on its way: the next one begins in another turn, once this one is
+        taken."""
         self.server_state.total_requests += 1
         if self.transport.is_closing():
             return
@@ -568,8 +574,8 @@ class Connection(HttpToolsProtocol):  # type: ignore[misc]
         self.crowd.told("", status, 0.0)
         if self.crowd.log is not None:
             self.crowd.log(f"{self.client[0] if self.client else '-'} - - {status} 0.0")
-        self.transport.write(STATUS_LINE[status] + self.crowd.date + lines + headers
-                             + b"content-length: %d\r\nconnection: close\r\n\r\n" % len(body) + body * (not self.is_head))
+        size = b"content-length: %d\r\nconnection: close\r\n\r\n" % len(body)
+        self.transport.write(STATUS_LINE[status] + self.crowd.date + lines + headers + size + body * (not self.is_head))
         self.linger()
 
     def linger(self) -> None:

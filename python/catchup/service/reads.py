@@ -25,7 +25,8 @@ MOST_DAYS_BACK: Final = 8
 
 @dataclass(frozen=True, slots=True)
 class Leg:
-    """A drive from one node to another, in seconds from the first leg's midnight; `roads` and `seconds` are JSON lists."""
+    """A drive from one node to another, in seconds from the first leg's midnight; `roads` and `seconds` are JSON
+    lists."""
 
     start: int
     end: int
@@ -42,7 +43,8 @@ class Leg:
 
 
 def leg_of(reply: bytes, start: int, end: int, depart: int, day: int = 0) -> Leg:
-    """The leg of a reply `arrive=A arcs=..` or `arrive=A drive=..`, which counts from a midnight `day` seconds later."""
+    """The leg of a reply `arrive=A arcs=..` or `arrive=A drive=..`, which counts from a midnight `day` seconds
+    later."""
     head, _, drive = reply.partition(b" ")
     arrive = int(head[7:]) + day
     if drive.startswith(b"arcs="):
@@ -153,7 +155,8 @@ async def latest(request: Request) -> Response:
 
 
 async def latest_drive(version: Version, asked: dict[str, Any]) -> Response:
-    """The last drive over some stops that is there by a second: leg by leg from its end, when to leave at the latest."""
+    """The last drive over some stops that is there by a second: leg by leg from its end, when to leave at the
+    latest."""
     stops = [asked["from"], *asked.get("via", ()), asked["to"]]
     by = asked["by"]
     with version.held():
@@ -233,8 +236,8 @@ async def best(request: Request) -> Response:
 
 
 def choices_of(pieces: list[Piece], after: int, before: int) -> list[tuple[int, int]]:
-    """Departures in a window with their arrivals, by rising departure: the last second of each piece, where no later one
-    arrives as early. The shortest drive is among them, and of equal ones the last."""
+    """Departures in a window with their arrivals, by rising departure: the last second of each piece, where no later
+    one arrives as early. The shortest drive is among them, and of equal ones the last."""
     found: list[tuple[int, int]] = []
     ends = [second for second, _, _ in pieces[1:]] + [DAY]
     for (second, kind, value), end in zip(pieces, ends):
@@ -250,7 +253,8 @@ def choices_of(pieces: list[Piece], after: int, before: int) -> list[tuple[int, 
 
 def choice_told(choice: tuple[int, int]) -> dict[str, object]:
     depart, arrive = choice
-    return {**timed("depart", depart), **timed("arrive", arrive), "days_later": arrive // DAY, "travel": arrive - depart}
+    return {**timed("depart", depart), **timed("arrive", arrive), "days_later": arrive // DAY,
+            "travel": arrive - depart}
 
 
 @router.get("/reach", **openapi.REACH)

@@ -1,8 +1,8 @@
 """Edits of several machines, each with a file of its own: a stream of Redis says which come, and in which order.
 
-All is exact: who makes the same entries over the same file has the same bytes. So beside each entry stands the digest of the
-file behind it, and a replica whose digest is another one makes nothing more and says so. On each machine one worker takes the
-entries; where in the stream its file is, the journal and the digests tell.
+All is exact: who makes the same entries over the same file has the same bytes. So beside each entry stands the digest
+of the file behind it, and a replica whose digest is another one makes nothing more and says so. On each machine one
+worker takes the entries; where in the stream its file is, the journal and the digests tell.
 """
 
 from __future__ import annotations
@@ -60,7 +60,8 @@ class Log:
 
     def __init__(self, address: str, network: Network, editor: Editor, folder: Path | None) -> None:
         server, self.name = parted(address)
-        self.redis: Redis[bytes] = Redis.from_url(server, socket_timeout=SOCKET_SECONDS, socket_connect_timeout=SOCKET_SECONDS)
+        self.redis: Redis[bytes] = Redis.from_url(
+            server, socket_timeout=SOCKET_SECONDS, socket_connect_timeout=SOCKET_SECONDS)
         self.digests = self.name + ":digests"
         self.network = network
         self.editor = editor
@@ -117,7 +118,8 @@ class Log:
                 await self.redis.xadd(self.name, fields)
         except (RedisError, OSError, TimeoutError) as problem:
             self.is_reached = False
-            raise Refusal(503, f"the stream can't be reached: {said_of(problem)}", hint="reads go on; edit again later") from None
+            raise Refusal(503, f"the stream can't be reached: {said_of(problem)}",
+                          hint="reads go on; edit again later") from None
 
     async def outcome(self, work: Work) -> Made:
         """What became of an entry here."""
@@ -171,8 +173,8 @@ class Log:
             pass
         except (RedisError, OSError, sqlite3.Error, Refusal, packed.NotPacked) as problem:
             self.is_reached = not isinstance(problem, RedisError)
-            self.tell_once(("an entry of the stream can't be made yet: " if self.is_reached else "the stream can't be reached: ")
-                           + said_of(problem))
+            said = "an entry of the stream can't be made yet" if self.is_reached else "the stream can't be reached"
+            self.tell_once(f"{said}: {said_of(problem)}")
             self.digest = ""
             await asyncio.sleep(AGAIN_SECONDS)
 
@@ -191,10 +193,11 @@ class Log:
         known = {entry.decode(): found.decode() for entry, found in (await self.redis.hgetall(self.digests)).items()}
         places = [entry for entry, found in known.items() if found == digest]
         places += await asyncio.to_thread(lambda: [
-            line.entry for line in journal.entries(self.network.path) if line.entry is not None and line.after == digest])
+            line.entry for line in journal.entries(self.network.path)
+            if line.entry is not None and line.after == digest])
         if not places:
-            raise Diverged(f"the file's version {digest[:12]} isn't one of the stream {self.name}: copy the file of another replica "
-                           f"into its place, or start a new stream")
+            raise Diverged(f"the file's version {digest[:12]} isn't one of the stream {self.name}: copy the file of "
+                           f"another replica into its place, or start a new stream")
         self.position, self.digest = max(places, key=order_of), digest
 
     async def check_digest(self, entry: str, digest: str) -> None:
@@ -202,8 +205,8 @@ class Log:
         await self.redis.hsetnx(self.digests, entry, digest)
         found = (await self.redis.hget(self.digests, entry) or b"").decode()
         if found != digest:
-            raise Diverged(f"behind entry {entry} this file is {digest[:12]}, and another replica's is {found[:12]}: copy its file "
-                           f"into this one's place")
+            raise Diverged(f"behind entry {entry} this file is {digest[:12]}, and another replica's is {found[:12]}: "
+                           f"copy its file into this one's place")
 
     async def make_entry(self, entry: str, fields: dict[bytes, bytes]) -> None:
         """Makes one entry, all of it or nothing, as each replica does."""
@@ -222,7 +225,8 @@ class Log:
         await self.check_digest(entry, after)
 
     async def make_all_or_nothing(self, work: Work, folder: int, before: str) -> str:
-        """The digest behind an entry. What is refused is refused by each replica; what only fails here is tried again."""
+        """The digest behind an entry. What is refused is refused by each replica; what only fails here is tried
+        again."""
         try:
             if work.edits is not None and not work.edits:
                 raise Refusal(409, "the edit isn't one")

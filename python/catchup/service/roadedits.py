@@ -20,14 +20,16 @@ if TYPE_CHECKING:
 KINDS: Final = ("travel", "until", "closed")
 CLOSED: Final = 2
 MOST_NAMED: Final = 100_000             # roads that the edits of one body may be of
-FORM: Final = 'a body is {"edits": [..]}, each with "road" and "closed", "pieces" or "profile", or with "profile" and "pieces"'
+FORM: Final = ('a body is {"edits": [..]}, each with "road" and "closed", "pieces" or "profile", '
+               'or with "profile" and "pieces"')
 # Roads of an outside name, or of a number as text.
 Roads = Callable[[str], list[int]]
 
 
 @dataclass(frozen=True, slots=True)
 class Edit:
-    """One edit: of roads or of a profile; what it sets is pieces (as the words of an edit line), a profile, or closed."""
+    """One edit: of roads or of a profile; what it sets is pieces (as the words of an edit line), a profile, or
+    closed."""
 
     roads: tuple[int, ...] | None
     profile: int | None
@@ -102,7 +104,8 @@ def roads_of(found: object, where: str, roads: Roads) -> tuple[int, ...]:
     if isinstance(found, str):
         named = roads(found)
         if not named:
-            raise Refusal(400, f"{where}: no road has this name", hint="a road is its number, or a name of the served tables")
+            raise Refusal(400, f"{where}: no road has this name",
+                          hint="a road is its number, or a name of the served tables")
         return tuple(named)
     return (whole(found, f"{where}: road"),)
 
@@ -121,7 +124,8 @@ def pieces_of(found: object, where: str) -> str:
     for piece in found:
         if not isinstance(piece, dict) or set(piece) != {"from", "kind", "value"} or piece["kind"] not in KINDS:
             raise Refusal(400, f"{where}: a piece has from, kind and value, its kind is travel, until or closed")
-        words += [str(whole(piece["from"], f"{where}: from")), piece["kind"], str(whole(piece["value"], f"{where}: value"))]
+        words += [str(whole(piece["from"], f"{where}: from")), piece["kind"],
+                  str(whole(piece["value"], f"{where}: value"))]
     return ",".join(words)
 
 
@@ -133,12 +137,13 @@ class Profiles:
         import numpy as np
 
         header = packed.read_header(descriptor)
-        roads = np.frombuffer(packed.read_exactly(descriptor, 12 * header.roads, header.roads_at), "<u4").reshape(-1, 3)
-        starts = np.frombuffer(packed.read_exactly(descriptor, 8 * (header.profiles + 1), header.starts_at), "<u8")
-        pieces = np.frombuffer(packed.read_exactly(descriptor, 12 * header.pieces, header.pieces_at), "<u4").reshape(-1, 3)
-        self.of_road: np.ndarray[Any, Any] = roads[:, 2].astype(np.int64)
+        roads, starts, pieces = (packed.read_exactly(descriptor, size, at) for size, at in (
+            (12 * header.roads, header.roads_at), (8 * (header.profiles + 1), header.starts_at),
+            (12 * header.pieces, header.pieces_at)))
+        first = np.frombuffer(starts, "<u8")[:-1].astype(np.int64)
+        self.of_road: np.ndarray[Any, Any] = np.frombuffer(roads, "<u4")[2::3].astype(np.int64)
         self.count: np.ndarray[Any, Any] = np.bincount(self.of_road, minlength=header.profiles)
-        self.is_closed: np.ndarray[Any, Any] = pieces[starts[:-1].astype(np.int64), 1] == CLOSED
+        self.is_closed: np.ndarray[Any, Any] = np.frombuffer(pieces, "<u4")[1::3][first] == CLOSED
         self.profiles = header.profiles
         self.np = np
 
@@ -155,7 +160,8 @@ class Profiles:
             free[closed] = False
         found = self.np.flatnonzero(free)
         if not len(found):
-            raise Refusal(409, "no spare profile", hint="build the file from tables with more profiles that no road has")
+            raise Refusal(409, "no spare profile",
+                          hint="build the file from tables with more profiles that no road has")
         return int(found[0])
 
     def own(self, roads: tuple[int, ...]) -> list[int]:
@@ -205,8 +211,8 @@ def lines_of_edit(edit: Edit, profiles: Profiles) -> list[str]:
 
 
 def own_pieces(roads: tuple[int, ...], pieces: str, profiles: Profiles) -> list[str]:
-    """The lines that give roads pieces: those profiles that only these roads have are used again, and the other roads get one
-    spare profile together."""
+    """The lines that give roads pieces: those profiles that only these roads have are used again, and the other
+    roads get one spare profile together."""
     unknown = [road for road in roads if road >= len(profiles.of_road)]
     if unknown:
         # The program says what is wrong with it.

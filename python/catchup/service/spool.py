@@ -1,7 +1,8 @@
 """What an edit needs in the folder of its file, and how that goes away where a service is killed.
 
-A body is written to `.catchup-edits-ID` as it comes, and stays locked as long as its job lives. The next file is made as
-`.catchup-next-ID`, only by the holder of the folder's lock. So whoever holds that lock can tell what killed ones left.
+A body is written to `.catchup-edits-ID` as it comes, and stays locked as long as its job lives. The next file is made
+as `.catchup-next-ID`, only by the holder of the folder's lock. So whoever holds that lock can tell what killed ones
+left.
 """
 
 from __future__ import annotations
@@ -35,7 +36,8 @@ class Spool:
         self.descriptor = self.open_locked()
 
     def open_locked(self) -> int:
-        """Makes the file. Whoever takes away what is left may take it for that until it is locked; then it is made again."""
+        """Makes the file. Whoever takes away what is left may take it for that until it is locked; then it is made
+        again."""
         while True:
             descriptor = os.open(self.path, os.O_RDWR | os.O_CREAT | os.O_CLOEXEC, 0o600)
             fcntl.flock(descriptor, fcntl.LOCK_EX)
@@ -79,8 +81,8 @@ def next_of(path: Path, name: str) -> Path:
 
 
 def recover(path: Path, jobs: Jobs) -> None:
-    """Takes away what killed services left in a file's folder, and says what became of their jobs. For the holder of the
-    folder's lock alone."""
+    """Takes away what killed services left in a file's folder, and says what became of their jobs. For the holder of
+    the folder's lock alone."""
     sweep(path)
     try:
         digest = packed.digest_of(str(path))

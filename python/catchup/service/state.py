@@ -20,8 +20,9 @@ from catchup.service.worker import worker_of
 router = APIRouter()
 PAGE: Final = Path(__file__).with_name("page") / "page.html"
 PAGE_HEADERS: Final = {
-    "Content-Security-Policy": "default-src 'none'; script-src 'unsafe-inline'; style-src 'unsafe-inline'; connect-src 'self'; "
-                               "img-src data:; base-uri 'none'; form-action 'none'; frame-ancestors 'none'",
+    "Content-Security-Policy":
+        "default-src 'none'; script-src 'unsafe-inline'; style-src 'unsafe-inline'; connect-src 'self'; "
+        "img-src data:; base-uri 'none'; form-action 'none'; frame-ancestors 'none'",
     "X-Content-Type-Options": "nosniff",
 }
 
@@ -40,7 +41,7 @@ async def health(request: Request) -> Response:
         told["profiles"] = {str(network.name or ""): network.current.name for network in worker.networks}
     status = 200
     if not all(well):
-        status, told = 503, {"status": "down", "error": "a child of this worker doesn't answer", **told, "status": "down"}
+        status, told = 503, {**told, "status": "down", "error": "a child of this worker doesn't answer"}
     elif worker.is_ending:
         status, told = 503, {**told, "status": "ending", "error": "the service ends"}
     elif worker.log is not None:
@@ -74,7 +75,8 @@ async def network(request: Request) -> Response:
     worker = worker_of(request)
     found = worker.network(asked.get("profile"))
     if found not in worker.drawn:
-        raise Refusal(404, "the service knows no places", hint="start it with --tables DIR, the folder of its nodes.csv and roads.csv")
+        raise Refusal(404, "the service knows no places",
+                      hint="start it with --tables DIR, the folder of its nodes.csv and roads.csv")
     version = found.current.name
     # The places are the same for all versions.
     body = b'%b,"version":"%b"}' % (worker.drawn[found][:-1], version.encode())

@@ -1,6 +1,7 @@
 """What the roads of a served file are called outside: ways of OpenStreetMap, and streets by name or number.
 
-They stand in map.gpkg, as an import writes it, beside the tables. All workers share what is read of it as a service starts.
+They stand in map.gpkg, as an import writes it, beside the tables. All workers share what is read of it as a service
+starts.
 """
 
 from __future__ import annotations
@@ -39,8 +40,8 @@ class Streets:
                     found.append(road)
 
     def find(self, text: str) -> list[int]:
-        """The roads of a name, rising: those of the way `osm:1234`, else those of a street by its name or number, whose capitals
-        don't matter, else the road `road:17` or `17`. None where nothing is called so."""
+        """The roads of a name, rising: those of the way `osm:1234`, else those of a street by its name or number,
+        whose capitals don't matter, else the road `road:17` or `17`. None where nothing is called so."""
         if (way := WAY.fullmatch(text)) is not None:
             return sorted(self.roads[bisect_left(self.ways, int(way[1])):bisect_right(self.ways, int(way[1]))])
         if text.casefold() in self.named:
@@ -50,8 +51,8 @@ class Streets:
 
 
 def read_streets(path: Path, folder: Path) -> Streets:
-    """The names in a folder of tables, which have to be of a packed file; none where it has no map. Failure where the map is
-    damaged or another one."""
+    """The names in a folder of tables, which have to be of a packed file; none where it has no map. Failure where
+    the map is damaged or another one."""
     map_path = folder / FILE
     if not map_path.is_file():
         return Streets()

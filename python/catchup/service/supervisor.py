@@ -37,6 +37,7 @@ BACKLOG: Final = 1_024                  # clients that wait to be taken
 SPARE_FILES: Final = 128                # for all but connections
 ASIDE: Final = 16                       # of each sort, one of so many connections may be put aside before it is taken
 LARGE_PAGES: Final = "glibc.malloc.hugetlb=1"   # as the launcher has them
+SHARED_MEMORY: Final = "/dev/shm"
 STUCK_SECONDS: Final = 20               # after which a worker that gives no sign is ended
 SWITCH_SECONDS: Final = 0.001           # after which a thread that works lets the loop go on
 DRAIN_PAUSE: Final = 0.02
@@ -44,8 +45,8 @@ GRACE_SECONDS: Final = 0.5              # for requests that are on their way as 
 START_PAUSE: Final = 0.1
 ASK_SECONDS: Final = 0.5                # after which workers are asked again to end: one that has just begun missed it
 UVICORN: Final[dict[str, Any]] = {
-    "loop": "uvloop", "lifespan": "off", "log_config": None, "access_log": False, "date_header": False, "server_header": False,
-    "proxy_headers": False, "ws": "none"}
+    "loop": "uvloop", "lifespan": "off", "log_config": None, "access_log": False, "date_header": False,
+    "server_header": False, "proxy_headers": False, "ws": "none"}
 
 try:
     from gunicorn.app.base import BaseApplication
@@ -75,7 +76,8 @@ class DrainingServer(Server):  # type: ignore[misc]
     slot: int
 
     async def startup(self, sockets: list[socket.socket] | None = None) -> None:
-        """Opens the files, and takes clients from then on. Where the end is asked for meanwhile, nothing is waited for."""
+        """Opens the files, and takes clients from then on. Where the end is asked for meanwhile, nothing is waited
+        for."""
         starting = asyncio.create_task(self.worker.start())
         while not starting.done() and not self.should_exit:
             await asyncio.wait({starting}, timeout=START_PAUSE)
@@ -177,7 +179,8 @@ if HAS_GUNICORN:
         await serve([each.sock for each in worker.sockets], worker.slot, worker.callback_notify, worker.timeout / 2)
 
     class ServiceArbiter(Arbiter):  # type: ignore[misc]
-        """gunicorn's arbiter, but an interrupt lets requests in work come to their end, and a reload needs good files."""
+        """gunicorn's arbiter, but an interrupt lets requests in work come to their end, and a reload needs good
+        files."""
 
         def stop(self, graceful: bool = True) -> None:
             """Asks the workers to end, and ends those that don't in time."""
@@ -233,10 +236,11 @@ if HAS_GUNICORN:
 
         def load_config(self) -> None:
             settings = {
-                "bind": f"fd://{self.descriptor}", "workers": Setting.options.workers, "worker_class": f"{__name__}.ServiceWorker", "logger_class": OneLine,
-                "timeout": STUCK_SECONDS, "backlog": BACKLOG, "loglevel": "warning",
-                "proc_name": "catchup-http", "pre_fork": take_slot, "child_exit": let_go,
-                "when_ready": lambda _: tell_ready(self.address), "worker_tmp_dir": "/dev/shm" if os.path.isdir("/dev/shm") else None}
+                "bind": f"fd://{self.descriptor}", "workers": Setting.options.workers,
+                "worker_class": f"{__name__}.ServiceWorker", "logger_class": OneLine, "timeout": STUCK_SECONDS,
+                "backlog": BACKLOG, "loglevel": "warning", "proc_name": "catchup-http", "pre_fork": take_slot,
+                "child_exit": let_go, "when_ready": lambda _: tell_ready(self.address),
+                "worker_tmp_dir": SHARED_MEMORY if os.path.isdir(SHARED_MEMORY) else None}
             for name, value in settings.items():
                 self.cfg.set(name, value)
 
@@ -308,8 +312,8 @@ def check_files(options: Options) -> None:
 
 
 def find_at_once(options: Options) -> None:
-    """Finds the program that the launcher starts, once for all children: the launcher looks through its sources each time.
-    A program that CATCHUP names is started as it is."""
+    """Finds the program that the launcher starts, once for all children: the launcher looks through its sources each
+    time. A program that CATCHUP names is started as it is."""
     if os.environ.get("CATCHUP"):
         return
     with Child(["ask", options.files[0].path]) as child:

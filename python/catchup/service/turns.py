@@ -1,7 +1,8 @@
 """What is done in a turn of the loop, so that nobody's many requests or large bodies hold up another's one request.
 
-A few requests are begun in each turn, and only one where the turn before took long: those of clients that wait, and beside
-them one of a client that has hung up, and one whose body is large. Of large bodies a few pieces are taken in each turn.
+A few requests are begun in each turn, and only one where the turn before took long: those of clients that wait, and
+beside them one of a client that has hung up, and one whose body is large. Of large bodies a few pieces are taken in
+each turn.
 """
 
 from __future__ import annotations

@@ -31,8 +31,8 @@ def identity_of(found: os.stat_result) -> Identity:
 
 
 class Kept:
-    """The last file of a place that was served, held open by the main process: a worker that starts while another file stands
-    there that can't be served goes on with it. Workers say in a file which one they serve."""
+    """The last file of a place that was served, held open by the main process: a worker that starts while another
+    file stands there that can't be served goes on with it. Workers say in a file which one they serve."""
 
     def __init__(self, path: Path, note: Path) -> None:
         self.path = path
@@ -72,10 +72,12 @@ class Version:
         self.restarts: set[asyncio.Task[None]] = set()
 
     async def start(self) -> None:
-        """Starts both children, which check the file, and reads it meanwhile; NotOpened where the program refuses it."""
+        """Starts both children, which check the file, and reads it meanwhile; NotOpened where the program refuses
+        it."""
         found = await asyncio.gather(
             Child.start(self.program, self.descriptor, QUICK_SECONDS),
-            Child.start(self.program, self.descriptor, SLOW_SECONDS), asyncio.to_thread(self.read), return_exceptions=True)
+            Child.start(self.program, self.descriptor, SLOW_SECONDS), asyncio.to_thread(self.read),
+            return_exceptions=True)
         problems = [each for each in found if isinstance(each, BaseException)]
         children = [each for each in found if isinstance(each, Child)]
         if problems:
@@ -178,7 +180,8 @@ class Version:
         child.kill()
 
     def look(self, now: float) -> None:
-        """Ends a child whose next reply takes too long, and asks one that has long been asked nothing whether it is there."""
+        """Ends a child whose next reply takes too long, and asks one that has long been asked nothing whether it is
+        there."""
         for child in (self.quick, self.slow):
             if child.gone.is_set():
                 continue
@@ -215,7 +218,8 @@ def was_killed(problem: Exception) -> bool:
 class Network:
     """A place of a packed file that is served under a name, or under each name where it has none."""
 
-    def __init__(self, name: str | None, path: Path, program: str, kept: Kept | None, first_to_tell: Callable[[str], bool]) -> None:
+    def __init__(self, name: str | None, path: Path, program: str, kept: Kept | None,
+                 first_to_tell: Callable[[str], bool]) -> None:
         self.kept = kept
         self.name = name
         self.path = path

@@ -16,7 +16,8 @@ NUMBERS: Final = re.compile(r"[0-9]{1,15}(?:(?:,[0-9]{1,15})*|(?:;[0-9]{1,15})*)
 PROFILE: Final = re.compile(r"[A-Za-z0-9_.-]{1,64}")
 # An address of a route as most are: its words in this order, and nothing to be read with care.
 PLAIN_ROUTE: Final = re.compile(
-    rb"from=([0-9]{1,9})&to=([0-9]{1,9})&depart=(?:([0-9]{1,9})|([01]?[0-9]|2[0-3])(?::|%3A)([0-5][0-9])(?:(?::|%3A)([0-5][0-9]))?)")
+    rb"from=([0-9]{1,9})&to=([0-9]{1,9})&depart="
+    rb"(?:([0-9]{1,9})|([01]?[0-9]|2[0-3])(?::|%3A)([0-5][0-9])(?:(?::|%3A)([0-5][0-9]))?)")
 
 
 def number_of(word: str) -> int:
@@ -80,7 +81,8 @@ def words_of(query: bytes) -> dict[str, str]:
     if not query:
         return {}
     try:
-        pairs = urllib.parse.parse_qsl(query.decode("ascii"), keep_blank_values=True, strict_parsing=True, errors="strict")
+        pairs = urllib.parse.parse_qsl(
+            query.decode("ascii"), keep_blank_values=True, strict_parsing=True, errors="strict")
     except UnicodeDecodeError:
         raise Refusal(400, "the address has bytes that are no text") from None
     except ValueError:

@@ -4,6 +4,7 @@ from __future__ import annotations
 
 import asyncio
 import contextlib
+import functools
 import os
 import sqlite3
 from collections.abc import Coroutine
@@ -32,8 +33,8 @@ if TYPE_CHECKING:
 
 @dataclass(slots=True)
 class Shared:
-    """What the main process has found out of each file, and all workers share: what the page draws, what roads are called, and
-    the last version that was served; and how many connections a worker may have."""
+    """What the main process has found out of each file, and all workers share: what the page draws, what roads are
+    called, and the last version that was served; and how many connections a worker may have."""
 
     drawn: dict[Path, bytes]
     streets: dict[Path, Streets]
@@ -50,9 +51,9 @@ class Worker:
         self.gates = options.gates()
         self.program = str(find_program())
         self.metrics = Metrics()
-        self.networks = [
-            Network(file.name, file.path, self.program, shared.kept.get(file.path), lambda line: first_to_tell(folder, line))
-            for file in options.files]
+        tell_once = functools.partial(first_to_tell, folder)
+        self.networks = [Network(file.name, file.path, self.program, shared.kept.get(file.path), tell_once)
+                         for file in options.files]
         self.by_name = {network.name: network for network in self.networks}
         # A file without a name answers to every name.
         self.unnamed = self.by_name.get(None)
@@ -89,8 +90,9 @@ class Worker:
         self.crowd.tick(asyncio.get_running_loop().time())
         for acceptor in self.acceptors:
             acceptor.tell()
+        versions = [network.current for network in self.networks]
         self.metrics.children.set(sum(
-            not child.gone.is_set() for network in self.networks for child in (network.current.quick, network.current.slow)))
+            not child.gone.is_set() for version in versions for child in (version.quick, version.slow)))
 
     def end_edits(self) -> None:
         """The service ends and can't wait longer for edits."""
@@ -116,7 +118,8 @@ class Worker:
 
     def let_go(self, task: asyncio.Task[Any]) -> None:
         self.tasks.discard(task)
-        if not task.cancelled() and (problem := task.exception()) is not None and not isinstance(problem, (Refusal, Refused)):
+        problem = None if task.cancelled() else task.exception()
+        if problem is not None and not isinstance(problem, (Refusal, Refused)):
             tell(f"an error that should not be: {said_of(problem)}")
 
     def network(self, profile: str | None) -> Network:
