@@ -13,6 +13,7 @@ from __future__ import annotations
 import asyncio
 import contextlib
 import enum
+import itertools
 import mmap
 import re
 import socket
@@ -38,6 +39,7 @@ RECEIVED: Final = 65_536                # bytes that the system takes of a clien
 BODY: Final = re.compile(rb"\r\n(?:content-length:[ \t]*([0-9]+)|transfer-encoding:)", re.IGNORECASE)
 
 Address = tuple[Any, ...]
+Client = tuple[socket.socket, Address]
 
 
 class Counts:
@@ -103,7 +105,7 @@ class Acceptor:
         self.most_aside = most_aside
         self.has_left = False           # a client was left to others, and none took it
         self.is_closed = False
-        self.aside: dict[Sort, deque[tuple[socket.socket, Address]]] = {Sort.HUNG_UP: deque(), Sort.LARGE: deque()}
+        self.aside: dict[Sort, deque[Client]] = {Sort.HUNG_UP: deque(), Sort.LARGE: deque()}
         self.is_aside_due = False
         self.is_crowded = False         # more clients may wait than were looked at
         self.tasks: set[asyncio.Task[object]] = set()
@@ -133,7 +135,7 @@ class Acceptor:
             if sort is Sort.WELCOME:
                 welcomed += 1
                 self.has_left = False
-                self.welcome(client, address)
+                self.welcome((client, address))
             elif sort in self.aside and len(self.aside[sort]) < self.most_aside:
                 self.aside[sort].append((client, address))
             else:
@@ -162,13 +164,14 @@ class Acceptor:
             return
         for line in self.aside.values():
             if line:
-                self.welcome(*line.popleft())
+                self.welcome(line.popleft())
         self.call_aside()
 
-    def welcome(self, client: socket.socket, address: Address) -> None:
+    def welcome(self, client: Client) -> None:
         """Takes a client."""
+        accepted, address = client
         task: asyncio.Task[object] = self.loop.create_task(
-            self.loop.connect_accepted_socket(lambda: self.make(address), client))
+            self.loop.connect_accepted_socket(lambda: self.make(address), accepted))
         self.tasks.add(task)
         task.add_done_callback(self.let_go)
 
@@ -197,11 +200,14 @@ class Acceptor:
         self.loop.remove_reader(self.listener.fileno())
         self.counts.cells[self.slot] = UNUSED
         with contextlib.suppress(OSError):
-            for _ in range(LAST):
-                client, address = self.listener.accept()
-                client.setblocking(False)
-                self.welcome(client, address)
+            self.take_all()
         self.listener.close()
-        for line in self.aside.values():
-            while line:
-                self.welcome(*line.popleft())
+        for client in itertools.chain(*self.aside.values()):
+            self.welcome(client)
+
+    def take_all(self) -> None:
+        """Takes those that wait; an OSError says that there are no more."""
+        for _ in range(LAST):
+            client, address = self.listener.accept()
+            client.setblocking(False)
+            self.welcome((client, address))

@@ -53,8 +53,9 @@ class Gates:
         rest = text.strip()[len(name):]
         if name not in self.names or (rest not in ("", ":") and port_of(text) is None):
             raise Refusal(421, "this name isn't served here", hint="--name NAME serves another one")
-        if len(self.seen) < MOST_SEEN:
-            self.seen.add(host)
+        if len(self.seen) >= MOST_SEEN:
+            self.seen.clear()
+        self.seen.add(host)
 
     def check_write(self, read: Read) -> None:
         """Refuses a write that a page of elsewhere sends, or that has no token where one is needed."""

@@ -48,16 +48,16 @@ def response(said: str, example: object) -> dict[str, Any]:
 
 
 def path(summary: str, words: list[dict[str, Any]], example: object, said: str = "the answer", *,
-         more: Responses | None = None, body: dict[str, Any] | None = None, status: int = 200) -> dict[str, Any]:
+         more: Responses | None = None, body: dict[str, Any] | None = None) -> dict[str, Any]:
     """What a path's route is told: its words, its answers and its body."""
     profile = word("profile", "the name of a served file, the first where none is said", "car", needed=False)
-    responses: dict[int | str, dict[str, Any]] = {status: response(said, example)}
+    responses: dict[int | str, dict[str, Any]] = {200: response(said, example)}
     for number, (text, error) in {**ERRORS, **(more or {})}.items():
         responses[number] = response(text, error)
     extra: dict[str, Any] = {"parameters": [*words, profile]}
     if body is not None:
         extra["requestBody"] = body
-    return {"summary": summary, "responses": responses, "openapi_extra": extra, "status_code": status}
+    return {"summary": summary, "responses": responses, "openapi_extra": extra}
 
 
 ENDS: Final = [word("from", NODE, "5"), word("to", NODE, "151")]

@@ -115,6 +115,11 @@ class Crowd:
         for each in list(self.everyone):
             each.shutdown()
 
+    def abort(self) -> None:
+        """Lets all connections go."""
+        for each in list(self.everyone):
+            each.abort()
+
 
 class Cycle(RequestResponseCycle):  # type: ignore[misc]
     """One request and its answer: uvicorn's, but what is sent goes out in one piece, and is counted."""

@@ -13,6 +13,7 @@ import signal
 import socket
 import sys
 import time
+from collections.abc import Callable
 from pathlib import Path
 from typing import Any, Final
 
@@ -102,24 +103,24 @@ class DrainingServer(Server):  # type: ignore[misc]
 
     async def shutdown(self, sockets: list[socket.socket] | None = None) -> None:
         """Takes no more connections, answers what is in work, and ends edits that aren't ready in time."""
-        worker, loop = self.worker, asyncio.get_running_loop()
-        began = loop.time()
+        worker, began = self.worker, asyncio.get_running_loop().time()
         worker.is_ending = worker.crowd.is_ending = True
         for each in self.acceptors:
             each.close()
         # A request that is on its way is answered too, and told that the connection ends.
-        while self.has_clients() and loop.time() < began + GRACE_SECONDS:
-            await asyncio.sleep(DRAIN_PAUSE)
+        await self.wait(self.has_clients, began + GRACE_SECONDS)
         worker.crowd.end()
-        has_ended_edits = False
-        while self.is_busy() and loop.time() < began + LAST_SECONDS:
-            if not has_ended_edits and loop.time() > began + DRAIN_SECONDS:
-                has_ended_edits = True
-                worker.end_edits()
-            await asyncio.sleep(DRAIN_PAUSE)
-        for connection in list(worker.crowd.everyone):
-            connection.abort()
+        await self.wait(self.is_busy, began + DRAIN_SECONDS)
+        worker.end_edits()
+        await self.wait(self.is_busy, began + LAST_SECONDS)
+        worker.crowd.abort()
         await worker.end()
+
+    async def wait(self, is_so: Callable[[], bool], last: float) -> None:
+        """Waits as long as something is so, up to a second of the loop's."""
+        loop = asyncio.get_running_loop()
+        while is_so() and loop.time() < last:
+            await asyncio.sleep(DRAIN_PAUSE)
 
     def has_clients(self) -> bool:
         """Whether somebody is connected, or is about to be."""

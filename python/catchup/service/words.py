@@ -97,17 +97,11 @@ def take(query: bytes, needed: Mapping[str, Kind], optional: Mapping[str, Kind] 
     """The values of an address's words, each read by its kind; optional ones are there where they were said."""
     words = words_of(query)
     kinds = {**needed, **(optional or {}), "profile": profile_of}
-    for name in words:
-        if name not in kinds:
-            raise Refusal(400, f"{told_briefly(name)} isn't known here", hint=f"known are {', '.join(kinds)}")
-    for name in needed:
-        if name not in words:
-            raise Refusal(400, f"{name} is missing")
-    values = {}
-    for name in [*needed, *kinds]:
-        if name in words and name not in values:
-            values[name] = read(name, words[name], kinds[name])
-    return values
+    if unknown := [name for name in words if name not in kinds]:
+        raise Refusal(400, f"{told_briefly(unknown[0])} isn't known here", hint=f"known are {', '.join(kinds)}")
+    if missing := [name for name in needed if name not in words]:
+        raise Refusal(400, f"{missing[0]} is missing")
+    return {name: read(name, words[name], kind) for name, kind in kinds.items() if name in words}
 
 
 def read(name: str, word: str, kind: Kind) -> Any:
