@@ -49,10 +49,11 @@ def checked(reply: bytes) -> bytes:
 
 def answer(told: dict[str, Any], version: str, *, status: int = 200, headers: dict[str, str] | None = None,
            raw: tuple[str, bytes] | None = None) -> Response:
-    """An answer with its version. `raw` is a last member whose value is JSON already."""
+    """An answer with its version behind all else. `raw` is a member whose value is JSON already."""
     body = as_json({**told, "version": version})
     if raw is not None:
-        body = b'%b,"%b":%b}' % (body[:-1], raw[0].encode(), raw[1])
+        last = as_json({"version": version})[1:]
+        body = b'%b%b"%b":%b,%b' % (as_json(told)[:-1], b"," * bool(told), raw[0].encode(), raw[1], last)
     return Response(body, status, {"Catchup-Version": version, **(headers or {})}, media_type=KIND)
 
 

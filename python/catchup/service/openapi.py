@@ -77,12 +77,12 @@ BEST: Final = path("The shortest drive that leaves in a window", [
         "answer": "best", "from": 5, "to": 151, "after": 25200, "before": 32400, "best": CHOICE, "choices": [CHOICE],
         "version": VERSION})
 REACH: Final = path("How soon each node is reached", [word("from", NODE, "5"), DEPART], {
-    "answer": "reach", "from": 5, "depart": 28800, "depart_time": "08:00:00", "version": VERSION,
-    "arrive": [29025, None, 28800]})
+    "answer": "reach", "from": 5, "depart": 28800, "depart_time": "08:00:00", "arrive": [29025, None, 28800],
+    "version": VERSION})
 TABLE: Final = path("How soon each target is reached from each source", [
     word("from", NODES, "5,20"), word("to", NODES, "0,80,151"), DEPART], {
         "answer": "table", "from": [5, 20], "to": [0, 80, 151], "depart": 28800, "depart_time": "08:00:00",
-        "version": VERSION, "arrive": [[29025, 29445, 29575], [29055, 29400, 29530]]})
+        "arrive": [[29025, 29445, 29575], [29055, 29400, 29530]], "version": VERSION})
 NETWORK: Final = path("Places of nodes and ends of roads", [], {
     "nodes": [[0, 0], [100, 50]], "roads": [[0, 1], [1, 0]], "version": VERSION},
     more={404: ("the service has no tables", {"error": "the service knows no places", "version": VERSION})})
@@ -95,7 +95,7 @@ METRICS: Final[dict[str, Any]] = {
 JOB: Final[dict[str, Any]] = {"job": "9f86d081884c7d65", "state": "waiting", "version": VERSION}
 LINES: Final = "s,0,0,travel,600\na,12,3\n"
 EDITS: Final = {"edits": [
-    {"road": 12, "closed": True}, {"road": 13, "pieces": [{"from": 0, "kind": "travel", "value": 60}]},
+    {"road": 12, "closed": True}, {"road": "osm:1234", "closed": True}, {"road": 13, "pieces": [{"from": 0, "kind": "travel", "value": 60}]},
     {"road": 14, "profile": 3}, {"profile": 5, "pieces": [{"from": 0, "kind": "travel", "value": 90}]}]}
 POST_EDITS: Final = path(
     "Makes a batch of edits: all of them, or none",
