@@ -95,7 +95,8 @@ METRICS: Final[dict[str, Any]] = {
 JOB: Final[dict[str, Any]] = {"job": "9f86d081884c7d65", "state": "waiting", "version": VERSION}
 LINES: Final = "s,0,0,travel,600\na,12,3\n"
 EDITS: Final = {"edits": [
-    {"road": 12, "closed": True}, {"road": "osm:1234", "closed": True}, {"road": 13, "pieces": [{"from": 0, "kind": "travel", "value": 60}]},
+    {"road": 12, "closed": True}, {"road": "osm:1234", "closed": True},
+    {"road": 13, "pieces": [{"from": 0, "kind": "travel", "value": 60}]},
     {"road": 14, "profile": 3}, {"profile": 5, "pieces": [{"from": 0, "kind": "travel", "value": 90}]}]}
 POST_EDITS: Final = path(
     "Makes a batch of edits: all of them, or none",
