@@ -185,6 +185,57 @@ def test_a_hangup_starts_workers_anew(file: Path) -> None:
         assert service.end()[0] == 0
 
 
+def ask_on_new_connections(service: Service, found: list[str], is_over: threading.Event) -> None:
+    """Asks for tables, each on a connection of its own, and notes what comes of it."""
+    nodes = ",".join(map(str, range(60)))
+    while not is_over.is_set():
+        try:
+            with service.connect() as client:
+                client.sendall(f"GET /table?depart=0&from={nodes}&to={nodes} HTTP/1.1\r\nHost: localhost\r\n\r\n".encode())
+                found.append(client.recv(12).decode())
+        except ConnectionRefusedError:
+            found.append("refused")
+            return
+        except OSError as problem:
+            found.append(str(problem))
+
+
+@pytest.mark.parametrize("number", [signal.SIGHUP, signal.SIGTERM])
+def test_requests_on_their_way_are_answered(file: Path, number: int) -> None:
+    """At a reload all are; at the end all are whose connection was taken."""
+    with Service(file, workers=2) as service:
+        found: list[str] = []
+        is_over = threading.Event()
+        clients = [threading.Thread(target=ask_on_new_connections, args=(service, found, is_over)) for _ in range(12)]
+        for client in clients:
+            client.start()
+        assert wait_for(lambda: len(found) > 20)
+        before = set(service.workers())
+        service.process.send_signal(number)
+        if number == signal.SIGHUP:
+            assert wait_for(lambda: (len(service.workers()), set(service.workers()) & before), lambda now: now == (2, set()))
+            many = len(found)
+            assert wait_for(lambda: len(found) > many + 20)
+        else:
+            assert service.process.wait(SECONDS) == 0
+        is_over.set()
+        for client in clients:
+            client.join()
+        assert set(found) <= {"HTTP/1.1 200", "refused"} if number == signal.SIGTERM else set(found) == {"HTTP/1.1 200"}
+
+
+def test_children_have_no_files_but_their_own(file: Path) -> None:
+    """Else one that is late would keep a port or a lock from the next service. Signals to all aren't for them."""
+    with Service(file) as service, service.connect():
+        service.edit("s,0,0,travel,600")
+        assert wait_for(lambda: len(service.children()), lambda many: many == 2) == 2
+        for child in service.children():
+            files = [os.readlink(each) for each in Path(f"/proc/{child}/fd").iterdir()]
+            assert sorted(name.split(":")[0] for name in files) == sorted(["/dev/null", "pipe", "pipe", str(file)])
+            blocked = int(re.findall(r"SigBlk:\s+(\w+)", Path(f"/proc/{child}/status").read_text())[0], 16)
+            assert all(blocked >> number - 1 & 1 for number in (signal.SIGTERM, signal.SIGINT, signal.SIGHUP, signal.SIGQUIT))
+
+
 # ---- killed at any moment ----
 
 

@@ -55,10 +55,13 @@ class Child(asyncio.Protocol):
         except OSError as problem:
             raise NotOpened(f"{program} can't be started: {problem.strerror}") from None
         writer, _ = await loop.connect_write_pipe(asyncio.BaseProtocol, process.stdin)
-        _, child = await loop.connect_read_pipe(lambda: cls(process, writer, limit), process.stdout)
+        child = cls(process, writer, limit)
+        # Before anything can come: the program says why it refuses a file without being asked.
+        reply = child.ask(PROBE)
+        await loop.connect_read_pipe(lambda: child, process.stdout)
         try:
             async with asyncio.timeout(START_SECONDS):
-                said = await child.ask(PROBE)
+                said = await reply
         except (TimeoutError, Refusal):
             said = b""
         if said != READY:

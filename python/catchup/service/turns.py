@@ -47,21 +47,23 @@ class Turns:
 
     def add(self, request: Waiting) -> None:
         """Begins a request in a turn to come."""
-        if request.is_large:
-            self.put(request, self.large, MOST_LARGE - len(self.coming) + len(self.large))
-        elif request.has_ended:
-            self.put(request, self.hung_up, MOST_HUNG_UP)
+        if not request.is_large:
+            self.put(request)
+        elif len(self.coming) < MOST_LARGE:
+            self.coming.add(request)
+            self.large.append(request)
         else:
-            self.prompt.append(request)
+            request.turn_away()
         self.call()
 
-    def put(self, request: Waiting, line: deque[Waiting], most: int) -> None:
-        if len(line) >= most:
+    def put(self, request: Waiting) -> None:
+        """Puts a request without a large body into its line."""
+        if not request.has_ended:
+            self.prompt.append(request)
+        elif len(self.hung_up) < MOST_HUNG_UP:
+            self.hung_up.append(request)
+        else:
             request.turn_away()
-            return
-        line.append(request)
-        if request.is_large:
-            self.coming.add(request)
 
     def forget(self, request: Waiting) -> None:
         """A large body is there, or its client is gone."""
@@ -98,8 +100,7 @@ class Turns:
             request = line.popleft()
             if request.is_closing:
                 continue
-            if line is self.prompt and request.has_ended:
-                self.put(request, self.hung_up, MOST_HUNG_UP)
-                continue
-            request.go()
-            return
+            if line is not self.prompt or not request.has_ended:
+                request.go()
+                return
+            self.put(request)
