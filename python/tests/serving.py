@@ -40,7 +40,8 @@ def client_of(port: int) -> httpx.Client:
 class Service:
     """A service over some files."""
 
-    def __init__(self, *words: str | Path, workers: int = 1, most_files: int | None = None, most_bytes: int | None = None,
+    def __init__(self, *words: str | Path, workers: int = 1, most_files: int | None = None,
+                 most_bytes: int | None = None,
                  **environment: str) -> None:
         def limit() -> None:
             for kind, most in ((resource.RLIMIT_NOFILE, most_files), (resource.RLIMIT_FSIZE, most_bytes)):
@@ -48,7 +49,8 @@ class Service:
                     resource.setrlimit(kind, (most, most))
 
         self.process = subprocess.Popen(
-            [HTTP, "--port", "0", "--workers", str(workers), *words], stdout=subprocess.PIPE, stderr=subprocess.PIPE, text=True,
+            [HTTP, "--port", "0", "--workers", str(workers), *words], stdout=subprocess.PIPE, stderr=subprocess.PIPE,
+            text=True,
             env={**os.environ, **environment}, start_new_session=True, preexec_fn=limit)
         assert self.process.stdout is not None
         line = self.process.stdout.readline()
@@ -71,7 +73,8 @@ class Service:
 
     def ask(self, path: str, method: str = "GET", body: bytes | None = None, **headers: str) -> tuple[int, Any]:
         """The status and the JSON of an answer."""
-        reply = self.client.request(method, path, content=body, headers={name.replace("_", "-"): value for name, value in headers.items()})
+        reply = self.client.request(method, path, content=body,
+                                    headers={name.replace("_", "-"): value for name, value in headers.items()})
         return reply.status_code, reply.json()
 
     def get(self, path: str) -> Any:
@@ -166,7 +169,8 @@ def digest_of(path: Path) -> str:
 
 def left_in(folder: Path) -> list[str]:
     """Names of files that no service may leave."""
-    return sorted(each.name for each in folder.iterdir() if each.name.startswith(".") or each.name.endswith(("-journal", "-wal", "-shm")))
+    return sorted(each.name for each in folder.iterdir() if each.name.startswith(".")
+                  or each.name.endswith(("-journal", "-wal", "-shm")))
 
 
 def arrivals(path: Path, queries: Iterable[tuple[int, int, int]]) -> list[int | None]:

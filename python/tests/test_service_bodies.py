@@ -60,13 +60,19 @@ def test_any_bytes_are_chunks_or_refused(data: bytes, cuts: list[int]) -> None:
 
 
 BAD_CHUNKS = [
-    (b"x\r\n", "a chunk's size isn't one"), (b"-1\r\n", "a chunk's size isn't one"), (b"+5\r\nabcde\r\n0\r\n\r\n", "a chunk's size isn't one"),
-    (b"0x5\r\nabcde\r\n0\r\n\r\n", "a chunk's size isn't one"), (b" 5\r\nabcde\r\n0\r\n\r\n", "a chunk's size isn't one"),
-    (b"\r\n", "a chunk's size isn't one"), (b"1_0\r\n", "a chunk's size isn't one"), (b"fffffffff\r\n", "a chunk's size isn't one"),
+    (b"x\r\n", "a chunk's size isn't one"), (b"-1\r\n", "a chunk's size isn't one"),
+    (b"+5\r\nabcde\r\n0\r\n\r\n", "a chunk's size isn't one"),
+    (b"0x5\r\nabcde\r\n0\r\n\r\n", "a chunk's size isn't one"),
+    (b" 5\r\nabcde\r\n0\r\n\r\n", "a chunk's size isn't one"),
+    (b"\r\n", "a chunk's size isn't one"), (b"1_0\r\n", "a chunk's size isn't one"),
+    (b"fffffffff\r\n", "a chunk's size isn't one"),
     (b"\xd9\xa1\r\n", "a chunk's size isn't one"), (b"5 5\r\nabcde\r\n", "a chunk's size isn't one"),
-    (b"5\nabcde\r\n0\r\n\r\n", "a line between chunks has no end"), (b"2\r\nabc\r\n0\r\n\r\n", "a chunk is longer than it says"),
-    (b"1\r\nabc\r\n0\r\n\r\n", "a chunk is longer than it says"), (b"1\r\na\n0\r\n\r\n", "a line between chunks has no end"),
-    (b"0" * 2000, "a line between chunks is too long"), (b"1;" + b"a" * 2000 + b"\r\n", "a line between chunks is too long"),
+    (b"5\nabcde\r\n0\r\n\r\n", "a line between chunks has no end"),
+    (b"2\r\nabc\r\n0\r\n\r\n", "a chunk is longer than it says"),
+    (b"1\r\nabc\r\n0\r\n\r\n", "a chunk is longer than it says"),
+    (b"1\r\na\n0\r\n\r\n", "a line between chunks has no end"),
+    (b"0" * 2000, "a line between chunks is too long"),
+    (b"1;" + b"a" * 2000 + b"\r\n", "a line between chunks is too long"),
     (b"0\r\nno header\r\n\r\n", "a line behind the last chunk isn't a header"),
     (b"0\r\n folded\r\n\r\n", "a line behind the last chunk isn't a header"),
     (b"0\r\n" + b"A: b\r\n" * 65 + b"\r\n", "a line behind the last chunk isn't a header")]
@@ -106,7 +112,8 @@ def test_edits_come_in_chunks(service: Service) -> None:
             time.sleep(0.001)
         client.shutdown(socket.SHUT_WR)
         found = read_all(client)
-    assert b"HTTP/1.1 400" in found and b'"word":"line"' in found and found.count(b"HTTP/1.1 ") == 2 and b'"status":"ok"' in found
+    assert b"HTTP/1.1 400" in found and found.count(b"HTTP/1.1 ") == 2
+    assert b'"word":"line"' in found and b'"status":"ok"' in found
 
 
 def test_a_body_in_chunks_has_the_limits_of_others(service: Service) -> None:

@@ -2,6 +2,7 @@
 
 from __future__ import annotations
 
+import itertools
 import json
 import os
 import signal
@@ -93,7 +94,8 @@ def test_a_refused_line_undoes_all(file: Path) -> None:
         body = "\n".join([LINE, "q,0,2,0", "s,0,0,travel,300,36000,travel,100", "", "a,1"])
         status, told = service.ask("/edits", "POST", body.encode())
         assert (status, told["error"], told["count"]) == (400, "refused", 4)
-        assert told["refused"] == [{"line": 2, "word": "line"}, {"line": 3, "word": "fifo 35999"}, {"line": 4, "word": "line"},
+        assert told["refused"] == [{"line": 2, "word": "line"}, {"line": 3, "word": "fifo 35999"},
+                                   {"line": 4, "word": "line"},
                                    {"line": 5, "word": "line"}]
         status, told = service.ask("/edits", "POST", b"\n" * 250)
         assert (told["count"], len(told["refused"]), told["refused"][99]) == (250, 100, {"line": 100, "word": "line"})
@@ -106,10 +108,13 @@ def test_a_refused_line_undoes_all(file: Path) -> None:
 
 
 BAD_LINES = [
-    ("s,0", "line"), ("q,0,2,0", "line"), ("step", "line"), ("0,x", "line"), ("a,1,2,3", "line"), ("s,0,0,travel,+1", "line"),
+    ("s,0", "line"), ("q,0,2,0", "line"), ("step", "line"), ("0,x", "line"), ("a,1,2,3", "line"),
+    ("s,0,0,travel,+1", "line"),
     ("s,\u0661,0,travel,1", "line"), ("a,99999999999999999999999999,0", "arc"), ("a,0,9999", "profile"),
-    ("s,9999,0,travel,1", "profile"), ("s,0,0,\x07,1", "kind"), ("s,0,0,travel,999999999", "limit"), ("s,0,5,travel,1", "start"),
-    ("s,0,0,travel,1,0,travel,1", "rising"), ("s,0,0,travel,1,5,closed,0", "closed"), ("\ufeffa,0,0", "line"), ("a,0,0\0", "line")]
+    ("s,9999,0,travel,1", "profile"), ("s,0,0,\x07,1", "kind"), ("s,0,0,travel,999999999", "limit"),
+    ("s,0,5,travel,1", "start"),
+    ("s,0,0,travel,1,0,travel,1", "rising"), ("s,0,0,travel,1,5,closed,0", "closed"), ("\ufeffa,0,0", "line"),
+    ("a,0,0\0", "line")]
 
 
 def test_lines_are_refused_by_the_programs_words(file: Path) -> None:
@@ -150,7 +155,8 @@ def test_a_job_is_asked_for(file: Path) -> None:
     with Service(file, workers=2) as service:
         reply = service.client.post("/edits?wait=0", content=LINE)
         told = reply.json()
-        assert (reply.status_code, told["state"], reply.headers["Location"]) == (202, "waiting", f"/edits/{told['job']}")
+        assert (reply.status_code, told["state"]) == (202, "waiting")
+        assert reply.headers["Location"] == f"/edits/{told['job']}"
         found = wait_for(lambda: service.get(reply.headers["Location"]), lambda found: found["state"] == "done")
         assert (found["version"], found["lines"]) == (digest_of(file), 1)
         assert service.get("/edits")["jobs"][0]["job"] == told["job"]
@@ -207,7 +213,8 @@ def rush(program: Path, rush_hour: Path, tmp_path: Path) -> Path:
     folder.mkdir()
     for name in ("nodes.csv", "roads.csv"):
         (folder / name).write_text((rush_hour / name).read_text())
-    (folder / "profiles.csv").write_text((rush_hour / "profiles.csv").read_text() + "3,0,closed,0\n4,0,travel,1\n5,0,travel,1\n")
+    more = "3,0,closed,0\n4,0,travel,1\n5,0,travel,1\n"
+    (folder / "profiles.csv").write_text((rush_hour / "profiles.csv").read_text() + more)
     served = tmp_path / "served"
     served.mkdir()
     return build(folder, served / "rush.cu", "identity")
@@ -224,7 +231,8 @@ def test_roads_are_edited_by_their_numbers(rush: Path) -> None:
         status, told = post_json(service, {"edits": [{"road": 2, "pieces": pieces}]}, "Application/JSON; charset=utf-8")
         assert (status, told["lines"]) == (200, 2) and arrive() == 7
         # It has a profile of its own now, which is used again.
-        status, told = post_json(service, {"edits": [{"road": 2, "pieces": [{"from": 0, "kind": "travel", "value": 9}]}]})
+        other = [{"from": 0, "kind": "travel", "value": 9}]
+        status, told = post_json(service, {"edits": [{"road": 2, "pieces": other}]})
         assert (status, told["lines"]) == (200, 1) and arrive() == 9
         assert post_json(service, {"edits": [{"road": 2, "profile": 4}, {"profile": 4, "pieces": pieces}]})[0] == 200
         assert arrive() == 7
@@ -239,21 +247,25 @@ def test_without_a_spare_profile_nothing_is_done(town: Path, program: Path, rush
     path = build(rush_hour, tmp_path / "rush.cu", "identity")
     before = path.read_bytes()
     with Service(path) as service:
-        status, told = post_json(service, {"edits": [{"road": 0, "profile": 1}, {"road": 2, "profile": 1}, {"profile": 0, "pieces": [
-            {"from": 0, "kind": "closed", "value": 0}]}, {"road": 1, "pieces": [{"from": 0, "kind": "travel", "value": 5}]}, {
-                "road": 2, "pieces": [{"from": 0, "kind": "travel", "value": 5}]}]})
+        closed, five = [{"from": 0, "kind": "closed", "value": 0}], [{"from": 0, "kind": "travel", "value": 5}]
+        status, told = post_json(service, {"edits": [
+            {"road": 0, "profile": 1}, {"road": 2, "profile": 1}, {"profile": 0, "pieces": closed},
+            {"road": 1, "pieces": five}, {"road": 2, "pieces": five}]})
         assert (status, told["error"]) == (409, "no spare profile")
     assert path.read_bytes() == before
 
 
 BAD_JSON: list[object] = [
-    [], {}, {"edits": []}, {"edits": {}}, {"edits": [1]}, {"edits": [{}]}, {"edits": [{"road": 1}]}, {"edits": [{"road": 1, "closed": False}]},
-    {"edits": [{"road": True, "closed": True}]}, {"edits": [{"road": 1.0, "closed": True}]}, {"edits": [{"road": -1, "closed": True}]},
+    [], {}, {"edits": []}, {"edits": {}}, {"edits": [1]}, {"edits": [{}]}, {"edits": [{"road": 1}]},
+    {"edits": [{"road": 1, "closed": False}]},
+    {"edits": [{"road": True, "closed": True}]}, {"edits": [{"road": 1.0, "closed": True}]},
+    {"edits": [{"road": -1, "closed": True}]},
     {"edits": [{"road": "Main Street", "closed": True}]}, {"edits": [{"road": 1, "closed": True, "profile": 2}]},
     {"edits": [{"road": 1, "pieces": []}]}, {"edits": [{"road": 1, "pieces": [{"from": 0, "kind": "travel"}]}]},
     {"edits": [{"road": 1, "pieces": [{"from": 0, "kind": "wings", "value": 1}]}]},
     {"edits": [{"road": 1, "pieces": [{"from": "0", "kind": "travel", "value": 1}]}]}, {"edits": [{"profile": 1}]},
-    {"edits": [{"profile": 1, "pieces": [{"from": 0, "kind": "travel", "value": 1, "x": 1}]}]}, {"edits": [], "more": 1}, None, "x", 1]
+    {"edits": [{"profile": 1, "pieces": [{"from": 0, "kind": "travel", "value": 1, "x": 1}]}]},
+    {"edits": [], "more": 1}, None, "x", 1]
 
 
 def test_json_that_is_no_edit(file: Path) -> None:
@@ -270,7 +282,8 @@ def test_json_that_is_no_edit(file: Path) -> None:
 
 JSON = st.recursive(st.none() | st.booleans() | st.integers(-2, 10) | st.floats(allow_nan=False) | st.text(max_size=5),
                     lambda inner: st.lists(inner, max_size=4) | st.dictionaries(st.sampled_from(
-                        ["edits", "road", "profile", "pieces", "closed", "from", "kind", "value", "x"]), inner, max_size=4), max_leaves=12)
+                        ["edits", "road", "profile", "pieces", "closed", "from", "kind", "value", "x"]), inner,
+                        max_size=4), max_leaves=12)
 
 
 @settings(max_examples=100)
@@ -285,13 +298,20 @@ def test_any_json_is_edits_or_refused(body: object) -> None:
 
 
 @settings(max_examples=60)
-@given(st.lists(st.tuples(st.integers(0, 2), st.sampled_from(["closed", "pieces", "profile"]), st.integers(0, 5)), max_size=8))
+@given(st.lists(st.tuples(st.integers(0, 2), st.sampled_from(["closed", "pieces", "profile"]), st.integers(0, 5)),
+                max_size=8))
 def test_edits_of_roads_are_as_they_say(rush_file: Path, edits: list[tuple[int, str, int]]) -> None:
     """Whatever came before, a road has in the end what was said of it last, and no other road has changed with it."""
     with open(rush_file, "rb") as opened:
         profiles = Profiles(opened.fileno())
-    named = [{"road": road, "closed": True} if kind == "closed" else {"road": road, "profile": value} if kind == "profile" else {
-        "road": road, "pieces": [{"from": 0, "kind": "travel", "value": 100 + value}]} for road, kind, value in edits]
+    def told(road: int, kind: str, value: int) -> dict[str, object]:
+        if kind == "closed":
+            return {"road": road, "closed": True}
+        if kind == "profile":
+            return {"road": road, "profile": value}
+        return {"road": road, "pieces": [{"from": 0, "kind": "travel", "value": 100 + value}]}
+
+    named = list(itertools.starmap(told, edits))
     if not named:
         return
     try:
@@ -320,7 +340,8 @@ def rush_file(program: Path, rush_hour: Path, tmp_path_factory: pytest.TempPathF
     folder = tmp_path_factory.mktemp("rush")
     for name in ("nodes.csv", "roads.csv"):
         (folder / name).write_text((rush_hour / name).read_text())
-    (folder / "profiles.csv").write_text((rush_hour / "profiles.csv").read_text() + "3,0,closed,0\n4,0,travel,1\n5,0,travel,1\n")
+    more = "3,0,closed,0\n4,0,travel,1\n5,0,travel,1\n"
+    (folder / "profiles.csv").write_text((rush_hour / "profiles.csv").read_text() + more)
     return build(folder, folder / "rush.cu", "identity")
 
 
@@ -331,7 +352,8 @@ def test_a_full_disk_keeps_the_version_before(file: Path, tmp_path: Path) -> Non
     room = tmp_path / "small"
     room.mkdir()
     size = file.stat().st_size
-    if subprocess.run(["mount", "-t", "tmpfs", "-o", f"size={size + size // 2}", "none", room], capture_output=True).returncode:
+    if subprocess.run(["mount", "-t", "tmpfs", "-o", f"size={size + size // 2}", "none", room],
+                      capture_output=True).returncode:
         pytest.skip("a file system of a few bytes can't be mounted here")
     try:
         path = room / "town.cu"
@@ -363,7 +385,8 @@ def test_a_limit_of_file_sizes_keeps_the_version_before(file: Path) -> None:
 def test_an_edit_that_dies_is_told(file: Path, slow: Path) -> None:
     with Service(file, CATCHUP=str(slow)) as service, ThreadPoolExecutor(1) as pool:
         waiting = pool.submit(Service.once, service, LINE)
-        edit = wait_for(lambda: [pid for pid in service.children() if b"edit" in Path(f"/proc/{pid}/cmdline").read_bytes()])
+        edit = wait_for(lambda: [pid for pid in service.children()
+                                 if b"edit" in Path(f"/proc/{pid}/cmdline").read_bytes()])
         os.kill(edit[0], signal.SIGKILL)
         status, told = waiting.result()
         assert (status, told["error"]) == (503, "catchup edit was ended by SIGKILL")
@@ -374,7 +397,8 @@ def test_at_the_end_an_edit_that_is_not_ready_is_ended(file: Path, slow: Path) -
     before = file.read_bytes()
     with Service(file, CATCHUP=str(slow)) as service, ThreadPoolExecutor(1) as pool:
         waiting = pool.submit(Service.once, service, LINE)
-        edit = wait_for(lambda: [pid for pid in service.children() if b"edit" in Path(f"/proc/{pid}/cmdline").read_bytes()])
+        edit = wait_for(lambda: [pid for pid in service.children()
+                                 if b"edit" in Path(f"/proc/{pid}/cmdline").read_bytes()])
         began = time.monotonic()
         assert service.end() == (0, "", "")
         # Ten seconds, and what a busy machine adds.
@@ -393,7 +417,8 @@ def test_a_start_drops_what_never_came_into_place(file: Path) -> None:
         service.edit(LINE)
     journal = file.with_name("town.cu.journal")
     whole = journal.read_bytes()
-    for bad in (b'{"before": "00", "after": "11", "time": "", "entry": null, "edits": ["x"]}\n', b'{"before": "00', b"x\n"):
+    for bad in (b'{"before": "00", "after": "11", "time": "", "entry": null, "edits": ["x"]}\n', b'{"before": "00',
+                b"x\n"):
         journal.write_bytes(whole + bad)
         for name in (".catchup-edits-0", ".catchup-next-0", ".catchup-stored-7"):
             file.with_name(name).write_bytes(b"x")

@@ -118,7 +118,8 @@ def test_a_child_that_dies_is_started_again(file: Path) -> None:
             os.kill(child, signal.SIGKILL)
             statuses = {service.ask(path)[0] for path in (ROUTE, "/day?from=5&to=151")}
             assert statuses <= {200, 503}
-            wait_for(lambda: [service.ask(path)[0] for path in (ROUTE, "/day?from=5&to=151")], lambda found: found == [200, 200])
+            wait_for(lambda: [service.ask(path)[0] for path in (ROUTE, "/day?from=5&to=151")],
+                     lambda found: found == [200, 200])
         assert not set(before) & set(service.children())
         status, _, errors = service.end()
         assert status == 0 and "Traceback" not in errors and errors.count("is started again: it has ended") == 2
@@ -172,7 +173,8 @@ def test_a_hangup_starts_workers_anew(file: Path) -> None:
     with Service(file, workers=2) as service:
         before = set(service.workers())
         service.process.send_signal(signal.SIGHUP)
-        assert wait_for(lambda: (len(service.workers()), set(service.workers()) & before), lambda found: found == (2, set()))
+        assert wait_for(lambda: (len(service.workers()), set(service.workers()) & before),
+                        lambda found: found == (2, set()))
         assert status_of(service) == 200
         # Workers that couldn't serve aren't started.
         before = set(service.workers())
@@ -188,10 +190,11 @@ def test_a_hangup_starts_workers_anew(file: Path) -> None:
 def ask_on_new_connections(service: Service, found: list[str], is_over: threading.Event) -> None:
     """Asks for tables, each on a connection of its own, and notes what comes of it."""
     nodes = ",".join(map(str, range(60)))
+    request = f"GET /table?depart=0&from={nodes}&to={nodes} HTTP/1.1\r\nHost: localhost\r\n\r\n".encode()
     while not is_over.is_set():
         try:
             with service.connect() as client:
-                client.sendall(f"GET /table?depart=0&from={nodes}&to={nodes} HTTP/1.1\r\nHost: localhost\r\n\r\n".encode())
+                client.sendall(request)
                 found.append(client.recv(12).decode())
         except ConnectionRefusedError:
             found.append("refused")
@@ -213,7 +216,8 @@ def test_requests_on_their_way_are_answered(file: Path, number: int) -> None:
         before = set(service.workers())
         service.process.send_signal(number)
         if number == signal.SIGHUP:
-            assert wait_for(lambda: (len(service.workers()), set(service.workers()) & before), lambda now: now == (2, set()))
+            assert wait_for(lambda: (len(service.workers()), set(service.workers()) & before),
+                            lambda now: now == (2, set()))
             many = len(found)
             assert wait_for(lambda: len(found) > many + 20)
         else:
@@ -233,7 +237,8 @@ def test_children_have_no_files_but_their_own(file: Path) -> None:
             files = [os.readlink(each) for each in Path(f"/proc/{child}/fd").iterdir()]
             assert sorted(name.split(":")[0] for name in files) == sorted(["/dev/null", "pipe", "pipe", str(file)])
             blocked = int(re.findall(r"SigBlk:\s+(\w+)", Path(f"/proc/{child}/status").read_text())[0], 16)
-            assert all(blocked >> number - 1 & 1 for number in (signal.SIGTERM, signal.SIGINT, signal.SIGHUP, signal.SIGQUIT))
+            assert all(blocked >> number - 1 & 1
+                       for number in (signal.SIGTERM, signal.SIGINT, signal.SIGHUP, signal.SIGQUIT))
 
 
 # ---- killed at any moment ----
@@ -297,7 +302,8 @@ def endure(file: Path, rounds: int) -> tuple[int, int]:
             assert service.stdout is not None
             port = int(re.findall(rb":(\d+)/", service.stdout.readline())[0])
             starts += 1
-            assert wait_for(lambda: left_in(file.parent), lambda left: not [name for name in left if "-next-" in name], 10) is not None
+            assert wait_for(lambda: left_in(file.parent), lambda left: not [name for name in left if "-next-" in name],
+                            10) is not None
             writer = Writer(port, first)
             writer.start()
         assert writer is not None
@@ -358,7 +364,8 @@ def check_left(file: Path) -> None:
     with Service(file) as service:
         assert service.get("/health")["version"] == digest_of(file)
         assert wait_for(lambda: left_in(file.parent), lambda left: not left) == []
-        assert wait_for(lambda: [job for job in service.get("/edits")["jobs"] if job["state"] in ("waiting", "working")],
+        assert wait_for(lambda: [job for job in service.get("/edits")["jobs"]
+                                 if job["state"] in ("waiting", "working")],
                         lambda active: not active) == []
         assert service.end()[0] == 0
     assert sorted(each.name for each in file.parent.iterdir()) == ["town.cu", "town.cu.jobs", "town.cu.journal"]

@@ -34,7 +34,8 @@ def guarded(town: Path, tmp_path_factory: pytest.TempPathFactory) -> Iterator[Se
 HOSTS = [
     ("localhost", 200), ("LOCALHOST:8080", 200), ("127.0.0.1", 200), ("[::1]:99", 200), ("roads.example.org", 200),
     ("ROADS.example.org:443", 200), ("evil.example", 421), ("evil.example:8080", 421), ("localhost.evil.example", 421),
-    ("localhost:x", 421), ("localhost@evil", 421), ("", 421), ("127.0.0.2", 421), ("[::1", 421), ("localhost:80:80", 421)]
+    ("localhost:x", 421), ("localhost@evil", 421), ("", 421), ("127.0.0.2", 421), ("[::1", 421),
+    ("localhost:80:80", 421)]
 
 
 @pytest.mark.parametrize(("host", "wanted"), HOSTS)
@@ -52,10 +53,12 @@ def test_a_request_without_a_name(guarded: Service) -> None:
 
 
 WRITES = [
-    ({}, 401), ({"Authorization": "Bearer " + TOKEN[:-1]}, 401), ({"Authorization": TOKEN}, 401), ({"Authorization": "Basic " + TOKEN}, 401),
+    ({}, 401), ({"Authorization": "Bearer " + TOKEN[:-1]}, 401), ({"Authorization": TOKEN}, 401),
+    ({"Authorization": "Basic " + TOKEN}, 401),
     ({"Authorization": "Bearer " + TOKEN}, 400), ({"Authorization": "bearer " + TOKEN}, 400),
     ({"Authorization": "Bearer " + TOKEN, "Origin": "http://elsewhere.example"}, 403),
-    ({"Authorization": "Bearer " + TOKEN, "Origin": "null"}, 403), ({"Authorization": "Bearer " + TOKEN, "Origin": ""}, 403),
+    ({"Authorization": "Bearer " + TOKEN, "Origin": "null"}, 403),
+    ({"Authorization": "Bearer " + TOKEN, "Origin": ""}, 403),
     ({"Authorization": "Bearer " + TOKEN, "Origin": "http://127.0.0.1:1"}, 403), ({"Origin": ORIGIN}, 401),
     ({"Authorization": "Bearer " + TOKEN, "Origin": ORIGIN}, 400),
     ({"Authorization": "Bearer " + TOKEN, "Origin": "{own}"}, 400)]
@@ -75,7 +78,9 @@ def test_pages_of_a_named_origin_may_read(guarded: Service) -> None:
     for path in ("/health", "/route?from=0&to=2&depart=0", "/nothing"):
         headers = guarded.client.get(path, headers={"Origin": ORIGIN}).headers
         assert (headers["Access-Control-Allow-Origin"], headers["Vary"]) == (ORIGIN, "Origin")
-        assert "Access-Control-Allow-Origin" not in guarded.client.get(path, headers={"Origin": "http://elsewhere"}).headers
+        assert headers["Access-Control-Expose-Headers"] == "Catchup-Version, Location, Retry-After"
+        other = guarded.client.get(path, headers={"Origin": "http://elsewhere"}).headers
+        assert "Access-Control-Allow-Origin" not in other and other["Vary"] == "Origin"
     reply = guarded.client.options("/edits", headers={"Origin": ORIGIN, "Access-Control-Request-Method": "POST"})
     assert reply.status_code == 204 and "Authorization" in reply.headers["Access-Control-Allow-Headers"]
     assert guarded.client.options("/edits", headers={"Origin": "http://elsewhere"}).status_code == 405
@@ -85,15 +90,20 @@ def test_an_own_page_may_write_without_a_token_on_this_machine(town: Path, tmp_p
     path = tmp_path / "town.cu"
     path.write_bytes(town.read_bytes())
     with Service(path) as service:
-        assert service.ask("/edits", "POST", b"q,0,0,0", Origin="http://evil.example:8080", Host="evil.example:8080")[0] == 421
+        assert service.ask("/edits", "POST", b"q,0,0,0", Origin="http://evil.example:8080",
+                           Host="evil.example:8080")[0] == 421
         assert service.ask("/edits", "POST", b"q,0,0,0", Origin="http://evil.example:8080")[0] == 403
-        assert service.ask("/edits", "POST", b"q,0,0,0", Origin=f"http://localhost:{service.port}", Host=f"localhost:{service.port}")[0] == 400
+        assert service.ask("/edits", "POST", b"q,0,0,0", Origin=f"http://localhost:{service.port}",
+                           Host=f"localhost:{service.port}")[0] == 400
 
 
 @pytest.mark.parametrize(("origin", "host", "wanted"), [
-    ("http://a.example", "a.example", False), ("http://a.example:80", "a.example", False), ("https://a.example", "a.example:443", False),
-    ("https://a.example", "a.example", False), ("http://a.example:81", "a.example", True), ("http://[::1]:8080", "[::1]:8080", False),
-    ("http://b.example", "a.example", True), ("ftp://a.example", "a.example", True), ("http://a.example:x", "a.example", True),
+    ("http://a.example", "a.example", False), ("http://a.example:80", "a.example", False),
+    ("https://a.example", "a.example:443", False),
+    ("https://a.example", "a.example", False), ("http://a.example:81", "a.example", True),
+    ("http://[::1]:8080", "[::1]:8080", False),
+    ("http://b.example", "a.example", True), ("ftp://a.example", "a.example", True),
+    ("http://a.example:x", "a.example", True),
     ("file://", "a.example", True), ("http://a.example/", "a.example", True)])
 def test_origins_of_elsewhere(origin: str, host: str, wanted: bool) -> None:
     assert Gates(frozenset(), frozenset(), None).is_elsewhere(origin, host) is wanted
@@ -103,7 +113,8 @@ def test_origins_of_elsewhere(origin: str, host: str, wanted: bool) -> None:
 
 
 def refused(*words: str | Path, **environment: str) -> tuple[int, str, str]:
-    found = subprocess.run([HTTP, *words], capture_output=True, text=True, timeout=SECONDS, env={**os.environ, **environment}, check=False)
+    found = subprocess.run([HTTP, *words], capture_output=True, text=True, timeout=SECONDS,
+                           env={**os.environ, **environment}, check=False)
     return found.returncode, found.stdout, found.stderr
 
 
@@ -114,12 +125,16 @@ def test_words_that_start_nothing(town: Path, tmp_path: Path) -> None:
     bad.write_text("short")
     cases: list[tuple[tuple[str | Path, ...], int, str]] = [
         ((), 2, "Missing argument"), ((town, "--port", "65536"), 2, "65535"), ((town, "--port", "1_8_0"), 2, "number"),
-        ((town, "--port", "\u0661\u0662"), 2, "number"), ((town, "--keep", "x"), 2, "--keep"), ((town, "--workers", "0"), 2, "number"),
+        ((town, "--port", "\u0661\u0662"), 2, "number"), ((town, "--keep", "x"), 2, "--keep"),
+        ((town, "--workers", "0"), 2, "number"),
         ((tmp_path / "none.cu",), 1, "No such file"), ((tmp_path,), 1, "is no file"), ((short,), 6, "file: short"),
         ((town, "--host", "0.0.0.0"), 1, "--token"), ((town, "--token", tmp_path / "none"), 1, "can't be read"),
-        ((town, "--token", bad), 1, "holds no token"), ((town, "--origin", "x"), 1, "is no origin"), ((town, "--name", "a b"), 1, "is no name"),
-        ((town, "--tables", EXAMPLES / "rush_hour"), 1, "aren't tables of"), ((town, "--tables", "/dev/zero"), 1, "can't be read"),
-        ((f"car={town}", f"car={town}"), 1, "named twice"), ((town, "--tables", f"car={EXAMPLES / 'town'}"), 1, "names no served file"),
+        ((town, "--token", bad), 1, "holds no token"), ((town, "--origin", "x"), 1, "is no origin"),
+        ((town, "--name", "a b"), 1, "is no name"),
+        ((town, "--tables", EXAMPLES / "rush_hour"), 1, "aren't tables of"),
+        ((town, "--tables", "/dev/zero"), 1, "can't be read"),
+        ((f"car={town}", f"car={town}"), 1, "named twice"),
+        ((town, "--tables", f"car={EXAMPLES / 'town'}"), 1, "names no served file"),
         ((town, "--host", "203.0.113.1", "--token", "{token}"), 1, "can't listen on 203.0.113.1")]
     token = tmp_path / "token"
     token.write_text(TOKEN)
@@ -148,7 +163,8 @@ def test_it_ends_by_a_signal_to_it_or_to_all(town: Path, number: int) -> None:
 
 def test_closed_or_full_outputs_stop_nothing(town: Path) -> None:
     with open("/dev/full", "wb") as full:
-        process = subprocess.Popen([HTTP, "--port", "0", "--workers", "1", "--access-log", town], stdout=full, stderr=full)
+        process = subprocess.Popen([HTTP, "--port", "0", "--workers", "1", "--access-log", town], stdout=full,
+                                   stderr=full)
     try:
         # Its port isn't told, so the sockets of the process are looked at.
         port = wait_for_port(process.pid)
@@ -182,4 +198,5 @@ def test_an_access_log_says_what_was_asked(town: Path) -> None:
         status, _, said = service.end()
     assert status == 0
     first, second = said.splitlines()[-2:]
-    assert first.startswith("127.0.0.1 GET /route?from=0&to=2&depart=0 200 ") and second.startswith("127.0.0.1 GET /nothing 404 ")
+    assert first.startswith("127.0.0.1 GET /route?from=0&to=2&depart=0 200 ")
+    assert second.startswith("127.0.0.1 GET /nothing 404 ")

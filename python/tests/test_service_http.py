@@ -42,7 +42,8 @@ BAD_BYTES = [
     (b"GET /edits HTTP/1.1\r\nHost : localhost\r\n\r\n", "400 a header isn't one"),
     (b"GET /edits HTTP/1.1\r\n\r\n", "400 the header host is missing"),
     (b"GET /edits HTTP/1.1\r\nHost: localhost\r\nHost: localhost\r\n\r\n", "400 the header host is there twice"),
-    (b"POST /edits HTTP/1.1\r\n" + H + b"Content-Length: 1\r\nContent-Length: 2\r\n\r\nab", "400 the request's head can't be read"),
+    (b"POST /edits HTTP/1.1\r\n" + H + b"Content-Length: 1\r\nContent-Length: 2\r\n\r\nab",
+     "400 the request's head can't be read"),
     (b"POST /edits HTTP/1.1\r\n" + H + b"Content-Length: -1\r\n\r\n", "400 the request's head can't be read"),
     (b"POST /edits HTTP/1.1\r\n" + H + b"Content-Length: +5\r\n\r\nabcde", "400 the request's head can't be read"),
     (b"POST /edits HTTP/1.1\r\n" + H + b"Content-Length: 5\r\nTransfer-Encoding: chunked\r\n\r\n0\r\n\r\n",
@@ -55,13 +56,16 @@ BAD_BYTES = [
      "400 the header transfer-encoding is there twice"),
     (b"\r\n" * 40 + b"GET /health HTTP/1.1\r\n" + H + b"\r\n", "400 the first line is no request"),
     (b"POST /edits HTTP/1.1\r\n" + H + b"Content-Length: 67108865\r\n\r\n", "413 a body has at most 67108864 bytes"),
-    (b"POST /edits HTTP/1.1\r\n" + H + b"Content-Length: " + b"9" * 5000 + b"\r\n\r\n", "400 the request's head can't be read"),
+    (b"POST /edits HTTP/1.1\r\n" + H + b"Content-Length: " + b"9" * 5000 + b"\r\n\r\n",
+     "400 the request's head can't be read"),
     (b"POST /day HTTP/1.1\r\n" + H + b"Content-Length: 65537\r\n\r\n", "413 a body has at most 65536 bytes here"),
     (b"GET /" + b"a" * 17000 + b" HTTP/1.1\r\n\r\n", "414 an address has at most 16384 bytes"),
     (b"GET /" + b"a" * 70000 + b" HTTP/1.1\r\n\r\n", "414 an address has at most 16384 bytes"),
     (b"GET /edits HTTP/1.1\r\nA: " + b"a" * 70000 + b"\r\n\r\n", "431 a request's head has at most 32768 bytes"),
-    (b"\x16\x03\x01\x02\x00\x01\x00\x01\xfc\x03\x03\r\n\r\n", "400 the request's head has bytes that have no place there"),
-    (b"GET / HTTP/1.1\r\n" + H + b"Connection: Upgrade\r\nUpgrade: websocket\r\n\r\n", "400 no other protocol is spoken here"),
+    (b"\x16\x03\x01\x02\x00\x01\x00\x01\xfc\x03\x03\r\n\r\n",
+     "400 the request's head has bytes that have no place there"),
+    (b"GET / HTTP/1.1\r\n" + H + b"Connection: Upgrade\r\nUpgrade: websocket\r\n\r\n",
+     "400 no other protocol is spoken here"),
 ]
 
 
@@ -74,7 +78,8 @@ def test_bytes_that_are_no_request(service: Service, data: bytes, wanted: str) -
 
 @settings(max_examples=150)
 @given(st.lists(st.one_of(st.binary(max_size=12), st.sampled_from(
-    [b"\r\n", b"\r\n\r\n", b"GET ", b"/route", b" HTTP/1.1", b"Host: localhost", b"Content-Length: 3", b": ", b"\n"])), max_size=12))
+    [b"\r\n", b"\r\n\r\n", b"GET ", b"/route", b" HTTP/1.1", b"Host: localhost", b"Content-Length: 3", b": ", b"\n"])),
+    max_size=12))
 def test_any_bytes_get_an_answer_or_a_close(service: Service, parts: list[bytes]) -> None:
     with service.connect() as client:
         client.sendall(b"".join(parts))

@@ -55,11 +55,13 @@ def test_the_pages_commands_do_what_is_printed(program: Path, tmp_path: Path) ->
                 folder = folder / command[3:]
             elif command.endswith(" &"):
                 words = command[:-2].replace("catchup-http ", f"catchup-http --port {port} ").split()
-                service = subprocess.Popen(words, cwd=folder, env=environment, stdout=subprocess.PIPE, text=True, start_new_session=True)
+                service = subprocess.Popen(words, cwd=folder, env=environment, stdout=subprocess.PIPE, text=True,
+                                           start_new_session=True)
                 assert service.stdout is not None
                 assert service.stdout.readline() == printed.replace("8080", port)
             else:
-                done = subprocess.run(["bash", "-c", command], cwd=folder, env=environment, capture_output=True, text=True,
+                done = subprocess.run(["bash", "-c", command], cwd=folder, env=environment, capture_output=True,
+                                      text=True,
                                       timeout=SECONDS, check=False)
                 assert done.returncode == 0, (command, done)
                 assert re.match(as_pattern(printed), done.stdout.strip(), re.DOTALL), (command, done.stdout)
@@ -73,7 +75,8 @@ def test_the_pages_commands_do_what_is_printed(program: Path, tmp_path: Path) ->
 def check_client(port: str) -> None:
     """The page's client in Python does what it says."""
     [text] = re.findall(r"^```python\n(.*?)^```", PAGE.read_text(), re.DOTALL | re.MULTILINE)
-    done = subprocess.run([sys.executable, "-c", text.replace("8080", port)], capture_output=True, text=True, timeout=SECONDS, check=False)
+    done = subprocess.run([sys.executable, "-c", text.replace("8080", port)], capture_output=True, text=True,
+                          timeout=SECONDS, check=False)
     assert done.returncode == 0, done.stderr
     assert re.fullmatch(r"\d\d:\d\d:\d\d \[[0-9, ]+\]\nserved now: [0-9a-f]{12}\n", done.stdout), done.stdout
 
@@ -90,7 +93,8 @@ def test_the_unit_is_one_that_systemd_takes(tmp_path: Path) -> None:
         pytest.skip("systemd-analyze isn't installed")
     unit = tmp_path / UNIT.name
     unit.write_text(UNIT.read_text().replace("/usr/bin/catchup-http", str(TOP / "bin" / "catchup-http")))
-    found = subprocess.run(["systemd-analyze", "verify", "--man=no", unit], capture_output=True, text=True, timeout=SECONDS, check=False)
+    found = subprocess.run(["systemd-analyze", "verify", "--man=no", unit], capture_output=True, text=True,
+                           timeout=SECONDS, check=False)
     assert (found.returncode, found.stderr) == (0, "")
     text = UNIT.read_text()
     for wanted in ("DynamicUser=yes", "ProtectSystem=strict", "NoNewPrivileges=yes", "KillMode=mixed"):
@@ -113,7 +117,8 @@ def test_the_page_shows_what_the_program_says(town: Path, tmp_path: Path) -> Non
     path = tmp_path / "town.cu"
     path.write_bytes(town.read_bytes())
     options = webdriver.ChromeOptions()
-    for word in ("--headless=new", "--no-sandbox", "--disable-gpu", "--disable-dev-shm-usage", f"--user-data-dir={tmp_path}/browser"):
+    for word in ("--headless=new", "--no-sandbox", "--disable-gpu", "--disable-dev-shm-usage",
+                 f"--user-data-dir={tmp_path}/browser"):
         options.add_argument(word)
     from selenium.webdriver.chrome.service import Service as Driver
 
@@ -137,7 +142,8 @@ def check_page(browser: object, service: object, path: Path) -> None:
     assert wait_for(lambda: run("return network.nodes.length"), lambda many: many == 159) == 159
     box = page.find_element("id", "map")  # type: ignore[attr-defined]
     for node in (START, END):
-        x, y = run(f"const p = placeOf({node}), b = at('map').getBoundingClientRect(); return [p[0] - b.width / 2, p[1] - b.height / 2]")
+        x, y = run(f"const p = placeOf({node}), b = at('map').getBoundingClientRect(); "
+                   "return [p[0] - b.width / 2, p[1] - b.height / 2]")
         ActionChains(page).move_to_element_with_offset(box, round(x), round(y)).click().perform()
     wanted = as_shown(ask_program(path, f"q,{START},{END},28800")[0], 28800)
     assert wait_for(lambda: run(SHOWN), lambda found: found == wanted) == wanted
@@ -146,9 +152,11 @@ def check_page(browser: object, service: object, path: Path) -> None:
     wanted = as_shown(ask_program(path, f"q,{START},{END},61500")[0], 61500)
     assert wait_for(lambda: run(SHOWN), lambda found: found == wanted) == wanted
     [day] = ask_program(path, f"d,{START},{END}")
-    starts = [[int(piece.split(",")[0]), int(piece.split(",")[2]) - (int(piece.split(",")[0]) if ",until," in piece else 0)]
+    starts = [[int(piece.split(",")[0]),
+               int(piece.split(",")[2]) - (int(piece.split(",")[0]) if ",until," in piece else 0)]
               for piece in day.split(" ")[1:]]
-    found = wait_for(lambda: run("return state.day && state.day.points.filter((_, index) => index % 2 === 0)"), lambda found: found == starts)
+    found = wait_for(lambda: run("return state.day && state.day.points.filter((_, index) => index % 2 === 0)"),
+                     lambda found: found == starts)
     assert found == starts
     assert len(run("return at('rush').textContent").split(", ")) >= 2
     reach = service.get(f"/reach?from={START}&depart=61500")["arrive"]
@@ -168,7 +176,8 @@ def as_shown(reply: str, depart: int) -> list[str]:
     found = re.fullmatch(r"arrive=(\d+) arcs=(.*)", reply)
     assert found
     arrive, roads = int(found[1]), found[2]
-    return [clock(depart), "→ " + clock(arrive), f"{span(arrive - depart)} over {len(roads.split())} roads", "Roads: " + roads]
+    return [clock(depart), "→ " + clock(arrive), f"{span(arrive - depart)} over {len(roads.split())} roads",
+            "Roads: " + roads]
 
 
 def clock(second: int) -> str:

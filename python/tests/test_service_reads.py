@@ -43,10 +43,12 @@ def as_route(reply: str, start: int, end: int, depart: int) -> dict[str, Any]:
 
 
 def test_routes_are_the_programs(service: Service, town: Path) -> None:
-    queries = [(i * 7919 % NODES, (i * 104729 + 11) % NODES, i * 2713 % DAY) for i in range(200)] + [(0, 2, 86399), (1, 1, 5)]
+    queries = [(i * 7919 % NODES, (i * 104729 + 11) % NODES, i * 2713 % DAY) for i in range(200)]
+    queries += [(0, 2, 86399), (1, 1, 5)]
     replies = ask_program(town, *(f"q,{a},{b},{t}" for a, b, t in queries))
     for reply, (start, end, depart) in zip(replies, queries):
-        for address in (f"/route?from={start}&to={end}&depart={depart}", f"/route?depart={time_of(depart)}&to=node:{end}&from={start}"):
+        for address in (f"/route?from={start}&to={end}&depart={depart}",
+                        f"/route?depart={time_of(depart)}&to=node:{end}&from={start}"):
             told = service.get(address)
             assert told.pop("version") == digest_of(town)
             [leg] = told.pop("legs")
@@ -83,7 +85,8 @@ def test_a_day_is_the_programs(service: Service, town: Path) -> None:
 
 
 def test_a_reach_is_the_queries_to_each_node(service: Service, town: Path) -> None:
-    assert service.get("/reach?from=0&depart=08:00")["arrive"] == arrivals(town, [(0, node, 28800) for node in range(NODES)])
+    wanted = arrivals(town, [(0, node, 28800) for node in range(NODES)])
+    assert service.get("/reach?from=0&depart=08:00")["arrive"] == wanted
 
 
 def test_a_table_is_the_queries_of_its_pairs(service: Service, town: Path) -> None:
@@ -122,7 +125,8 @@ def test_the_best_drive_of_a_window(service: Service, town: Path) -> None:
     after, before = 27000, 33000
     told = service.get(f"/best?from=5&to=151&after={after}&before={before}")
     found = arrivals(town, [(5, 151, second) for second in range(after, before + 1)])
-    travel = [(arrive - second, -second) for second, arrive in zip(range(after, before + 1), found) if arrive is not None]
+    travel = [(arrive - second, -second) for second, arrive in zip(range(after, before + 1), found)
+              if arrive is not None]
     least, second = min(travel)
     assert (told["best"]["travel"], told["best"]["depart"]) == (least, -second)
     choices = [(choice["depart"], choice["arrive"]) for choice in told["choices"]]
@@ -149,7 +153,8 @@ def test_choices_are_none_behind_another(steps: list[tuple[int, str, int]], afte
 def test_no_walk_is_a_plain_answer(program: Path, tmp_path: Path) -> None:
     with Service(build(EXAMPLES / "rush_hour", tmp_path / "rush.cu", "identity")) as service:
         for address in ("/route?from=2&to=0&depart=5", "/route?from=0&via=2&to=1&depart=5", "/day?from=2&to=0",
-                        "/latest?from=2&to=0&by=100", "/best?from=2&to=0&after=0&before=9", "/route?from=2&to=0&arrive=9"):
+                        "/latest?from=2&to=0&by=100", "/best?from=2&to=0&after=0&before=9",
+                        "/route?from=2&to=0&arrive=9"):
             assert service.get(address)["answer"] == "unreachable"
         assert service.get("/reach?from=2&depart=5")["arrive"] == [None, None, 5]
         assert service.get("/table?from=2&to=0,2&depart=5")["arrive"] == [[None, 5]]
@@ -211,14 +216,18 @@ def test_bad_questions_are_refused(service: Service, town: Path, address: str, w
 
 
 VALUES = st.one_of(
-    st.integers(0, 200).map(str), st.text(max_size=8), st.sampled_from(["08:00", "node:3", "1,2", "1;2", "²", "١", "1\n", "0x1", ""]))
-PAIRS = st.lists(st.tuples(st.sampled_from(["from", "to", "depart", "via", "by", "after", "profile", "\x00", "x"]), VALUES), max_size=5)
+    st.integers(0, 200).map(str), st.text(max_size=8),
+    st.sampled_from(["08:00", "node:3", "1,2", "1;2", "²", "١", "1\n", "0x1", ""]))
+PAIRS = st.lists(st.tuples(st.sampled_from(["from", "to", "depart", "via", "by", "after", "profile", "\x00", "x"]),
+                           VALUES), max_size=5)
 
 
 @settings(max_examples=150)
-@given(path=st.sampled_from(["/route", "/day", "/reach", "/table", "/latest", "/best", "/edits", "/network"]), pairs=PAIRS)
+@given(path=st.sampled_from(["/route", "/day", "/reach", "/table", "/latest", "/best", "/edits", "/network"]),
+       pairs=PAIRS)
 def test_any_words_get_an_answer(service: Service, path: str, pairs: list[tuple[str, str]]) -> None:
-    reply = service.client.get(path, params=[(name.encode("utf-8", "replace"), value.encode("utf-8", "replace")) for name, value in pairs])  # type: ignore[arg-type]
+    reply = service.client.get(path, params=[(name.encode("utf-8", "replace"), value.encode("utf-8", "replace"))
+                                             for name, value in pairs])  # type: ignore[arg-type]
     assert reply.status_code in (200, 400)
     told = reply.json()
     assert told["version"] == reply.headers["Catchup-Version"]
@@ -245,7 +254,8 @@ def test_what_a_service_says_of_itself(service: Service, town: Path) -> None:
 
 
 def test_each_get_has_a_head_and_other_methods_are_told(service: Service) -> None:
-    for path in ("/route?from=0&to=2&depart=0", "/day?from=0&to=2", "/health", "/metrics", "/", "/edits", "/openapi.json"):
+    for path in ("/route?from=0&to=2&depart=0", "/day?from=0&to=2", "/health", "/metrics", "/", "/edits",
+                 "/openapi.json"):
         reply = service.client.head(path)
         assert (reply.status_code, reply.content) == (200, b"")
         assert int(reply.headers["content-length"]) > 2 and reply.headers["Catchup-Version"]

@@ -46,7 +46,8 @@ class Running:
         self.start()
 
     def start(self) -> None:
-        self.process = subprocess.Popen(self.words, stdout=subprocess.DEVNULL, stderr=subprocess.DEVNULL, start_new_session=True)
+        self.process = subprocess.Popen(self.words, stdout=subprocess.DEVNULL, stderr=subprocess.DEVNULL,
+                                        start_new_session=True)
         wait_for(self.is_open)
 
     def is_open(self) -> bool:
@@ -78,7 +79,8 @@ def room(tmp_path_factory: pytest.TempPathFactory) -> Path:
 def start_redis(room: Path, port: int) -> Running:
     data = room / "redis"
     data.mkdir(exist_ok=True)
-    return Running("redis-server", "--port", str(port), "--bind", "127.0.0.1", "--dir", data, "--appendonly", "yes", "--appendfsync",
+    return Running("redis-server", "--port", str(port), "--bind", "127.0.0.1", "--dir", data, "--appendonly", "yes",
+                   "--appendfsync",
                    "always", "--save", "", port=port)
 
 
@@ -88,7 +90,8 @@ def start_replica(room: Path, town: Path, name: str, redis: int, port: int) -> t
     path = folder / "town.cu"
     if not path.exists():
         path.write_bytes(town.read_bytes())
-    return Running(HTTP, "--port", str(port), "--workers", "2", "--log", f"redis://127.0.0.1:{redis}/0/{room.name}", path, port=port), path
+    return Running(HTTP, "--port", str(port), "--workers", "2", "--log", f"redis://127.0.0.1:{redis}/0/{room.name}",
+                   path, port=port), path
 
 
 def start_nginx(room: Path, ports: list[int], port: int) -> Running:
@@ -96,7 +99,8 @@ def start_nginx(room: Path, ports: list[int], port: int) -> Running:
     text = (Path(__file__).resolve().parents[2] / "packaging" / "service" / "nginx.conf").read_text()
     for at, own in enumerate(ports, 1):
         text = text.replace(f"10.0.0.{at}:8080", f"127.0.0.1:{own}")
-    text = text.replace("listen 80;", f"listen 127.0.0.1:{port};").replace("proxy_set_header Host $host", "proxy_set_header Host localhost")
+    text = text.replace("listen 80;", f"listen 127.0.0.1:{port};").replace("proxy_set_header Host $host",
+                                                                           "proxy_set_header Host localhost")
     config = room / "nginx.conf"
     config.write_text(SITE.format(room=room, upstream=text, server=""))
     return Running("/usr/sbin/nginx", "-c", config, "-p", room, port=port)
@@ -233,5 +237,6 @@ def edited(town: Path, folder: Path) -> bytes:
 
 def test_a_stream_that_is_none(town: Path) -> None:
     for address in ("redis://", "http://x/0/y", "redis://127.0.0.1:1", "redis://127.0.0.1:1/0/"):
-        found = subprocess.run([HTTP, town, "--log", address], capture_output=True, text=True, timeout=SECONDS, check=False)
+        found = subprocess.run([HTTP, town, "--log", address], capture_output=True, text=True, timeout=SECONDS,
+                               check=False)
         assert found.returncode == 1 and "redis://HOST:PORT/0/NAME" in found.stderr and found.stderr.count("\n") == 1

@@ -63,7 +63,8 @@ while True:
 while True:
     client = connect()
     try:
-        client.sendall(b"POST /edits HTTP/1.1\\r\\nHost: localhost\\r\\nContent-Length: 67108864\\r\\n\\r\\n" + b"\\n" * (1 << 20))
+        client.sendall(b"POST /edits HTTP/1.1\\r\\nHost: localhost\\r\\nContent-Length: 67108864\\r\\n\\r\\n"
+                       + b"\\n" * (1 << 20))
     except OSError:
         pass
     client.close()
@@ -99,8 +100,8 @@ ask_by_four(b"GET /metrics HTTP/1.1\\r\\nHost: localhost\\r\\n\\r\\n")
 """,
     "edits of roads": """
 body = b'{"edits": [%b]}' % b", ".join([b'{"road": 9999999, "closed": true}'] * 1500)
-ask_by_four(b"POST /edits HTTP/1.1\\r\\nHost: localhost\\r\\nContent-Type: application/json\\r\\nContent-Length: %d\\r\\n\\r\\n" % len(body)
-            + body)
+ask_by_four(b"POST /edits HTTP/1.1\\r\\nHost: localhost\\r\\nContent-Type: application/json\\r\\n"
+            b"Content-Length: %d\\r\\n\\r\\n" % len(body) + body)
 """,
 }
 COMMON = """
@@ -269,7 +270,8 @@ def send_much(service: Service, size: int) -> bytes:
 def test_slow_and_large_clients_are_told_so(town: Path) -> None:
     with Service(town) as service, ThreadPoolExecutor(12) as pool:
         slow = [pool.submit(send_slowly, service) for _ in range(10)]
-        status, told = service.raw(b"POST /edits HTTP/1.1\r\n" + H + b"Content-Length: 4194306\r\n\r\n" + b"0" * 4194306)
+        head = b"POST /edits HTTP/1.1\r\n" + H + b"Content-Length: 4194306\r\n\r\n"
+        status, told = service.raw(head + b"0" * 4194306)
         assert (status.split()[0], told["error"]) == ("413", "a line has at most 4194304 bytes")
         assert {send_much(service, 1 << 30) for _ in range(3)} <= {b"HTTP/1.1 413", b""}
         assert {each.result() for each in slow} == {b"HTTP/1.1 408 Request Timeout"}
@@ -282,7 +284,8 @@ def test_a_thousand_idle_connections_take_little_memory(town: Path, capsys: pyte
         wait_for(lambda: service.ask("/health")[0], lambda status: status == 200)
         time.sleep(0.5)
         processes = [service.process.pid, *service.workers()]
-        whole = sum(int(Path(f"/proc/{pid}/smaps_rollup").read_text().split("Pss:")[1].split()[0]) for pid in processes) // 1024
+        whole = sum(int(Path(f"/proc/{pid}/smaps_rollup").read_text().split("Pss:")[1].split()[0])
+                    for pid in processes) // 1024
         for client in clients:
             client.close()
     with capsys.disabled():

@@ -27,15 +27,20 @@ SLOW = [{"from": 0, "kind": "travel", "value": 3000}]
 # ---- names ----
 
 ROWS = [(0, 7), (1, 7), (2, 9), (3, -5), (4, 9_007_199_254_740_993)]
-NAMES = [(0, "Königsstraße", "B 1"), (0, "Nebenweg", None), (1, "KÖNIGSSTRASSE", None), (2, "17", None), (3, None, "b 1"), (4, "", None)]
+NAMES = [(0, "Königsstraße", "B 1"), (0, "Nebenweg", None), (1, "KÖNIGSSTRASSE", None), (2, "17", None),
+         (3, None, "b 1"), (4, "", None)]
 
 
 @pytest.mark.parametrize(("text", "roads"), [
-    ("osm:7", [0, 1]), ("osm:9", [2]), ("osm:-5", [3]), ("osm:9007199254740993", [4]), ("osm:9007199254740992", []), ("osm:007", [0, 1]),
-    ("osm:8", []), ("osm:", []), ("osm:+7", []), ("osm: 7", []), ("osm:7 ", []), ("OSM:7", []), ("osm:\u0667", []), ("osm:" + "9" * 40, []),
+    ("osm:7", [0, 1]), ("osm:9", [2]), ("osm:-5", [3]), ("osm:9007199254740993", [4]), ("osm:9007199254740992", []),
+    ("osm:007", [0, 1]),
+    ("osm:8", []), ("osm:", []), ("osm:+7", []), ("osm: 7", []), ("osm:7 ", []), ("OSM:7", []), ("osm:\u0667", []),
+    ("osm:" + "9" * 40, []),
     ("osm:7;osm:9", []), ("way/7", []),
-    ("königsstrasse", [0, 1]), ("Königsstraße", [0, 1]), ("nebenweg", [0]), ("B 1", [0, 3]), ("b 1", [0, 3]), ("B1", []), ("B 1 ", []),
-    ("17", [2]), ("road:17", [17]), ("18", [18]), ("road:018", [18]), ("road:-1", []), ("road:1_0", []), ("road:\u0661", []), ("-1", []),
+    ("königsstrasse", [0, 1]), ("Königsstraße", [0, 1]), ("nebenweg", [0]), ("B 1", [0, 3]), ("b 1", [0, 3]),
+    ("B1", []), ("B 1 ", []),
+    ("17", [2]), ("road:17", [17]), ("18", [18]), ("road:018", [18]), ("road:-1", []), ("road:1_0", []),
+    ("road:\u0661", []), ("-1", []),
     ("", []), ("road:", []), ("1.0", []), ("null", []), ("road:" + "9" * 19, [])])
 def test_what_a_road_is_called(text: str, roads: list[int]) -> None:
     assert Streets(ROWS, NAMES).find(text) == roads
@@ -55,7 +60,8 @@ def rush_file(program: Path, rush_hour: Path, tmp_path_factory: pytest.TempPathF
     folder = tmp_path_factory.mktemp("rush")
     for name in ("nodes.csv", "roads.csv"):
         (folder / name).write_text((rush_hour / name).read_text())
-    (folder / "profiles.csv").write_text((rush_hour / "profiles.csv").read_text() + "3,0,closed,0\n4,0,travel,1\n5,0,travel,1\n")
+    more = "3,0,closed,0\n4,0,travel,1\n5,0,travel,1\n"
+    (folder / "profiles.csv").write_text((rush_hour / "profiles.csv").read_text() + more)
     return build(folder, folder / "rush.cu", "identity")
 
 
@@ -69,9 +75,11 @@ KINDS = st.one_of(st.just("closed"), st.integers(0, 5), st.integers(100, 105).ma
 
 @settings(max_examples=150)
 @given(st.lists(st.tuples(st.sets(st.integers(0, 2), min_size=1), KINDS), max_size=8))
-def test_roads_of_a_name_have_what_was_said_of_them_last(rush_file: Path, edits: list[tuple[set[int], str | int]]) -> None:
+def test_roads_of_a_name_have_what_was_said_of_them_last(rush_file: Path,
+                                                         edits: list[tuple[set[int], str | int]]) -> None:
     made = [Edit(tuple(sorted(roads)), kind if isinstance(kind, int) else None,
-                 kind if isinstance(kind, str) and kind != "closed" else None, kind == "closed") for roads, kind in edits]
+                 kind if isinstance(kind, str) and kind != "closed" else None, kind == "closed") for roads,
+                 kind in edits]
     assert edits_of_entry(entry_of(made)) == made
     try:
         lines, of = lines_of(made, profiles_of(rush_file))
@@ -122,7 +130,8 @@ def imported(program: Path, tmp_path_factory: pytest.TempPathFactory) -> Path:
     made.way([1, 4, 3], 73, highway="residential", name="Umweg")
     for number in (1, 2, 3):
         made.way([number, {1: 6, 2: 5, 3: 7}[number]], 73 + number, highway="residential")
-    subprocess.run([TOP / "bin" / "catchup-import", "osm", "--build", "--spare", "2", made.write(folder / "map.osm"), folder / "made"],
+    subprocess.run([TOP / "bin" / "catchup-import", "osm", "--build", "--spare", "2", made.write(folder / "map.osm"),
+                    folder / "made"],
                    check=True, capture_output=True, timeout=SECONDS)
     return folder / "made"
 
@@ -198,7 +207,8 @@ def test_names_that_are_refused_change_nothing(shared: Service, edits: list[obje
     assert (found, told["error"]) == (status, error)
     assert shared.get("/health")["version"] == before == told["version"]
     if error == "refused":
-        assert {(each["line"], each["word"]) for each in told["refused"]} == {(len(edits), "profile" if len(edits) > 1 else "arc")}
+        assert {(each["line"], each["word"])
+                for each in told["refused"]} == {(len(edits), "profile" if len(edits) > 1 else "arc")}
 
 
 @pytest.fixture(scope="module")
@@ -212,7 +222,8 @@ def test_without_a_spare_profile_nothing_is_done(street: Path, imported: Path) -
     before = street.read_bytes()
     with Service(street, "--tables", imported) as service:
         main = roads_of(imported, "name = 'Königsstraße'")
-        status, told = post(service, {"road": "umweg", "pieces": SLOW}, *({"road": road, "pieces": SLOW} for road in main[:3]))
+        status, told = post(service, {"road": "umweg", "pieces": SLOW},
+                            *({"road": road, "pieces": SLOW} for road in main[:3]))
         assert (status, told["error"]) == (409, "no spare profile") and told["hint"]
         assert post(service, {"road": "königsstraße", "pieces": SLOW})[1]["lines"] == 1
     assert street.read_bytes() != before
@@ -238,9 +249,11 @@ def test_without_tables_a_road_has_its_number_alone(street: Path) -> None:
 def test_a_map_of_another_network_starts_nothing(imported: Path, town: Path, tmp_path: Path) -> None:
     folder = tmp_path / "tables"
     shutil.copytree(TOP / "examples" / "town", folder, ignore=shutil.ignore_patterns("out"))
-    for name, content, said in (("map", (imported / "map.gpkg").read_bytes(), "isn't the map of"), ("text", b"x" * 5000, "can't be read")):
+    for name, content, said in (("map", (imported / "map.gpkg").read_bytes(), "isn't the map of"),
+                                ("text", b"x" * 5000, "can't be read")):
         (folder / "map.gpkg").write_bytes(content)
-        found = subprocess.run([HTTP, town, "--tables", folder], capture_output=True, text=True, timeout=SECONDS, check=False)
+        found = subprocess.run([HTTP, town, "--tables", folder], capture_output=True, text=True, timeout=SECONDS,
+                               check=False)
         assert (found.returncode, found.stdout) == (1, ""), name
         assert said in found.stderr and found.stderr.count("\n") == 1, found.stderr
 
@@ -250,10 +263,12 @@ def test_a_way_of_a_real_map_is_closed(program: Path, tmp_path: Path) -> None:
     source = Path(os.environ.get("CATCHUP_MAPS", TOP.parent / "shared" / "maps")) / REAL
     if not source.exists():
         pytest.skip(f"{source} isn't there: set CATCHUP_MAPS to a folder that has it")
-    subprocess.run([TOP / "bin" / "catchup-import", "osm", "--build", source, tmp_path / "li"], check=True, capture_output=True, timeout=SECONDS)
+    subprocess.run([TOP / "bin" / "catchup-import", "osm", "--build", source, tmp_path / "li"], check=True,
+                   capture_output=True, timeout=SECONDS)
     with sqlite3.connect(tmp_path / "li" / "map.gpkg") as base:
-        street = [road for (road,) in base.execute("SELECT DISTINCT road FROM names WHERE name = 'Landstrasse' ORDER BY road")]
-        way, tail, head = base.execute("SELECT osm_way, tail, head FROM roads WHERE name = 'Landstrasse' ORDER BY metres DESC").fetchone()
+        street = base.execute("SELECT DISTINCT road FROM names WHERE name = 'Landstrasse'").fetchall()
+        way, tail, head = base.execute(
+            "SELECT osm_way, tail, head FROM roads WHERE name = 'Landstrasse' ORDER BY metres DESC").fetchone()
     of_way = roads_of(tmp_path / "li", f"osm_way = {way}")
     with Service(tmp_path / "li" / "map.cu", "--tables", tmp_path / "li") as service:
         address = f"/route?from={tail}&to={head}&depart=08:00"

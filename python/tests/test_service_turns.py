@@ -28,7 +28,8 @@ LARGE = b"POST /edits HTTP/1.1\r\nHost: localhost\r\nContent-Length: 65537\r\n\r
 
 @pytest.mark.parametrize(("sent", "end", "wanted"), [
     (b"", "", Sort.WELCOME), (GET, "", Sort.WELCOME), (GET[:9], "", Sort.WELCOME), (LARGE, "", Sort.LARGE),
-    (GET, "half", Sort.HUNG_UP), (GET, "whole", Sort.HUNG_UP), (LARGE, "half", Sort.HUNG_UP), (b"", "whole", Sort.HUNG_UP)])
+    (GET, "half", Sort.HUNG_UP), (GET, "whole", Sort.HUNG_UP), (LARGE, "half", Sort.HUNG_UP),
+    (b"", "whole", Sort.HUNG_UP)])
 def test_clients_are_sorted_before_they_are_taken(listener: socket.socket, sent: bytes, end: str, wanted: Sort) -> None:
     with socket.create_connection(listener.getsockname()) as client:
         accepted, _ = listener.accept()
@@ -59,8 +60,10 @@ def test_a_client_that_is_gone_is_known(listener: socket.socket) -> None:
 
 @pytest.mark.parametrize(("head", "wanted"), [
     (GET, False), (LARGE, True), (LARGE.replace(b"65537", b"65536"), False), (LARGE.replace(b"65537", b"9" * 50), True),
-    (LARGE.replace(b"Content-Length", b"CONTENT-LENGTH"), True), (LARGE.replace(b"Content-Length: 65537", b"Transfer-Encoding: chunked"), True),
-    (LARGE.replace(b"POST", b"GET"), False), (LARGE.replace(b"Content-Length", b"X-Content-Length"), False), (b"\0" * 99, False), (b"", False)])
+    (LARGE.replace(b"Content-Length", b"CONTENT-LENGTH"), True),
+    (LARGE.replace(b"Content-Length: 65537", b"Transfer-Encoding: chunked"), True),
+    (LARGE.replace(b"POST", b"GET"), False), (LARGE.replace(b"Content-Length", b"X-Content-Length"), False),
+    (b"\0" * 99, False), (b"", False)])
 def test_large_bodies_are_known_by_their_heads(head: bytes, wanted: bool) -> None:
     assert brings_much(head) is wanted
 
