@@ -253,8 +253,8 @@ class Builder:
                 parts = self._walk(segment, 0 if side == 0 else 1, ends)
                 if self.segments[parts[-1][0]].ends[1 - parts[-1][1]] != vertex or len(parts) < 2:
                     continue
-                if parts[0][1] != 0:
-                    continue  # its other direction does it
+                if parts[0][0] > parts[-1][0]:
+                    continue  # its other direction does it: from the segment on that comes first in the file
                 total, behind, cut = sum(self.segments[p].metres for p, _ in parts), 0.0, -1
                 for part, direction in parts[:-1]:
                     behind += self.segments[part].metres

@@ -64,21 +64,24 @@ def test_what_is_made(small: Path, tmp_path: Path, program: Path) -> None:
     assert (ran.status, ran.error) == (0, "")
     assert left(tmp_path / "out") == FILES and left(tmp_path) == ["out", "small.osm"]
     lines = ran.output.splitlines()
-    assert lines[0].startswith("small.osm: 4 junctions (0 of them copies), 6 roads, ") and lines[-1].startswith("next      catchup build ")
+    assert lines[0].startswith("small.osm: 4 junctions (0 of them copies), 6 roads, ") and lines[-1].startswith(f"next      {BIN}/catchup build ")
     assert [line.split()[0] for line in lines[1:-2]] == ["taken", "left", "lost", "barriers", "turns", "speeds", "names", "warnings"]
     assert (tmp_path / "out" / "report.txt").read_text(encoding="utf-8").startswith("\n".join(lines[:-2]) + "\n")
     network = tables.read_network(tmp_path / "out")
     assert len(network.nodes) == 4 and len(network.roads) == 6
     assert sorted(tables.read_order(tmp_path / "out" / "order.csv", 4).tolist()) == [0, 1, 2, 3]
     # What it says is next can be run as it stands.
-    done = subprocess.run(["bash", "-c", lines[-1].split(None, 1)[1]], cwd=tmp_path, capture_output=True, text=True,
-                          env={**os.environ, "PATH": f"{BIN}:{os.environ['PATH']}"})
+    done = subprocess.run(["sh", "-c", lines[-1].split(None, 1)[1]], cwd=tmp_path, capture_output=True, text=True)
     assert done.returncode == 0 and done.stdout.startswith("built 4 6 "), done
 
 
 def test_the_packed_file_answers(small: Path, tmp_path: Path, program: Path) -> None:
     ran = run("catchup-import", "osm", small, tmp_path / "out", "--build")
-    assert ran.status == 0 and ran.output.splitlines()[-1] == f"next      catchup-http {tmp_path}/out/map.cu --tables {tmp_path}/out"
+    assert ran.status == 0 and ran.output.splitlines()[-1] == f"next      {BIN}/catchup-http {tmp_path}/out/map.cu --tables {tmp_path}/out"
+    # Found by its name, it calls others by theirs.
+    again = subprocess.run(["catchup-import", "osm", small, "again", "--build"], cwd=tmp_path, capture_output=True, text=True,
+                           env={**os.environ, "PATH": f"{BIN}:{os.environ['PATH']}"})
+    assert again.stdout.splitlines()[-1] == "next      catchup-http again/map.cu --tables again"
     found = MapFile.open(tmp_path / "out" / "map.gpkg")
     nodes = {osm: node for node, osm in enumerate(found.node_osm.tolist())}
     with Child(["ask", tmp_path / "out" / "map.cu"]) as child:
@@ -165,6 +168,12 @@ def test_speeds_of_ones_own(small: Path, tmp_path: Path, program: Path) -> None:
     assert call("catchup-import", "osm", small, tmp_path / "out", "--speeds", tmp_path / "fast.toml", "--without", "service").status == 0
     assert MapFile.open(tmp_path / "out" / "map.gpkg").road_seconds.tolist() == [144, 144]
     check_refused(call("catchup-import", "osm", small, tmp_path / "no", "--speeds", tmp_path / "none.toml"), 1, "none.toml: there is no such file")
+
+
+def test_classes_that_there_are_none_of(small: Path, tmp_path: Path) -> None:
+    ran = run("catchup-import", "osm", small, tmp_path / "out", "--without", "service,tracks,ferry")
+    check_refused(ran, 1, "--without: tracks is no class of roads; there are bridleway, ")
+    assert left(tmp_path) == ["small.osm"]
 
 
 def test_without_metis(tmp_path: Path, program: Path) -> None:

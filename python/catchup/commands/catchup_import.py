@@ -3,6 +3,7 @@ from __future__ import annotations
 
 import resource
 import shlex
+import shutil
 import sys
 import time
 from collections.abc import Iterator
@@ -65,7 +66,7 @@ def command() -> None:
     """
 
 
-@command.command("osm")
+@command.command("osm", short_help="Makes tables, order and map.gpkg of a map of OpenStreetMap.")
 @click.argument("map_file", metavar="MAP", type=click.Path(path_type=Path))
 @click.argument("folder", metavar="DIR", type=click.Path(path_type=Path))
 @click.option("--build", is_flag=True, help="Make the packed file map.cu too.")
@@ -115,9 +116,18 @@ def _tell(lines: list[str], said: list[str], seconds: float, folder: Path, build
     click.echo(f"{'made':<10}{folder} in {seconds:.1f} s and {peak:,.0f} MB")
     place = shlex.quote(str(folder))
     if build:
-        click.echo(f"{'next':<10}catchup-http {place}/map.cu --tables {place}")
+        click.echo(f"{'next':<10}{_called('catchup-http')} {place}/map.cu --tables {place}")
     else:
-        click.echo(f"{'next':<10}catchup build {place}/{{nodes,roads,profiles,order}}.csv {place}/map.cu")
+        tables = " ".join(f"{place}/{name}.csv" for name in ("nodes", "roads", "profiles", "order"))
+        click.echo(f"{'next':<10}{_called('catchup')} build {tables} {place}/map.cu")
+
+
+def _called(name: str) -> str:
+    """Another command of the folder that this one was called from: by its name where that finds it, else by its path."""
+    beside = Path(sys.argv[0]).with_name(name)
+    found = shutil.which(name)
+    here = beside.exists() and not (found and beside.samefile(found))
+    return shlex.quote(str(beside)) if here else name
 
 
 def main() -> NoReturn:

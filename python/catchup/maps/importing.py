@@ -26,7 +26,7 @@ from catchup.maps.sides import slow_turns
 from catchup.maps.states import Network, network_of
 from catchup.maps.streets import block, segments_of, streets_of
 from catchup.maps.turns import forbidden, kept_nodes
-from catchup.maps.vehicles import read_rush, read_vehicle
+from catchup.maps.vehicles import check_classes, read_rush, read_vehicle
 
 Tell = Callable[[str], None]
 
@@ -71,6 +71,7 @@ class Made:
 def import_osm(path: Path, options: Options, tell: Tell) -> Made:
     """Makes a network of a map; `tell` hears what is done next. Failure where it can't be made."""
     vehicle = read_vehicle(options.vehicle, options.speeds, options.private)
+    check_classes(options.without, vehicle)
     wanted = Wanted(vehicle, WEEKDAYS.index(options.weekday), options.without, options.bbox, options.signals, options.crossings)
     counts = Counts()
     check_file(path)

@@ -102,6 +102,16 @@ def read_speeds(vehicle: str, path: Path | None = None) -> Speeds:
                   frozenset(words["let_in_by_access"]), words["classes"], words["let_in"], rough, words["zones"])
 
 
+def check_classes(classes: frozenset[str], vehicle: Vehicle) -> None:
+    """Failure where one of these is no class of roads for anybody."""
+    known = {"ferry", *vehicle.speeds.classes, *vehicle.speeds.let_in}
+    for words in _data("speeds.toml").values():
+        known.update(words["classes"], words["let_in"])
+    unknown = sorted(classes - known)
+    if unknown:
+        raise Failure(f"--without: {', '.join(unknown)} is no class of roads; there are {', '.join(sorted(known))}")
+
+
 def read_vehicle(name: str, speeds: Path | None = None, private: bool = True) -> Vehicle:
     """What is known of a vehicle; with `private` false, private roads are barred instead of open to those who live there."""
     table = _data("vehicles.toml")
