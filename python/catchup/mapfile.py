@@ -221,8 +221,8 @@ def _table(base: sqlite3.Connection, query: str) -> tuple[list[NDArray[Any]], In
     numbers = [np.concatenate(column) for column in columns]
     if any(column.dtype.kind not in "if" for column in numbers):
         raise ValueError("a number is missing")
-    sizes = [np.diff(first) for first, _, _ in lines]
-    first = np.concatenate(([0], np.cumsum(np.concatenate([np.empty(0, dtype=np.int64), *sizes]))))
+    sizes: list[Ints] = [np.zeros(1, dtype=np.int64), *(np.diff(first) for first, _, _ in lines)]
+    first = np.cumsum(np.concatenate(sizes))
     lon, lat = (np.concatenate([np.empty(0), *(line[i] for line in lines)]) for i in (1, 2))
     return numbers, first, lon, lat, words
 

@@ -203,8 +203,8 @@ def _dissected(members: Ints, edges: Ints, nodes: int, tuned: bool, leaves: int 
         order[rank] = np.arange(count)
     if (order < 0).any():
         raise Failure("ndmetis wrote no ranks of the nodes: install METIS 5.1 or newer")
-    chosen: Ints = members[order[order < len(members)]]
-    return chosen
+    found: Ints = members[order[order < len(members)]]
+    return found
 
 
 def _ndmetis(nodes: int, edges: Ints, tuned: bool) -> Ints:

@@ -6,6 +6,7 @@ whoever would be overtaken arrives with the first who isn't.
 
 from __future__ import annotations
 
+import contextlib
 import csv
 import io
 import re
@@ -23,14 +24,22 @@ from catchup.replies import Piece
 from catchup.tables import (
     MOST_TRAVEL,
     MOST_UNTIL,
+    NODES_FILE,
+    PROFILES_FILE,
+    ROADS_FILE,
     Ints,
     Network,
     Nodes,
     Profiles,
     Roads,
+    nodes_text,
     profiles_of,
+    profiles_text,
+    roads_text,
+    writing,
 )
 
+IDS_FILE = "ids.csv"
 HOURS = 24
 HOUR = 3600
 _PLACES = ("id", "longitude", "latitude")
@@ -95,6 +104,27 @@ def make_network(places: Path, streets: Path, *, share: bool = False, in_metres:
     tail, head = (_ends(sheet, column, numbers, places) for column in ("from", "to"))
     profile, profiles = _profiles(sheet, share)
     return OwnNetwork(Network(nodes, Roads(tail, head, profile), profiles), where.columns["id"])
+
+
+def write_own(made: OwnNetwork, folder: Path) -> None:
+    """Writes the four files; where one can't be written, none is changed."""
+    ids = io.StringIO(newline="")
+    writer = csv.writer(ids, lineterminator="\n")
+    writer.writerow(["node", "id"])
+    writer.writerows(enumerate(made.ids))
+    texts = {
+        NODES_FILE: nodes_text(made.network.nodes),
+        ROADS_FILE: roads_text(made.network.roads),
+        PROFILES_FILE: profiles_text(made.network.profiles),
+        IDS_FILE: ids.getvalue().encode(),
+    }
+    try:
+        folder.mkdir(parents=True, exist_ok=True)
+    except OSError as error:
+        raise Failure(f"{folder} can't be made: {error.strerror or error}") from None
+    with contextlib.ExitStack() as files:
+        for name, text in texts.items():
+            files.enter_context(writing(folder / name)).write(text)
 
 
 # ---- CSV ----

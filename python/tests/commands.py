@@ -30,10 +30,10 @@ class Ran(NamedTuple):
 def run(
     name: str, *words: str | Path, input: str | bytes = b"", cwd: Path | None = None, env: Mapping[str, str] | None = None
 ) -> Ran:
-    """Runs bin/NAME to its end, at most two minutes."""
+    """Runs bin/NAME to its end, at most ten minutes."""
     said = input.encode() if isinstance(input, str) else input
     done = subprocess.run(
-        [BIN / name, *words], input=said, capture_output=True, timeout=120, cwd=cwd, env={**os.environ, **(env or {})}
+        [BIN / name, *words], input=said, capture_output=True, timeout=600, cwd=cwd, env={**os.environ, **(env or {})}
     )
     return Ran(done.returncode, done.stdout.decode(), done.stderr.decode())
 
@@ -75,7 +75,7 @@ def run_into_closed_pipe(name: str, *words: str | Path, input: bytes = b"", cwd:
     reader, writer = os.pipe()
     os.close(reader)
     try:
-        done = subprocess.run([BIN / name, *words], input=input, stdout=writer, stderr=subprocess.PIPE, timeout=120, cwd=cwd)
+        done = subprocess.run([BIN / name, *words], input=input, stdout=writer, stderr=subprocess.PIPE, timeout=600, cwd=cwd)
     finally:
         os.close(writer)
     return Ran(done.returncode, "", done.stderr.decode())

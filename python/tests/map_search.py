@@ -16,10 +16,8 @@ from pathlib import Path
 from typing import Any
 from xml.etree import ElementTree
 
-import numpy as np
+import igraph
 from map_tags import BARRED, ENDS, OPEN, Rules, Span, at_time, changes, departures, spans_today
-from scipy.sparse import coo_matrix
-from scipy.sparse.csgraph import breadth_first_order, connected_components
 
 DAY = 86400
 RADIUS = 6371008.8
@@ -388,12 +386,11 @@ def _pockets(network: Network) -> None:
     tails = [road.tail for road, good in zip(roads, is_open) if good]
     heads = [road.head for road, good in zip(roads, is_open) if good]
     count = len(network.vertex_osm)
-    matrix = coo_matrix((np.ones(len(tails)), (tails, heads)), shape=(count, count))
-    labels = connected_components(matrix, connection="strong")[1]
+    labels = igraph.Graph(count, list(zip(tails, heads)), directed=True).connected_components("strong").membership
     weight: dict[int, float] = defaultdict(float)
     for road, good in zip(roads, is_open):
         if good and labels[road.tail] == labels[road.head]:
-            weight[int(labels[road.tail])] += 1
+            weight[labels[road.tail]] += 1
     largest = max(weight, key=lambda label: weight[label])
     network.core = {v for v in range(count) if labels[v] == largest}
     for road in roads:
@@ -510,13 +507,13 @@ class Search:
                     number[following] = len(states)
                     states.append(following)
                 links.append((number[state], number[following]))
-        graph = coo_matrix((np.ones(len(links)), np.array(links).T), shape=(len(states), len(states))).tocsr()
-        labels = connected_components(graph, connection="strong")[1]
+        graph = igraph.Graph(len(states), links, directed=True)
+        labels = graph.connected_components("strong").membership
         vertices: dict[int, set[int]] = defaultdict(set)
         for state, label in zip(states, labels.tolist()):
             vertices[label] |= {state[0]} if state[2] == 1 else set()
-        largest = int(np.argmax(labels == max(vertices, key=lambda label: len(vertices[label]))))
-        ahead, behind = (set(breadth_first_order(g, largest, return_predecessors=False).tolist()) for g in (graph, graph.T.tocsr()))
+        largest = labels.index(max(vertices, key=lambda label: len(vertices[label])))
+        ahead, behind = (set(graph.subcomponent(largest, mode)) for mode in ("out", "in"))
         return {states[k][0] for k in ahead} & {state[0] for state in firsts if number[state] in behind}
 
     def near(self, osm: int, second: int, most: int) -> dict[int, tuple[float, int]]:

@@ -10,11 +10,10 @@ import stat
 import subprocess
 from pathlib import Path
 
+import igraph
 import numpy as np
 import pytest
 from commands import BIN, call, check_refused, run, run_into_closed_pipe
-from scipy.sparse import coo_matrix
-from scipy.sparse.csgraph import connected_components
 
 from catchup.bench.measure import compile_dijkstra
 from catchup.bench.networks import make_network
@@ -31,8 +30,7 @@ def test_networks_look_like_roads(program: Path, tmp_path: Path, size: int) -> N
     network = make_network(size, 5)
     nodes, roads, profiles = network.nodes, network.roads, network.profiles
     assert abs(len(nodes) - size) <= 0.1 * size + 2 and 2.0 < len(roads) / len(nodes) < 3.0
-    graph = coo_matrix((np.ones(len(roads)), (roads.tail, roads.head)), shape=(len(nodes), len(nodes)))
-    assert connected_components(graph, connection="strong")[0] == 1
+    assert igraph.Graph(len(nodes), list(zip(roads.tail, roads.head)), directed=True).is_connected("strong")
     assert len(np.unique(roads.profile)) == len(profiles) and 1 in np.diff(profiles.first) and 7 in np.diff(profiles.first)
     write_network(tmp_path, network)
     tables = [tmp_path / name for name in ("nodes.csv", "roads.csv", "profiles.csv")]

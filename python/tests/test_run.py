@@ -29,6 +29,8 @@ def command(how):
     if how == "refused": raise errors.Refused("node")
     if how == "bug": raise RuntimeError("bug")
     if how == "memory": raise MemoryError
+    if how == "module": import no_such.thing
+    if how == "own module": import catchup.no_such
     if how == "pipe":
         for _ in range(100000): print("line")
     if how == "number": return 5
@@ -52,6 +54,11 @@ ENDS = [
     (["status"], 7, "try-it: own\n"),
     (["refused"], 1, "try-it: the program refused the line: node (docs/FORMATS.md has the checks of each line)\n"),
     (["memory"], 1, "try-it: out of memory: free some, or give it a smaller input\n"),
+    (
+        ["module"],
+        1,
+        "try-it: the Python module no_such isn't installed: 'apt-get install python3-no-such' does it on Debian and Ubuntu\n",
+    ),
     (["number"], 5, ""),
     (["print"], 0, ""),
     ([], 2, "try-it: Missing argument 'HOW'. See: try-it --help\n"),
@@ -73,10 +80,11 @@ def test_help_goes_to_standard_output() -> None:
     assert (run.returncode, error) == (0, "") and output.startswith("Usage: try-it [OPTIONS] HOW")
 
 
-def test_a_bug_keeps_its_traceback() -> None:
-    run = start("bug")
+@pytest.mark.parametrize("how, said", [("bug", "RuntimeError: bug"), ("own module", "No module named 'catchup.no_such'")])
+def test_a_bug_keeps_its_traceback(how: str, said: str) -> None:
+    run = start(how)
     _, error = run.communicate(timeout=60)
-    assert run.returncode == 1 and "RuntimeError: bug" in error
+    assert run.returncode == 1 and "Traceback" in error and said in error
 
 
 def test_a_closed_pipe_is_silent() -> None:

@@ -8,13 +8,13 @@ ways between the largest towns: quicker than others, and slow in two rush hours.
 from __future__ import annotations
 
 from dataclasses import dataclass
-from typing import TypeAlias
+from typing import Any, TypeAlias
 
+import igraph
 import numpy as np
 import numpy.typing as npt
-from scipy.sparse import coo_matrix
-from scipy.sparse.csgraph import dijkstra
-from scipy.spatial import Delaunay
+from shapely.geometry import MultiPoint
+from shapely.ops import triangulate
 
 from catchup.replies import Piece
 from catchup.tables import Ints, Network, Nodes, ProfilePool, Profiles, Roads
@@ -54,7 +54,7 @@ def make_network(size: int, seed: int = 1) -> Network:
 
 
 def _places(count: int, draw: np.random.Generator) -> tuple[Floats, Ints]:
-    """Places of junctions in metres, float64[n, 2], and the junction in the middle of each of the larger towns."""
+    """Places of junctions in whole metres, float64[n, 2], rising, and the junction in the middle of each larger town."""
     side = _METRES_APART * np.sqrt(count)
     towns = max(4, count // 150)
     share = 1 / np.arange(1, towns + 1)
@@ -64,15 +64,18 @@ def _places(count: int, draw: np.random.Generator) -> tuple[Floats, Ints]:
     of_town = np.repeat(np.arange(towns), sizes)
     inside = centres[of_town] + draw.normal(size=(len(of_town), 2)) * spread[of_town]
     around = draw.random((max(0, count - len(inside)), 2)) * side
-    places = np.unique(np.round(np.concatenate([inside, around]) - min(0, inside.min())), axis=0)
+    least = min(0.0, float(inside.min()))
+    both: Floats = np.concatenate([inside, around])
+    places = np.unique(np.round(both - least), axis=0)
     hubs = max(3, round(np.sqrt(count) / 6))
-    middle = [int(np.argmin(((places - centre) ** 2).sum(axis=1))) for centre in centres[:hubs] - min(0, inside.min())]
+    middle = [int(np.argmin(((places - centre) ** 2).sum(axis=1))) for centre in centres[:hubs] - least]
     return places, np.unique(middle)
 
 
 def _streets(places: Floats) -> Ints:
     """The links: sides of the triangulation that are the longest of none of their triangles. int64[k, 2]."""
-    corners = Delaunay(places).simplices.astype(np.int64)
+    triangles = np.array([triangle.exterior.coords[:3] for triangle in triangulate(MultiPoint(places))])
+    corners = np.searchsorted(_keys(places), _keys(triangles))
     sides = np.stack([corners[:, [0, 1]], corners[:, [1, 2]], corners[:, [2, 0]]], axis=1)
     length = np.hypot(*(places[sides[..., 0]] - places[sides[..., 1]]).transpose(2, 0, 1))
     sides.sort(axis=2)
@@ -82,18 +85,21 @@ def _streets(places: Floats) -> Ints:
     return np.stack([left // len(places), left % len(places)], axis=1)
 
 
+def _keys(places: Floats) -> Floats:
+    """A number for each place, float64[..] of float64[.., 2], which rises as places do."""
+    return places[..., 0] * 2.0**26 + places[..., 1]
+
+
 def _main(nodes: int, ends: Ints, metres: Floats, towns: Ints) -> npt.NDArray[np.bool_]:
     """Which links lie on the shortest ways from the towns to the three towns next to each."""
-    graph = coo_matrix((metres, tuple(ends.T)), shape=(nodes, nodes)).tocsr()
-    away, before = dijkstra(graph, directed=False, indices=towns, return_predecessors=True)
-    key = ends[:, 0] * nodes + ends[:, 1]
-    found: set[int] = set()
-    for place, town in enumerate(towns.tolist()):
-        for target in towns[np.argsort(away[place, towns])[1:4]].tolist():
-            while target != town:
-                last, target = target, int(before[place, target])
-                found.add(min(last, target) * nodes + max(last, target))
-    return np.isin(key, np.fromiter(found, np.int64, len(found)))
+    graph = igraph.Graph(nodes, ends.tolist())
+    away = np.array(graph.distances(towns.tolist(), towns.tolist(), weights=metres))
+    is_main = np.zeros(len(ends), bool)
+    for town, row in zip(towns.tolist(), away):
+        nearest = towns[np.argsort(row)[1:4]].tolist()
+        for links in graph.get_shortest_paths(town, nearest, weights=metres, output="epath"):
+            is_main[links] = True
+    return is_main
 
 
 def _chains(places: Floats, links: _Links, more: int, draw: np.random.Generator) -> tuple[Floats, Ints, Ints, Ints]:
@@ -147,10 +153,10 @@ def _rush_hours(draw: np.random.Generator) -> npt.NDArray[np.float64]:
     morning = 22_800 + 300 * draw.integers(0, 16, _PATTERNS)
     evening = 55_800 + 300 * draw.integers(0, 16, _PATTERNS)
     tide = draw.random(_PATTERNS)
-    return np.stack(
-        [morning, morning + 300 * draw.integers(12, 28, _PATTERNS), 0.15 + tide,
-         evening, evening + 300 * draw.integers(16, 34, _PATTERNS), 1.15 - tide], axis=1
-    )  # fmt: skip
+    noon = morning + 300 * draw.integers(12, 28, _PATTERNS)
+    night = evening + 300 * draw.integers(16, 34, _PATTERNS)
+    columns: list[npt.NDArray[Any]] = [morning, noon, 0.15 + tide, evening, night, 1.15 - tide]
+    return np.stack(columns, axis=1)
 
 
 def _pieces(seconds: int, pattern: int, rush: npt.NDArray[np.float64]) -> tuple[Piece, ...]:

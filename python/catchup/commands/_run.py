@@ -16,13 +16,16 @@ WRONG_WORDS = 2
 INTERRUPTED = 130
 CLOSED_PIPE = 141
 TERMINATED = 143
+# Debian's packages of Python modules are named after them, but for these.
+_PACKAGES = {"osmium": "python3-pyosmium"}
 
 
 def run(command: click.Command, name: str) -> NoReturn:
     """Runs a click command as a program that is called `name`.
 
-    Wrong words are status 2, a Failure its own status (1), an interrupt 130, a request to terminate 143 (both let the
-    command clean up), a closed pipe 141 without a word. Each but the last three has one line on standard error.
+    Wrong words are status 2, a Failure its own status (1), a module that isn't installed 1, an interrupt 130, a request
+    to terminate 143 (both let the command clean up), a closed pipe 141 without a word. Each but the last three has one
+    line on standard error.
     """
     if signal.getsignal(signal.SIGTERM) is signal.SIG_DFL:
         signal.signal(signal.SIGTERM, _terminate)
@@ -50,6 +53,13 @@ def _status_of(command: click.Command, name: str) -> int:
     except BrokenPipeError:
         _leave_output()
         return CLOSED_PIPE
+    except ModuleNotFoundError as error:
+        module = (error.name or "").partition(".")[0]
+        if module in ("", "catchup"):
+            raise
+        package = _PACKAGES.get(module, f"python3-{module.replace('_', '-')}")
+        how = f"'apt-get install {package}' does it on Debian and Ubuntu"
+        return _said(name, f"the Python module {module} isn't installed: {how}", 1)
     except OSError as error:
         _leave_output()
         return _said(name, _one_line(str(error)), 1)

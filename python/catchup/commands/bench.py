@@ -5,13 +5,14 @@ from __future__ import annotations
 import tempfile
 from contextlib import ExitStack
 from pathlib import Path
-from typing import NoReturn
+from typing import TYPE_CHECKING, NoReturn
 
 import click
 
-from catchup.bench.measure import Figures, compile_dijkstra, measure
 from catchup.commands._run import run
-from catchup.tables import MOST_NODES
+
+if TYPE_CHECKING:
+    from catchup.bench.measure import Figures
 
 _COLUMNS = (
     "nodes", "roads", "edges", "file MB", "order s", "build s", "build MB", "queries/s", "ask MB", "edit s", "edit MB",
@@ -21,6 +22,8 @@ _SMALLEST = 20
 
 
 def _sizes(context: click.Context, parameter: click.Parameter, text: str) -> list[int]:
+    from catchup.tables import MOST_NODES
+
     try:
         sizes = [int(word) for word in text.split(",")]
     except ValueError:
@@ -42,6 +45,8 @@ def command(sizes: list[int], queries: int, seed: int, keep: Path | None) -> Non
     are answered behind the first quarter of them, and what an edit of one profile costs; beside plain time-dependent
     Dijkstra, where a C compiler is installed. Arrivals must be equal. Times are seconds of one processor.
     """
+    from catchup.bench.measure import compile_dijkstra, measure
+
     with ExitStack() as stack:
         room = Path(stack.enter_context(tempfile.TemporaryDirectory(prefix="catchup-bench-")))
         dijkstra = compile_dijkstra(room)

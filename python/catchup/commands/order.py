@@ -8,8 +8,6 @@ from typing import NoReturn
 import click
 
 from catchup.commands._run import run
-from catchup.order import figures, metis_order, order_by_ndmetis
-from catchup.tables import order_text, read_nodes, read_profiles, read_roads
 
 
 @click.command(epilog="Example: catchup-order nodes.csv roads.csv > order.csv")
@@ -24,6 +22,9 @@ def command(nodes: str, roads: str, profiles: str | None, plain: bool, tell: boo
     NODES and ROADS are the tables; with PROFILES the roads' profiles are checked too. Nodes of at most two neighbours go
     first, the others as ndmetis (Debian's package metis) orders them. The order decides the speed, and never an arrival.
     """
+    from catchup.order import figures, metis_order, order_by_ndmetis
+    from catchup.tables import order_text, read_nodes, read_profiles, read_roads
+
     places = read_nodes(nodes)
     table = read_roads(roads, len(places), len(read_profiles(profiles)) if profiles else None)
     make = order_by_ndmetis if plain else metis_order

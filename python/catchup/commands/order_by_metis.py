@@ -8,8 +8,6 @@ from typing import NoReturn
 import click
 
 from catchup.commands._run import run
-from catchup.order import order_by_ndmetis
-from catchup.tables import order_text, read_nodes, read_roads
 
 
 @click.command(epilog="Example: order-by-metis nodes.csv roads.csv > order.csv")
@@ -21,6 +19,9 @@ def command(nodes: str, roads: str) -> None:
     NODES and ROADS are the tables node,x,y and arc,tail,head,profile. Nodes without roads get the lowest ranks.
     'catchup-order' makes a better one in less time.
     """
+    from catchup.order import order_by_ndmetis
+    from catchup.tables import order_text, read_nodes, read_roads
+
     places = read_nodes(nodes)
     table = read_roads(roads, len(places))
     sys.stdout.buffer.write(order_text(order_by_ndmetis(len(places), table.tail, table.head)))

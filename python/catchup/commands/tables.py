@@ -2,31 +2,16 @@
 
 from __future__ import annotations
 
-import contextlib
-import csv
-import io
 from pathlib import Path
-from typing import NoReturn
+from typing import TYPE_CHECKING, NoReturn
 
 import click
 
 from catchup.commands._run import run
-from catchup.errors import Failure
-from catchup.own_data import OwnNetwork, make_network
-from catchup.tables import (
-    MOST_NODES,
-    MOST_PROFILES,
-    MOST_ROADS,
-    NODES_FILE,
-    PROFILES_FILE,
-    ROADS_FILE,
-    nodes_text,
-    profiles_text,
-    roads_text,
-    writing,
-)
 
-IDS_FILE = "ids.csv"
+if TYPE_CHECKING:
+    from catchup.own_data import OwnNetwork
+
 # Up to so many nodes the order that needs no tool is good enough.
 SMALL = 5_000
 
@@ -47,9 +32,11 @@ def command(places: Path, streets: Path, out: Path, share: bool, degrees: bool) 
 
     Who leaves later never arrives earlier: who would be overtaken arrives with the first who wouldn't.
     """
+    from catchup.own_data import make_network, write_own
+
     made = make_network(places, streets, share=share, in_metres=degrees)
     _check_limits(made)
-    write(made, out)
+    write_own(made, out)
     network = made.network
     click.echo(f"made {len(network.nodes)} nodes, {len(network.roads)} roads, {len(network.profiles)} profiles")
     click.echo(f"next: {_next_command(out, len(network.nodes))}")
@@ -60,28 +47,9 @@ def main() -> NoReturn:
     run(command, "catchup-tables")
 
 
-def write(made: OwnNetwork, folder: Path) -> None:
-    """Writes the four files; where one can't be written, none is changed."""
-    ids = io.StringIO(newline="")
-    writer = csv.writer(ids, lineterminator="\n")
-    writer.writerow(["node", "id"])
-    writer.writerows(enumerate(made.ids))
-    texts = {
-        NODES_FILE: nodes_text(made.network.nodes),
-        ROADS_FILE: roads_text(made.network.roads),
-        PROFILES_FILE: profiles_text(made.network.profiles),
-        IDS_FILE: ids.getvalue().encode(),
-    }
-    try:
-        folder.mkdir(parents=True, exist_ok=True)
-    except OSError as error:
-        raise Failure(f"{folder} can't be made: {error.strerror or error}") from None
-    with contextlib.ExitStack() as files:
-        for name, text in texts.items():
-            files.enter_context(writing(folder / name)).write(text)
-
-
 def _check_limits(made: OwnNetwork) -> None:
+    from catchup.tables import MOST_NODES, MOST_PROFILES, MOST_ROADS
+
     network = made.network
     for what, count, most in (
         ("places", len(network.nodes), MOST_NODES),
@@ -93,6 +61,8 @@ def _check_limits(made: OwnNetwork) -> None:
 
 
 def _next_command(folder: Path, nodes: int) -> str:
+    from catchup.tables import NODES_FILE, PROFILES_FILE, ROADS_FILE
+
     at = "" if folder == Path(".") else f"{folder}/"
     tables = f"{at}{NODES_FILE} {at}{ROADS_FILE}"
     if nodes <= SMALL:

@@ -2,11 +2,9 @@
 from __future__ import annotations
 
 import numpy as np
-from scipy.sparse import coo_matrix
-from scipy.sparse.csgraph import connected_components
 
 from catchup.maps.arrays import Bools, Ints
-
+from catchup.maps.graph import joined_parts
 
 
 def positions(after: Ints) -> tuple[Ints, Ints, Bools]:
@@ -35,9 +33,7 @@ def ring_starts(after: Ints, rings: Bools) -> Ints:
         return members
     number = np.full(len(after), -1, dtype=np.int64)
     number[members] = np.arange(len(members))
-    graph = coo_matrix((np.ones(len(members), dtype=np.int8), (number[members], number[after[members]])),
-                       shape=(len(members), len(members)))
-    _, labels = connected_components(graph, directed=False)
+    labels = joined_parts(len(members), number[members], number[after[members]])
     return members[np.unique(labels, return_index=True)[1]]
 
 

@@ -55,7 +55,8 @@ class Labels:
         first = offsets(sizes + 1)
         rank = ranges(np.zeros(len(street), dtype=np.int64), sizes)
         start, size, turned = (np.repeat(values, sizes) for values in (streets.first[street], sizes, back))
-        step = streets.steps[start + np.where(turned, size - 1 - rank, rank)] ^ turned
+        inside: Ints = np.where(turned, size - 1 - rank, rank)
+        step = streets.steps[start + inside] ^ turned
         nodes = np.empty(first[-1], dtype=np.int64)
         nodes[first[:-1]] = self.of.tail[directed]
         nodes[np.repeat(first[:-1], sizes) + 1 + rank] = self.of.segments.step_head(step)
