@@ -1,5 +1,6 @@
-"""What the program says on standard error where it ends with a status from 2 on: over real files, for each row of both tables of
-fault lines, each fault of a file, and each status; and that a store fails at once where the system can't tell names."""
+"""What the program says on standard error where it ends with a status from 2 on: over real files, for each row of both
+tables of fault lines, each fault of a file, and each status; and that a store fails at once where the system can't tell
+names."""
 
 from __future__ import annotations
 
@@ -21,6 +22,7 @@ TABLES = ("nodes.csv", "roads.csv", "profiles.csv")
 SERVE = ("serve", *TABLES, "identity")
 WAIT = ("wait", "nodes.csv", "roads.csv", "measured.csv", "identity")
 MAKES_BUILD = "Build it again: catchup build .."
+ANOTHER_FOLDER = "Name a file in a folder that is there and may be written"
 HEADER = "profile,from,kind,value\n"
 
 
@@ -62,7 +64,10 @@ def refused(program: Path, folder: Path, words: Sequence[str | bytes], status: i
     "words, said",
     [
         ("", "there is no command. See: catchup --help"),
-        ("build a b c d", "build takes NODES ROADS PROFILES ORDER OUT (5 words), and there were 4. See: catchup --help"),
+        (
+            "build a b c d",
+            "build takes NODES ROADS PROFILES ORDER OUT (5 words), and there were 4. See: catchup --help",
+        ),
         ("desk a", "desk takes HIERARCHY OUT (2 words), and there was 1. See: catchup --help"),
         ("biuld a b c d e", "biuld is no command; the nearest is build. See: catchup --help"),
         ("navigate", "navigate is no command. See: catchup --help"),
@@ -100,17 +105,17 @@ def test_a_word_that_is_no_text(program: Path, folder: Path) -> None:
         (
             ("order", *TABLES, "none/order"),
             "shelf: fault out",
-            "cannot store none/order: No such file or directory. Name a file in a folder that is there and may be written",
+            "cannot store none/order: No such file or directory. " + ANOTHER_FOLDER,
         ),
         (
             ("make", "7", "1", "1", "n.csv", ".", "p.csv"),
             "shelf: fault roads",
-            "cannot store .: Is a directory. Name a file in a folder that is there and may be written",
+            "cannot store .: Is a directory. " + ANOTHER_FOLDER,
         ),
         (
             ("order", *TABLES, "/proc/order"),
             "shelf: fault out",
-            "cannot store /proc/order: No such file or directory. Name a file in a folder that is there and may be written",
+            "cannot store /proc/order: No such file or directory. " + ANOTHER_FOLDER,
         ),
     ],
 )
@@ -145,7 +150,12 @@ class Table(NamedTuple):
 NODES = "node,x,y\n"
 ROADS = "arc,tail,head,profile\n"
 REFUSED = [
-    Table("nodes.csv", "node;x;y\n", "nodes header", "nodes.csv, line 1: the header is node;x;y, and has to be node,x,y"),
+    Table(
+        "nodes.csv",
+        "node;x;y\n",
+        "nodes header",
+        "nodes.csv, line 1: the header is node;x;y, and has to be node,x,y",
+    ),
     Table("nodes.csv", "", "nodes header", "nodes.csv: the first row has to be the header node,x,y"),
     Table("nodes.csv", NODES + "\n0,0\n", "nodes 0 fields", "nodes.csv, line 3: 2 fields, and a row has 3: node,x,y"),
     Table(
@@ -170,8 +180,8 @@ REFUSED = [
         "roads.csv",
         NODES,
         "roads header",
-        "roads.csv, line 1: the header is node,x,y, and has to be arc,tail,head,profile. This is a table of nodes: are the words in "
-        "their order?",
+        "roads.csv, line 1: the header is node,x,y, and has to be arc,tail,head,profile."
+        " This is a table of nodes: are the words in their order?",
     ),
     Table(
         "roads.csv",
@@ -219,8 +229,8 @@ REFUSED = [
         "profiles.csv",
         "profile,second,mode,travel\n",
         "profiles header",
-        "profiles.csv, line 1: the header is profile,second,mode,travel, and has to be profile,from,kind,value. Measured times: catchup "
-        "measure, or catchup wait",
+        "profiles.csv, line 1: the header is profile,second,mode,travel, and has to be profile,from,kind,value."
+        " Measured times: catchup measure, or catchup wait",
     ),
     Table(
         "profiles.csv",
@@ -292,15 +302,17 @@ REFUSED = [
         "profiles.csv",
         HEADER + "0,0,until,28799\n",
         "profiles 0 early 28800",
-        "profiles.csv: profile 0 lets who departs at 08:00:00 arrive before that. Let an until piece end by the second that it names\n"
+        "profiles.csv: profile 0 lets who departs at 08:00:00 arrive before that."
+        " Let an until piece end by the second that it names\n"
         "profiles.csv, line 2: profile 0 begins here",
     ),
     Table(
         "profiles.csv",
         HEADER + "0,0,travel,1\n1,0,travel,100\n1,28800,travel,10\n",
         "profiles 1 fifo 28799",
-        "profiles.csv: profile 1 lets who departs at 07:59:59 arrive later than who departs a second later. Measured times that do so: "
-        "catchup measure, or catchup wait\nprofiles.csv, line 3: profile 1 begins here",
+        "profiles.csv: profile 1 lets who departs at 07:59:59 arrive later than who departs a second later."
+        " Measured times that do so: catchup measure, or catchup wait\n"
+        "profiles.csv, line 3: profile 1 begins here",
     ),
 ]
 
@@ -315,7 +327,8 @@ def test_a_pipe_is_not_read_again(program: Path, folder: Path) -> None:
     (folder / "roads.csv").write_text(ROADS + "0,0,9,0\n")
     os.mkfifo(folder / "pipe")
     with subprocess.Popen(["sh", "-c", "cat roads.csv > pipe"], cwd=folder):
-        said = refused(program, folder, ("serve", "nodes.csv", "pipe", "profiles.csv", "identity"), 4, "network: roads 0 node")
+        words = ("serve", "nodes.csv", "pipe", "profiles.csv", "identity")
+        said = refused(program, folder, words, 4, "network: roads 0 node")
     assert said == "pipe, row 0 behind the header: the tail and the head of a road are nodes"
 
 
@@ -325,8 +338,8 @@ MEASURES = [
         "measured.csv",
         HEADER,
         "header",
-        "measured.csv, line 1: the header is profile,from,kind,value, and has to be profile,second,mode,travel. A table of profiles: "
-        "catchup serve, or catchup build",
+        "measured.csv, line 1: the header is profile,from,kind,value, and has to be profile,second,mode,travel."
+        " A table of profiles: catchup serve, or catchup build",
     ),
     Table(
         "measured.csv",
@@ -389,14 +402,19 @@ def test_measured(program: Path, folder: Path, words: Sequence[str], table: Tabl
 @pytest.mark.parametrize(
     "text, line, said",
     [
-        ("node\n0\n", "0 number", "order.txt, line 1: node is node, and has to be a whole number; an order has no header"),
+        (
+            "node\n0\n",
+            "0 number",
+            "order.txt, line 1: node is node, and has to be a whole number; an order has no header",
+        ),
         ("0\n1,2\n", "1 number", "order.txt, line 2: 2 fields, and a row has one, the number of a node"),
         ("0\n\n3\n", "1 range", "order.txt, line 3: there is no node 3; nodes.csv has nodes 0 to 2"),
         ("0\n1\n0\n", "2 twice", "order.txt, line 3: node 0 stands in line 1 already, and each node stands once"),
         (
             "0\n1\n",
             "2 count",
-            "order.txt has 2 rows, and nodes.csv has nodes 0 to 2: each node stands once. To make an order: catchup order",
+            "order.txt has 2 rows, and nodes.csv has nodes 0 to 2: each node stands once."
+            " To make an order: catchup order",
         ),
     ],
 )
@@ -502,7 +520,11 @@ NOT_OURS = "day.cu has a right checksum, but catchup did not make it: "
         (put(16, "I", 1048577), "limit arcs", "day.cu has more than 1048576 roads, the most that catchup takes"),
         (put(20, "I", 1048577), "limit profiles", "day.cu has more than 1048576 profiles, the most that catchup takes"),
         (put(24, "I", 16777217), "limit edges", "day.cu has more than 16777216 shortcuts, the most that catchup takes"),
-        (put(28, "Q", 90596966401), "limit pieces", "day.cu has more than 90596966400 pieces, the most that catchup takes"),
+        (
+            put(28, "Q", 90596966401),
+            "limit pieces",
+            "day.cu has more than 90596966400 pieces, the most that catchup takes",
+        ),
         (
             put(36, "Q", 2899102924801),
             "limit entries",
@@ -511,9 +533,14 @@ NOT_OURS = "day.cu has a right checksum, but catchup did not make it: "
         (
             put(12, "I", 262144),
             "size 3146120 SIZE",
-            f"day.cu is no packed hierarchy, or a damaged one (what it counts takes 3146120 bytes and it has SIZE). {MAKES_BUILD}",
+            "day.cu is no packed hierarchy, or a damaged one (what it counts takes 3146120 bytes and it has SIZE). "
+            + MAKES_BUILD,
         ),
-        (at("node at rank", "I", 9), "order 0", NOT_OURS + "no node has rank 0 as it should. Build it: catchup build .."),
+        (
+            at("node at rank", "I", 9),
+            "order 0",
+            NOT_OURS + "no node has rank 0 as it should. Build it: catchup build ..",
+        ),
         (
             at("roads", "I", 9),
             "arc 0",
@@ -530,7 +557,11 @@ NOT_OURS = "day.cu has a right checksum, but catchup did not make it: "
             "ways 0 up",
             NOT_OURS + "the ways of shortcut 0 up are not its own. Build it: catchup build ..",
         ),
-        (at("bounds", "Q", 1), "bound 0 up", NOT_OURS + "the bound of shortcut 0 up is wrong. Build it: catchup build .."),
+        (
+            at("bounds", "Q", 1),
+            "bound 0 up",
+            NOT_OURS + "the bound of shortcut 0 up is wrong. Build it: catchup build ..",
+        ),
     ],
 )
 def test_packed_files(program: Path, packed: Path, change: Change, line: str, said: str) -> None:
@@ -558,7 +589,8 @@ def test_an_input_that_fails(program: Path, folder: Path) -> None:
         os.close(directory)
     assert (ended.returncode, ended.stdout) == (7, b"")
     assert ended.stderr == (
-        b"catchup: cannot read standard input: Is a directory. The replies so far stand; the lines behind them were not answered\n"
+        b"catchup: cannot read standard input: Is a directory."
+        b" The replies so far stand; the lines behind them were not answered\n"
     )
 
 
@@ -569,7 +601,8 @@ def test_an_output_that_fails(program: Path, folder: Path) -> None:
         )
     assert ended.returncode == 8
     assert ended.stderr == (
-        b"catchup: cannot write standard output: No space left on device. What was written may end in the middle of a line\n"
+        b"catchup: cannot write standard output: No space left on device."
+        b" What was written may end in the middle of a line\n"
     )
 
 
@@ -610,7 +643,8 @@ def test_a_file_that_no_build_makes(program: Path, folder: Path) -> None:
     ran = run(program, folder, ("verify", "day.cu"))
     assert (ran.status, ran.output) == (10, b"differs 2 up 0 via 0 road 2\n")
     assert ran.error == (
-        "catchup: day.cu is not as a new build makes it: shortcut 2 up first differs at 00:00:00. Build it again: catchup build ..\n"
+        "catchup: day.cu is not as a new build makes it: shortcut 2 up first differs at 00:00:00."
+        " Build it again: catchup build ..\n"
     )
 
 
