@@ -386,12 +386,9 @@ def _pockets(network: Network) -> None:
     tails = [road.tail for road, good in zip(roads, is_open) if good]
     heads = [road.head for road, good in zip(roads, is_open) if good]
     count = len(network.vertex_osm)
-    labels = igraph.Graph(count, list(zip(tails, heads)), directed=True).connected_components("strong").membership
-    weight: dict[int, float] = defaultdict(float)
-    for road, good in zip(roads, is_open):
-        if good and labels[road.tail] == labels[road.head]:
-            weight[labels[road.tail]] += 1
-    largest = max(weight, key=lambda label: weight[label])
+    parts = igraph.Graph(count, list(zip(tails, heads)), directed=True).connected_components("strong")
+    labels, sizes = parts.membership, parts.sizes()
+    largest = sizes.index(max(sizes))
     network.core = {v for v in range(count) if labels[v] == largest}
     for road in roads:
         if road.tail not in network.core or road.head not in network.core:
@@ -510,7 +507,7 @@ class Search:
         graph = igraph.Graph(len(states), links, directed=True)
         labels = graph.connected_components("strong").membership
         vertices: dict[int, set[int]] = defaultdict(set)
-        for state, label in zip(states, labels.tolist()):
+        for state, label in zip(states, labels):
             vertices[label] |= {state[0]} if state[2] == 1 else set()
         largest = labels.index(max(vertices, key=lambda label: len(vertices[label])))
         ahead, behind = (set(graph.subcomponent(largest, mode)) for mode in ("out", "in"))
