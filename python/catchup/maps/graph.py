@@ -7,7 +7,6 @@ import numpy as np
 from catchup.maps.arrays import Bools, Ints, offsets
 
 
-
 class Groups:
     """Things grouped by a number each has: `groups[n]` are those with number n, in their order."""
 
