@@ -93,14 +93,14 @@ def _plain(block: str) -> list[Step]:
 def run_steps(steps: list[Step], clone: Path, room: Path) -> list[Found | None]:
     """Runs the steps from the root of a clone, with no toolchain and temporary files in `room`/tmp: None where a step was
     left out or wasn't come to."""
-    (room / "steps").mkdir()
-    (room / "tmp").mkdir()
+    for folder in ("steps", "tmp", "home"):
+        (room / folder).mkdir()
     for number, step in enumerate(steps):
         if not step.left_out():
             (room / "steps" / f"{number:03}.sh").write_text(step.command + "\n")
     words = {"PATH": plain_path(), "TMPDIR": f"{room}/tmp", "steps": f"{room}/steps", "LC_ALL": "C"}
     # Where neither is told, parallel warns of the one and asks the shell that started it, which may be none, for the other.
-    words |= {"HOME": f"{room}/tmp", "SHELL": "/bin/sh"}
+    words |= {"HOME": f"{room}/home", "SHELL": "/bin/sh"}
     subprocess.run(["bash", "-c", RUN_STEPS], cwd=clone, env=os.environ | words, timeout=900)
     return [_found(room / "steps" / f"{number:03}") for number in range(len(steps))]
 
