@@ -172,6 +172,14 @@ class RoadNames:
         rows = range(int(self.first[road]), int(self.first[road + 1]))
         return [Span(float(self.begin[row]), float(self.end[row]), *self.texts[self.text[row]]) for row in rows]
 
+    def longest(self) -> Ints:
+        """The text of the longest named part of each road, -1 where it has none."""
+        road = np.repeat(np.arange(len(self.first) - 1), np.diff(self.first))
+        order = np.lexsort((-np.arange(len(road)), self.end - self.begin, road))
+        found = np.full(len(self.first) - 1, -1, dtype=np.int64)
+        found[road[order]] = self.text[order]
+        return found
+
 
 def _connect(path: Path) -> sqlite3.Connection:
     """A connection that only reads; Failure where there is no file."""
@@ -268,20 +276,11 @@ def _road_rows(of: MapFile, names: RoadNames) -> Iterator[tuple[Any, ...]]:
     ends: tuple[NDArray[Any], ...] = (of.road_tail, of.road_head, of.road_osm_way, of.road_osm_from, of.road_osm_to)
     columns = [values.tolist() for values in ends]
     texts = [_said(text) for text in names.texts] + [(None, None)]
-    longest: list[int] = _longest_parts(names).tolist()
+    longest: list[int] = names.longest().tolist()
     lines = geometry.line_blobs(of.road_first, of.point_lon, of.point_lat)
     rest = zip(of.road_class.tolist(), np.round(of.road_metres, 2).tolist(), of.road_seconds.tolist(), of.road_profile.tolist(), lines)
     for road, (first, text, (kind, *values)) in enumerate(zip(zip(*columns), longest, rest)):
         yield (road, *first, *texts[text], of.classes[kind], *values)
-
-
-def _longest_parts(names: RoadNames) -> Ints:
-    """The text of the longest named part of each road, -1 where it has none."""
-    road = np.repeat(np.arange(len(names.first) - 1), np.diff(names.first))
-    order = np.lexsort((-np.arange(len(road)), names.end - names.begin, road))
-    found = np.full(len(names.first) - 1, -1, dtype=np.int64)
-    found[road[order]] = names.text[order]
-    return found
 
 
 def _describe(base: sqlite3.Connection, of: MapFile) -> None:

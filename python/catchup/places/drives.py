@@ -1,0 +1,158 @@
+"""The best drive from one place to another: of all ways to begin and all ways to end, the earliest arrival.
+
+Between a beginning and an end the program is asked by lines `q` (or `v`, where it says seconds). Times are kept to the
+fraction of a second within a drive; it arrives at the nearest whole second.
+"""
+
+from __future__ import annotations
+
+import math
+from collections.abc import Sequence
+from dataclasses import dataclass
+
+from catchup.clock import DAY
+from catchup.errors import CatchupError
+from catchup.places.ends import Ends, Source, Target
+from catchup.places.lines import Part
+from catchup.places.travel import Travel
+from catchup.places.values import Ask, NoRoute, Snap
+
+
+@dataclass(frozen=True, slots=True)
+class Drive:
+    """A drive: `parts` are the roads with the shares of each that are driven, and `seconds` when each is entered. All
+    seconds count from the first leg's midnight. Where nothing is driven there are no parts."""
+
+    start: Snap
+    end: Snap
+    depart: int
+    arrive: int
+    parts: tuple[Part, ...]
+    seconds: tuple[int, ...]
+
+
+@dataclass(frozen=True, slots=True)
+class _Way:
+    """A way from a beginning to an end: when one is at the end's node, and what the program said of the roads between."""
+
+    time: float
+    source: Source
+    target: Target
+    reply: str
+
+
+class Driver:
+    """Finds drives over one version of a network. `line` is the kind of line that asks for a drive: `q`, or `v` where the
+    program says the second at which each road is entered."""
+
+    def __init__(self, ends: Ends, travel: Travel, line: str = "q") -> None:
+        self.ends = ends
+        self.travel = travel
+        self._line = line
+
+    async def drive(self, start: Snap, end: Snap, depart: int, ask: Ask, leg: int = 0) -> Drive:
+        """The drive that leaves at a second and arrives first. NoRoute(leg) where no way leads."""
+        sources, targets = self.ends.sources(start, depart, self.travel), self.ends.targets(end, self.travel)
+        straight = self.straight(start, end, depart)
+        ways = await self._ways(sources, targets, ask)
+        best, least = None, math.inf
+        for way in ways:
+            arrive = self.finished(way.target, way.time)
+            if arrive < least:
+                best, least = way, arrive
+        if straight is not None and straight[0] <= least:
+            return self._along(start, end, depart, *straight)
+        if best is None:
+            raise NoRoute(leg)
+        return self._driven(start, end, depart, nearest_second(least), best)
+
+    def straight(self, start: Snap, end: Snap, depart: int) -> tuple[float, Part] | None:
+        """The drive along one road, where the end lies ahead on it: when it arrives, and the part of the road."""
+        travel = self.travel
+        parts = [(road, share, ahead) for road, share in start.roads for other, ahead in end.roads
+                 if road == other and ahead >= share and self.ends.may_begin(road) and not travel.is_closed[road]]
+        return min(((depart + (ahead - share) * (travel.arrive(road, depart) - depart), (road, share, ahead))
+                    for road, share, ahead in parts), default=None)
+
+    def finished(self, target: Target, time: float) -> float:
+        """When one is at a place who is at the node of its end at some time."""
+        if target.share == 0.0:
+            return time
+        takes = int(self.travel.constant[target.road])
+        return time + target.share * (takes if takes >= 0 else self.travel.arrive_between(target.road, time) - time)
+
+    async def _ways(self, sources: Sequence[Source], targets: Sequence[Target], ask: Ask) -> list[_Way]:
+        """The best way from each beginning to the node of each end."""
+        nodes = list({target.node: None for target in targets})
+        pairs = [(source, node) for source in sources for node in nodes]
+        replies = await self._asked([(source.node, source.second, node) for source, node in pairs], ask)
+        later = [(source.node, source.second + 1, node) for (source, node), reply in zip(pairs, replies)
+                 if self._may_wait(source, reply)]
+        behind = dict(zip(later, await self._asked(later, ask))) if later else {}
+        times: dict[tuple[int, int], tuple[float, str]] = {}
+        for (source, node), reply in zip(pairs, replies):
+            if reply:
+                arrive = arrival(reply) + source.second // DAY * DAY
+                next_reply = behind.get((source.node, source.second + 1, node))
+                waits = next_reply is not None and arrival(next_reply) + (source.second + 1) // DAY * DAY == arrive
+                times[source.node, node] = (arrive + (0.0 if waits else source.part), reply)
+        return [_Way(times[key][0], source, target, times[key][1]) for source in sources for target in targets
+                if (key := (source.node, target.node)) in times]
+
+    def _may_wait(self, source: Source, reply: str) -> bool:
+        """Whether who begins a second later might arrive as early."""
+        return bool(reply) and source.part > 0.0 and self.travel.has_rest(
+            source.second, arrival(reply) + source.second // DAY * DAY)
+
+    async def _asked(self, asked: Sequence[tuple[int, int, int]], ask: Ask) -> list[str]:
+        """The replies to queries of nodes and seconds; empty where no walk leads."""
+        replies = await ask([f"{self._line},{start},{end},{second % DAY}" for start, second, end in asked]) if asked else []
+        return [checked(reply) for reply in replies]
+
+    def _along(self, start: Snap, end: Snap, depart: int, time: float, part: Part) -> Drive:
+        if part[1] == part[2]:
+            return Drive(start, end, depart, nearest_second(time), (), ())
+        return Drive(start, end, depart, nearest_second(time), (part,), (depart,))
+
+    def _driven(self, start: Snap, end: Snap, depart: int, arrive: int, way: _Way) -> Drive:
+        """The drive of a way, with the seconds at which its roads are entered."""
+        source, target = way.source, way.target
+        roads, seconds, entered = self._between(way.reply, source.second)
+        parts: list[Part] = [(road, 0.0, 1.0) for road in roads]
+        if source.share < 1.0:
+            parts.insert(0, (source.road, source.share, 1.0))
+            seconds.insert(0, depart)
+        if target.share > 0.0:
+            parts.append((target.road, 0.0, target.share))
+            seconds.append(entered)
+        return Drive(start, end, depart, arrive, tuple(parts), tuple(seconds))
+
+
+    def _between(self, reply: str, second: int) -> tuple[list[int], list[int], int]:
+        """The roads of a reply to a query at a second, when each is entered, and when the last one is left."""
+        head, _, said = reply.partition(" ")
+        if said.startswith("arcs="):
+            roads = [int(road) for road in said[5:].split()]
+            return roads, *self.travel.entered(roads, second)
+        day = second // DAY * DAY
+        numbers = [int(number) for number in said[6:].replace(",", " ").split()]
+        return numbers[::2], [entered + day for entered in numbers[1::2]], int(head[7:]) + day
+
+
+def nearest_second(time: float) -> int:
+    """The whole second that is nearest to a time; of two the later one."""
+    return math.floor(time + 0.5)
+
+
+def arrival(reply: str) -> int:
+    """The second of a reply `arrive=SECOND ..`."""
+    return int(reply[7:reply.index(" ")])
+
+
+def checked(reply: str) -> str:
+    """A reply that is a drive, or empty where no walk leads. CatchupError where it is anything else."""
+    if reply.startswith("arrive="):
+        return reply
+    if reply == "unreachable":
+        return ""
+    raise CatchupError(f"the program answered something else than was asked: {reply[:60]}")
