@@ -33,11 +33,13 @@ class Drive:
 
 @dataclass(frozen=True, slots=True)
 class _Way:
-    """A way from a beginning to an end: when one is at the end's node, and what the program said of the roads between."""
+    """A way from a beginning to an end: when one is at the end's node, and what the program said of the roads between, asked
+    at some second."""
 
     time: float
     source: Source
     target: Target
+    second: int
     reply: str
 
 
@@ -69,10 +71,13 @@ class Driver:
     def straight(self, start: Snap, end: Snap, depart: int) -> tuple[float, Part] | None:
         """The drive along one road, where the end lies ahead on it: when it arrives, and the part of the road."""
         travel = self.travel
-        parts = [(road, share, ahead) for road, share in start.roads for other, ahead in end.roads
-                 if road == other and ahead >= share and self.ends.may_begin(road) and not travel.is_closed[road]]
         return min(((depart + (ahead - share) * (travel.arrive(road, depart) - depart), (road, share, ahead))
-                    for road, share, ahead in parts), default=None)
+                    for road, share, ahead in self.straight_parts(start, end)), default=None)
+
+    def straight_parts(self, start: Snap, end: Snap) -> list[Part]:
+        """The parts of single roads from one place to another that lies ahead on them."""
+        return [(road, share, ahead) for road, share in start.roads for other, ahead in end.roads
+                if road == other and ahead >= share and self.ends.may_begin(road) and not self.travel.is_closed[road]]
 
     def finished(self, target: Target, time: float) -> float:
         """When one is at a place who is at the node of its end at some time."""
@@ -89,20 +94,16 @@ class Driver:
         later = [(source.node, source.second + 1, node) for (source, node), reply in zip(pairs, replies)
                  if self._may_wait(source, reply)]
         behind = dict(zip(later, await self._asked(later, ask))) if later else {}
-        times: dict[tuple[int, int], tuple[float, str]] = {}
+        times: dict[tuple[int, int], tuple[float, int, str]] = {}
         for (source, node), reply in zip(pairs, replies):
             if reply:
-                arrive = arrival(reply) + source.second // DAY * DAY
-                next_reply = behind.get((source.node, source.second + 1, node))
-                waits = next_reply is not None and arrival(next_reply) + (source.second + 1) // DAY * DAY == arrive
-                times[source.node, node] = (arrive + (0.0 if waits else source.part), reply)
-        return [_Way(times[key][0], source, target, times[key][1]) for source in sources for target in targets
+                times[source.node, node] = _between_seconds(source, reply, behind.get((source.node, source.second + 1, node), ""))
+        return [_Way(times[key][0], source, target, *times[key][1:]) for source in sources for target in targets
                 if (key := (source.node, target.node)) in times]
 
     def _may_wait(self, source: Source, reply: str) -> bool:
         """Whether who begins a second later might arrive as early."""
-        return bool(reply) and source.part > 0.0 and self.travel.has_rest(
-            source.second, arrival(reply) + source.second // DAY * DAY)
+        return bool(reply) and source.part > 0.0 and self.travel.has_rest(source.second, arrival(reply, source.second))
 
     async def _asked(self, asked: Sequence[tuple[int, int, int]], ask: Ask) -> list[str]:
         """The replies to queries of nodes and seconds; empty where no walk leads."""
@@ -117,7 +118,7 @@ class Driver:
     def _driven(self, start: Snap, end: Snap, depart: int, arrive: int, way: _Way) -> Drive:
         """The drive of a way, with the seconds at which its roads are entered."""
         source, target = way.source, way.target
-        roads, seconds, entered = self._between(way.reply, source.second)
+        roads, seconds, entered = self._between(way.reply, way.second)
         parts: list[Part] = [(road, 0.0, 1.0) for road in roads]
         if source.share < 1.0:
             parts.insert(0, (source.road, source.share, 1.0))
@@ -144,9 +145,18 @@ def nearest_second(time: float) -> int:
     return math.floor(time + 0.5)
 
 
-def arrival(reply: str) -> int:
-    """The second of a reply `arrive=SECOND ..`."""
-    return int(reply[7:reply.index(" ")])
+def arrival(reply: str, second: int) -> int:
+    """The arrival of a reply `arrive=SECOND ..` to a query at a second of any day."""
+    return int(reply[7:reply.index(" ")]) + second // DAY * DAY
+
+
+def _between_seconds(source: Source, reply: str, later: str) -> tuple[float, int, str]:
+    """When one arrives who begins between two seconds, and the second and the reply that lead there: those of the later one
+    where that is as early."""
+    arrive = arrival(reply, source.second)
+    if later and arrival(later, source.second + 1) == arrive:
+        return arrive, source.second + 1, later
+    return arrive + source.part, source.second, reply
 
 
 def checked(reply: str) -> str:

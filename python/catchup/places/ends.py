@@ -8,6 +8,7 @@ from __future__ import annotations
 import math
 from collections import Counter
 from dataclasses import dataclass
+from typing import NamedTuple
 
 import numpy as np
 from numpy.typing import NDArray
@@ -19,10 +20,18 @@ Shorts = NDArray[np.int32]
 NO_ROAD = -1
 
 
+class Beginning(NamedTuple):
+    """Who leaves the place drives the rest of `road` behind `share` of it, and is at `node` then. Nothing is driven where the
+    share is 1; then there may be no road (NO_ROAD)."""
+
+    node: int
+    road: int
+    share: float
+
+
 @dataclass(frozen=True, slots=True)
 class Source:
-    """A beginning: who leaves the place drives the rest of `road` behind `share` of it, and is at `node` at second `second`
-    and `part` of the next one; nothing of it where the share is 1, and then there may be no road (NO_ROAD)."""
+    """A beginning at some second of departure: one is at `node` at second `second` and `part` of the next one."""
 
     node: int
     second: int
@@ -55,21 +64,27 @@ class Ends:
         """Whether a drive may begin on a road."""
         return not self.copy[self.tail[road]]
 
-    def sources(self, snap: Snap, depart: int, travel: Travel) -> list[Source]:
-        """The beginnings of drives that leave a place at a second, each at a node of its own."""
+    def beginnings(self, snap: Snap, travel: Travel) -> list[Beginning]:
+        """All ways to begin a drive at a place, but those that another makes needless at any time."""
         nodes = self._nodes(snap)
-        best = {node: Source(node, depart, 0.0, NO_ROAD, 1.0) for node in nodes}
         # Whoever begins at a node may drive as who came to it, and more.
         freer = {int(self.junction[node]) for node in nodes}
+        found = [Beginning(node, NO_ROAD, 1.0) for node in nodes]
         for road, share in snap.roads:
-            if share == 0.0 and int(self.tail[road]) in nodes or travel.is_closed[road] or not self.may_begin(road):
-                continue
-            node = int(self.head[road])
-            takes = (1.0 - share) * (travel.arrive(road, depart) - depart)
+            is_needless = share == 0.0 and int(self.tail[road]) in nodes or int(self.junction[self.head[road]]) in freer
+            if not is_needless and not travel.is_closed[road] and self.may_begin(road):
+                found.append(Beginning(int(self.head[road]), road, share))
+        return found
+
+    def sources(self, snap: Snap, depart: int, travel: Travel) -> list[Source]:
+        """The beginnings of drives that leave a place at a second, each at a node of its own."""
+        best: dict[int, Source] = {}
+        for node, road, share in self.beginnings(snap, travel):
+            takes = (1.0 - share) * (travel.arrive(road, depart) - depart) if road != NO_ROAD else 0.0
             second = math.floor(takes)
             found = Source(node, depart + second, takes - second, road, share)
             other = best.get(node)
-            if int(self.junction[node]) not in freer and (other is None or (found.second, found.part) < (other.second, other.part)):
+            if other is None or (found.second, found.part) < (other.second, other.part):
                 best[node] = found
         return list(best.values())
 

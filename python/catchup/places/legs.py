@@ -17,8 +17,9 @@ def leg_of(lines: Lines, drive: Drive) -> Leg:
         metres, kind, is_roundabout = float(lines.metres[road]), lines.kind(road), lines.is_roundabout(road)
         pace = (left - entered) / (end - begin)
         for (name, ref, low, high), coordinates in lines.stretches(part):
+            until = left if high == end else entered + (high - begin) * pace
             pieces.append(Piece(road, name, ref, kind, is_roundabout, (high - low) * metres, entered + (low - begin) * pace,
-                                entered + (high - begin) * pace, coordinates))
+                                until, coordinates))
     roads = tuple(road for road, _, _ in drive.parts)
     return Leg(drive.start, drive.end, drive.depart, drive.arrive, roads, drive.seconds, tuple(pieces) or (_still(lines, drive),))
 

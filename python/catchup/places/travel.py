@@ -44,11 +44,7 @@ class Travel:
 
     def arrive(self, road: int, second: int) -> int:
         """When one leaves a road who enters it at a second. It may not be closed."""
-        profile = int(self._profile[road])
-        known = self._known.get(profile)
-        if known is None:
-            known = self._known[profile] = self._pieces(profile)
-        starts, kinds, values = known
+        starts, kinds, values = self._of_road(road)
         now = second % DAY
         at = bisect_right(starts, now) - 1
         return second + values[at] if kinds[at] == TRAVEL else second - now + values[at]
@@ -85,6 +81,24 @@ class Travel:
         arrive = self.arrive_all(roads, second)
         return np.minimum(arrive + part, np.where(part > 0.0, self.arrive_all(roads, second + 1), arrive))
 
+    def arrive_rising(self, road: int, seconds: Ints) -> Ints:
+        """When a road is left that is entered at each of some seconds, which never fall."""
+        takes = int(self.constant[road])
+        if takes >= 0 or not len(seconds):
+            return seconds + takes
+        starts, kinds, values = self._of_road(road)
+        days = range(int(seconds[0]) // DAY, int(seconds[-1]) // DAY + 1)
+        begins = [day * DAY + start for day in days for start in starts]
+        bounds = [*np.searchsorted(seconds, begins).tolist(), len(seconds)]
+        found = np.empty_like(seconds)
+        for at, (low, high) in enumerate(zip(bounds, bounds[1:])):
+            day, piece = divmod(at, len(starts))
+            if kinds[piece] == TRAVEL:
+                np.add(seconds[low:high], values[piece], out=found[low:high])
+            else:
+                found[low:high] = days[day] * DAY + values[piece]
+        return found
+
     def has_rest(self, begin: int, end: int) -> bool:
         """Whether at some second from `begin` to `end` somebody may enter a road and leave it no later for entering it a
         second later. Where not, who leaves any place a second later arrives at each other one a second later at least."""
@@ -96,9 +110,15 @@ class Travel:
         found = self._rests[min(high, DAY)] - self._rests[low] + self._rests[max(high - DAY, 0)]
         return bool(found)
 
-    def _pieces(self, profile: int) -> tuple[list[int], list[int], list[int]]:
-        span = slice(int(self._profiles.first[profile]), int(self._profiles.first[profile + 1]))
-        return self._profiles.start[span].tolist(), self._profiles.kind[span].tolist(), self._profiles.value[span].tolist()
+    def _of_road(self, road: int) -> tuple[list[int], list[int], list[int]]:
+        """The starts, kinds and values of a road's pieces."""
+        profile = int(self._profile[road])
+        known = self._known.get(profile)
+        if known is None:
+            of = self._profiles
+            span = slice(int(of.first[profile]), int(of.first[profile + 1]))
+            known = self._known[profile] = of.start[span].tolist(), of.kind[span].tolist(), of.value[span].tolist()
+        return known
 
     @cached_property
     def _keys(self) -> Ints:
