@@ -20,7 +20,8 @@ from catchup.places.reach import Reached
 
 Floats = NDArray[np.float64]
 Bools = NDArray[np.bool_]
-Corners = list[tuple[float, float]]
+Corner = tuple[int, int]
+Corners = list[Corner]
 
 SQUARE: Final = 50.0
 """Metres of a square's side, where there are no more than MOST_SQUARES along the whole ground."""
@@ -72,16 +73,22 @@ class _Ground:
         return _with_neighbours(_with_neighbours(found, 0), 1)
 
     def polygon(self, squares: Bools) -> dict[str, Any]:
-        """Squares as a MultiPolygon in degrees."""
-        from shapely.ops import unary_union
+        """Squares as a MultiPolygon in degrees: each outline with the holes that lie in it."""
+        from shapely.geometry import LinearRing, Point, Polygon
 
-        whole = unary_union(_shapes(squares)).simplify(0.0)
+        rings = [LinearRing(ring) for ring in _rings(squares)]
+        outer = sorted((Polygon(ring) for ring in rings if ring.is_ccw), key=lambda shape: float(shape.area))
+        holes: list[list[Any]] = [[] for _ in outer]
+        for ring in rings:
+            if not ring.is_ccw:
+                at = Point(ring.coords[0])
+                holes[next(number for number, shape in enumerate(outer) if shape.contains(at))].append(ring)
         return {"type": "MultiPolygon", "coordinates": [
-            [self._ring(ring) for ring in (part.exterior, *part.interiors)] for part in getattr(whole, "geoms", [whole])]}
+            [self._ring(ring) for ring in (shape.exterior, *inside)] for shape, inside in zip(outer, holes)]}
 
     def _ring(self, ring: Any) -> list[list[float]]:
-        """A ring in degrees; squares stand for their middles."""
-        places = (np.asarray(ring.coords) + 0.5 - _MARGIN) * self._side / self._scale + self._corner
+        """A ring in degrees, from half squares; whole ones stand for their middles."""
+        places = (np.asarray(ring.coords) / 2 + 0.5 - _MARGIN) * self._side / self._scale + self._corner
         found: list[list[float]] = np.round(places, DECIMALS).tolist()
         return found
 
@@ -91,38 +98,49 @@ def _with_neighbours(squares: Bools, axis: int) -> Bools:
     return np.asarray(squares | np.roll(squares, 1, axis=axis) | np.roll(squares, -1, axis=axis))
 
 
-def _shapes(squares: Bools) -> list[Any]:
-    """What lies inside the outline of squares, in parts that touch: between the middles of each four squares, by which of
-    these count."""
-    from shapely.geometry import Polygon, box
-
+def _rings(squares: Bools) -> list[Corners]:
+    """The outlines of squares, in half squares: what counts lies to the left of each, so they go round it, and the other way
+    round holes in it."""
     code = np.zeros((squares.shape[0] - 1, squares.shape[1] - 1), dtype=np.int8)
     for bit, (x, y) in enumerate(_AROUND):
         code |= squares[x:x + code.shape[0], y:y + code.shape[1]].astype(np.int8) << bit
-    edge = np.diff(np.pad((code == 15).astype(np.int8), ((0, 0), (1, 1))), axis=1)
-    (column, low), (_, high) = np.nonzero(edge == 1), np.nonzero(edge == -1)
-    shapes = [box(x, begin, x + 1, end) for x, begin, end in zip(column.tolist(), low.tolist(), high.tolist())]
-    for number in range(1, 15):
-        for x, y in zip(*(at.tolist() for at in np.nonzero(code == number))):
-            shapes += [Polygon([(x + u, y + v) for u, v in corners]) for corners in _PARTS[number]]
-    return shapes
+    following: dict[Corner, Corner] = {}
+    for number, edges in _EDGES.items():
+        for x, y in np.argwhere(code == number).tolist():
+            for (a, b), (c, d) in edges:
+                following[2 * x + a, 2 * y + b] = 2 * x + c, 2 * y + d
+    rings: list[Corners] = []
+    while following:
+        ring = list(following.popitem())
+        while ring[-1] != ring[0]:
+            ring.append(following.pop(ring[-1]))
+        rings.append(_without_straight(ring))
+    return rings
 
 
-def _parts_of(number: int) -> list[Corners]:
-    """The parts between four middles, of which those count whose bits are set. Two that are opposite don't touch."""
+def _without_straight(ring: Corners) -> Corners:
+    """A closed ring without the corners at which it goes straight on."""
+    corners = np.array(ring[:-1])
+    step = np.roll(corners, -1, axis=0) - corners
+    before = np.roll(step, 1, axis=0)
+    turns = step[:, 0] * before[:, 1] != step[:, 1] * before[:, 0]
+    return [(x, y) for x, y in corners[turns].tolist()]
+
+
+def _edges_of(number: int) -> list[tuple[Corner, Corner]]:
+    """The pieces of outline between four middles, of which those count whose bits are set, in half squares: from halfway to
+    one that doesn't count, to halfway from one that doesn't. Two that are opposite don't touch."""
     bits = [bool(number >> bit & 1) for bit in range(4)]
-    if bits in ([True, False, True, False], [False, True, False, True]):
-        return [_outline([here and bit == at for at, here in enumerate(bits)]) for bit in range(4) if bits[bit]]
-    return [_outline(bits)]
+    halfway = [(x + _AROUND[at - 3][0], y + _AROUND[at - 3][1]) for at, (x, y) in enumerate(_AROUND)]
+    leaves = [at for at in range(4) if bits[at] and not bits[at - 3]]
+    edges: list[tuple[Corner, Corner]] = []
+    for at in leaves:
+        # Back to where the middles that count begin which end here.
+        first = at
+        while bits[first - 1]:
+            first -= 1
+        edges.append((halfway[at], halfway[first - 1]))
+    return edges
 
 
-def _outline(bits: list[bool]) -> Corners:
-    """Around four middles: those that count, and halfway between one that does and one that doesn't."""
-    corners: Corners = []
-    for at, (x, y) in enumerate(_AROUND):
-        u, v = _AROUND[(at + 1) % 4]
-        corners += [(x, y)] * bits[at] + [((x + u) / 2, (y + v) / 2)] * (bits[at] != bits[(at + 1) % 4])
-    return corners
-
-
-_PARTS: Final = {number: _parts_of(number) for number in range(1, 15)}
+_EDGES: Final = {number: _edges_of(number) for number in range(1, 15)}
