@@ -24,6 +24,7 @@ _BLOB = struct.pack("<2sBBi", b"GP", 0, 1, WGS84)
 _POINT = _BLOB + struct.pack("<BI", 1, 1)
 _LINE = _BLOB + struct.pack("<BI", 1, 2)
 _ENVELOPES = (0, 32, 48, 48, 64)
+_SHIFTS = np.arange(0, 35, 5)
 
 
 class NotGeometry(ValueError):
@@ -97,9 +98,27 @@ def read_blobs(blobs: Sequence[bytes]) -> tuple[Ints, Floats, Floats]:
 
 def encode_polyline(lon: ArrayLike, lat: ArrayLike, precision: int = 6) -> str:
     """A line as an encoded polyline, latitude first, of 5 or 6 decimals."""
-    import polyline
-    pairs = zip(np.asarray(lat, dtype=np.float64).tolist(), np.asarray(lon, dtype=np.float64).tolist())
-    return str(polyline.encode(list(pairs), precision))
+    places = np.column_stack((np.asarray(lon, dtype=np.float64), np.asarray(lat, dtype=np.float64)))
+    return encode_behind([np.concatenate((np.zeros((1, 2)), places))], precision)[0]
+
+
+def encode_behind(lines: Sequence[Floats], precision: int = 6) -> list[str]:
+    """Of each line, float64[k, 2], its encoded polyline but for the first place: each place is written by how it differs from
+    the one before it, so the texts of lines that go on from one another make one."""
+    scaled = np.concatenate(lines)[:, ::-1] * 10.0**precision
+    # Halves go away from 0, as all who write polylines have them.
+    steps = np.diff(np.copysign(np.floor(np.abs(scaled) + 0.5), scaled).astype(np.int64), axis=0)
+    ends = np.cumsum([len(line) for line in lines])
+    is_inside = np.ones(len(steps), dtype=bool)
+    is_inside[ends[:-1] - 1] = False
+    # The sign is the lowest bit; then five bits a character from the lowest on, with a mark on all but the last.
+    values = steps[is_inside].ravel()
+    left = ((values << 1) ^ (values >> 63))[:, None] >> _SHIFTS
+    is_written = (left > 0) | (_SHIFTS == 0)
+    text = str(((left & 31) + np.where(left > 31, 95, 63))[is_written].astype(np.uint8).tobytes(), "ascii")
+    # Each place has two values; a line has one place less than points.
+    so_far = np.concatenate(([0], np.cumsum(is_written.sum(axis=1))))[2 * (ends - np.arange(1, len(ends) + 1))].tolist()
+    return [text[low:high] for low, high in zip([0, *so_far], so_far)]
 
 
 def decode_polyline(text: str, precision: int = 6) -> tuple[Floats, Floats]:
@@ -111,6 +130,23 @@ def decode_polyline(text: str, precision: int = 6) -> tuple[Floats, Floats]:
         raise ValueError("this isn't an encoded polyline") from fault
     places = np.array(pairs, dtype=np.float64).reshape(-1, 2)
     return places[:, 1], places[:, 0]
+
+
+def decimal_text(values: ArrayLike, decimals: int) -> NDArray[np.uint8]:
+    """The characters of numbers with so many decimals, one at least: uint8[n, width], 0 where a number has none. In JSON
+    they are numbers once the zero bytes are left out."""
+    whole = np.rint(np.asarray(values, dtype=np.float64) * 10.0**decimals).astype(np.int64)
+    left = np.abs(whole)
+    digits = max(len(str(int(left.max(initial=0)))), decimals + 1)
+    text = np.zeros((len(whole), digits + 2), dtype=np.uint8)
+    text[:, 0] = np.where(whole < 0, ord("-"), 0)
+    text[:, digits + 1 - decimals] = ord(".")
+    for place in range(digits):
+        digit = left % 10 + ord("0")
+        column = digits + 1 - place - (place >= decimals)
+        text[:, column] = digit if place <= decimals else np.where(left > 0, digit, 0)
+        left //= 10
+    return text
 
 
 def geojson_line(lon: ArrayLike, lat: ArrayLike) -> dict[str, object]:

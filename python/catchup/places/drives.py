@@ -9,36 +9,44 @@ from __future__ import annotations
 import math
 from collections.abc import Sequence
 from dataclasses import dataclass
+from typing import NamedTuple
 
 from catchup.clock import DAY
 from catchup.errors import CatchupError
 from catchup.places.ends import Ends, Source, Target
-from catchup.places.lines import Part
+from catchup.places.lines import Part, parts_of
 from catchup.places.travel import Travel
 from catchup.places.values import Ask, NoRoute, Snap
 
 
 @dataclass(frozen=True, slots=True)
 class Drive:
-    """A drive: `parts` are the roads with the shares of each that are driven, and `seconds` when each is entered. All
-    seconds count from the first leg's midnight. Where nothing is driven there are no parts."""
+    """A drive: `roads` in their order, the first from share `begin` of its metres on and the last up to share `stop`, and
+    `seconds` at which each is entered. All seconds count from the first leg's midnight. Where nothing is driven there are no
+    roads."""
 
     start: Snap
     end: Snap
     depart: int
     arrive: int
-    parts: tuple[Part, ...]
-    seconds: tuple[int, ...]
+    roads: list[int]
+    seconds: list[int]
+    begin: float = 0.0
+    stop: float = 1.0
+
+    @property
+    def parts(self) -> list[Part]:
+        """The roads with the shares of each that are driven."""
+        return parts_of(self.roads, self.begin, self.stop) if self.roads else []
 
 
-@dataclass(frozen=True, slots=True)
-class _Way:
+class _Way(NamedTuple):
     """A way from a beginning to an end: when one is at the end's node, and what the program said of the roads between, asked
     at some second."""
 
-    time: float
     source: Source
     target: Target
+    time: float
     second: int
     reply: str
 
@@ -88,52 +96,48 @@ class Driver:
 
     async def _ways(self, sources: Sequence[Source], targets: Sequence[Target], ask: Ask) -> list[_Way]:
         """The best way from each beginning to the node of each end."""
-        nodes = list({target.node: None for target in targets})
-        pairs = [(source, node) for source in sources for node in nodes]
-        replies = await self._asked([(source.node, source.second, node) for source, node in pairs], ask)
-        later = [(source.node, source.second + 1, node) for (source, node), reply in zip(pairs, replies)
-                 if self._may_wait(source, reply)]
-        behind = dict(zip(later, await self._asked(later, ask))) if later else {}
-        times: dict[tuple[int, int], tuple[float, int, str]] = {}
-        for (source, node), reply in zip(pairs, replies):
-            if reply:
-                times[source.node, node] = _between_seconds(source, reply, behind.get((source.node, source.second + 1, node), ""))
-        return [_Way(times[key][0], source, target, *times[key][1:]) for source in sources for target in targets
-                if (key := (source.node, target.node)) in times]
+        nodes = {target.node: [of for of in targets if of.node == target.node] for target in targets}
+        lines: list[str] = []
+        for source in sources:
+            lines += [f"{self._line},{source.node},{node},{source.second % DAY}" for node in nodes]
+            if self._may_wait(source):
+                lines += [f"{self._line},{source.node},{node},{(source.second + 1) % DAY}" for node in nodes]
+        replies = iter(await ask(lines) if lines else ())
+        ways: list[_Way] = []
+        for source in sources:
+            said = [checked(next(replies)) for _ in nodes]
+            later = [checked(next(replies)) for _ in nodes] if self._may_wait(source) else [""] * len(nodes)
+            for of, reply, behind in zip(nodes.values(), said, later):
+                if reply:
+                    time = _between_seconds(source, reply, behind)
+                    ways += [_Way(source, target, *time) for target in of]
+        return ways
 
-    def _may_wait(self, source: Source, reply: str) -> bool:
+    def _may_wait(self, source: Source) -> bool:
         """Whether who begins a second later might arrive as early."""
-        return bool(reply) and source.part > 0.0 and self.travel.has_rest(source.second, arrival(reply, source.second))
-
-    async def _asked(self, asked: Sequence[tuple[int, int, int]], ask: Ask) -> list[str]:
-        """The replies to queries of nodes and seconds; empty where no walk leads."""
-        replies = await ask([f"{self._line},{start},{end},{second % DAY}" for start, second, end in asked]) if asked else []
-        return [checked(reply) for reply in replies]
+        return source.part > 0.0 and self.travel.has_rest(source.second, source.second + DAY)
 
     def _along(self, start: Snap, end: Snap, depart: int, time: float, part: Part) -> Drive:
-        if part[1] == part[2]:
-            return Drive(start, end, depart, nearest_second(time), (), ())
-        return Drive(start, end, depart, nearest_second(time), (part,), (depart,))
+        road, begin, stop = part
+        is_driven = begin < stop
+        return Drive(start, end, depart, nearest_second(time), [road] * is_driven, [depart] * is_driven, begin, stop)
 
     def _driven(self, start: Snap, end: Snap, depart: int, arrive: int, way: _Way) -> Drive:
         """The drive of a way, with the seconds at which its roads are entered."""
         source, target = way.source, way.target
         roads, seconds, entered = self._between(way.reply, way.second)
-        parts: list[Part] = [(road, 0.0, 1.0) for road in roads]
+        begin, stop = 0.0, 1.0
         if source.share < 1.0:
-            parts.insert(0, (source.road, source.share, 1.0))
-            seconds.insert(0, depart)
+            begin, roads, seconds = source.share, [source.road, *roads], [depart, *seconds]
         if target.share > 0.0:
-            parts.append((target.road, 0.0, target.share))
-            seconds.append(entered)
-        return Drive(start, end, depart, arrive, tuple(parts), tuple(seconds))
-
+            stop, roads, seconds = target.share, [*roads, target.road], [*seconds, entered]
+        return Drive(start, end, depart, arrive, roads, seconds, begin, stop)
 
     def _between(self, reply: str, second: int) -> tuple[list[int], list[int], int]:
         """The roads of a reply to a query at a second, when each is entered, and when the last one is left."""
         head, _, said = reply.partition(" ")
         if said.startswith("arcs="):
-            roads = [int(road) for road in said[5:].split()]
+            roads = list(map(int, said[5:].split()))
             return roads, *self.travel.entered(roads, second)
         day = second // DAY * DAY
         numbers = [int(number) for number in said[6:].replace(",", " ").split()]

@@ -29,8 +29,7 @@ class Beginning(NamedTuple):
     share: float
 
 
-@dataclass(frozen=True, slots=True)
-class Source:
+class Source(NamedTuple):
     """A beginning at some second of departure: one is at `node` at second `second` and `part` of the next one."""
 
     node: int
@@ -40,8 +39,7 @@ class Source:
     share: float
 
 
-@dataclass(frozen=True, slots=True)
-class Target:
+class Target(NamedTuple):
     """An end: from `node` on `share` of `road` is driven; nothing of it where the share is 0."""
 
     node: int

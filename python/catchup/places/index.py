@@ -19,15 +19,17 @@ from catchup.places.streets import Streets
 from catchup.places.values import Place
 
 Shorts = NDArray[np.int32]
+Ints = NDArray[np.int64]
 Floats = NDArray[np.float64]
 
 PIECE = 80.0
 """Metres of the longest piece of a segment."""
 
-_FIRST_LOOK = 60.0
+_FIRST_LOOK = 150.0
 _FARTHEST = 2 * EARTH
 _SAME = 1e-6
 """Metres that make no difference."""
+_SUM = np.ones(3)
 
 
 @dataclass(frozen=True, slots=True)
@@ -57,62 +59,92 @@ def _one_on_ball(place: Place) -> Floats:
 
 
 class Index:
-    """Finds the nearest points of streets."""
+    """Finds the nearest points of streets.
+
+    Of p pieces: _segment: int32[p]; _pieces: float64[p, 9], where each begins, the step to its end, 1 / its square, and how
+    much of its segment lies before it and in it.
+    """
 
     def __init__(self, streets: Streets) -> None:
         self._street = streets.segment_street
-        self._points = on_ball(streets.places)
-        ends = np.zeros(len(self._points), dtype=bool)
+        points = on_ball(streets.places)
+        ends = np.zeros(len(points), dtype=bool)
         ends[streets.first[1:] - 1] = True
         segment = np.flatnonzero(~ends)
-        step = self._points[segment + 1] - self._points[segment]
-        pieces = np.maximum(np.ceil(np.sqrt(np.einsum("ij,ij->i", step, step)) / PIECE), 1.0).astype(np.int64)
-        self._segment = np.repeat(segment, pieces).astype(np.int32)
-        rank = np.arange(len(self._segment)) - np.repeat(np.cumsum(pieces) - pieces, pieces)
-        part = (rank + 0.5) / np.repeat(pieces, pieces)
-        middles = self._points[self._segment] + part[:, None] * np.repeat(step, pieces, axis=0)
-        self._tree = cKDTree(middles, balanced_tree=False, compact_nodes=False)
+        step = points[segment + 1] - points[segment]
+        count = np.maximum(np.ceil(np.sqrt(np.einsum("ij,ij->i", step, step)) / PIECE), 1.0).astype(np.int64)
+        self._segment = np.repeat(segment, count).astype(np.int32)
+        rank = np.arange(len(self._segment)) - np.repeat(np.cumsum(count) - count, count)
+        self._pieces = np.empty((len(self._segment), 9))
+        width = np.repeat(1.0 / count, count)
+        steps = np.repeat(step / count[:, None], count, axis=0)
+        self._pieces[:, :3] = points[self._segment] + rank[:, None] * steps
+        self._pieces[:, 3:6] = steps
+        self._pieces[:, 6] = 1.0 / np.maximum(np.einsum("ij,ij->i", steps, steps), _SAME * _SAME)
+        self._pieces[:, 7], self._pieces[:, 8] = rank * width, width
+        self._tree = cKDTree(self._pieces[:, :3] + steps / 2, balanced_tree=False, compact_nodes=False)
 
     def nearest(self, place: Place, number: int, limit: float) -> Found:
         """At least `number` of the nearest streets, and all that are as near as these; fewer where there are no more within
         `limit` metres."""
+        at = _one_on_ball(place)
         radius = min(_FIRST_LOOK, limit)
         while True:
-            segment, part, metres = self._look(place, radius)
-            most = radius
-            if number == 1 and len(metres):
-                most = min(float(metres.min()) + _SAME, radius)
-            near = np.flatnonzero(metres <= most)
-            found = self._found(segment[near], part[near], metres[near])
+            pieces, part, square = self._look(at, radius)
+            near = (square <= radius * radius).nonzero()[0]
+            found = self._found(pieces[near], part[near], np.sqrt(square[near]))
             if len(found.street) >= number or radius >= limit or radius >= _FARTHEST:
                 return found
-            radius = min(self._least(place) if number == 1 else max(4 * radius, self._least(place)), limit)
+            radius = min(max(4 * radius, self._least(at)), limit)
 
-    def _look(self, place: Place, radius: float) -> tuple[Shorts, Floats, Floats]:
-        """All segments that come as near as `radius` metres, and some others; one may be there several times. The place of
-        each, how much of it lies before its nearest point, and how far that is."""
+    def nearest_one(self, place: Place, limit: float) -> tuple[int, int, float] | None:
+        """The nearest street, and on it the segment and how much of that lies before the nearest point; none where there is
+        none within `limit` metres."""
         at = _one_on_ball(place)
-        segment = self._segment[self._tree.query_ball_point(at, radius + PIECE / 2)]
-        start = self._points[segment]
-        step = self._points[segment + 1] - start
-        away = at - start
-        length = np.einsum("ij,ij->i", step, step)
-        part = np.einsum("ij,ij->i", away, step) / np.maximum(length, _SAME)
-        part = np.minimum(np.maximum(part, 0.0), 1.0)
+        radius = min(_FIRST_LOOK, limit)
+        while True:
+            pieces, part, square = self._look(at, radius)
+            if len(pieces):
+                row = int(square.argmin())
+                least = math.sqrt(square[row])
+                if least <= radius:
+                    break
+            if radius >= limit or radius >= _FARTHEST:
+                return None
+            radius = min(self._least(at), limit)
+        near = (square <= (least + _SAME) ** 2).nonzero()[0]
+        if len(near) > 1:
+            found = self._found(pieces[near], part[near], np.sqrt(square[near]))
+            return int(found.street[0]), int(found.segment[0]), float(found.part[0])
+        piece = int(pieces[row])
+        segment = int(self._segment[piece])
+        return int(self._street[segment]), segment, float(self._pieces[piece, 7] + part[row] * self._pieces[piece, 8])
+
+    def _look(self, at: Floats, radius: float) -> tuple[Ints, Floats, Floats]:
+        """All pieces that come as near as a radius to a point on the ball, and some others: how much of each lies before its
+        nearest point, and the square of how far that is."""
+        pieces = np.array(self._tree.query_ball_point(at, radius + PIECE / 2), dtype=np.int64)
+        rows = self._pieces.take(pieces, 0)
+        step = rows[:, 3:6]
+        away = at - rows[:, :3]
+        part = np.minimum(np.maximum((away * step) @ _SUM * rows[:, 6], 0.0), 1.0)
         away -= part[:, None] * step
-        return segment, part, np.sqrt(np.einsum("ij,ij->i", away, away))
+        return pieces, part, np.square(away) @ _SUM
 
-    def _found(self, segment: Shorts, part: Floats, metres: Floats) -> Found:
-        """The nearest segment of each street; of equally near ones, as at a junction, that of the lowest number first."""
+    def _found(self, pieces: Ints, part: Floats, metres: Floats) -> Found:
+        """The nearest point of each street; of equally near ones, as at a junction, that of the lowest number first."""
+        segment = self._segment[pieces]
+        part = self._pieces[pieces, 7] + part * self._pieces[pieces, 8]
         street = self._street[segment]
-        if len(street) > 1:
-            order = np.lexsort(np.stack((segment, street, np.round(metres, 6))))
-            _, firsts = np.unique(street[order], return_index=True)
-            order = order[np.sort(firsts)]
-            street, segment, part, metres = street[order], segment[order], part[order], metres[order]
-        return Found(street, segment, part, metres)
+        order = np.lexsort(np.stack((part, segment, street, np.round(metres, 6))))
+        _, firsts = np.unique(street[order], return_index=True)
+        order = order[np.sort(firsts)]
+        return Found(street[order], segment[order], part[order], metres[order])
 
-    def _least(self, place: Place) -> float:
-        """Within how many metres there is a street."""
-        away, _ = self._tree.query(_one_on_ball(place))
-        return float(away) + PIECE / 2 if math.isfinite(away) else _FARTHEST
+    def _least(self, at: Floats) -> float:
+        """Within how many metres of a point on the ball there is a street: as far as that piece whose middle is nearest."""
+        _, piece = self._tree.query(at)
+        row = self._pieces[piece]
+        away, step = at - row[:3], row[3:6]
+        away -= min(max(float(away @ step) * float(row[6]), 0.0), 1.0) * step
+        return math.sqrt(away @ away) + _SAME

@@ -6,13 +6,17 @@ beginning and each end the latest departure between their nodes (line `l`), with
 
 from __future__ import annotations
 
-from collections.abc import Callable
+from collections.abc import Callable, Sequence
+from dataclasses import replace
 
 from catchup.clock import DAY
 from catchup.errors import CatchupError
 from catchup.places.drives import Drive, Driver
 from catchup.places.ends import NO_ROAD, Source, Target
 from catchup.places.values import Ask, NoRoute, Snap, TooLate
+
+MOST_DAYS_BACK = 8
+"""No drive that anybody asks for takes so many days."""
 
 
 async def latest(driver: Driver, start: Snap, end: Snap, by: int, ask: Ask, leg: int = 0) -> Drive:
@@ -37,6 +41,28 @@ async def latest(driver: Driver, start: Snap, end: Snap, by: int, ask: Ask, leg:
     if good < 0:
         raise TooLate(leg)
     return drives[good]
+
+
+async def latest_over(driver: Driver, snaps: Sequence[Snap], by: int, ask: Ask) -> list[Drive]:
+    """The drives over some places that leave as late as is in time: the first one on the first day, others perhaps later.
+    NoRoute(leg), TooLate(leg)."""
+    for leg in range(len(snaps) - 2, 0, -1):
+        by = (await _latest_of_any_day(driver, snaps[leg], snaps[leg + 1], by, ask, leg)).depart
+    drives = [await latest(driver, snaps[0], snaps[1], by, ask)]
+    for leg in range(1, len(snaps) - 1):
+        drives.append(await driver.drive(snaps[leg], snaps[leg + 1], drives[-1].arrive, ask, leg))
+    return drives
+
+
+async def _latest_of_any_day(driver: Driver, start: Snap, end: Snap, by: int, ask: Ask, leg: int) -> Drive:
+    """The drive of the last second of any day that is there by a second."""
+    for day in range(by // DAY, max(by // DAY - MOST_DAYS_BACK, -1), -1):
+        try:
+            found = await latest(driver, start, end, by - day * DAY, ask, leg)
+        except TooLate:
+            continue
+        return replace(found, depart=found.depart + day * DAY)
+    raise TooLate(leg)
 
 
 async def _guess(driver: Driver, start: Snap, end: Snap, by: int, ask: Ask) -> int:

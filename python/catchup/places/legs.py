@@ -16,12 +16,12 @@ def leg_of(lines: Lines, drive: Drive) -> Leg:
         road, begin, end = part
         metres, kind, is_roundabout = float(lines.metres[road]), lines.kind(road), lines.is_roundabout(road)
         pace = (left - entered) / (end - begin)
-        for (name, ref, low, high), coordinates in lines.stretches(part):
+        for name, ref, low, high, coordinates in lines.stretches(part):
             until = left if high == end else entered + (high - begin) * pace
             pieces.append(Piece(road, name, ref, kind, is_roundabout, (high - low) * metres, entered + (low - begin) * pace,
                                 until, coordinates))
-    roads = tuple(road for road, _, _ in drive.parts)
-    return Leg(drive.start, drive.end, drive.depart, drive.arrive, roads, drive.seconds, tuple(pieces) or (_still(lines, drive),))
+    return Leg(drive.start, drive.end, drive.depart, drive.arrive, tuple(drive.roads), tuple(drive.seconds),
+               tuple(pieces) or (_still(lines, drive),))
 
 
 def _still(lines: Lines, drive: Drive) -> Piece:

@@ -1,14 +1,14 @@
-"""What a drive looks like: its line, in coordinates and in the texts that answers are made of, and the names along it.
+"""What drives look like: their lines, in coordinates and in the texts that answers are made of, and the names along them.
 
 A part of a drive is a road with the shares of its metres at which the part begins and ends: (road, 0.0, 1.0) is a whole
-road. What is asked of whole roads is kept, since drives share most of them.
+road. What is made of whole roads is kept, since drives share most of them.
 """
 
 from __future__ import annotations
 
 import json
 from collections.abc import Sequence
-from typing import TypeAlias, TypeVar
+from typing import NamedTuple, TypeAlias, TypeVar
 
 import numpy as np
 from numpy.typing import NDArray
@@ -16,21 +16,44 @@ from numpy.typing import NDArray
 from catchup import geometry
 from catchup.mapfile import RoadNames
 from catchup.places.streets import Streets
+from catchup.places.values import Place
 
-Floats = NDArray[np.float64]
 Shorts = NDArray[np.int32]
+Floats = NDArray[np.float64]
+Rows = NDArray[np.void]
 
 Part: TypeAlias = tuple[int, float, float]
 """A road, and the shares of its metres from which and up to which it is driven."""
 
-Stretch: TypeAlias = tuple[str, str, float, float]
-"""A name, a reference number, and from which to which share of a road they hold."""
-
 DECIMALS = 6
 """Of coordinates in answers: a tenth of a metre."""
 
+_WHOLE = (0.0, 1.0)
 _MOST_KEPT = 200_000
+_LEAST = 1e-4
+"""The share of a road that is too short for a stretch of its own."""
+
+
+Key = TypeVar("Key")
 Kept = TypeVar("Kept")
+
+
+class Stretch(NamedTuple):
+    """Where a name and a reference number hold, in shares of a road, with the coordinates from there to there."""
+
+    name: str
+    ref: str
+    begin: float
+    end: float
+    coordinates: Floats
+
+
+class Told(NamedTuple):
+    """A line's coordinates, and the names and metres of its roads, as members of JSON lists."""
+
+    line: bytes
+    names: bytes
+    metres: bytes
 
 
 class Lines:
@@ -44,9 +67,10 @@ class Lines:
         self._kind = kind
         self._kinds = kinds
         self._said = [json.dumps(name or ref).encode() for name, ref in names.texts] + [b'""']
-        self._json: dict[int, bytes] = {}
-        self._encoded: dict[tuple[int, int], str] = {}
-        self._pieces: dict[int, list[tuple[Stretch, Floats]]] = {}
+        self._rows = _rows_of(streets.places)
+        self._told: dict[int, Told] = {}
+        self._encoded: dict[int, dict[int, str]] = {}
+        self._stretches: dict[int, list[Stretch]] = {}
 
     def kind(self, road: int) -> str:
         """A road's class."""
@@ -63,21 +87,71 @@ class Lines:
 
     def name_at(self, road: int, share: float) -> tuple[str, str]:
         """The name and the reference number at a point of a road."""
-        at = share * self.metres[road]
+        at = share * float(self.metres[road])
         for span in self._names.of(road):
             if span.from_metres - 0.01 <= at <= span.to_metres + 0.01:
                 return span.name, span.ref
         return "", ""
 
-    def names_told(self, roads: Sequence[int]) -> bytes:
-        """The names of roads as members of a JSON list; a reference number where there is no name."""
-        said = self._said
-        return b",".join([said[text] for text in self._text[np.asarray(roads, dtype=np.int64)].tolist()])
-
-    def place(self, road: int, share: float) -> tuple[float, float]:
+    def place(self, road: int, share: float) -> Place:
         """The point of a road behind a share of its metres."""
-        lon, lat = self.cut((road, share, share))[0].tolist()
-        return lon, lat
+        line, shares = self._streets.line(road), self._streets.shares(road)
+        at = min(int(shares.searchsorted(share, "right")), len(shares) - 1)
+        low, high = float(shares[at - 1]), float(shares[at])
+        part = min(max((share - low) / (high - low), 0.0), 1.0) if high > low else 0.0
+        (x, y), (u, v) = line[at - 1].tolist(), line[at].tolist()
+        return x + (u - x) * part, y + (v - y) * part
+
+    def line(self, roads: Sequence[int], begin: float, end: float) -> Floats:
+        """The coordinates of roads that follow one another, from a share of the first one to one of the last one:
+        float64[k, 2], two at least."""
+        lines = [self.cut(part) for part in parts_of(roads, begin, end)]
+        return np.concatenate([lines[0][:1], *[line[1:] for line in lines]])
+
+    def line_encoded(self, roads: Sequence[int], begin: float, end: float, precision: int = DECIMALS) -> str:
+        """The same as an encoded polyline of 5 or 6 decimals."""
+        kept = self._encoded.setdefault(precision, {})
+        texts = [kept.get(road, "") for road in roads]
+        if begin > 0.0:
+            texts[0] = ""
+        if end < 1.0:
+            texts[-1] = ""
+        anew = [at for at, text in enumerate(texts) if not text]
+        parts = [(roads[at], begin if at == 0 else 0.0, end if at == len(roads) - 1 else 1.0) for at in anew]
+        first = np.array([(0.0, 0.0), self.place(roads[0], begin)])
+        head, *made = geometry.encode_behind([first, *[self.cut(part) for part in parts]], precision)
+        for at, part, text in zip(anew, parts, made):
+            texts[at] = text if part[1:] != _WHOLE else _keep(kept, part[0], text)
+        return head + "".join(texts)
+
+    def told(self, roads: Sequence[int], begin: float, end: float) -> Told:
+        """The same, and the roads' names and metres, as members of JSON lists; of a road without a name its reference
+        number."""
+        kept = self._told
+        found = [kept.get(road) or self._tell(road) for road in roads]
+        if begin > 0.0 or len(roads) == 1 and end < 1.0:
+            found[0] = self._tell_part((roads[0], begin, end if len(roads) == 1 else 1.0))
+        if end < 1.0 and len(roads) > 1:
+            found[-1] = self._tell_part((roads[-1], 0.0, end))
+        line, names, metres = zip(*found)
+        return Told(_told(self.place(roads[0], begin)) + b"".join(line), b",".join(names), b",".join(metres))
+
+    def told_still(self, place: Place) -> Told:
+        """The line of a place that isn't left: it is there twice."""
+        return Told(b"%b,%b" % (_told(place), _told(place)), b"", b"")
+
+    def _tell(self, road: int) -> Told:
+        """A road's coordinates but for the first, each behind a comma, its name and its metres."""
+        return _keep(self._told, road, self._tell_part((road, 0.0, 1.0)))
+
+    def _tell_part(self, part: Part) -> Told:
+        road, begin, end = part
+        streets = self._streets
+        street, is_forward, shares = streets.of_road[road], streets.is_forward[road], streets.shares(road)
+        rows = self._rows[streets.first[street]:streets.first[street + 1]]
+        inner = (rows if is_forward else rows[::-1])[int(shares.searchsorted(begin, "right")):int(shares.searchsorted(end, "left"))]
+        line = b"%b,%b" % (inner.tobytes().replace(b"\0", b""), _told(self.place(road, end)))
+        return Told(line, self._said[int(self._text[road])], b"%.1f" % (float(self.metres[road]) * (end - begin)))
 
     def cut(self, part: Part) -> Floats:
         """The coordinates of a part, float64[k, 2]; two equal ones at least."""
@@ -86,36 +160,19 @@ class Lines:
         if begin == 0.0 and end == 1.0:
             return line
         shares = self._streets.shares(road)
-        ends = np.array((begin, end))
-        places = np.column_stack((np.interp(ends, shares, line[:, 0]), np.interp(ends, shares, line[:, 1])))
-        inner = slice(int(np.searchsorted(shares, begin, "right")), int(np.searchsorted(shares, end, "left")))
-        return np.concatenate((places[:1], line[inner], places[1:]))
+        inner = line[int(shares.searchsorted(begin, "right")):int(shares.searchsorted(end, "left"))]
+        return np.concatenate((np.array([self.place(road, begin)]), inner, np.array([self.place(road, end)])))
 
-    def line_json(self, parts: Sequence[Part]) -> bytes:
-        """The coordinates of parts that follow one another, as members of a JSON list."""
-        first = self.cut(parts[0])[:1]
-        return _as_json(first) + b"".join([self._rest(part) for part in parts])
-
-    def line_encoded(self, parts: Sequence[Part], precision: int = DECIMALS) -> str:
-        """The coordinates of parts that follow one another, as an encoded polyline of 5 or 6 decimals."""
-        first = self.cut(parts[0])[:1]
-        return _encoded(first, precision) + "".join([self._rest_encoded(part, precision) for part in parts])
-
-    def line(self, parts: Sequence[Part]) -> Floats:
-        """The coordinates of parts that follow one another, float64[k, 2]."""
-        return np.concatenate([self.cut(parts[0])[:1], *[self.cut(part)[1:] for part in parts]])
-
-    def stretches(self, part: Part) -> list[tuple[Stretch, Floats]]:
-        """The stretches of a part under one name each, with their coordinates."""
+    def stretches(self, part: Part) -> list[Stretch]:
+        """The stretches of a part under one name each."""
         road, begin, end = part
         if begin != 0.0 or end != 1.0:
-            return self._stretches(part)
-        kept = self._pieces.get(road)
-        return _keep(self._pieces, road, self._stretches(part)) if kept is None else kept
+            return self._named(part)
+        return self._stretches.get(road) or _keep(self._stretches, road, self._named(part))
 
-    def _stretches(self, part: Part) -> list[tuple[Stretch, Floats]]:
+    def _named(self, part: Part) -> list[Stretch]:
         road, begin, end = part
-        found: list[Stretch] = []
+        found: list[tuple[str, str, float, float]] = []
         at, whole = begin, float(self.metres[road]) or 1.0
         for span in self._names.of(road):
             low, high = max(span.from_metres / whole, at), min(span.to_metres / whole, end)
@@ -129,31 +186,28 @@ class Lines:
             at = high
         if not found or end - at > _LEAST:
             found.append(("", "", at, end))
-        elif at != end:
+        else:
             found[-1] = (*found[-1][:3], end)
-        return [(stretch, self.cut((road, stretch[2], stretch[3]))) for stretch in found]
-
-    def _rest(self, part: Part) -> bytes:
-        """The coordinates of a part but for the first, each behind a comma."""
-        road, begin, end = part
-        if begin != 0.0 or end != 1.0:
-            return b"," + _as_json(self.cut(part)[1:])
-        kept = self._json.get(road)
-        return _keep(self._json, road, b"," + _as_json(self.cut(part)[1:])) if kept is None else kept
-
-    def _rest_encoded(self, part: Part, precision: int) -> str:
-        """The coordinates of a part but for the first, as a polyline goes on."""
-        road, begin, end = part
-        if begin != 0.0 or end != 1.0:
-            return _encoded_behind(self.cut(part), precision)
-        kept = self._encoded.get((road, precision))
-        return _keep(self._encoded, (road, precision), _encoded_behind(self.cut(part), precision)) if kept is None else kept
+        return [Stretch(name, ref, low, high, self.cut((road, low, high))) for name, ref, low, high in found]
 
 
-_LEAST = 1e-4
-"""The share of a road that is too short for a stretch of its own."""
+def parts_of(roads: Sequence[int], begin: float, end: float) -> list[Part]:
+    """The parts of roads that follow one another, one at least, from a share of the first one to one of the last one."""
+    found = [(road, 0.0, 1.0) for road in roads]
+    found[0] = (found[0][0], begin, 1.0)
+    found[-1] = (*found[-1][:2], end)
+    return found
 
-Key = TypeVar("Key")
+
+def _rows_of(places: Floats) -> Rows:
+    """Places in JSON, each behind a comma, in rows of one length; a zero byte is where a shorter one has none."""
+    parts: list[NDArray[np.uint8]] = []
+    for side, sign in ((0, b",["), (1, b",")):
+        parts += [np.broadcast_to(np.frombuffer(sign, dtype=np.uint8), (len(places), len(sign))),
+                  geometry.decimal_text(places[:, side], DECIMALS)]
+    text = np.concatenate([*parts, np.full((len(places), 1), ord("]"), dtype=np.uint8)], axis=1)
+    rows: Rows = text.view(np.dtype((np.void, text.shape[1])))[:, 0]
+    return rows
 
 
 def _keep(kept: dict[Key, Kept], key: Key, value: Kept) -> Kept:
@@ -164,15 +218,6 @@ def _keep(kept: dict[Key, Kept], key: Key, value: Kept) -> Kept:
     return value
 
 
-def _as_json(places: Floats) -> bytes:
-    """Coordinates as members of a JSON list."""
-    return json.dumps(np.round(places, DECIMALS).tolist(), separators=(",", ":"))[1:-1].encode()
-
-
-def _encoded(places: Floats, precision: int) -> str:
-    return geometry.encode_polyline(places[:, 0], places[:, 1], precision)
-
-
-def _encoded_behind(places: Floats, precision: int) -> str:
-    """A polyline without its first place: each place is written by how it differs from the one before."""
-    return _encoded(places, precision)[len(_encoded(places[:1], precision)):]
+def _told(place: Place) -> bytes:
+    """A place in JSON."""
+    return b"[%.6f,%.6f]" % place

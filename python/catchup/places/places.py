@@ -18,8 +18,8 @@ from catchup.places.lines import Lines
 from catchup.places.matrix import table
 from catchup.places.snapping import Snapper
 from catchup.places.streets import Streets
-from catchup.places.travel import Shorts, Travel
-from catchup.places.values import Ask, Floats, Leg, Place, Snap
+from catchup.places.travel import Floats, Shorts, Travel
+from catchup.places.values import Ask, Leg, Place, Snap
 
 MAP_FILE = "map.gpkg"
 _SNAPS_KEPT = 4_096
@@ -66,7 +66,7 @@ class Places:
         self.ground = ground
         self._travel = travel
         self._line = line
-        self.nearest_one = lru_cache(_SNAPS_KEPT)(self._nearest_one)
+        self.nearest_one = lru_cache(_SNAPS_KEPT)(ground.snapper.nearest_one)
 
     @classmethod
     def open(cls, folder: Path) -> Places:
@@ -115,6 +115,11 @@ class Places:
         nodes = self.ground.snapper.nodes_of(number)
         return self.ground.snapper.at_nodes(nodes) if nodes else None
 
+    @property
+    def box(self) -> tuple[float, float, float, float]:
+        """The box around the map: west, south, east, north, in degrees."""
+        return self.ground.snapper.box
+
     def is_on_map(self, place: Place) -> bool:
         """Whether a place is in the box around the map."""
         return self.ground.snapper.is_inside(place)
@@ -143,6 +148,3 @@ class Places:
         """The drive of the latest departure of the day that arrives by `by`, a second counted from the midnight before
         leaving. Raises NoRoute(0), and TooLate(0) where even the first departure arrives later."""
         return leg_of(self.lines, await self.latest_drive(start, end, by, ask))
-
-    def _nearest_one(self, place: Place) -> Snap:
-        return self.ground.snapper.nearest(place, 1, None, None, False)[0]

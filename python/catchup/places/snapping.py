@@ -38,12 +38,13 @@ class Snapper:
         self._leaving = Grouped.by(ends.junction[ends.tail], junctions)
         self._coming = Grouped.by(ends.junction[ends.head], junctions)
         self._nodes = Grouped.by(ends.junction, junctions)
-        self.box = tuple(map(float, (*streets.places.min(axis=0), *streets.places.max(axis=0)))) if len(streets) else None
+        (west, south), (east, north) = (edge(streets.places, axis=0).tolist() for edge in (np.min, np.max))
+        self.box: tuple[float, float, float, float] = west, south, east, north
 
     def nearest(self, place: Place, number: int, radius: float | None, bearing: tuple[int, int] | None, curb: bool) -> list[Snap]:
         """As Places.nearest."""
         check_place(place)
-        limit = (math.inf if self.is_inside(place) else OUTSIDE) if radius is None else float(radius)
+        limit = self._limit(place) if radius is None else float(radius)
         wanted = number
         while True:
             found = self._index.nearest(place, wanted, limit)
@@ -55,9 +56,22 @@ class Snapper:
             raise NoSegment(0)
         return snaps
 
+    def nearest_one(self, place: Place) -> Snap:
+        """The nearest point of all streets; NoSegment(0) where there is none."""
+        check_place(place)
+        found = self._index.nearest_one(place, self._limit(place))
+        if found is None:
+            raise NoSegment(0)
+        return self._snap(place, *found, None)
+
+    def _limit(self, place: Place) -> float:
+        """Within how many metres a road has to be where nothing is said of that."""
+        return math.inf if self.is_inside(place) else OUTSIDE
+
     def is_inside(self, place: Place) -> bool:
         """Whether a place is in the box around the map."""
-        return self.box is not None and self.box[0] <= place[0] <= self.box[2] and self.box[1] <= place[1] <= self.box[3]
+        west, south, east, north = self.box
+        return west <= place[0] <= east and south <= place[1] <= north
 
     def hinted(self, place: Place, street: int, share: float) -> Snap | None:
         """As Places.hinted."""
@@ -68,7 +82,7 @@ class Snapper:
         at = min(int(np.searchsorted(shares, share, "right")) - 1, len(shares) - 2)
         width = float(shares[at + 1] - shares[at])
         part = min(max((share - float(shares[at])) / width, 0.0), 1.0) if width > 0.0 else 0.0
-        return self._snap(place, street, first + at, part, self._streets.roads[street].tolist(), True)
+        return self._snap(place, street, first + at, part, None)
 
     def at_nodes(self, nodes: Sequence[int]) -> Snap:
         """The place of some nodes that are one outside, with all their copies."""
@@ -107,7 +121,7 @@ class Snapper:
             if bearing is not None or curb:
                 roads = self._right_way(place, roads, segment, bearing, curb)
             if roads:
-                snaps.append(self._snap(place, street, segment, part, roads, len(roads) == len(every)))
+                snaps.append(self._snap(place, street, segment, part, roads if len(roads) < len(every) else None))
             if len(snaps) == number:
                 break
         return snaps
@@ -127,21 +141,22 @@ class Snapper:
                 roads = [road for road in roads if forward[road] == ((left > 0.0) == self._drives_left)]
         return roads
 
-    def _snap(self, place: Place, street: int, segment: int, part: float, roads: list[int], is_whole: bool) -> Snap:
-        """The point of a street; at its end, where all its roads count, all roads of the junction do."""
+    def _snap(self, place: Place, street: int, segment: int, part: float, roads: list[int] | None) -> Snap:
+        """The point of a street, of which these roads count; where all do, at its end all roads of the junction do."""
         streets = self._streets
-        (x, y), (u, v) = streets.places[segment].tolist(), streets.places[segment + 1].tolist()
-        begin, end = float(streets.share[segment]), float(streets.share[segment + 1])
+        (x, y), (u, v) = streets.places[segment:segment + 2].tolist()
+        begin, end = streets.share[segment:segment + 2].tolist()
         point = (x + (u - x) * part, y + (v - y) * part)
         share = begin + (end - begin) * part
         metres, lead = float(streets.metres[street]), int(streets.lead[street])
         if share * metres <= _AT_END or (1.0 - share) * metres <= _AT_END:
             share = 0.0 if share * metres <= _AT_END else 1.0
-        if share in (0.0, 1.0) and is_whole:
+        if share in (0.0, 1.0) and roads is None:
             node = self._ends.head[lead] if share else self._ends.tail[lead]
             through = self._through(int(self._ends.junction[node]))
         else:
-            through = [(road, share if streets.is_forward[road] else 1.0 - share) for road in roads]
+            of = streets.roads[street].tolist() if roads is None else roads
+            through = [(road, share if streets.is_forward[road] else 1.0 - share) for road in of]
         name, ref = self._lines.name_at(lead, share)
         return Snap(place, point, metres_between(place, point), street, share, tuple(through), name, ref)
 

@@ -7,8 +7,10 @@ Seconds count from a midnight on, and may be of later days.
 
 from __future__ import annotations
 
+from array import array
 from bisect import bisect_right
 from functools import cached_property
+from itertools import accumulate
 from pathlib import Path
 
 import numpy as np
@@ -34,6 +36,8 @@ class Travel:
         constant = np.where(single, profiles.value[first[:-1]], -1)
         self.constant: Ints = constant[profile]
         """int64[m]: the seconds that a road takes all day, -1 where that changes, or nobody may drive it."""
+        # The same for what goes road by road.
+        self._constant = array("i", self.constant.astype(np.int32).tobytes())
         self.is_closed: Bools = (kind[first[:-1]] == CLOSED)[profile]
         self._known: dict[int, tuple[list[int], list[int], list[int]]] = {}
 
@@ -59,11 +63,15 @@ class Travel:
     def entered(self, roads: list[int], second: int) -> tuple[list[int], int]:
         """When each of some roads is entered that are driven one after the other from a second on, and when the last one is
         left. Lines `v` of the program say the same."""
+        constant = self._constant
+        takes = [constant[road] for road in roads]
+        if min(takes, default=0) >= 0:
+            *seconds, second = accumulate(takes, initial=second)
+            return seconds, second
         seconds = []
-        constant = self.constant[roads].tolist()
-        for road, takes in zip(roads, constant):
+        for road, each in zip(roads, takes):
             seconds.append(second)
-            second = second + takes if takes >= 0 else self.arrive(road, second)
+            second = second + each if each >= 0 else self.arrive(road, second)
         return seconds, second
 
     def arrive_all(self, roads: Ints, seconds: Ints) -> Ints:

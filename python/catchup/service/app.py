@@ -18,7 +18,7 @@ from catchup.service.errors import Refusal
 from catchup.service.gates import PREFLIGHT, READS
 from catchup.service.limits import LONGEST_JSON, MOST_WORDS
 from catchup.service.protocol import Cycle
-from catchup.service.reads import PlainRoute
+from catchup.service.reads import PlainRoute, route_asked
 from catchup.service.versions import tell
 from catchup.service.worker import Worker, said_of
 
@@ -78,9 +78,10 @@ class Front:
         self.app = app
 
     def begin_plain(self, cycle: Cycle, found: re.Match[bytes]) -> bool:
-        """Has a plain route answered without a task of its own; False where its Host has to be looked at first."""
+        """Has a plain route answered without a task of its own; False where its Host has to be looked at first, and
+        over a map, of which more is told."""
         gates, read, version = self.worker.gates, cycle.scope["catchup.read"], self.worker.networks[0].current
-        if read.get(b"host", b"") not in gates.seen:
+        if version.ground is not None or read.get(b"host", b"") not in gates.seen:
             return False
         plain = PlainRoute.of(found)
         headers = [JSON_HEADER, (VERSION_HEADER, version.name_bytes)]
@@ -118,6 +119,12 @@ class Front:
         worker, read, method = self.worker, scope["catchup.read"], scope["method"]
         worker.gates.check_host(read)
         shared = worker.gates.shared(read)
+        if scope["path"] == "/route" and method == "GET" and worker.networks[0].ground is not None:
+            # Most requests of a service with a map are this one, and need nothing of the framework.
+            accept = b"".join(value for name, value in scope["headers"] if name == b"accept").decode("latin-1")
+            response = await route_asked(worker.network, scope["query_string"], accept)
+            await response(scope, receive, with_headers(send, worker, shared))
+            return
         if method == "OPTIONS" and "Access-Control-Allow-Origin" in shared:
             allowed = Response(status_code=204, headers={**shared, **PREFLIGHT, "Catchup-Version": worker.version()})
             await allowed(scope, receive, send)

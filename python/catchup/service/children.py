@@ -5,7 +5,7 @@ from __future__ import annotations
 import asyncio
 import subprocess
 from collections import deque
-from collections.abc import Callable
+from collections.abc import Callable, Sequence
 
 from catchup.service.errors import Refusal, ended
 from catchup.service.limits import START_SECONDS
@@ -26,6 +26,26 @@ Take = Callable[[bytes | Refusal], None]
 
 class NotOpened(Exception):
     """The program didn't open the file: str() is its line."""
+
+
+class Replies:
+    """Takes the replies to lines that were asked together: a future for all of them."""
+
+    def __init__(self, whole: asyncio.Future[list[bytes]], count: int) -> None:
+        self.whole = whole
+        self.left = count
+        self.said: list[bytes] = []
+
+    def __call__(self, said: bytes | Refusal) -> None:
+        if self.whole.done():
+            return
+        if isinstance(said, Refusal):
+            self.whole.set_exception(said)
+            return
+        self.said.append(said)
+        self.left -= 1
+        if not self.left:
+            self.whole.set_result(self.said)
 
 
 class Child(asyncio.Protocol):
@@ -102,6 +122,20 @@ class Child(asyncio.Protocol):
             self.loop.call_soon(self.send)
         self.unsent.append(line)
         self.waiting.append(take)
+
+    def ask_all(self, lines: Sequence[bytes]) -> asyncio.Future[list[bytes]]:
+        """The replies to some lines, of which one at least, as `ask` has them: one future for all."""
+        replies = Replies(self.loop.create_future(), len(lines))
+        if self.is_lost:
+            replies(ended())
+            return replies.whole
+        if not self.waiting:
+            self.progress = self.loop.time()
+        if not self.unsent:
+            self.loop.call_soon(self.send)
+        self.unsent.extend(lines)
+        self.waiting.extend([replies] * len(lines))
+        return replies.whole
 
     def send(self) -> None:
         """Writes what was asked in this turn of the loop, at once."""

@@ -2,12 +2,25 @@
 
 from __future__ import annotations
 
-from collections.abc import Sequence
+import os
+from collections.abc import Callable, Sequence
 from dataclasses import dataclass
+from pathlib import Path
+from typing import TYPE_CHECKING
 
+import numpy as np
+
+from catchup.errors import Failure
 from catchup.places import Ask, Places
+from catchup.places.places import MAP_FILE
+from catchup.places.travel import Travel
+from catchup.service import packed
+from catchup.service.answers import checked
 from catchup.service.children import Child
-from catchup.service.versions import Version
+from catchup.tables import Profiles
+
+if TYPE_CHECKING:
+    from catchup.service.versions import Version
 
 
 @dataclass(frozen=True, slots=True)
@@ -23,13 +36,54 @@ class Placed:
 
 def placed(version: Version) -> Placed | None:
     """The places of a version; None where its file is served without a map.gpkg among its --tables."""
-    raise NotImplementedError
+    if version.placed is None and version.ground is not None:
+        places = version.ground.over(travel_of(version.descriptor), "v" if version.has_seconds else "q")
+        version.placed = Placed(version, places, ask_of(lambda: version.quick), ask_of(lambda: version.slow))
+    return version.placed
 
 
-def ask_of(child: Child) -> Ask:
-    """Asks a child of the service: all lines in one write."""
+def ask_of(child: Callable[[], Child]) -> Ask:
+    """Asks a child of the service: all lines in one write. Which child is asked anew each time, since one that ends is
+    started again."""
 
     async def ask(lines: Sequence[str]) -> Sequence[str]:
-        raise NotImplementedError
+        replies = await child().ask_all("\n".join(lines).encode("ascii").split(b"\n"))
+        return [checked(reply).decode("ascii") for reply in replies]
 
     return ask
+
+
+def travel_of(descriptor: int) -> Travel:
+    """The travel functions of an open packed file's roads."""
+    header = packed.read_header(descriptor)
+    first = np.frombuffer(packed.read_exactly(descriptor, 8 * (header.profiles + 1), header.starts_at), "<u8")
+    pieces = np.frombuffer(packed.read_exactly(descriptor, 12 * header.pieces, header.pieces_at), "<u4").reshape(-1, 3)
+    start, kind, value = (pieces[:, column] for column in range(3))
+    profiles = Profiles(first.astype(np.int64), start.astype(np.int32), kind.astype(np.int8), value.astype(np.int64))
+    return Travel(roads_of(descriptor)[:, 2].astype(np.int32), profiles)
+
+
+def roads_of(descriptor: int) -> np.ndarray[tuple[int, int], np.dtype[np.uint32]]:
+    """Tail, head and profile of an open packed file's roads, uint32[m, 3]."""
+    header = packed.read_header(descriptor)
+    data = packed.read_exactly(descriptor, 12 * header.roads, header.roads_at)
+    return np.frombuffer(data, "<u4").reshape(-1, 3)
+
+
+def places_of(path: Path, folder: Path) -> Places:
+    """The places of a packed file, from the folder of the import that it was made of."""
+    places = Places.open(folder)
+    try:
+        descriptor = os.open(path, os.O_RDONLY)
+        try:
+            nodes, roads = packed.read_header(descriptor).nodes, roads_of(descriptor)
+        finally:
+            os.close(descriptor)
+    except OSError as problem:
+        raise Failure(f"{path} can't be read: {problem.strerror}") from None
+    except packed.NotPacked:
+        raise Failure(f"{path} is no packed file") from None
+    ends = places.ground.ends
+    if nodes != len(ends.copy) or not np.array_equal(roads[:, :2], np.column_stack((ends.tail, ends.head))):
+        raise Failure(f"{folder / MAP_FILE} isn't the map of {path}: both come of one import, by catchup-import --build")
+    return places

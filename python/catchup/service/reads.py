@@ -4,6 +4,7 @@ from __future__ import annotations
 
 import asyncio
 import re
+from collections.abc import Callable
 from dataclasses import dataclass
 from typing import Any, Final
 
@@ -14,11 +15,16 @@ from catchup.service import openapi
 from catchup.service.answers import answer, as_json, checked, listed, time_of_day, timed
 from catchup.service.errors import Refusal
 from catchup.service.limits import LARGE_TABLE, LARGE_TABLES, MOST_ENTRIES
+from catchup.service.stops import as_nodes, told
 from catchup.service.versions import Network, Version
-from catchup.service.words import DAY, exclusive, node_of, nodes_of, second_of, take, via_of
+from catchup.service.words import (
+    DAY, Kind, bands_of, exclusive, format_of, geometry_of, second_of, stop_of, stops_of, take, via_of, within_of)
 
 router = APIRouter()
-ENDS: Final = {"from": node_of, "to": node_of}
+ENDS: Final[dict[str, Kind]] = {"from": stop_of, "to": stop_of}
+VIA: Final[dict[str, Kind]] = {**ENDS, "via": via_of}
+LISTS: Final[dict[str, Kind]] = {"from": stops_of, "to": stops_of}
+SHAPES: Final[dict[str, Kind]] = {"geometry": geometry_of, "format": format_of}
 # The longest drive takes so many days of a limit's roads that nobody asks for it; behind that `l` says `too late`.
 MOST_DAYS_BACK: Final = 8
 
@@ -105,6 +111,12 @@ def network_of(request: Request, asked: dict[str, Any]) -> Network:
     return found
 
 
+def accepted(request: Request) -> str:
+    """The header that says which format is wanted."""
+    found: str = request.headers.get("accept", "")
+    return found
+
+
 def ready(body: bytes, version: Version) -> Response:
     """An answer whose body is there."""
     return Response(body, 200, {"Catchup-Version": version.name}, media_type="application/json")
@@ -133,12 +145,19 @@ async def drives(version: Version, stops: list[int], depart: int) -> list[Leg] |
 @router.get("/route", **openapi.ROUTE)
 async def route(request: Request) -> Response:
     """The best drive that leaves at a second, or the last one that is there in time."""
-    asked = take(request.scope["query_string"], ENDS, {"via": via_of, "depart": second_of, "arrive": second_of})
-    network = network_of(request, asked)
+    return await route_asked(request.app.state.worker.network, request.scope["query_string"], accepted(request))
+
+
+async def route_asked(network: Callable[[str | None], Network], query: bytes, accept: str) -> Response:
+    """The answer to /route, of one of some networks."""
+    asked = take(query, ENDS, {"via": via_of, "depart": second_of, "arrive": second_of, **SHAPES})
+    version = network(asked.pop("profile", None)).current
     if exclusive(asked, ("depart", "arrive")) == "arrive":
         asked["by"] = asked.pop("arrive")
-        return await latest_drive(network.current, asked)
-    version, depart = network.current, asked.pop("depart")
+    if version.ground is not None or "by" in asked:
+        return await latest_or_placed(version, asked, accept)
+    asked = as_nodes(asked, VIA)
+    depart = asked.pop("depart")
     with version.held():
         legs = await drives(version, [asked["from"], *asked.get("via", ()), asked["to"]], depart)
     if legs is None:
@@ -149,9 +168,18 @@ async def route(request: Request) -> Response:
 @router.get("/latest", **openapi.LATEST)
 async def latest(request: Request) -> Response:
     """The last departure that is in time."""
-    asked = take(request.scope["query_string"], {**ENDS, "by": second_of})
-    network = network_of(request, asked)
-    return await latest_drive(network.current, asked)
+    asked = take(request.scope["query_string"], {**ENDS, "by": second_of}, SHAPES)
+    return await latest_or_placed(network_of(request, asked).current, asked, accepted(request))
+
+
+async def latest_or_placed(version: Version, asked: dict[str, Any], accept: str) -> Response:
+    """A drive over places, or the last one that is in time over nodes."""
+    if version.ground is None:
+        return await latest_drive(version, as_nodes(asked, VIA))
+    # Only maps need numpy.
+    from catchup.service import route as over_places
+
+    return await over_places.route(version, asked, accept)
 
 
 async def latest_drive(version: Version, asked: dict[str, Any]) -> Response:
@@ -189,6 +217,11 @@ async def day(request: Request) -> Response:
     """The least arrival at each second of the day, as pieces."""
     asked = take(request.scope["query_string"], ENDS)
     version = network_of(request, asked).current
+    if version.ground is not None:
+        from catchup.service import days as over_places
+
+        return await over_places.day(version, asked)
+    asked = as_nodes(asked, ENDS)
     reply = checked(await version.slow.ask(b"d,%d,%d" % (asked["from"], asked["to"])))
     if reply == b"unreachable":
         return answer({"answer": "unreachable", **asked}, version.name)
@@ -226,7 +259,14 @@ async def best(request: Request) -> Response:
         raise Refusal(400, "refused: second", hint="a second of the day is below 86400")
     if after > before:
         raise Refusal(400, "after is behind before", hint="a window over midnight is asked for in two parts")
-    pieces = await pieces_of(version, asked["from"], asked["to"])
+    if version.ground is not None:
+        from catchup.service import days as over_places
+
+        pieces = await over_places.pieces_between(version, asked["from"], asked["to"])
+        asked.update({name: told(asked[name]) for name in ENDS})
+    else:
+        asked = as_nodes(asked, ENDS)
+        pieces = await pieces_of(version, asked["from"], asked["to"])
     if pieces is None:
         return answer({"answer": "unreachable", **asked}, version.name)
     choices = choices_of(pieces, after, before)
@@ -260,8 +300,14 @@ def choice_told(choice: tuple[int, int]) -> dict[str, object]:
 @router.get("/reach", **openapi.REACH)
 async def reach(request: Request) -> Response:
     """How soon each node is reached."""
-    asked = take(request.scope["query_string"], {"from": node_of, "depart": second_of})
+    asked = take(request.scope["query_string"], {"from": stop_of, "depart": second_of},
+                 {"within": within_of, "bands": bands_of})
     version = network_of(request, asked).current
+    if version.ground is not None:
+        from catchup.service import reach as over_places
+
+        return await over_places.reach(version, asked)
+    asked = as_nodes(asked, {"from": stop_of})
     reply = checked(await version.slow.ask(b"r,%d,%d" % (asked["from"], asked["depart"])))
     told = {"answer": "reach", "from": asked["from"], **timed("depart", asked["depart"])}
     return answer(told, version.name, raw=("arrive", listed(reply)))
@@ -277,7 +323,7 @@ class Tables:
 @router.get("/table", **openapi.TABLE)
 async def table(request: Request) -> Response:
     """How soon each target is reached from each source."""
-    asked = take(request.scope["query_string"], {"from": nodes_of, "to": nodes_of, "depart": second_of})
+    asked = take(request.scope["query_string"], {**LISTS, "depart": second_of})
     network = network_of(request, asked)
     entries = len(asked["from"]) * len(asked["to"])
     if entries > MOST_ENTRIES:
@@ -290,6 +336,11 @@ async def table(request: Request) -> Response:
 
 async def make_table(version: Version, asked: dict[str, Any], request: Request) -> Response:
     """A table by a line for each source, so that others are answered between them; all of one version."""
+    if version.ground is not None:
+        from catchup.service import matrix as over_places
+
+        return await over_places.table(version, asked)
+    asked = as_nodes(asked, LISTS)
     places = ",".join(map(str, asked["to"])).encode()
     rows: list[bytes] = []
     with version.held():

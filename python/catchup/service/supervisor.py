@@ -30,7 +30,7 @@ from catchup.service.options import Options
 from catchup.service.process import end_with
 from catchup.service.protocol import Connection
 from catchup.service.streets import streets_of
-from catchup.service.tables import draw_networks
+from catchup.service.tables import draw_networks, open_places
 from catchup.service.versions import Kept, tell
 from catchup.service.worker import Shared, Worker, said_of
 
@@ -221,6 +221,7 @@ if HAS_GUNICORN:
                 Setting.options.gates()
                 Setting.shared.drawn = draw_networks(Setting.options)
                 Setting.shared.streets = streets_of(Setting.options)
+                Setting.shared.grounds = open_places(Setting.options)
             except Failure as problem:
                 tell(f"nothing is reloaded: {problem}")
                 return
@@ -340,7 +341,7 @@ def start(options: Options) -> None:
     check_files(options)
     find_at_once(options)
     Setting.options = options
-    Setting.shared = Shared(draw_networks(options), streets_of(options), {}, allow_files())
+    Setting.shared = Shared(draw_networks(options), streets_of(options), open_places(options), {}, allow_files())
     Setting.counts = Counts()
     listener = listen(options)
     logging.raiseExceptions = False

@@ -5,6 +5,7 @@ from __future__ import annotations
 import csv
 import os
 from pathlib import Path
+from typing import TYPE_CHECKING
 
 from catchup.errors import Failure
 from catchup.service import packed
@@ -12,6 +13,10 @@ from catchup.service.answers import as_json
 from catchup.service.options import Options
 from catchup.service.words import number_of
 
+if TYPE_CHECKING:
+    from catchup.places import Places
+
+MAP = "map.gpkg"
 NODES = ["node", "x", "y"]
 ROADS = ["arc", "tail", "head", "profile"]
 
@@ -53,3 +58,14 @@ def ends_of(path: Path) -> tuple[int, list[list[int]]]:
 def draw_networks(options: Options) -> dict[Path, bytes]:
     """What the page draws of each file that has tables."""
     return {file.path: draw_network(file.path, file.tables) for file in options.files if file.tables is not None}
+
+
+def open_places(options: Options) -> dict[Path, Places]:
+    """The places of each file among whose tables there is a map; Failure where that is another network's."""
+    found = {file.path: file.tables for file in options.files if file.tables is not None and (file.tables / MAP).exists()}
+    if not found:
+        return {}
+    # Only maps need numpy and scipy.
+    from catchup.service.placed import places_of
+
+    return {path: places_of(path, folder) for path, folder in found.items()}

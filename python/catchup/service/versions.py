@@ -7,12 +7,17 @@ import contextlib
 import os
 from collections.abc import Awaitable, Callable, Iterator
 from pathlib import Path
+from typing import TYPE_CHECKING
 
 from catchup.service import packed
 from catchup.service.children import DRIVE_PROBE, PROBE, Child, NotOpened
 from catchup.service.errors import Refusal
 from catchup.service.limits import PROBE_SECONDS, QUICK_SECONDS, SLOW_SECONDS
 from catchup.service.process import said_of
+
+if TYPE_CHECKING:
+    from catchup.places import Places
+    from catchup.service.placed import Placed
 
 Identity = tuple[int, int, int, int]
 HEARTBEAT_SECONDS = 5.0
@@ -63,10 +68,12 @@ class Kept:
 class Version:
     """One packed file, held open, and two children that answer of it: one for quick lines, one for slow ones."""
 
-    def __init__(self, descriptor: int, program: str) -> None:
+    def __init__(self, descriptor: int, program: str, ground: Places | None = None) -> None:
         self.descriptor = descriptor
         self.program = program
         self.has_seconds = False        # the program says the second at which each road is entered
+        self.ground = ground            # the places of its network, with the times of the tables
+        self.placed: Placed | None = None   # the same with its own times
         self.holders = 0
         self.is_retired = False
         self.restarts: set[asyncio.Task[None]] = set()
@@ -231,6 +238,7 @@ class Network:
         self.prepared: tuple[Identity, Version, asyncio.Task[None]] | None = None
         self.turn = asyncio.Lock()
         self.on_change: Callable[[Version], None] | None = None
+        self.ground: Places | None = None
         self.current: Version
 
     async def open(self) -> None:
@@ -262,7 +270,7 @@ class Network:
         """Begins to open a file that is about to be put in the place, so that `load` needn't begin then."""
         self.forget_prepared()
         descriptor = os.open(path, os.O_RDONLY | os.O_CLOEXEC)
-        version = Version(descriptor, self.program)
+        version = Version(descriptor, self.program, self.ground)
         starting = asyncio.get_running_loop().create_task(version.start())
         self.prepared = identity_of(os.fstat(descriptor)), version, starting
 
@@ -285,7 +293,7 @@ class Network:
         """Serves an open file, where it is one of this network."""
         prepared = self.take_prepared(identity)
         if prepared is None:
-            version = Version(descriptor, self.program)
+            version = Version(descriptor, self.program, self.ground)
             starting = asyncio.get_running_loop().create_task(version.start())
         else:
             os.close(descriptor)

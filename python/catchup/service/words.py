@@ -1,7 +1,11 @@
 """The words of an address, each read strictly: numbers are ASCII digits, and each name stands once."""
+
+from __future__ import annotations
+
 import re
 import urllib.parse
 from collections.abc import Callable, Mapping, Sequence
+from dataclasses import dataclass
 from typing import Any, Final
 
 from catchup.service.errors import Refusal, told_briefly
@@ -9,10 +13,14 @@ from catchup.service.limits import MOST_ENTRIES, MOST_PLACES
 
 DAY: Final = 86_400
 TOO_LARGE: Final = 10**15               # stands for each number that is too long to matter: the program refuses it
+MOST_BANDS: Final = 12
 NUMBER: Final = re.compile(r"[0-9]+")
 TIME: Final = re.compile(r"([01]?[0-9]|2[0-3]):([0-5][0-9])(?::([0-5][0-9]))?")
 # Short ones with one sign between, as most lists are.
 NUMBERS: Final = re.compile(r"[0-9]{1,15}(?:(?:,[0-9]{1,15})*|(?:;[0-9]{1,15})*)")
+NODES: Final = re.compile(r"[0-9]+(?:,[0-9]+)*")
+OSM: Final = re.compile(r"osm:(-?[0-9]{1,18})")
+PLACE: Final = re.compile(r"(-?[0-9]{1,3}(?:\.[0-9]{1,17})?),(-?[0-9]{1,3}(?:\.[0-9]{1,17})?)")
 PROFILE: Final = re.compile(r"[A-Za-z0-9_.-]{1,64}")
 # An address of a route as most are: its words in this order, and nothing to be read with care.
 PLAIN_ROUTE: Final = re.compile(
@@ -37,25 +45,77 @@ def second_of(word: str) -> int:
     return int(hours) * 3600 + int(minutes) * 60 + int(seconds)
 
 
-def node_of(word: str) -> int:
-    """A node, from its number or from `node:17`."""
-    return number_of(word.removeprefix("node:"))
+@dataclass(frozen=True, slots=True)
+class Stop:
+    """A place as it is asked for: a node, a node by its number in OpenStreetMap, or a longitude and a latitude in
+    degrees."""
+
+    node: int | None = None
+    osm: int | None = None
+    place: tuple[float, float] | None = None
+
+    def told(self) -> object:
+        """What an answer says of it."""
+        if self.place is not None:
+            return list(self.place)
+        return self.node if self.osm is None else f"osm:{self.osm}"
 
 
-def nodes_of(word: str) -> list[int]:
-    """Nodes with commas or semicolons between."""
+def stop_of(word: str) -> Stop:
+    """A place, from `17`, `node:17`, `osm:1234` or `9.52,47.14`."""
+    if (place := PLACE.fullmatch(word)) is not None:
+        return Stop(place=(float(place[1]), float(place[2])))
+    if (osm := OSM.fullmatch(word)) is not None:
+        return Stop(osm=int(osm[1]))
+    return Stop(node=number_of(word.removeprefix("node:")))
+
+
+def stops_of(word: str) -> list[Stop]:
+    """Places with semicolons between. Without a semicolon numbers with commas between are nodes."""
     if NUMBERS.fullmatch(word):
-        return list(map(int, word.replace(";", ",").split(",")))
+        return [Stop(node) for node in map(int, word.replace(";", ",").split(","))]
+    if ";" not in word and not NODES.fullmatch(word) and PLACE.fullmatch(word):
+        return [stop_of(word)]
     parts = word.split(";" if ";" in word else ",", MOST_ENTRIES + 1)
-    return [node_of(part) for part in parts]
+    return [stop_of(part) for part in parts]
 
 
-def via_of(word: str) -> list[int]:
+def via_of(word: str) -> list[Stop]:
     """The places between a route's ends."""
-    nodes = nodes_of(word)
-    if len(nodes) > MOST_PLACES:
+    stops = stops_of(word)
+    if len(stops) > MOST_PLACES:
         raise Refusal(400, f"via has at most {MOST_PLACES} places")
-    return nodes
+    return stops
+
+
+def geometry_of(word: str) -> str:
+    """In which form lines are answered."""
+    if word not in ("geojson", "polyline6", "none", "gpx"):
+        raise ValueError(word)
+    return word
+
+
+def format_of(word: str) -> str:
+    """The format of an answer."""
+    if word not in ("json", "geojson", "gpx"):
+        raise ValueError(word)
+    return word
+
+
+def within_of(word: str) -> int:
+    """A time that a reach takes, in seconds: a day at most."""
+    seconds = second_of(word)
+    if not 1 <= seconds <= DAY:
+        raise ValueError(word)
+    return seconds
+
+
+def bands_of(word: str) -> int:
+    """In how many parts a reach's time is shown."""
+    count = number_of(word)
+    if count > MOST_BANDS:
+        raise ValueError(word)
+    return count
 
 
 def profile_of(word: str) -> str:
@@ -69,11 +129,18 @@ Kind = Callable[[str], Any]
 FORMS: Final[Mapping[Kind, str]] = {
     number_of: "a number",
     second_of: "a second, or a time as 08:00 or 08:00:00",
-    node_of: "a number",
-    nodes_of: "numbers with commas between",
+    stop_of: "a number",
+    stops_of: "numbers with commas between",
     via_of: "numbers with semicolons between",
+    geometry_of: "geojson, polyline6, none or gpx",
+    format_of: "json, geojson or gpx",
+    within_of: "seconds, from 1 to 86400",
+    bands_of: f"a number up to {MOST_BANDS}",
     profile_of: "the name of a profile",
 }
+HINTS: Final[Mapping[Kind, str]] = dict.fromkeys(
+    (stop_of, stops_of, via_of),
+    "a place is 17, node:17, and with a map osm:1234 or lon,lat in degrees; with semicolons between")
 
 
 def words_of(query: bytes) -> dict[str, str]:
@@ -109,7 +176,7 @@ def read(name: str, word: str, kind: Kind) -> Any:
     try:
         return kind(word)
     except ValueError:
-        raise Refusal(400, f"{name} must be {FORMS.get(kind, 'as the documents say')}") from None
+        raise Refusal(400, f"{name} must be {FORMS.get(kind, 'as the documents say')}", hint=HINTS.get(kind)) from None
 
 
 def exclusive(values: Mapping[str, object], names: Sequence[str]) -> str:

@@ -28,16 +28,18 @@ from catchup.service.streets import Streets
 from catchup.service.versions import AGAIN_SECONDS, Kept, Network, tell, watch
 
 if TYPE_CHECKING:
+    from catchup.places import Places
     from catchup.service.replicas import Log
 
 
 @dataclass(slots=True)
 class Shared:
     """What the main process has found out of each file, and all workers share: what the page draws, what roads are
-    called, and the last version that was served; and how many connections a worker may have."""
+    called, its map's places, and the last version that was served; and how many connections a worker may have."""
 
     drawn: dict[Path, bytes]
     streets: dict[Path, Streets]
+    grounds: dict[Path, Places]
     kept: dict[Path, Kept]
     most: int
 
@@ -54,6 +56,8 @@ class Worker:
         tell_once = functools.partial(first_to_tell, folder)
         self.networks = [Network(file.name, file.path, self.program, shared.kept.get(file.path), tell_once)
                          for file in options.files]
+        for network in self.networks:
+            network.ground = shared.grounds.get(network.path)
         self.by_name = {network.name: network for network in self.networks}
         # A file without a name answers to every name.
         self.unnamed = self.by_name.get(None)

@@ -1,0 +1,73 @@
+"""Routes as files for maps and navigation devices: GPX and GeoJSON."""
+
+from __future__ import annotations
+
+from collections.abc import Sequence
+from itertools import groupby
+from typing import Any, Final
+from xml.sax.saxutils import escape
+
+import numpy as np
+from starlette.responses import Response
+
+from catchup.clock import clock, duration
+from catchup.places.drives import Drive
+from catchup.places.lines import DECIMALS, Floats, Lines
+from catchup.places.values import Snap
+from catchup.service.answers import as_json, timed
+
+FORMATS: Final = {"geojson": "application/geo+json", "gpx": "application/gpx+xml"}
+
+
+def downloaded(form: str, lines: Lines, snaps: Sequence[Snap], drives: Sequence[Drive], version: str) -> Response:
+    """A route as a file."""
+    body = geojson(lines, snaps, drives, version) if form == "geojson" else gpx(lines, snaps, drives)
+    headers = {"Catchup-Version": version, "Content-Disposition": f'attachment; filename="route.{form}"'}
+    return Response(body, 200, headers, media_type=FORMATS[form])
+
+
+def geojson(lines: Lines, snaps: Sequence[Snap], drives: Sequence[Drive], version: str) -> bytes:
+    """A FeatureCollection: a line for each leg, and a point for each place."""
+    features: list[dict[str, Any]] = []
+    for drive in drives:
+        said = {"kind": "leg", **timed("depart", drive.depart), **timed("arrive", drive.arrive),
+                "travel": drive.arrive - drive.depart, "metres": round(metres_of(lines, drive), 1), "names": names_of(lines, drive)}
+        features.append({"type": "Feature", "properties": said, "geometry": {
+            "type": "LineString", "coordinates": np.round(line_of(lines, drive), DECIMALS).tolist()}})
+    for snap in snaps:
+        features.append({"type": "Feature", "properties": {"kind": "place", "name": snap.name or snap.ref}, "geometry": {
+            "type": "Point", "coordinates": [round(value, DECIMALS) for value in snap.point]}})
+    return as_json({"type": "FeatureCollection", "features": features, "version": version})
+
+
+def gpx(lines: Lines, snaps: Sequence[Snap], drives: Sequence[Drive]) -> bytes:
+    """A track with a segment for each leg, and a waypoint for each place. There is no date, so points have no times."""
+    said = f"{clock(drives[0].depart)} to {clock(drives[-1].arrive)}, {duration(drives[-1].arrive - drives[0].depart)}"
+    text = ['<?xml version="1.0" encoding="UTF-8"?>',
+            '<gpx version="1.1" creator="catchup" xmlns="http://www.topografix.com/GPX/1/1">']
+    for snap in snaps:
+        lon, lat = (round(value, DECIMALS) for value in snap.point)
+        text.append(f'<wpt lat="{lat}" lon="{lon}"><name>{escape(snap.name or snap.ref)}</name></wpt>')
+    text.append(f"<trk><name>{said}</name>")
+    for drive in drives:
+        points = np.round(line_of(lines, drive), DECIMALS).tolist()
+        text += ["<trkseg>", *(f'<trkpt lat="{lat}" lon="{lon}"/>' for lon, lat in points), "</trkseg>"]
+    return "\n".join([*text, "</trk>", "</gpx>", ""]).encode()
+
+
+def line_of(lines: Lines, drive: Drive) -> Floats:
+    """A drive's coordinates, float64[k, 2]; of a place that isn't left they are there twice."""
+    if drive.roads:
+        return lines.line(drive.roads, drive.begin, drive.stop)
+    return np.array([drive.start.point, drive.end.point])
+
+
+def metres_of(lines: Lines, drive: Drive) -> float:
+    """How long a drive is."""
+    return float(sum(lines.metres[road] * (end - begin) for road, begin, end in drive.parts))
+
+
+def names_of(lines: Lines, drive: Drive) -> list[str]:
+    """The streets of a drive in their order, those without a name left out."""
+    names = (lines.name(road) for road in drive.roads)
+    return [name for name, _ in groupby(name or ref for name, ref in names) if name]
