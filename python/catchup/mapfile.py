@@ -25,6 +25,7 @@ from catchup.tables import writing
 Ints = NDArray[np.int64]
 Shorts = NDArray[np.int32]
 Floats = NDArray[np.float64]
+Bools = NDArray[np.bool_]
 
 _APPLICATION = 0x47504B47
 _VERSION = 10300
@@ -46,7 +47,8 @@ CREATE TABLE gpkg_geometry_columns (table_name TEXT NOT NULL, column_name TEXT N
   CONSTRAINT fk_gc_srs FOREIGN KEY (srs_id) REFERENCES gpkg_spatial_ref_sys(srs_id));
 CREATE TABLE nodes (node INTEGER PRIMARY KEY NOT NULL, osm_node INTEGER, copy INTEGER, geom POINT);
 CREATE TABLE roads (road INTEGER PRIMARY KEY NOT NULL, tail INTEGER, head INTEGER, osm_way INTEGER, osm_from INTEGER,
-  osm_to INTEGER, name TEXT, ref TEXT, class TEXT, metres DOUBLE, seconds INTEGER, profile INTEGER, geom LINESTRING);
+  osm_to INTEGER, name TEXT, ref TEXT, class TEXT, metres DOUBLE, seconds INTEGER, profile INTEGER,
+  roundabout BOOLEAN, geom LINESTRING);
 CREATE TABLE names (id INTEGER PRIMARY KEY NOT NULL, road INTEGER, "from" DOUBLE, "to" DOUBLE, name TEXT, ref TEXT);
 CREATE TABLE road_nodes (road INTEGER PRIMARY KEY NOT NULL, osm_nodes BLOB);
 CREATE TABLE properties (id INTEGER PRIMARY KEY NOT NULL, key TEXT NOT NULL UNIQUE, value TEXT NOT NULL);
@@ -89,6 +91,8 @@ class MapFile:
     classes: list[str]
     properties: dict[str, str] = field(default_factory=dict)
     path: Path | None = None
+    road_ring: Bools = field(default_factory=lambda: np.empty(0, dtype=bool))
+    """bool[m], whether a road is part of a roundabout; empty where the map doesn't tell."""
 
     @classmethod
     def open(cls, path: str | Path) -> "MapFile":
@@ -190,9 +194,11 @@ def _connect(path: Path) -> sqlite3.Connection:
 
 def _read(base: sqlite3.Connection, path: Path) -> MapFile:
     (node, osm, copy), _, lon, lat, _ = _table(base, "SELECT node, osm_node, copy, geom, '' FROM nodes ORDER BY node")
+    # Maps of before don't tell which roads are of roundabouts.
+    ring = "roundabout" if any(row[1] == "roundabout" for row in base.execute("PRAGMA table_info(roads)")) else "0"
     numbers, first, point_lon, point_lat, words = _table(
-        base, "SELECT road, tail, head, osm_way, seconds, profile, metres, geom, class FROM roads ORDER BY road")
-    road, tail, head, way, seconds, profile, metres = numbers
+        base, f"SELECT road, tail, head, osm_way, seconds, profile, {ring}, metres, geom, class FROM roads ORDER BY road")
+    road, tail, head, way, seconds, profile, rings, metres = numbers
     for column, what in ((node, "nodes"), (road, "roads")):
         if len(column) and (column[0] != 0 or column[-1] != len(column) - 1):
             raise ValueError(f"the {what} aren't numbered from 0 on")
@@ -206,7 +212,8 @@ def _read(base: sqlite3.Connection, path: Path) -> MapFile:
     properties = dict(base.execute("SELECT key, value FROM properties"))
     osm, way = osm.astype(np.int64), way.astype(np.int64)
     return MapFile(lon, lat, osm, _small(copy), _small(tail), _small(head), _small(profile), metres.astype(np.float64),
-                   _small(seconds), way, osm[tail], osm[head], kinds, first, point_lon, point_lat, classes, properties, path)
+                   _small(seconds), way, osm[tail], osm[head], kinds, first, point_lon, point_lat, classes, properties, path,
+                   rings.astype(bool))
 
 
 def _small(values: NDArray[Any]) -> Shorts:
@@ -253,7 +260,7 @@ def _write(base: sqlite3.Connection, of: MapFile, names: RoadNames, point_osm: I
     _describe(base, of)
     base.executemany("INSERT INTO nodes VALUES (?, ?, ?, ?)", zip(
         range(len(of.node_osm)), of.node_osm.tolist(), of.node_copy.tolist(), geometry.point_blobs(of.node_lon, of.node_lat)))
-    base.executemany("INSERT INTO roads VALUES (?, ?, ?, ?, ?, ?, ?, ?, ?, ?, ?, ?, ?)", _road_rows(of, names))
+    base.executemany("INSERT INTO roads VALUES (?, ?, ?, ?, ?, ?, ?, ?, ?, ?, ?, ?, ?, ?)", _road_rows(of, names))
     road = np.repeat(np.arange(len(of)), np.diff(names.first))
     base.executemany('INSERT INTO names (road, "from", "to", name, ref) VALUES (?, ?, ?, ?, ?)', (
         (row, begin, end, *_said(names.texts[text])) for row, begin, end, text in
@@ -278,7 +285,8 @@ def _road_rows(of: MapFile, names: RoadNames) -> Iterator[tuple[Any, ...]]:
     texts = [_said(text) for text in names.texts] + [(None, None)]
     longest: list[int] = names.longest().tolist()
     lines = geometry.line_blobs(of.road_first, of.point_lon, of.point_lat)
-    rest = zip(of.road_class.tolist(), np.round(of.road_metres, 2).tolist(), of.road_seconds.tolist(), of.road_profile.tolist(), lines)
+    rings = (of.road_ring if len(of.road_ring) else np.zeros(len(of), dtype=bool)).astype(int).tolist()
+    rest = zip(of.road_class.tolist(), np.round(of.road_metres, 2).tolist(), of.road_seconds.tolist(), of.road_profile.tolist(), rings, lines)
     for road, (first, text, (kind, *values)) in enumerate(zip(zip(*columns), longest, rest)):
         yield (road, *first, *texts[text], of.classes[kind], *values)
 

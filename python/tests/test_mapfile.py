@@ -19,7 +19,8 @@ def small_map() -> tuple[MapFile, RoadNames, np.ndarray]:  # type: ignore[type-a
         np.array([9.0, 9.1, 9.1]), np.array([47.0, 47.1, 47.1]), np.array([11, -12, -12]), np.array([0, 0, 1], dtype=np.int32),
         np.array([0, 1], dtype=np.int32), np.array([2, 0], dtype=np.int32), np.array([5, 6], dtype=np.int32), np.array([123.456, 1000.0]),
         np.array([9, 70], dtype=np.int32), np.array([101, 102]), np.array([11, -12]), np.array([-12, 11]), np.array([1, 0], dtype=np.int32),
-        first, np.array([9.0, 9.05, 9.1, 9.1, 9.0]), np.array([47.0, 47.05, 47.1, 47.1, 47.0]), ["primary", "service"], {"vehicle": "car"})
+        first, np.array([9.0, 9.05, 9.1, 9.1, 9.0]), np.array([47.0, 47.05, 47.1, 47.1, 47.0]), ["primary", "service"], {"vehicle": "car"},
+        road_ring=np.array([True, False]))
     names = RoadNames(np.array([0, 2, 2]), np.array([0.0, 50.0]), np.array([50.0, 123.456]), np.array([1, 0], dtype=np.int32),
                       [("Straße \"X\"", "B 1"), ("", "B 2")])
     return made, names, np.array([11, 7, -12, -12, 11])
@@ -31,7 +32,7 @@ def test_it_comes_back(tmp_path: Path) -> None:
     assert [path.name for path in tmp_path.iterdir()] == ["map.gpkg"]
     found = MapFile.open(tmp_path / "map.gpkg")
     for name in ("node_lon", "node_lat", "node_osm", "node_copy", "road_tail", "road_head", "road_profile", "road_seconds", "road_osm_way",
-                 "road_osm_from", "road_osm_to", "road_class", "road_first", "point_lon", "point_lat"):
+                 "road_osm_from", "road_osm_to", "road_class", "road_first", "point_lon", "point_lat", "road_ring"):
         want, have = getattr(made, name), getattr(found, name)
         assert have.dtype == want.dtype and have.tolist() == want.tolist(), name
     assert found.road_metres.tolist() == [123.46, 1000.0] and found.classes == ["primary", "service"] and len(found) == 2
@@ -41,6 +42,14 @@ def test_it_comes_back(tmp_path: Path) -> None:
     with sqlite3.connect(tmp_path / "map.gpkg") as base:
         assert base.execute("SELECT name, ref, class FROM roads ORDER BY road").fetchall() == [("Straße \"X\"", "B 1", "service"), (None, None, "primary")]
         assert base.execute("PRAGMA application_id").fetchone() == (0x47504B47,) and base.execute("PRAGMA integrity_check").fetchone() == ("ok",)
+
+
+def test_a_map_that_does_not_tell_roundabouts(tmp_path: Path) -> None:
+    write_map(tmp_path / "map.gpkg", *small_map())
+    with sqlite3.connect(tmp_path / "map.gpkg") as base:
+        base.execute("ALTER TABLE roads DROP COLUMN roundabout")
+    found = MapFile.open(tmp_path / "map.gpkg")
+    assert found.road_ring.tolist() == [False, False] and found.road_profile.tolist() == [5, 6]
 
 
 def test_a_map_without_roads(tmp_path: Path) -> None:

@@ -113,6 +113,8 @@ def test_a_roundabout(tmp_path: Path) -> None:
     quarter, arm = 141.42 * 3.6 / 40, 400 * 3.6 / 25
     assert net.takes(11, 12) == pytest.approx(2 * arm + quarter, abs=1.5)
     assert net.takes(12, 11) == pytest.approx(2 * arm + 3 * quarter, abs=2.5)
+    of_ring = net.made.map.road_ring
+    assert of_ring.sum() == 4 and len(of_ring) == 12
 
 
 def test_seconds_are_shared_out_along_a_way(tmp_path: Path) -> None:

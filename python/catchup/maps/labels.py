@@ -33,6 +33,8 @@ class Labels:
         self.classes: list[str] = sorted({rule.kind for rule in directed.raw.rules if rule.out is None})
         numbers = np.array([self.classes.index(rule.kind) if rule.out is None else 0 for rule in directed.raw.rules])
         self.kind: Ints = self._longest(numbers[directed.raw.way_rule[self._way]])
+        rings = np.array([rule.ring for rule in directed.raw.rules])
+        self.ring: Ints = self._longest(rings[directed.raw.way_rule[self._way]].astype(np.int64))
         self.way: Ints = directed.raw.way_ids[self._longest(self._way)]
 
     def _longest(self, values: Ints) -> Ints:

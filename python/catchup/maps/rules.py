@@ -14,6 +14,7 @@ LONGEST = 5 * DAY
 
 _YES, _BACK = ("yes", "true", "1"), ("-1", "reverse")
 _NO = ("no", "false", "0")
+_RINGS = ("roundabout", "circular")
 _ZONES = ("zone:maxspeed", "maxspeed:type", "source:maxspeed", "zone:traffic")
 _OTHER = ("highway", "route", "junction", "area", "abandoned", "disused", "impassable", "duration", "interval",
           "opening_hours", "foot", "bicycle", "motorroad", "cycleway", "surface", "tracktype", "smoothness",
@@ -40,6 +41,8 @@ class Rule:
     """Where the way is open to all at some hours and for destinations alone at others: the way once more, as one that is
     for destinations alone at all the hours at which anybody may enter it."""
     ferry: bool = False
+    ring: bool = False
+    """Part of a roundabout."""
     seconds: int | None = None
     """How long the ferry takes, where that is said."""
     notes: tuple[str, ...] = ()
@@ -67,7 +70,7 @@ def read_rule(tags: Tags, vehicle: Vehicle, weekday: int, without: frozenset[str
     out = _left_out(tags, kind, vehicle, access, base, without)
     if out is not None or base is None:
         return Rule(kind=kind, out=out or f"class: {kind}")
-    rule, too = _by_access(Rule(kind=kind, ferry=ferry, notes=tuple(notes)), access)
+    rule, too = _by_access(Rule(kind=kind, ferry=ferry, ring=tags.get("junction") in _RINGS, notes=tuple(notes)), access)
     done = _directed(rule, tags, vehicle, weekday, base)
     return done if too is None else replace(done, too=_directed(too, tags, vehicle, weekday, base))
 
@@ -129,7 +132,7 @@ def _oneway(tags: Tags, vehicle: Vehicle) -> str | None:
     said = next((tags[key] for key in vehicle.oneway if key in tags), None)
     if vehicle.name == "bicycle" and said in _YES and tags.get("cycleway", "").startswith("opposite"):
         return "no"
-    if said is None and vehicle.one_way and (tags.get("junction") in ("roundabout", "circular") or tags.get("highway") == "motorway"):
+    if said is None and vehicle.one_way and (tags.get("junction") in _RINGS or tags.get("highway") == "motorway"):
         return "yes"
     return said
 

@@ -21,6 +21,7 @@ from catchup.places.values import Place
 Shorts = NDArray[np.int32]
 Floats = NDArray[np.float64]
 Rows = NDArray[np.void]
+Bools = NDArray[np.bool_]
 
 Part: TypeAlias = tuple[int, float, float]
 """A road, and the shares of its metres from which and up to which it is driven."""
@@ -57,15 +58,17 @@ class Told(NamedTuple):
 
 
 class Lines:
-    """The lines and names of m roads. metres: float64[m]; kind: int32[m], a number into `kinds`, the classes of roads."""
+    """The lines and names of m roads. metres: float64[m]; kind: int32[m], a number into `kinds`, the classes of roads;
+    ring: bool[m], whether a road is part of a roundabout."""
 
-    def __init__(self, streets: Streets, names: RoadNames, metres: Floats, kind: Shorts, kinds: list[str]) -> None:
+    def __init__(self, streets: Streets, names: RoadNames, metres: Floats, kind: Shorts, kinds: list[str], ring: Bools) -> None:
         self._streets = streets
         self._names = names
         self._text = names.longest()
         self.metres = metres
         self._kind = kind
         self._kinds = kinds
+        self._ring = ring
         self._said = [json.dumps(name or ref).encode() for name, ref in names.texts] + [b'""']
         self._rows = _rows_of(streets.places)
         self._told: dict[int, Told] = {}
@@ -78,7 +81,7 @@ class Lines:
 
     def is_roundabout(self, road: int) -> bool:
         """Whether a road is one of a roundabout."""
-        return False
+        return bool(self._ring[road])
 
     def name(self, road: int) -> tuple[str, str]:
         """The name and the reference number of most of a road, empty where it has none."""

@@ -44,7 +44,7 @@ class Ground:
         streets = Streets.of(content)
         leaving = np.bincount(content.road_tail, minlength=len(content.node_lon)).astype(np.int32)
         ends = Ends(content.road_tail, content.road_head, content.node_copy, streets.junction, leaving)
-        lines = Lines(streets, content.names, content.road_metres, content.road_class, content.classes)
+        lines = Lines(streets, content.names, content.road_metres, content.road_class, content.classes, content.road_ring)
         places = np.column_stack((content.node_lon, content.node_lat))
         snapper = Snapper(streets, ends, lines, places, content.node_osm, content.properties.get("driving_side") == "left")
         return cls(folder, streets, ends, lines, snapper, content.road_profile)
