@@ -1,0 +1,75 @@
+"""What answers need to know of a map beside its places: what is told at its junctions, the texts of its roads, its
+hints, and the numbers of its nodes in OpenStreetMap."""
+
+from __future__ import annotations
+
+import sqlite3
+from contextlib import closing
+from dataclasses import dataclass
+from pathlib import Path
+from typing import Final
+
+import numpy as np
+
+from catchup.errors import Failure
+from catchup.places.places import MAP_FILE, Ground
+from catchup.service.osrm.hints import Hints
+from catchup.service.osrm.junctions import Junctions
+from catchup.service.osrm.stretches import Stretches
+from catchup.service.osrm.turns import Turns
+
+_KEPT: Final = "osrm_guide"
+MODES: Final = {"bicycle": "cycling", "foot": "walking"}
+
+
+@dataclass(frozen=True, slots=True)
+class Guide:
+    """What is made of a map once."""
+
+    ground: Ground
+    stretches: Stretches
+    turns: Turns
+    hints: Hints
+    nodes: NodeNumbers
+
+
+class NodeNumbers:
+    """The numbers in OpenStreetMap of the nodes of each road. They are read as they are asked for: they are many, and
+    few are."""
+
+    def __init__(self, path: Path) -> None:
+        self._path = path
+        self._base: sqlite3.Connection | None = None
+
+    def of(self, road: int, count: int) -> list[int]:
+        """The numbers of a road's nodes, in the sense of the drive; 0 for each where the map has others by now."""
+        try:
+            if self._base is None:
+                self._base = sqlite3.connect(f"{self._path.absolute().as_uri()}?mode=ro", uri=True)
+            [blob] = self._base.execute("SELECT osm_nodes FROM road_nodes WHERE road = ?", (road,)).fetchone() or [b""]
+        except sqlite3.Error:
+            blob = b""
+        found: list[int] = np.frombuffer(blob, dtype="<i8").tolist() if len(blob) == 8 * count else [0] * count
+        return found
+
+
+def guide_of(ground: Ground) -> Guide:
+    """The guide to a network, which all its versions have alike. It is kept with the ground, and goes with it."""
+    known = vars(ground)
+    if _KEPT not in known:
+        known[_KEPT] = made(ground)
+    found: Guide = known[_KEPT]
+    return found
+
+
+def made(ground: Ground) -> Guide:
+    """A new guide to a network."""
+    path = ground.folder / MAP_FILE
+    try:
+        with closing(sqlite3.connect(f"{path.absolute().as_uri()}?mode=ro", uri=True)) as base:
+            said = dict(base.execute("SELECT key, value FROM properties"))
+    except sqlite3.Error as fault:
+        raise Failure(f"{path} can't be read: {fault}") from fault
+    side = "left" if said.get("driving_side") == "left" else "right"
+    stretches = Stretches(ground.lines, MODES.get(said.get("vehicle", ""), "driving"), side)
+    return Guide(ground, stretches, Turns(ground), Hints(ground.streets), NodeNumbers(path))

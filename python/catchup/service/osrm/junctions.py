@@ -1,0 +1,104 @@
+"""Where roads meet: in which directions streets lead away from each junction, and which may be driven from there.
+
+The nodes of a junction are its copies, between which a drive can't change: they tell which turns are allowed. The
+streets that meet at a junction are its arms, by rising direction in whole degrees clockwise from north.
+"""
+
+from __future__ import annotations
+
+from typing import Final
+
+import numpy as np
+from numpy.typing import NDArray
+
+from catchup.places.places import Ground
+from catchup.places.streets import Grouped, Streets
+from catchup.service.osrm.lines import Floats, Ints, point
+
+Shorts = NDArray[np.int16]
+
+AHEAD: Final = 15.0                     # metres of a street that tell its direction where it begins and ends
+MOST_KEPT: Final = 65_536               # junctions whose text is kept
+
+
+class Junctions:
+    """The junctions of a network of m roads.
+
+    tail, head: int32[m], the node where each road begins and ends. leaves, reaches: int16[m], the direction in which it
+    is driven there. leaves_by, reaches_by: int16[m], by which arm of the junction one leaves there, and by which one
+    comes.
+    """
+
+    def __init__(self, ground: Ground) -> None:
+        ends = ground.ends
+        self.tail, self.head = ends.tail, ends.head
+        self.leaves, self.reaches = directions_of(ground.streets)
+        # Each end of a road is an arm of a junction: a number that tells the junction and the direction.
+        both = np.concatenate((ends.junction[ends.tail].astype(np.int64) * 360 + self.leaves,
+                               ends.junction[ends.head].astype(np.int64) * 360 + (self.reaches + 180) % 360))
+        arms, arm = np.unique(both, return_inverse=True)
+        first = np.searchsorted(arms // 360, np.arange(int(ends.junction.max(initial=-1)) + 2))
+        rank = (arm - first[both // 360]).astype(np.int16)
+        self.leaves_by, self.reaches_by = rank[:len(ends.tail)], rank[len(ends.tail):]
+        self._junction, self._first, self._arms = ends.junction, first, (arms % 360).astype(np.int16)
+        self._from = Grouped.by(ends.tail, len(ends.junction))
+        self._streets = ground.streets
+        self._texts: dict[int, str] = {}
+
+    def roads_from(self, node: int) -> list[int]:
+        """The roads that may be driven from a node."""
+        found: list[int] = self._from[node].tolist()
+        return found
+
+    def arms(self, node: int) -> list[int]:
+        """The directions of a node's junction's arms, in degrees."""
+        junction = int(self._junction[node])
+        found: list[int] = self._arms[self._first[junction]:self._first[junction + 1]].tolist()
+        return found
+
+    def text(self, road: int) -> str:
+        """The members `entry`, `bearings` and `location` of the intersection at a road's end, as JSON."""
+        node = int(self.head[road])
+        found = self._texts.get(node)
+        if found is None:
+            if len(self._texts) >= MOST_KEPT:
+                self._texts.clear()
+            found = self._texts[node] = self._written(node, point(self._streets.line(road)[-1].tolist()))
+        return found
+
+    def _written(self, node: int, location: str) -> str:
+        bearings = self.arms(node)
+        entries = ["false"] * len(bearings)
+        for road in self.roads_from(node):
+            entries[self.leaves_by[road]] = "true"
+        return f'"entry":[{",".join(entries)}],"bearings":[{",".join(map(str, bearings))}],"location":{location}'
+
+
+def directions_of(streets: Streets) -> tuple[Shorts, Shorts]:
+    """In which direction each road is driven where it begins, and where it ends: int16[m], int16[m]."""
+    begin, end = streets.first[:-1], streets.first[1:] - 1
+    share = np.minimum(AHEAD / np.maximum(streets.metres, AHEAD), 1.0)
+    ahead, back = points_at(streets, share), points_at(streets, 1.0 - share)
+    starts, stops = bearings(streets.places[begin], ahead), bearings(back, streets.places[end])
+    of_road, is_forward = streets.of_road, streets.is_forward
+    leaves = np.where(is_forward, starts[of_road], (stops[of_road] + 180) % 360)
+    reaches = np.where(is_forward, stops[of_road], (starts[of_road] + 180) % 360)
+    return leaves.astype(np.int16), reaches.astype(np.int16)
+
+
+def points_at(streets: Streets, share: Floats) -> Floats:
+    """The point of each street behind a share of its metres, float64[s, 2]."""
+    numbers = np.arange(len(streets))
+    # Shares rise from 0 to 1 within a street, so with their streets' numbers they rise all the way.
+    along = streets.share + 2.0 * np.repeat(numbers, np.diff(streets.first))
+    behind = np.clip(np.searchsorted(along, share + 2.0 * numbers), streets.first[:-1] + 1, streets.first[1:] - 1)
+    width = streets.share[behind] - streets.share[behind - 1]
+    part = (share - streets.share[behind - 1]) / np.where(width > 0.0, width, 1.0)
+    before = streets.places[behind - 1]
+    return np.asarray(before + (streets.places[behind] - before) * np.clip(part, 0.0, 1.0)[:, None])
+
+
+def bearings(start: Floats, end: Floats) -> Ints:
+    """The directions from places to others near by, in whole degrees clockwise from north, 0 to 359."""
+    east = (end[:, 0] - start[:, 0]) * np.cos(np.radians((start[:, 1] + end[:, 1]) / 2))
+    return np.asarray(np.rint(np.degrees(np.arctan2(east, end[:, 1] - start[:, 1]))) % 360, dtype=np.int64)
