@@ -1,0 +1,87 @@
+"""What OSRM answers, as JSON: waypoints, routes with their legs, tables.
+
+The text is put together from parts of it, since most of them are ready: lines, intersections and names are texts
+already, and most of a request's time would go into them.
+"""
+
+from __future__ import annotations
+
+import asyncio
+import json
+from collections.abc import Sequence
+from typing import Final
+
+import numpy as np
+
+from catchup.places import Snap
+from catchup.places.drives import Drive
+from catchup.service.osrm.address import Asked, AskedRoute
+from catchup.service.osrm.annotations import annotation
+from catchup.service.osrm.guide import Guide
+from catchup.service.osrm.legs import Leg, legs_of
+from catchup.service.osrm.lines import FORMS, Floats, Form, point
+from catchup.service.osrm.overview import simplified
+from catchup.service.osrm.stepshapes import steps_told
+from catchup.service.osrm.texts import sums, text, timed
+
+ROWS: Final = 16                        # of a table that are written in one turn of the loop
+
+
+def waypoint(snap: Snap, guide: Guide, *, with_hint: bool, more: str = "") -> str:
+    """Where a place was found; `more` are members that come first."""
+    hint = f'"hint":"{guide.hints.written(snap)}",' if with_hint else ""
+    metres, name = round(snap.metres, 3), text(snap.name)
+    return f'{{{more}{hint}"distance":{metres},"name":{name},"location":{point(snap.point)}}}'
+
+
+def waypoints(snaps: Sequence[Snap], guide: Guide, asked: Asked) -> str:
+    """A list of places that were found."""
+    return f'[{",".join([waypoint(snap, guide, with_hint=asked.generate_hints) for snap in snaps])}]'
+
+
+def route(drives: Sequence[Drive], guide: Guide, asked: AskedRoute) -> str:
+    """A route over drives."""
+    legs = legs_of(drives, asked.waypoints, guide.stretches, asked.geometries)
+    overview = "" if asked.overview == "false" else f'"geometry":{overview_of(legs, asked)},'
+    told = ",".join([leg_told(leg, guide, asked) for leg in legs])
+    depart, arrive = legs[0].depart, legs[-1].arrive
+    whole = sums(arrive - depart, sum(leg.metres for leg in legs))
+    return (f'{{{overview}"legs":[{told}],{whole},"weight_name":"duration",'
+            f'{timed("depart", depart)},{timed("arrive", arrive)}}}')
+
+
+def leg_told(leg: Leg, guide: Guide, asked: AskedRoute) -> str:
+    """A leg."""
+    steps, summary = steps_told(leg, guide, FORMS[asked.geometries]) if asked.steps else ("", "")
+    more = f'"annotation":{annotation(leg, guide, asked.annotations)},' if asked.annotations else ""
+    return (f'{{"steps":[{steps}],"summary":{text(summary)},{more}{sums(leg.arrive - leg.depart, leg.metres)},'
+            f'{timed("depart", leg.depart)},{timed("arrive", leg.arrive)}}}')
+
+
+def overview_of(legs: Sequence[Leg], asked: AskedRoute) -> str:
+    """The line of all of a route."""
+    form = FORMS[asked.geometries]
+    if asked.overview == "simplified":
+        return form.whole(simplified([leg.line() for leg in legs]))
+    parts = [legs[0].stretches[0].first]
+    for at, leg in enumerate(legs):
+        if at:
+            parts.append(joint(legs[at - 1], leg, form))
+        parts += [stretch.rest for stretch in leg.stretches]
+    return form.line("".join(parts))
+
+
+def joint(before: Leg, after: Leg, form: Form) -> str:
+    """What a line has between two legs: nothing, where one begins at the very place where the other ends."""
+    ends, begins = before.stretches[-1].places[-1].tolist(), after.stretches[0].places[0].tolist()
+    return "" if form.first(ends) == form.first(begins) else form.rest(np.array([ends, begins]))
+
+
+async def grid(entries: Floats) -> str:
+    """A table's rows; null where an entry is nan. Others are answered between its rows."""
+    rows = []
+    for row in np.round(entries, 1).tolist():
+        rows.append(json.dumps(row, separators=(",", ":")).replace("NaN", "null"))
+        if len(rows) % ROWS == 0:
+            await asyncio.sleep(0)
+    return f'[{",".join(rows)}]'
