@@ -42,6 +42,7 @@ class Digits(click.ParamType):
 @click.option("--name", "names", multiple=True, metavar="NAME", help="A name under which it is reached; may be said again.")
 @click.option("--origin", "origins", multiple=True, metavar="ORIGIN", help="Another page's origin that may read and write.")
 @click.option("--token", type=click.Path(path_type=Path), metavar="FILE", help="A file with the token that writes need.")
+@click.option("--zone", metavar="ZONE", help="The time zone of the roads, as Europe/Zurich; this machine's by default.")
 @click.option("--log", metavar="redis://HOST:PORT/0/NAME", help="A stream between replicas.")
 @click.option("--access-log/--no-access-log", default=False, help="A line on standard error for each answer; none by default.")
 @click.option("--docs", is_flag=True, help="Shows the paths at /docs, by scripts from elsewhere.")
@@ -59,7 +60,8 @@ def command(
         files=served_of(files, tables), host=str(words["host"]), port=int(str(words["port"])),
         workers=int(str(words["workers"] or processors())), names=names, origins=origins,
         token=words["token"] if isinstance(words["token"], Path) else None,
-        log=None if words["log"] is None else str(words["log"]), has_access_log=bool(words["access_log"]),
+        log=None if words["log"] is None else str(words["log"]), zone=None if words["zone"] is None else str(words["zone"]),
+        has_access_log=bool(words["access_log"]),
         has_docs=bool(words["docs"]))
     check(options)
     from catchup.service.supervisor import start

@@ -17,6 +17,7 @@ from catchup.service.answers import refusal_answer
 from catchup.service.errors import Refusal
 from catchup.service.gates import PREFLIGHT, READS
 from catchup.service.limits import LONGEST_JSON, MOST_WORDS
+from catchup.service.osrm.paths import KIND, make_router
 from catchup.service.protocol import Cycle
 from catchup.service.reads import PlainRoute, route_asked
 from catchup.service.versions import tell
@@ -30,6 +31,9 @@ Send = Callable[[MutableMapping[str, Any]], Awaitable[None]]
 ROUTERS: Final = (reads.router, edits.router, state.router)
 JSON_HEADER: Final = (b"content-type", b"application/json")
 VERSION_HEADER: Final = b"catchup-version"
+# These need nothing of the framework, and many are asked.
+OSRM_PATHS: Final = (b"/route/v", b"/table/v", b"/nearest/v")
+OSRM_HEADER: Final = (b"content-type", KIND.encode())
 
 
 def make_app(worker: Worker) -> FastAPI:
@@ -37,7 +41,7 @@ def make_app(worker: Worker) -> FastAPI:
     app = FastAPI(title="catchup", version=__version__, description=openapi.DESCRIPTION, openapi_url=None)
     app.router.redirect_slashes = False
     app.state.worker = worker
-    for router in ROUTERS:
+    for router in (*ROUTERS, make_router(worker.osrm)):
         app.include_router(router)
     app.add_exception_handler(Refusal, on_refusal)
     app.add_exception_handler(HTTPException, on_http_error)
@@ -119,17 +123,24 @@ class Front:
         worker, read, method = self.worker, scope["catchup.read"], scope["method"]
         worker.gates.check_host(read)
         shared = worker.gates.shared(read)
-        if scope["path"] == "/route" and method == "GET" and worker.networks[0].ground is not None:
-            # Most requests of a service with a map are this one, and need nothing of the framework.
-            accept = b"".join(value for name, value in scope["headers"] if name == b"accept").decode("latin-1")
-            response = await route_asked(worker.network, scope["query_string"], accept)
-            await response(scope, receive, with_headers(send, worker, shared))
+        if method == "GET" and scope["raw_path"].startswith(OSRM_PATHS):
+            told = await worker.osrm.answer(scope["raw_path"], scope["query_string"])
+            more = encoded({**told.headers, **shared})
+            await send({"type": "http.response.start", "status": told.status,
+                        "headers": [OSRM_HEADER, (VERSION_HEADER, told.version.encode()), *more]})
+            await send({"type": "http.response.body", "body": told.body})
             return
         if method == "OPTIONS" and "Access-Control-Allow-Origin" in shared:
             allowed = Response(status_code=204, headers={**shared, **PREFLIGHT, "Catchup-Version": worker.version()})
             await allowed(scope, receive, send)
             return
         self.check(scope, read, method)
+        if method == "GET" and scope["path"] == "/route" and worker.networks[0].ground is not None:
+            # Most requests of a service with a map are this one, and need nothing of the framework.
+            accept = b"".join(value for name, value in scope["headers"] if name == b"accept").decode("latin-1")
+            response = await route_asked(worker.network, scope["query_string"], accept)
+            await response(scope, receive, with_headers(send, worker, shared))
+            return
         # Each path that has GET has HEAD: the body is left out as it is sent.
         passed = {**scope, "method": "GET"} if method == "HEAD" else scope
         await self.app(passed, receive, with_headers(send, worker, shared))

@@ -6,8 +6,11 @@ import ipaddress
 import re
 from collections.abc import Sequence
 from dataclasses import dataclass
+from datetime import datetime
+from functools import lru_cache
 from pathlib import Path
 from typing import Final
+from zoneinfo import ZoneInfo, ZoneInfoNotFoundError
 
 from catchup.errors import Failure
 from catchup.service.gates import OWN_NAMES, Gates
@@ -41,12 +44,27 @@ class Options:
     log: str | None = None
     has_access_log: bool = False
     has_docs: bool = False
+    zone: str | None = None
+
+    def now(self) -> int:
+        """The second of the day that it is, in the zone of the roads; in this machine's where none is said."""
+        time = datetime.now(None if self.zone is None else zone_of(self.zone))
+        return time.hour * 3600 + time.minute * 60 + time.second
 
     def gates(self) -> Gates:
         """Who gets in. The token is read anew at each start of a worker, so a new one comes in by SIGHUP."""
         bound = f"[{self.host}]" if ":" in self.host else self.host
         names = frozenset(name.lower() for name in (*OWN_NAMES, bound, *self.names))
         return Gates(names, frozenset(self.origins), read_token(self.token))
+
+
+@lru_cache
+def zone_of(name: str) -> ZoneInfo:
+    """A time zone by its name."""
+    try:
+        return ZoneInfo(name)
+    except (ValueError, OSError, ZoneInfoNotFoundError):
+        raise Failure(f"--zone {name!r} is no time zone of this machine: write it as Europe/Zurich") from None
 
 
 def is_loopback(host: str) -> bool:
@@ -118,6 +136,8 @@ def check(options: Options) -> None:
         if not ORIGIN.fullmatch(origin):
             raise Failure(f"--origin {origin!r} is no origin: write it as https://maps.example.org")
     read_token(options.token)
+    if options.zone is not None:
+        zone_of(options.zone)
     if options.log is not None:
         # Only a service with a stream needs Redis.
         from catchup.service.replicas import parted as parted_log

@@ -42,6 +42,7 @@ HARMLESS: Final = bytes.maketrans(bytes([*range(1, 9), 11, 12, *range(14, 32), 1
 READ: Final = frozenset([
     b"host", b"origin", b"authorization", b"content-length", b"content-type", b"transfer-encoding", b"expect"])
 NUMBER: Final = re.compile(rb"[0-9]+")
+OSRM: Final = re.compile(rb"[A-Z]+ /[A-Za-z0-9]+/v[0-9]+/")
 
 Headers = list[tuple[bytes, bytes]]
 Address = tuple[Any, ...]
@@ -62,7 +63,7 @@ class BeginPlain(Protocol):
 class Crowd:
     """All connections of a worker."""
 
-    def __init__(self, most: int, error: Callable[[int, str], tuple[Headers, bytes]], told: Told,
+    def __init__(self, most: int, error: Callable[[int, str, str | None], tuple[Headers, bytes]], told: Told,
                  log: Callable[[str], None] | None = None) -> None:
         self.most = most
         self.error = error          # the headers and the body of an error
@@ -350,7 +351,7 @@ class Connection(HttpToolsProtocol):  # type: ignore[misc]
 
     def refuse_long(self) -> None:
         if self.held.find(b"\r\n", self.at, self.at + LONGEST_TARGET + 64) < 0:
-            self.refuse(414, f"an address has at most {LONGEST_TARGET} bytes")
+            self.refuse_target(self.held[self.at:self.at + 64])
         else:
             self.refuse(431, f"a request's head has at most {LONGEST_HEAD} bytes")
 
@@ -376,6 +377,13 @@ class Connection(HttpToolsProtocol):  # type: ignore[misc]
                 if not self.is_closing:
                     self.refuse(400, "the request's head can't be read")
 
+    def refuse_target(self, first: bytes) -> None:
+        """Refuses an address that is too long. One of OSRM's has too many places, and is refused in OSRM's words."""
+        if OSRM.match(first):
+            self.refuse(400, f"an address has at most {LONGEST_TARGET} bytes: ask for fewer places", code="TooBig")
+        else:
+            self.refuse(414, f"an address has at most {LONGEST_TARGET} bytes")
+
     def refuse_first(self, first: bytes) -> None:
         words = first.split(b" ")
         if CONTROLS.search(first) or not first.isascii() or BAD_ENDS.search(first):
@@ -383,7 +391,7 @@ class Connection(HttpToolsProtocol):  # type: ignore[misc]
         elif len(words) != 3 or not words[2].startswith(b"HTTP/") or not words[0].isupper():
             self.refuse(400, "the first line is no request")
         elif len(words[1]) > LONGEST_TARGET:
-            self.refuse(414, f"an address has at most {LONGEST_TARGET} bytes")
+            self.refuse_target(first)
         elif words[2] not in (b"HTTP/1.1", b"HTTP/1.0"):
             self.refuse(505, "HTTP/1.1 and HTTP/1.0 are known here")
         else:
@@ -572,9 +580,9 @@ class Connection(HttpToolsProtocol):  # type: ignore[misc]
             self.held, self.at = b"", 0
             self.flow.resume_reading()
 
-    def refuse(self, status: int, error: str, headers: bytes = b"") -> None:
-        """Answers what is no request, and closes."""
-        more, body = self.crowd.error(status, error)
+    def refuse(self, status: int, error: str, headers: bytes = b"", *, code: str | None = None) -> None:
+        """Answers what is no request, and closes; with a code in the form of OSRM's errors."""
+        more, body = self.crowd.error(status, error, code)
         lines = b"".join(name + b": " + value + b"\r\n" for name, value in more)
         self.crowd.told("", status, 0.0)
         if self.crowd.log is not None:

@@ -66,6 +66,11 @@ def open_places(options: Options) -> dict[Path, Places]:
     if not found:
         return {}
     # Only maps need numpy and scipy.
+    from catchup.service.osrm.guide import guide_of
     from catchup.service.placed import places_of
 
-    return {path: places_of(path, folder) for path, folder in found.items()}
+    opened = {path: places_of(path, folder) for path, folder in found.items()}
+    for places in opened.values():
+        # It is made here once for all workers.
+        guide_of(places.ground)
+    return opened

@@ -22,6 +22,7 @@ from catchup.service.errors import Refusal, told_briefly
 from catchup.service.limits import WATCH_SECONDS
 from catchup.service.metrics import Metrics, first_to_tell
 from catchup.service.options import Options
+from catchup.service.osrm.paths import Osrm
 from catchup.service.protocol import Crowd, Headers
 from catchup.service.reads import Tables
 from catchup.service.streets import Streets
@@ -29,6 +30,7 @@ from catchup.service.versions import AGAIN_SECONDS, Kept, Network, tell, watch
 
 if TYPE_CHECKING:
     from catchup.places import Places
+    from catchup.service.placed import Placed
     from catchup.service.replicas import Log
 
 
@@ -67,6 +69,7 @@ class Worker:
         self.crowd = Crowd(shared.most, self.error, self.metrics.told, log_access if options.has_access_log else None)
         self.acceptors: list[Acceptor] = []
         self.tables = Tables()
+        self.osrm = Osrm(self.placed, options.now, self.version)
         self.log: Log | None = None
         self.tasks: set[asyncio.Task[Any]] = set()
         self.is_ending = False
@@ -136,15 +139,26 @@ class Worker:
             raise Refusal(400, "InvalidValue", hint=f"there is no profile {told_briefly(profile)}: {known}")
         return found
 
+    def placed(self, profile: str) -> Placed | None:
+        """The places of a profile's network, None where it has no map."""
+        network = self.network(profile)
+        if network.ground is None:
+            return None
+        # Only a service with maps needs what places need.
+        from catchup.service.placed import placed
+
+        return placed(network.current)
+
     def version(self) -> str:
         """The version that this worker serves of the first file."""
         return self.networks[0].current.name
 
-    def error(self, status: int, text: str) -> tuple[Headers, bytes]:
-        """The headers and the body of an error that comes before any path is known."""
+    def error(self, status: int, text: str, code: str | None) -> tuple[Headers, bytes]:
+        """The headers and the body of an error that comes before any path is known; with a code it is one of OSRM's."""
         version = self.version()
         headers = [(b"content-type", b"application/json"), (b"catchup-version", version.encode())]
-        return headers, as_json({"error": text, "version": version})
+        told = {"error": text, "version": version} if code is None else {"code": code, "message": text, "data_version": version}
+        return headers, as_json(told)
 
     def job_counts(self) -> dict[str, int]:
         """How many jobs of all files there are in each state."""
