@@ -239,3 +239,27 @@ def test_openapi_tells_the_paths(service: Service) -> None:
         words = {word["name"] for word in described[f"/{name}/v1/{{profile}}/{{coordinates}}"]["get"]["parameters"]}
         assert {"profile", "coordinates", "radiuses", "hints", "depart"} <= words
     assert "/trip/{rest}" not in described
+
+
+def test_several_networks(folder: Path, tmp_path: Path) -> None:
+    """The profile of an address is the name of a network; without a name a file answers to each."""
+    walked = import_map(grid_map(), tmp_path, vehicle="foot")
+    words = [f"car={folder / 'map.cu'}", f"foot={walked / 'map.cu'}", "--tables", f"car={folder}", "--tables", f"foot={walked}"]
+    with Service(*words) as service:
+        car, foot = (service.get(f"/route/v1/{name}/{A};{B}?steps=true") for name in ("car", "foot"))
+        status, told = service.ask(f"/route/v1/truck/{A};{B}")
+        own = service.get(f"/route?from=9.0,47.0&to={B}&depart=08:00&profile=foot")
+        health = service.get("/health")
+    assert foot["routes"][0]["duration"] > 3 * car["routes"][0]["duration"]
+    assert [told["routes"][0]["legs"][0]["steps"][0]["mode"] for told in (car, foot)] == ["driving", "walking"]
+    assert car["data_version"] == health["profiles"]["car"] != foot["data_version"] == health["profiles"]["foot"] == own["version"]
+    assert (status, told["code"]) == (400, "InvalidValue") and "car, foot" in told["message"]
+
+
+def test_one_named_network_with_a_map(folder: Path, town: Path) -> None:
+    """One of two files has a map; the other answers by numbers of nodes alone."""
+    with Service(f"map={folder / 'map.cu'}", f"town={town}", "--tables", f"map={folder}") as service:
+        assert service.get(f"/nearest/v1/map/{A}")["code"] == "Ok"
+        status, told = service.ask(f"/nearest/v1/town/{A}")
+        assert (status, told["code"]) == (400, "NotImplemented")
+        assert service.get("/route?from=5&to=151&depart=08:00&profile=town")["answer"] == "arrive"

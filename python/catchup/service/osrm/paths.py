@@ -12,7 +12,7 @@ from starlette.responses import Response
 
 from catchup.service.errors import Refusal
 from catchup.service.osrm import described
-from catchup.service.osrm.address import AskedNearest, AskedRoute, AskedTable, parse
+from catchup.service.osrm.address import SERVICES, UNANSWERED, AskedNearest, AskedRoute, AskedTable, parse
 from catchup.service.osrm.faults import Fault
 
 if TYPE_CHECKING:
@@ -21,7 +21,7 @@ if TYPE_CHECKING:
 KIND: Final = "application/json; charset=UTF-8"
 # Whatever begins as an address of OSRM's gets an answer in its form, be it an error.
 OTHERS: Final = ("/{service}/v{version:int}/{rest:path}", *(
-    f"/{service}/{{rest:path}}" for service in ("nearest", "route", "table", "match", "trip", "tile")))
+    f"/{service}/{{first}}{rest}" for service in (*SERVICES, *UNANSWERED) for rest in ("", "/{rest:path}")))
 CODES: Final = {500: "InternalError", 503: "Unavailable"}
 
 Find = Callable[[str], "Placed | None"]
