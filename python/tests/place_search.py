@@ -53,7 +53,7 @@ class Search:
         return so_far - so_far[first][self.segment_road], np.bincount(self.segment_road, self.steps, len(self.tail))
 
     def near(self, lon: float, lat: float) -> tuple[float, Near]:
-        """How far the nearest road is, and all roads as near (a tenth of a millimetre more or less), with the share of each
+        """How far the nearest road is, and all roads as near (a thousandth of a millimetre more or less), with the share of each
         that lies before its nearest point."""
         away = np.radians(self.segments - (lon, lat))
         away[..., 0] *= np.cos(np.radians((self.segments[..., 1] + lat) / 2))
@@ -62,7 +62,7 @@ class Search:
         metres = np.hypot(*(start + part[:, None] * step).T)
         before, length = self.before
         shares: dict[int, float] = {}
-        near = np.flatnonzero(metres <= metres.min() + 1e-4)
+        near = np.flatnonzero(metres <= metres.min() + 1e-6)
         for row in near[np.argsort(metres[near], kind="stable")].tolist():
             road = int(self.segment_road[row])
             shares.setdefault(road, float((before[row] + part[row] * self.steps[row]) / max(length[road], 1e-9)))

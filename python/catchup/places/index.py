@@ -97,9 +97,9 @@ class Index:
                 return found
             radius = min(max(4 * radius, self._least(at)), limit)
 
-    def nearest_one(self, place: Place, limit: float) -> tuple[int, int, float] | None:
-        """The nearest street, and on it the segment and how much of that lies before the nearest point; none where there is
-        none within `limit` metres."""
+    def nearest_one(self, place: Place, limit: float) -> list[tuple[int, int, float]]:
+        """The nearest street, on it the segment, and how much of that lies before the nearest point; then others that are just
+        as near. None where there is none within `limit` metres."""
         at = _one_on_ball(place)
         radius = min(_FIRST_LOOK, limit)
         while True:
@@ -110,15 +110,15 @@ class Index:
                 if least <= radius:
                     break
             if radius >= limit or radius >= _FARTHEST:
-                return None
+                return []
             radius = min(self._least(at), limit)
         near = (square <= (least + _SAME) ** 2).nonzero()[0]
         if len(near) > 1:
             found = self._found(pieces[near], part[near], np.sqrt(square[near]))
-            return int(found.street[0]), int(found.segment[0]), float(found.part[0])
+            return list(zip(found.street.tolist(), found.segment.tolist(), found.part.tolist()))
         piece = int(pieces[row])
         segment = int(self._segment[piece])
-        return int(self._street[segment]), segment, float(self._pieces[piece, 7] + part[row] * self._pieces[piece, 8])
+        return [(int(self._street[segment]), segment, float(self._pieces[piece, 7] + part[row] * self._pieces[piece, 8]))]
 
     def _look(self, at: Floats, radius: float) -> tuple[Ints, Floats, Floats]:
         """All pieces that come as near as a radius to a point on the ball, and some others: how much of each lies before its

@@ -4,6 +4,7 @@ from __future__ import annotations
 
 import math
 from collections.abc import Sequence
+from dataclasses import replace
 from functools import cached_property
 
 import numpy as np
@@ -38,6 +39,10 @@ class Snapper:
         self._leaving = Grouped.by(ends.junction[ends.tail], junctions)
         self._coming = Grouped.by(ends.junction[ends.head], junctions)
         self._nodes = Grouped.by(ends.junction, junctions)
+        # At a barrier that blocks there are two junctions in one spot.
+        corner = node_places[self._nodes.things[self._nodes.first[:-1]]]
+        self._spot = np.unique(corner, axis=0, return_inverse=True)[1].astype(np.int32)
+        self._junctions = Grouped.by(self._spot, int(self._spot.max(initial=-1)) + 1)
         (west, south), (east, north) = (edge(streets.places, axis=0).tolist() for edge in (np.min, np.max))
         self.box: tuple[float, float, float, float] = west, south, east, north
 
@@ -60,9 +65,12 @@ class Snapper:
         """The nearest point of all streets; NoSegment(0) where there is none."""
         check_place(place)
         found = self._index.nearest_one(place, self._limit(place))
-        if found is None:
+        if not found:
             raise NoSegment(0)
-        return self._snap(place, *found, None)
+        snap, *others = [self._snap(place, *each, None) for each in found]
+        # Streets may be drawn over one another.
+        roads = {pair for other in others if _is_near(other.point, snap.point) for pair in other.roads}
+        return replace(snap, roads=tuple(sorted(roads.union(snap.roads)))) if not roads.issubset(snap.roads) else snap
 
     def _limit(self, place: Place) -> float:
         """Within how many metres a road has to be where nothing is said of that."""
@@ -86,8 +94,7 @@ class Snapper:
 
     def at_nodes(self, nodes: Sequence[int]) -> Snap:
         """The place of some nodes that are one outside, with all their copies."""
-        junctions = sorted({int(self._ends.junction[node]) for node in nodes})
-        roads = [pair for junction in junctions for pair in self._through(junction)]
+        roads = self._through(sorted({int(self._ends.junction[node]) for node in nodes}))
         lon, lat = self._node_places[nodes[0]].tolist()
         if not roads:
             return Snap((lon, lat), (lon, lat), 0.0, -1, 0.0, (), "", "")
@@ -142,7 +149,7 @@ class Snapper:
         return roads
 
     def _snap(self, place: Place, street: int, segment: int, part: float, roads: list[int] | None) -> Snap:
-        """The point of a street, of which these roads count; where all do, at its end all roads of the junction do."""
+        """The point of a street, of which these roads count; where all do, at its end all roads that meet there do."""
         streets = self._streets
         (x, y), (u, v) = streets.places[segment:segment + 2].tolist()
         begin, end = streets.share[segment:segment + 2].tolist()
@@ -151,18 +158,21 @@ class Snapper:
         metres, lead = float(streets.metres[street]), int(streets.lead[street])
         if share * metres <= _AT_END or (1.0 - share) * metres <= _AT_END:
             share = 0.0 if share * metres <= _AT_END else 1.0
+            x, y = streets.places[streets.first[street + int(share)] - int(share)].tolist()
+            point = x, y
         if share in (0.0, 1.0) and roads is None:
             node = self._ends.head[lead] if share else self._ends.tail[lead]
-            through = self._through(int(self._ends.junction[node]))
+            through = self._through(self._junctions[int(self._spot[self._ends.junction[node]])].tolist())
         else:
             of = streets.roads[street].tolist() if roads is None else roads
             through = [(road, share if streets.is_forward[road] else 1.0 - share) for road in of]
         name, ref = self._lines.name_at(lead, share)
         return Snap(place, point, metres_between(place, point), street, share, tuple(through), name, ref)
 
-    def _through(self, junction: int) -> list[tuple[int, float]]:
-        """All roads of a junction, with 0 where they begin there and 1 where they end there."""
-        return sorted([(road, 0.0) for road in self._leaving[junction].tolist()] + [(road, 1.0) for road in self._coming[junction].tolist()])
+    def _through(self, junctions: Sequence[int]) -> list[tuple[int, float]]:
+        """All roads of some junctions, with 0 where they begin there and 1 where they end there."""
+        return sorted((road, share) for junction in junctions for share, of in ((0.0, self._leaving), (1.0, self._coming))
+                      for road in of[junction].tolist())
 
 
 def check_place(place: Place) -> None:
@@ -177,6 +187,11 @@ def metres_between(one: Place, other: Place) -> float:
     x1, y1, x2, y2 = (math.radians(value) for value in (*one, *other))
     half = math.sin((y2 - y1) / 2) ** 2 + math.cos(y1) * math.cos(y2) * math.sin((x2 - x1) / 2) ** 2
     return 2 * geometry.EARTH * math.asin(math.sqrt(min(half, 1.0)))
+
+
+def _is_near(one: Place, other: Place) -> bool:
+    """Whether two points are less than some centimetres away from one another."""
+    return abs(one[0] - other[0]) < 1e-7 and abs(one[1] - other[1]) < 1e-7
 
 
 def _differ(one: float, other: float) -> float:
