@@ -30,6 +30,8 @@ Bools = NDArray[np.bool_]
 _APPLICATION = 0x47504B47
 _VERSION = 10300
 _CHUNK = 16384
+_NEAR = 0.02
+"""Metres that are within the rounding of what the file tells."""
 _WGS84 = ('GEOGCS["WGS 84",DATUM["WGS_1984",SPHEROID["WGS 84",6378137,298.257223563,AUTHORITY["EPSG","7030"]],'
           'AUTHORITY["EPSG","6326"]],PRIMEM["Greenwich",0],UNIT["degree",0.0174532925199433],AUTHORITY["EPSG","4326"]]')
 
@@ -170,6 +172,17 @@ class RoadNames:
         first = np.searchsorted(np.array([row[0] for row in rows], dtype=np.int64), np.arange(roads + 1))
         return cls(first, np.array([row[1] for row in rows], dtype=np.float64), np.array([row[2] for row in rows], dtype=np.float64),
                    np.array(text, dtype=np.int32), list(known))
+
+    def only(self, road: int, metres: float) -> tuple[str, str] | None:
+        """The name and the reference number of a road of some metres that has one all along, or none at all, which is
+        empty; None where it changes."""
+        row = int(self.first[road])
+        count = int(self.first[road + 1]) - row
+        if count == 0:
+            return "", ""
+        if count > 1 or self.begin[row] > _NEAR or self.end[row] < metres - _NEAR:
+            return None
+        return self.texts[self.text[row]]
 
     def of(self, road: int) -> list[Span]:
         """The named parts of a road, in driving order."""

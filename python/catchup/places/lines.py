@@ -98,12 +98,8 @@ class Lines:
 
     def place(self, road: int, share: float) -> Place:
         """The point of a road behind a share of its metres."""
-        line, shares = self._streets.line(road), self._streets.shares(road)
-        at = min(int(shares.searchsorted(share, "right")), len(shares) - 1)
-        low, high = float(shares[at - 1]), float(shares[at])
-        part = min(max((share - low) / (high - low), 0.0), 1.0) if high > low else 0.0
-        (x, y), (u, v) = line[at - 1].tolist(), line[at].tolist()
-        return x + (u - x) * part, y + (v - y) * part
+        shares = self._streets.shares(road)
+        return _between(self._streets.line(road), shares, int(shares.searchsorted(share, "right")), share)
 
     def line(self, roads: Sequence[int], begin: float, end: float) -> Floats:
         """The coordinates of roads that follow one another, from a share of the first one to one of the last one:
@@ -163,8 +159,10 @@ class Lines:
         if begin == 0.0 and end == 1.0:
             return line
         shares = self._streets.shares(road)
-        inner = line[int(shares.searchsorted(begin, "right")):int(shares.searchsorted(end, "left"))]
-        return np.concatenate((np.array([self.place(road, begin)]), inner, np.array([self.place(road, end)])))
+        low, high = int(shares.searchsorted(begin, "right")), int(shares.searchsorted(end, "left"))
+        last = int(shares.searchsorted(end, "right"))
+        ends = np.array((_between(line, shares, low, begin), _between(line, shares, last, end)))
+        return np.concatenate((ends[:1], line[low:high], ends[1:]))
 
     def stretches(self, part: Part) -> list[Stretch]:
         """The stretches of a part under one name each."""
@@ -175,6 +173,9 @@ class Lines:
 
     def _named(self, part: Part) -> list[Stretch]:
         road, begin, end = part
+        name = self._names.only(road, float(self.metres[road]))
+        if name is not None:
+            return [Stretch(*name, begin, end, self.cut(part))]
         found: list[tuple[str, str, float, float]] = []
         at, whole = begin, float(self.metres[road]) or 1.0
         for span in self._names.of(road):
@@ -200,6 +201,15 @@ def parts_of(roads: Sequence[int], begin: float, end: float) -> list[Part]:
     found[0] = (found[0][0], begin, 1.0)
     found[-1] = (*found[-1][:2], end)
     return found
+
+
+def _between(line: Floats, shares: Floats, behind: int, share: float) -> Place:
+    """The point of a line behind a share of its metres, which is between a point and the one before it."""
+    at = min(behind, len(line) - 1)
+    low, high = float(shares[at - 1]), float(shares[at])
+    part = min(max((share - low) / (high - low), 0.0), 1.0) if high > low else 0.0
+    (x, y), (u, v) = line[at - 1:at + 1].tolist()
+    return x + (u - x) * part, y + (v - y) * part
 
 
 def _rows_of(places: Floats) -> Rows:

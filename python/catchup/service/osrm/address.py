@@ -39,7 +39,7 @@ _CLASS: Final = re.compile(r"[A-Za-z0-9]+(?:,[A-Za-z0-9]+)*", re.ASCII)
 _FORM: Final = "/{service}/v1/{profile}/{longitude},{latitude};..?{option}={value}&.."
 
 
-@dataclass(frozen=True, slots=True, kw_only=True)
+@dataclass(slots=True, kw_only=True)
 class Asked:
     """What each service is asked. Lists have an entry for each place; None in it, or in place of it, is OSRM's default.
 
@@ -59,14 +59,14 @@ class Asked:
     depart: int | None = None
 
 
-@dataclass(frozen=True, slots=True, kw_only=True)
+@dataclass(slots=True, kw_only=True)
 class AskedNearest(Asked):
     """The nearest streets of one place."""
 
     number: int = 1
 
 
-@dataclass(frozen=True, slots=True, kw_only=True)
+@dataclass(slots=True, kw_only=True)
 class AskedRoute(Asked):
     """A route over places. waypoints: those that end a leg, as indices of places. arrive: in place of depart, a second
     that is counted from the midnight before leaving."""
@@ -79,7 +79,7 @@ class AskedRoute(Asked):
     arrive: int | None = None
 
 
-@dataclass(frozen=True, slots=True, kw_only=True)
+@dataclass(slots=True, kw_only=True)
 class AskedTable(Asked):
     """A table between places, by their indices. fallback_speed: metres a second as the crow flies where no way
     leads."""
@@ -104,7 +104,7 @@ def parse(path: bytes, query: bytes) -> AskedNearest | AskedRoute | AskedTable:
     rest = decoded(words[4] + (f"?{query.decode('latin-1')}" if query else ""))
     coordinates, options = parted(rest)
     places = places_of(coordinates, MOST_PLACES if service == "route" else MOST_ENTRIES)
-    read = {**GENERAL, **OWN[service]}
+    read = READ[service]
     values = {name: read[name](value, len(places)) for name, value in options_of(options, service, read)}
     for name in UNUSED:
         values.pop(name, None)
@@ -388,6 +388,7 @@ OWN: Final[Mapping[str, Mapping[str, Read]]] = {
         "scale_factor": above_zero("scale_factor"),
     },
 }
+READ: Final = {service: {**GENERAL, **own} for service, own in OWN.items()}
 # These are looked through, and change nothing.
 UNUSED: Final = ("exclude", "snapping", "alternatives", "continue_straight")
 

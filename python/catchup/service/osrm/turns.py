@@ -13,7 +13,7 @@ from typing import Final
 
 from catchup.places.places import Ground
 from catchup.service.osrm.courses import course, turned
-from catchup.service.osrm.junctions import MOST_KEPT, Junctions
+from catchup.service.osrm.junctions import Junctions
 from catchup.service.osrm.stretches import Stretch
 
 STRAIGHT: Final = 20                    # degrees to either side that are straight on
@@ -27,27 +27,30 @@ RANKS: Final = {
     "motorway": 0, "trunk": 1, "primary": 2, "secondary": 3, "tertiary": 4, "unclassified": 5, "residential": 5,
     "road": 5, "living_street": 6, "service": 8, "track": 9}
 LOWEST: Final = 7                       # the rank of any other class
+MOST_KEPT: Final = 131_072              # passages that are kept
 MINOR: Final = 2                        # ranks below another road's from which a road isn't mistaken for its way on
 
 
 @dataclass(frozen=True, slots=True)
 class Turn:
-    """The passage from one stretch to the next.
+    """The passage from one stretch to the next. Texts that nobody asks for are empty, since many passages are kept.
 
-    kind: OSRM's type of a maneuver, "" where nothing is told. head: the first members of a step that begins here. passed:
-    the intersection in the list of those that a step passes, with a comma before it; "" where there is none. has_others:
-    whether another road could be taken, besides turning round. sides, intersection: parts of the head.
+    kind: OSRM's type of a maneuver, "" where nothing is told. head: where something is told, the first members of a
+    step that begins here. passed: where a step may go on over it, the intersection with a comma before it. has_others:
+    whether another road could be taken, besides turning round. sides, intersection: of a roundabout, the parts that its
+    head is made of once the exit is known.
     """
 
     kind: str
-    head: str
-    passed: str
-    has_others: bool
-    sides: str
-    intersection: str
+    head: str = ""
+    passed: str = ""
+    has_others: bool = False
+    sides: str = ""
+    intersection: str = ""
 
 
-NOTHING: Final = Turn("", "", "", False, "", "")
+NOTHING: Final = Turn("")
+RINGS: Final = frozenset(["roundabout", "exit roundabout"])
 
 
 class Turns:
@@ -135,8 +138,9 @@ def renaming(before: Stretch, after: Stretch) -> Turn:
 
 def made(kind: str, intersection: str, sides: str, after: Stretch, has_others: bool = False) -> Turn:
     """A passage into a stretch."""
-    head = head_of(after.street, f'"type":"{kind}",{sides}', intersection)
-    return Turn(kind, head, f",{intersection}", has_others, sides, intersection)
+    passed = f",{intersection}" if kind in ("", "new name") else ""
+    head = head_of(after.street, f'"type":"{kind}",{sides}', intersection) if kind else ""
+    return Turn(kind, head, passed, has_others, *((sides, intersection) if kind in RINGS else ("", "")))
 
 
 def head_of(street: str, maneuver: str, intersection: str) -> str:
