@@ -103,8 +103,8 @@ def encode_polyline(lon: ArrayLike, lat: ArrayLike, precision: int = 6) -> str:
 
 
 def encode_behind(lines: Sequence[Floats], precision: int = 6) -> list[str]:
-    """Of each line, float64[k, 2], its encoded polyline but for the first place: each place is written by how it differs from
-    the one before it, so the texts of lines that go on from one another make one."""
+    """Of each line, float64[k, 2], its encoded polyline but for the first place: each place is written by how it
+    differs from the one before it, so the texts of lines that go on from one another make one."""
     scaled = np.concatenate(lines)[:, ::-1] * 10.0**precision
     # Halves go away from 0, as all who write polylines have them.
     steps = np.diff(np.copysign(np.floor(np.abs(scaled) + 0.5), scaled).astype(np.int64), axis=0)
@@ -133,8 +133,8 @@ def decode_polyline(text: str, precision: int = 6) -> tuple[Floats, Floats]:
 
 
 def decimal_text(values: ArrayLike, decimals: int) -> NDArray[np.uint8]:
-    """The characters of numbers with so many decimals, one at least: uint8[n, width], 0 where a number has none. In JSON
-    they are numbers once the zero bytes are left out."""
+    """The characters of numbers with so many decimals, one at least: uint8[n, width], 0 where a number has none. In
+    JSON they are numbers once the zero bytes are left out."""
     whole = np.rint(np.asarray(values, dtype=np.float64) * 10.0**decimals).astype(np.int64)
     left = np.abs(whole)
     digits = max(len(str(int(left.max(initial=0)))), decimals + 1)

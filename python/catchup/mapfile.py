@@ -1,7 +1,7 @@
 """map.gpkg: what the nodes and roads of a network are outside: their places, numbers in OpenStreetMap, and names.
 
-It is a GeoPackage, which is a database of SQLite, so QGIS and ogrinfo open it. Two layers, `nodes` and `roads`, hold what
-has a place. The table `names` has the named parts of each road, in metres along it, `road_nodes` the numbers in
+It is a GeoPackage, which is a database of SQLite, so QGIS and ogrinfo open it. Two layers, `nodes` and `roads`, hold
+what has a place. The table `names` has the named parts of each road, in metres along it, `road_nodes` the numbers in
 OpenStreetMap of all nodes of each road, 8 bytes each, and `properties` how the map was made.
 """
 from __future__ import annotations
@@ -210,7 +210,8 @@ def _read(base: sqlite3.Connection, path: Path) -> MapFile:
     # Maps of before don't tell which roads are of roundabouts.
     ring = "roundabout" if any(row[1] == "roundabout" for row in base.execute("PRAGMA table_info(roads)")) else "0"
     numbers, first, point_lon, point_lat, words = _table(
-        base, f"SELECT road, tail, head, osm_way, seconds, profile, {ring}, metres, geom, class FROM roads ORDER BY road")
+        base,
+        f"SELECT road, tail, head, osm_way, seconds, profile, {ring}, metres, geom, class FROM roads ORDER BY road")
     road, tail, head, way, seconds, profile, rings, metres = numbers
     for column, what in ((node, "nodes"), (road, "roads")):
         if len(column) and (column[0] != 0 or column[-1] != len(column) - 1):
@@ -225,8 +226,8 @@ def _read(base: sqlite3.Connection, path: Path) -> MapFile:
     properties = dict(base.execute("SELECT key, value FROM properties"))
     osm, way = osm.astype(np.int64), way.astype(np.int64)
     return MapFile(lon, lat, osm, _small(copy), _small(tail), _small(head), _small(profile), metres.astype(np.float64),
-                   _small(seconds), way, osm[tail], osm[head], kinds, first, point_lon, point_lat, classes, properties, path,
-                   rings.astype(bool))
+                   _small(seconds), way, osm[tail], osm[head], kinds, first, point_lon, point_lat, classes, properties,
+                   path, rings.astype(bool))
 
 
 def _small(values: NDArray[Any]) -> Shorts:
@@ -234,7 +235,8 @@ def _small(values: NDArray[Any]) -> Shorts:
 
 
 def _table(base: sqlite3.Connection, query: str) -> tuple[list[NDArray[Any]], Ints, Floats, Floats, list[str]]:
-    """The rows of a query in arrays: its columns of numbers, of which the last two columns are none: a geometry, and a word."""
+    """The rows of a query in arrays: its columns of numbers, of which the last two columns are none: a geometry, and a
+    word."""
     cursor = base.execute(query)
     count = len(cursor.description) - 2
     columns: list[list[NDArray[Any]]] = [[np.empty(0, dtype=np.int64)] for _ in range(count)]
@@ -299,7 +301,8 @@ def _road_rows(of: MapFile, names: RoadNames) -> Iterator[tuple[Any, ...]]:
     longest: list[int] = names.longest().tolist()
     lines = geometry.line_blobs(of.road_first, of.point_lon, of.point_lat)
     rings = (of.road_ring if len(of.road_ring) else np.zeros(len(of), dtype=bool)).astype(int).tolist()
-    rest = zip(of.road_class.tolist(), np.round(of.road_metres, 2).tolist(), of.road_seconds.tolist(), of.road_profile.tolist(), rings, lines)
+    rest = zip(of.road_class.tolist(), np.round(of.road_metres, 2).tolist(), of.road_seconds.tolist(),
+               of.road_profile.tolist(), rings, lines)
     for road, (first, text, (kind, *values)) in enumerate(zip(zip(*columns), longest, rest)):
         yield (road, *first, *texts[text], of.classes[kind], *values)
 

@@ -13,8 +13,8 @@ from catchup.maps.writing import making, write_all
 
 
 def grid_map() -> OsmMap:
-    """Five streets to the north and five to the east, 200 m apart, named, the third to the north with a number and one-way.
-    The node of column x and row y is 10 x + y + 1. An island of nodes 900 and 901 lies 5 km to the east."""
+    """Five streets to the north and five to the east, 200 m apart, named, the third to the north with a number and
+    one-way. The node of column x and row y is 10 x + y + 1. An island of nodes 900 and 901 lies 5 km to the east."""
     made = OsmMap()
     for x in range(5):
         for y in range(5):

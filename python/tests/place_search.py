@@ -26,7 +26,8 @@ class Search:
         self.copy = [copy for copy, in base.execute("SELECT copy FROM nodes ORDER BY node")]
         self.tail, self.head, self.profile, self.lines = [], [], [], []
         self.leaving = defaultdict(list)
-        for road, tail, head, profile, blob in base.execute("SELECT road, tail, head, profile, geom FROM roads ORDER BY road"):
+        rows = base.execute("SELECT road, tail, head, profile, geom FROM roads ORDER BY road")
+        for road, tail, head, profile, blob in rows:
             self.tail.append(tail)
             self.head.append(head)
             self.profile.append(profile)
@@ -36,9 +37,11 @@ class Search:
         self.pieces = defaultdict(lambda: ([], [], []))
         with open(folder / "profiles.csv", newline="") as file:
             for row in csv.DictReader(file):
-                for column, value in zip(self.pieces[int(row["profile"])], (int(row["from"]), row["kind"], int(row["value"]))):
+                for column, value in zip(self.pieces[int(row["profile"])],
+                                         (int(row["from"]), row["kind"], int(row["value"]))):
                     column.append(value)
-        ends = [(road, k, line[2 * k:2 * k + 4]) for road, line in enumerate(self.lines) for k in range(len(line) // 2 - 1)]
+        ends = [(road, k, line[2 * k:2 * k + 4]) for road, line in enumerate(self.lines)
+                for k in range(len(line) // 2 - 1)]
         self.segment_road = np.array([end[0] for end in ends])
         self.segments = np.array([end[2] for end in ends]).reshape(-1, 2, 2)
         self.before = self._metres_before()
@@ -53,8 +56,8 @@ class Search:
         return so_far - so_far[first][self.segment_road], np.bincount(self.segment_road, self.steps, len(self.tail))
 
     def near(self, lon: float, lat: float) -> tuple[float, Near]:
-        """How far the nearest road is, and all roads as near (a thousandth of a millimetre more or less), with the share of each
-        that lies before its nearest point."""
+        """How far the nearest road is, and all roads as near (a thousandth of a millimetre more or less), with the
+        share of each that lies before its nearest point."""
         away = np.radians(self.segments - (lon, lat))
         away[..., 0] *= np.cos(np.radians((self.segments[..., 1] + lat) / 2))
         start, step = RADIUS * away[:, 0], RADIUS * (away[:, 1] - away[:, 0])
@@ -88,7 +91,8 @@ class Search:
             if left is None or self.copy[self.tail[road]]:
                 continue
             heapq.heappush(queue, (depart + (1 - share) * (left - depart), self.head[road]))
-            best = min([best, *(depart + (ahead - share) * (left - depart) for other, ahead in end if other == road and ahead >= share)])
+            best = min([best, *(depart + (ahead - share) * (left - depart)
+                                for other, ahead in end if other == road and ahead >= share)])
         done = set()
         while queue and queue[0][0] < best:
             time, node = heapq.heappop(queue)

@@ -19,7 +19,8 @@ def small_map() -> tuple[MapFile, RoadNames, np.ndarray]:  # type: ignore[type-a
         np.array([9.0, 9.1, 9.1]), np.array([47.0, 47.1, 47.1]), np.array([11, -12, -12]), np.array([0, 0, 1], dtype=np.int32),
         np.array([0, 1], dtype=np.int32), np.array([2, 0], dtype=np.int32), np.array([5, 6], dtype=np.int32), np.array([123.456, 1000.0]),
         np.array([9, 70], dtype=np.int32), np.array([101, 102]), np.array([11, -12]), np.array([-12, 11]), np.array([1, 0], dtype=np.int32),
-        first, np.array([9.0, 9.05, 9.1, 9.1, 9.0]), np.array([47.0, 47.05, 47.1, 47.1, 47.0]), ["primary", "service"], {"vehicle": "car"},
+        first, np.array([9.0, 9.05, 9.1, 9.1, 9.0]), np.array([47.0, 47.05, 47.1, 47.1, 47.0]), ["primary", "service"],
+        {"vehicle": "car"},
         road_ring=np.array([True, False]))
     names = RoadNames(np.array([0, 2, 2]), np.array([0.0, 50.0]), np.array([50.0, 123.456]), np.array([1, 0], dtype=np.int32),
                       [("Straße \"X\"", "B 1"), ("", "B 2")])
@@ -119,7 +120,8 @@ def test_an_old_map_stays_where_a_new_one_cant_be_written(tmp_path: Path) -> Non
 
 
 def test_a_large_map(tmp_path: Path) -> None:
-    """50,000 roads of 8 points in some two seconds of one processor, where other work may take half of its cache and time."""
+    """50,000 roads of 8 points in some two seconds of one processor, where other work may take half of its cache and
+    time."""
     nodes, roads, points = 20_000, 50_000, 8
     rnd = np.random.default_rng(1)
     tail, head = (rnd.integers(0, nodes, roads).astype(np.int32) for _ in range(2))

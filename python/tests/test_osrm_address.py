@@ -31,7 +31,8 @@ ALLOWED: list[tuple[str, dict[str, Any]]] = [
     ("/route/v1/my-car_2.0~x/+9.5,47.1;9.6,4.72e1.json?", {"profile": "my-car_2.0~x", "places": PLACES}),
     ("/route/v1/car/9.5%2C47.1%3B9.6,47.2", {"places": PLACES}),
     ("/route/v1/c%61r/-.5,-47.;180,90", {"profile": "car", "places": [(-0.5, -47.0), (180.0, 90.0)]}),
-    ("/route/v1/car/polyline(_p~iF~ps|U_ulLnnqC_mqNvxq%60@)", {"places": [(-120.2, 38.5), (-120.95, 40.7), (-126.453, 43.252)]}),
+    ("/route/v1/car/polyline(_p~iF~ps|U_ulLnnqC_mqNvxq%60@)",
+     {"places": [(-120.2, 38.5), (-120.95, 40.7), (-126.453, 43.252)]}),
     ("/route/v1/car/polyline(_p~iF~ps|U_ulLnnqC_mqNvxq`@).json?steps=true", {"steps": True}),
     ("/route/v1/car/polyline(??_ibE_ibE)?steps=true", {"places": [(0.0, 0.0), (1.0, 1.0)], "steps": True}),
     ("/route/v1/car/polyline6(%3F%3F_c%60%7C%40_c%60%7C%40)", {"places": [(0.0, 0.0), (1.0, 1.0)]}),
@@ -58,7 +59,8 @@ ALLOWED: list[tuple[str, dict[str, Any]]] = [
     (f"{TWO}?arrive=90000", {"arrive": 90000}),
     (f"{NEAREST}?number=100", {"number": 100, "places": PLACES[:1]}),
     (f"{NEAREST}.json?depart=08%3A00", {"number": 1, "depart": 28800}),
-    (TABLE, {"annotations": {"duration"}, "sources": None, "destinations": None, "fallback_speed": None, "scale_factor": 1.0}),
+    (TABLE, {"annotations": {"duration"}, "sources": None, "destinations": None, "fallback_speed": None,
+             "scale_factor": 1.0}),
     (f"{TABLE}?sources=0;0&destinations=all&annotations=distance,duration",
      {"sources": [0, 0], "destinations": None, "annotations": {"duration", "distance"}}),
     (f"{TABLE}?sources=all&destinations=2&fallback_speed=12.5&fallback_coordinate=snapped&scale_factor=.5",
@@ -75,7 +77,8 @@ def test_what_is_asked(address: str, wanted: dict[str, Any]) -> None:
 
 MANY = ";".join(["9.5,47.1"] * 501)
 REFUSED = [
-    ("/", "InvalidUrl"), ("/route", "InvalidUrl"), ("/route/", "InvalidUrl"), ("/route/v1", "InvalidUrl"), ("/route/v1/", "InvalidUrl"),
+    ("/", "InvalidUrl"), ("/route", "InvalidUrl"), ("/route/", "InvalidUrl"), ("/route/v1", "InvalidUrl"),
+    ("/route/v1/", "InvalidUrl"),
     ("/route/v1/car", "InvalidUrl"), ("/route/v1/car/", "InvalidUrl"), ("/route/v1//9.5,47.1;9.6,47.2", "InvalidUrl"),
     ("/route/1/car/9.5,47.1;9.6,47.2", "InvalidUrl"), ("/route/v1/c!r/9.5,47.1;9.6,47.2", "InvalidUrl"),
     ("/route/v1/c%FFr/9.5,47.1;9.6,47.2", "InvalidUrl"), ("/route/v1/car/%FF", "InvalidUrl"),
@@ -84,32 +87,48 @@ REFUSED = [
     ("/ROUTE/v1/car/9.5,47.1;9.6,47.2", "InvalidService"),
     ("/route/v2/car/9.5,47.1;9.6,47.2", "InvalidVersion"), ("/route/v01/car/9.5,47.1;9.6,47.2", "InvalidVersion"),
     *((f"/route/v1/car/{text}", "InvalidQuery") for text in (
-        "9.5", "9.5,47.1;", ";9.5,47.1", "9.5,47.1,5;9.6,47.2", "9.5 ,47.1;9.6,47.2", "9.5;47.1", "a,b;c,d", "nan,47.1;9.6,47.2",
-        "9.5,NaN;9.6,47.2", "inf,47.1;9.6,47.2", "-infinity,47.1;9.6,47.2", "9.5,47.1;9.6,47.2/x", "0x9,47;9,47", "9_5,47;9,47",
-        "%D9%A3,47.1;9.6,47.2", "polyline()", "polyline(_p~iF)", "polyline(_p~iF~ps|U", "polyline7(_p~iF~ps|U)", "polyline(a b)",
+        "9.5", "9.5,47.1;", ";9.5,47.1", "9.5,47.1,5;9.6,47.2", "9.5 ,47.1;9.6,47.2", "9.5;47.1", "a,b;c,d",
+        "nan,47.1;9.6,47.2",
+        "9.5,NaN;9.6,47.2", "inf,47.1;9.6,47.2", "-infinity,47.1;9.6,47.2", "9.5,47.1;9.6,47.2/x", "0x9,47;9,47",
+        "9_5,47;9,47",
+        "%D9%A3,47.1;9.6,47.2", "polyline()", "polyline(_p~iF)", "polyline(_p~iF~ps|U", "polyline7(_p~iF~ps|U)",
+        "polyline(a b)",
         "polyline(??)x", "9.5,47.1;9.6,47.2.xml")),
-    (f"{TWO}?", None), (f"{TWO}?foo=bar", "InvalidQuery"), (f"{TWO}?Steps=true", "InvalidQuery"), (f"{TWO}?number=1", "InvalidQuery"),
-    (f"{TWO}?sources=0", "InvalidQuery"), (f"{TABLE}?steps=true", "InvalidQuery"), (f"{TABLE}?arrive=09:00", "InvalidQuery"),
+    (f"{TWO}?", None), (f"{TWO}?foo=bar", "InvalidQuery"), (f"{TWO}?Steps=true", "InvalidQuery"),
+    (f"{TWO}?number=1", "InvalidQuery"),
+    (f"{TWO}?sources=0", "InvalidQuery"), (f"{TABLE}?steps=true", "InvalidQuery"),
+    (f"{TABLE}?arrive=09:00", "InvalidQuery"),
     (f"{TWO}?&alternatives=false&steps=true&hints=;", None), (f"{TWO}?=true", "InvalidQuery"),
     ("/route/v1/car/181,47.1;9.6,47.2", "InvalidValue"), ("/route/v1/car/9.5,90.1;9.6,47.2", "InvalidValue"),
     ("/route/v1/car/1e999,47.1;9.6,47.2", "InvalidValue"), ("/table/v1/car/47.1,9.5;47.2,190", "InvalidValue"),
     ("/nearest/v1/car/polyline(~~~~~~~~~~~~~~~~~~~~?~~~~~~~~~~~~~~~~~~~~?)", "InvalidValue"),
-    (f"{TWO}?exclude=motorway", "InvalidValue"), (f"{TWO}?exclude=toll,ferry", "InvalidValue"), (f"{TWO}?exclude=", "InvalidOptions"),
+    (f"{TWO}?exclude=motorway", "InvalidValue"), (f"{TWO}?exclude=toll,ferry", "InvalidValue"),
+    (f"{TWO}?exclude=", "InvalidOptions"),
     *((f"{TWO}?{text}", "InvalidOptions") for text in (
-        "steps", "steps=", "steps=yes", "steps=1", "steps=true&steps=true", "overview=some", "overview=", "geometries=wkt",
-        "annotations=all", "annotations=", "annotations=true,nodes", "annotations=speed,", "alternatives=-1", "alternatives=maybe",
-        "continue_straight=1", "generate_hints=no", "skip_waypoints=2", "snapping=all", "bearings=0,180", "bearings=0,180;0,180;0,180",
-        "bearings=361,0;", "bearings=0,181;", "bearings=-1,10;", "bearings=10;", "bearings=10,20,30;", "bearings=a,b;", "bearings=1.5,2;",
-        "radiuses=5", "radiuses=-1;5", "radiuses=nan;5", "radiuses=inf;5", "radiuses=5;5;5", "radiuses=far;", "hints=a", "hints=;;",
-        "approaches=curb", "approaches=left;", "approaches=opposite;", "waypoints=0", "waypoints=0;2", "waypoints=1", "waypoints=all",
-        "waypoints=", "waypoints=0;1;1", "depart=24:00", "depart=86400", "depart=", "depart=now", "depart=-1", "depart=8.5", "arrive=9:60",
+        "steps", "steps=", "steps=yes", "steps=1", "steps=true&steps=true", "overview=some", "overview=",
+        "geometries=wkt",
+        "annotations=all", "annotations=", "annotations=true,nodes", "annotations=speed,", "alternatives=-1",
+        "alternatives=maybe",
+        "continue_straight=1", "generate_hints=no", "skip_waypoints=2", "snapping=all", "bearings=0,180",
+        "bearings=0,180;0,180;0,180",
+        "bearings=361,0;", "bearings=0,181;", "bearings=-1,10;", "bearings=10;", "bearings=10,20,30;", "bearings=a,b;",
+        "bearings=1.5,2;",
+        "radiuses=5", "radiuses=-1;5", "radiuses=nan;5", "radiuses=inf;5", "radiuses=5;5;5", "radiuses=far;", "hints=a",
+        "hints=;;",
+        "approaches=curb", "approaches=left;", "approaches=opposite;", "waypoints=0", "waypoints=0;2", "waypoints=1",
+        "waypoints=all",
+        "waypoints=", "waypoints=0;1;1", "depart=24:00", "depart=86400", "depart=", "depart=now", "depart=-1",
+        "depart=8.5", "arrive=9:60",
         "arrive=%D9%A3", "depart=08:00&arrive=09:00", "alternatives=%D9%A3")),
-    ("/route/v1/car/9.5,47.1", "InvalidOptions"), ("/nearest/v1/car/9.5,47.1;9.6,47.2", "InvalidOptions"), ("/table/v1/car/9.5,47.1", "InvalidOptions"),
+    ("/route/v1/car/9.5,47.1", "InvalidOptions"), ("/nearest/v1/car/9.5,47.1;9.6,47.2", "InvalidOptions"),
+    ("/table/v1/car/9.5,47.1", "InvalidOptions"),
     *((f"{NEAREST}?number={text}", "InvalidOptions") for text in ("0", "-1", "1.5", "", "a", "%EF%BC%91")),
     (f"{NEAREST}?number=101", "TooBig"),
     *((f"{TABLE}?{text}", "InvalidOptions") for text in (
-        "sources=3", "sources=", "sources=0;", "sources=a", "sources=0;0;0;0", "sources=-1", "destinations=0,1", "destinations=5",
-        "annotations=speed", "annotations=", "fallback_speed=0", "fallback_speed=-5", "fallback_speed=nan", "fallback_speed=fast",
+        "sources=3", "sources=", "sources=0;", "sources=a", "sources=0;0;0;0", "sources=-1", "destinations=0,1",
+        "destinations=5",
+        "annotations=speed", "annotations=", "fallback_speed=0", "fallback_speed=-5", "fallback_speed=nan",
+        "fallback_speed=fast",
         "fallback_coordinate=road", "scale_factor=0", "scale_factor=-1", "scale_factor=inf", "scale_factor=1e999")),
     (f"/route/v1/car/{MANY}", "TooBig"), ("/route/v1/car/polyline(" + "??" * 501 + ")", "TooBig"),
     ("/table/v1/car/polyline(" + "??" * 1025 + ")", "TooBig"), ("/table/v1/car/polyline(" + "??" * 1024 + ")", None),
@@ -162,13 +181,15 @@ def test_lines_come_back(places: list[tuple[float, float]], decimals: int, is_qu
         assert one == pytest.approx(other, abs=0.6 * 10**-decimals)
 
 
-VALUES = st.one_of(st.sampled_from(["true", "false", "0", "1;2", ";", "0,180;", "all", "08:00", "curb;", "unlimited;1"]), st.text(max_size=12))
+VALUES = st.one_of(st.sampled_from(["true", "false", "0", "1;2", ";", "0,180;", "all", "08:00", "curb;",
+                                    "unlimited;1"]), st.text(max_size=12))
 
 
 @given(st.sampled_from(["nearest", "route", "table", "trip", "x"]), st.text(max_size=8), st.one_of(
     st.sampled_from(["9.5,47.1", "9.5,47.1;9.6,47.2", "polyline(_p~iF~ps|U)"]), st.text(max_size=30)),
     st.lists(st.tuples(st.sampled_from([*GENERAL, *OWN["route"], *OWN["table"], "x"]), VALUES), max_size=4))
-def test_any_address_is_read_or_refused(service: str, profile: str, places: str, options: list[tuple[str, str]]) -> None:
+def test_any_address_is_read_or_refused(service: str, profile: str, places: str,
+                                        options: list[tuple[str, str]]) -> None:
     query = "&".join(f"{name}={urllib.parse.quote(value)}" for name, value in options)
     try:
         found = asked(f"/{service}/v1/{urllib.parse.quote(profile)}/{urllib.parse.quote(places)}?{query}")

@@ -36,9 +36,11 @@ def length(coordinates: list[list[float]]) -> float:
 
 def test_a_route_has_its_metres_and_seconds(grid: Town) -> None:
     [route] = grid.get("route", [1, 45], geometries="geojson", overview="full")["routes"]
-    assert route["distance"] == pytest.approx(1600.0, abs=1.0) and route["duration"] == pytest.approx(1600 / SPEED, abs=8.0)
+    assert route["distance"] == pytest.approx(1600.0, abs=1.0)
+    assert route["duration"] == pytest.approx(1600 / SPEED, abs=8.0)
     assert length(route["geometry"]["coordinates"]) == pytest.approx(route["distance"], abs=1.0)
-    assert (route["depart"], route["arrive"]) == (28_800, 28_800 + route["duration"]) and route["depart_time"] == "08:00:00"
+    assert (route["depart"], route["arrive"]) == (28_800, 28_800 + route["duration"])
+    assert route["depart_time"] == "08:00:00"
     assert route["weight"] == route["duration"] and route["weight_name"] == "duration"
     [leg] = route["legs"]
     assert leg["steps"] == [] and leg["summary"] == "" and leg["distance"] == route["distance"]
@@ -62,7 +64,8 @@ def test_the_steps_make_up_the_line(grid: Town, form: str) -> None:
             return [tuple(place) for place in geometry["coordinates"]]
         return [(lon, lat) for lat, lon in polyline.decode(geometry, 6 if form == "polyline6" else 5)]
 
-    [route] = grid.get("route", [(13.0, 90.0), 34, (750.0, 410.0)], geometries=form, overview="full", steps="true")["routes"]
+    [route] = grid.get("route", [(13.0, 90.0), 34, (750.0, 410.0)], geometries=form, overview="full",
+                       steps="true")["routes"]
     joined: list[tuple[float, float]] = []
     for leg in route["legs"]:
         for step in leg["steps"]:
@@ -70,12 +73,15 @@ def test_the_steps_make_up_the_line(grid: Town, form: str) -> None:
             assert not joined or its[0] == pytest.approx(joined[-1], abs=1e-9)
             assert step["maneuver"]["location"] == pytest.approx(its[0], abs=1e-5)
             joined += its if not joined else its[1:]
-        assert leg["distance"] == pytest.approx(sum(step["distance"] for step in leg["steps"]), abs=0.1 * len(leg["steps"]))
-        assert leg["duration"] == pytest.approx(sum(step["duration"] for step in leg["steps"]), abs=0.1 * len(leg["steps"]))
+        assert leg["distance"] == pytest.approx(sum(step["distance"] for step in leg["steps"]),
+                                                abs=0.1 * len(leg["steps"]))
+        assert leg["duration"] == pytest.approx(sum(step["duration"] for step in leg["steps"]),
+                                                abs=0.1 * len(leg["steps"]))
         assert places(leg["steps"][-1]["geometry"]) == [joined[-1]] * (2 if form == "geojson" else 1)
     joined = [place for at, place in enumerate(joined) if not at or place != joined[at - 1]]
     whole = places(route["geometry"])
-    assert [place for at, place in enumerate(whole) if not at or place != whole[at - 1]] == pytest.approx(joined, abs=1e-9)
+    once = [place for at, place in enumerate(whole) if not at or place != whole[at - 1]]
+    assert once == pytest.approx(joined, abs=1e-9)
 
 
 def test_summaries_name_the_longest_streets(grid: Town) -> None:
@@ -126,7 +132,8 @@ def test_no_way_leads_to_an_island(grid: Town) -> None:
 
 
 def test_annotations(grid: Town) -> None:
-    [route] = grid.get("route", [(0.0, 90.0), (400.0, 750.0)], annotations="true", geometries="geojson", overview="full")["routes"]
+    [route] = grid.get("route", [(0.0, 90.0), (400.0, 750.0)], annotations="true", geometries="geojson",
+                       overview="full")["routes"]
     [leg] = route["legs"]
     found, count = leg["annotation"], len(route["geometry"]["coordinates"]) - 1
     assert {name: len(found[name]) for name in found if name != "metadata"} == {
@@ -163,7 +170,8 @@ def test_what_narrows_the_search(grid: Town) -> None:
         found: str = grid.get("nearest", [(20.0, 90.0)], **options)["waypoints"][0]["name"]
         return found
 
-    assert name() == name(bearings="0,20") == name(bearings="180,10") == "North 0" and name(bearings="90,20").startswith("East")
+    assert name() == name(bearings="0,20") == name(bearings="180,10") == "North 0"
+    assert name(bearings="90,20").startswith("East")
     assert name(radiuses="21") == name(radiuses="unlimited") == name(radiuses="") == "North 0"
     place = grid.place((20.0, 90.0))
     status, told = grid.ask(f"/nearest/v1/car/{place}?radiuses=19")
@@ -183,9 +191,11 @@ def test_the_side_of_the_street(grid: Town) -> None:
 
 
 @pytest.mark.parametrize(("place", "says"), [
-    ("47.0,9.0", "longitude comes first, so write 9,47"), ("10,48", "outside of the map"), ("0,0", "outside of the map")])
+    ("47.0,9.0", "longitude comes first, so write 9,47"), ("10,48", "outside of the map"),
+    ("0,0", "outside of the map")])
 def test_places_far_from_the_map(grid: Town, place: str, says: str) -> None:
-    for address in (f"/nearest/v1/car/{place}", f"/route/v1/car/{place};{grid.place(1)}", f"/table/v1/car/{grid.place(1)};{place}"):
+    for address in (f"/nearest/v1/car/{place}", f"/route/v1/car/{place};{grid.place(1)}",
+                    f"/table/v1/car/{grid.place(1)};{place}"):
         status, told = grid.ask(address)
         assert (status, told["code"]) == (400, "NoSegment") and says in told["message"]
     assert grid.ask(f"/nearest/v1/car/{place}?radiuses=unlimited")[1]["code"] == "Ok"
@@ -198,7 +208,8 @@ def test_hints_find_the_same_place(grid: Town) -> None:
     places = [(20.0, 90.0), (410.0, 555.0)]
     first = grid.get("route", places)
     hints = [each["hint"] for each in first["waypoints"]]
-    assert all(len(hint) == 32 and set(hint) <= set("ABCDEFGHIJKLMNOPQRSTUVWXYZabcdefghijklmnopqrstuvwxyz0123456789-_") for hint in hints)
+    assert all(len(hint) == 32 and set(hint) <= set("ABCDEFGHIJKLMNOPQRSTUVWXYZabcdefghijklmnopqrstuvwxyz0123456789-_")
+               for hint in hints)
     assert grid.get("route", places, hints=";".join(hints)) == first
 
 
@@ -283,7 +294,8 @@ def test_the_crow_flies_between_what_is_asked_or_found(grid: Town) -> None:
 
 
 def test_durations_are_scaled(grid: Town) -> None:
-    plain, scaled = (grid.get("table", [1, 45, 900], fallback_speed="10", scale_factor=factor)["durations"] for factor in ("1", "2.5"))
+    plain, scaled = (grid.get("table", [1, 45, 900], fallback_speed="10", scale_factor=factor)["durations"]
+                     for factor in ("1", "2.5"))
     for one, other in zip(plain, scaled):
         assert other == pytest.approx([2.5 * value for value in one], abs=0.3)
 
@@ -310,7 +322,8 @@ def test_errors_have_a_code_a_message_and_a_version(grid: Town) -> None:
 def test_the_answer_is_json_whatever_streets_are_called(tmp_path: Path) -> None:
     made = OsmMap()
     row = made.row(3, step=100.0)
-    made.way(row[:2], highway="residential", name='"Straße" \\ <b>\u2028é'), made.way(row[1:], highway="residential", name="\u4e2d\u6587 {}")
+    made.way(row[:2], highway="residential", name='"Straße" \\ <b>\u2028é')
+    made.way(row[1:], highway="residential", name="\u4e2d\u6587 {}")
     with town(made, tmp_path) as found:
         names = [step["name"] for step in found.steps(1, 3)]
         assert names == ['"Straße" \\ <b>\u2028é', "\u4e2d\u6587 {}", "\u4e2d\u6587 {}"]

@@ -18,7 +18,8 @@ import pytest
 from osrm_grid import grid_map, import_map, place_of
 from serving import SECONDS, Service, wait_for
 
-QML = [Path(f"/usr/lib/{sysconfig.get_config_var('MULTIARCH')}/qt5/qml") / name for name in ("QtLocation", "QtPositioning", "QtQuick.2")]
+QML = [Path(f"/usr/lib/{sysconfig.get_config_var('MULTIARCH')}/qt5/qml") / name
+       for name in ("QtLocation", "QtPositioning", "QtQuick.2")]
 LEAFLET = Path("/usr/share/javascript/leaflet")
 START, MIDDLE, END = (0.0, 90.0), (410.0, 400.0), (800.0, 700.0)
 
@@ -38,11 +39,13 @@ Item {
     onStatusChanged: {
       if (status == RouteModel.Error) { console.log(JSON.stringify({error: errorString})); Qt.quit() }
       if (status != RouteModel.Ready) return
-      var route = get(0), told = {routes: count, seconds: route.travelTime, metres: route.distance, path: [], segments: []}
+      var route = get(0)
+      var told = {routes: count, seconds: route.travelTime, metres: route.distance, path: [], segments: []}
       for (var i = 0; i < route.path.length; i++) told.path.push([route.path[i].longitude, route.path[i].latitude])
       for (var k = 0; k < route.segments.length; k++) {
         var each = route.segments[k]
-        told.segments.push({text: each.maneuver.instructionText, valid: each.maneuver.valid, metres: each.distance, places: each.path.length})
+        told.segments.push({text: each.maneuver.instructionText, valid: each.maneuver.valid, metres: each.distance,
+                            places: each.path.length})
       }
       console.log(JSON.stringify(told)); Qt.quit()
     }
@@ -51,7 +54,8 @@ Item {
 }
 """
 
-PAGE = """<!doctype html><title>route</title><link rel=stylesheet href=/leaflet/leaflet.css><script src=/leaflet/leaflet.js></script>
+PAGE = """<!doctype html><title>route</title><link rel=stylesheet href=/leaflet/leaflet.css>
+<script src=/leaflet/leaflet.js></script>
 <style>#map {width: 800px; height: 600px}</style><div id=map></div><script>
 const map = L.map('map', {zoomAnimation: false}), places = PLACES
 const asked = places.map(([lon, lat]) => lon + ',' + lat).join(';')
@@ -60,7 +64,8 @@ fetch('http://127.0.0.1:PORT/route/v1/driving/' + asked + '?overview=full&geomet
     window.line = L.geoJSON(told.routes[0].geometry).addTo(map)
     map.fitBounds(line.getBounds())
     window.turns = L.layerGroup(told.routes[0].legs.flatMap(leg => leg.steps).map(
-      step => L.circleMarker(step.maneuver.location.slice().reverse()).bindTooltip(step.maneuver.type + ' ' + step.name))).addTo(map)
+      step => L.circleMarker(step.maneuver.location.slice().reverse()).bindTooltip(
+        step.maneuver.type + ' ' + step.name))).addTo(map)
     window.shown = told
   }).catch(problem => window.shown = {code: '' + problem})
 </script>"""
@@ -81,7 +86,8 @@ def ask_qt(port: int, places: list[tuple[float, float]], room: Path) -> Any:
     (room / "client.qml").write_text(CLIENT.replace("PORT", str(port)).replace("PLACES", told))
     done = subprocess.run(
         ["qmlscene", room / "client.qml"], capture_output=True, text=True, timeout=SECONDS, check=False,
-        env={**os.environ, "QT_QPA_PLATFORM": "offscreen", "QT_QUICK_BACKEND": "software", "HOME": str(room), "XDG_RUNTIME_DIR": str(room)})
+        env={**os.environ, "QT_QPA_PLATFORM": "offscreen", "QT_QUICK_BACKEND": "software", "HOME": str(room),
+             "XDG_RUNTIME_DIR": str(room)})
     lines = [line.partition("qml: ")[2] for line in (done.stdout + done.stderr).splitlines() if "qml: {" in line]
     assert lines, done
     return json.loads(lines[0])
@@ -106,7 +112,8 @@ def test_qt_location_reads_a_route(folder: Path, tmp_path: Path) -> None:
         refused = ask_qt(service.port, [START, (1e5, 1e5)], tmp_path)
     assert found["routes"] == 1 and found["seconds"] == pytest.approx(route["duration"], abs=1)
     assert found["metres"] == pytest.approx(route["distance"], abs=1)
-    assert found["path"][0] == pytest.approx(lon_lat(START), abs=1e-5) and found["path"][-1] == pytest.approx(lon_lat(END), abs=1e-5)
+    assert found["path"][0] == pytest.approx(lon_lat(START), abs=1e-5)
+    assert found["path"][-1] == pytest.approx(lon_lat(END), abs=1e-5)
     steps = [step for leg in route["legs"] for step in leg["steps"]]
     assert len(found["segments"]) == len(steps) and all(each["valid"] for each in found["segments"])
     texts = [each["text"] for each in found["segments"]]
@@ -127,7 +134,9 @@ class Quiet(http.server.SimpleHTTPRequestHandler):
 def pages(tmp_path: Path) -> Iterator[tuple[Path, int]]:
     """A folder of pages of another origin, with Leaflet in it, and its port."""
     room = tmp_path / "pages"
-    shutil.copytree(LEAFLET, room / "leaflet") if LEAFLET.is_dir() else pytest.skip("Leaflet isn't installed (libjs-leaflet)")
+    if not LEAFLET.is_dir():
+        pytest.skip("Leaflet isn't installed (libjs-leaflet)")
+    shutil.copytree(LEAFLET, room / "leaflet")
     server = http.server.ThreadingHTTPServer(("127.0.0.1", 0), functools.partial(Quiet, directory=str(room)))
     threading.Thread(target=server.serve_forever, daemon=True).start()
     yield room, server.server_address[1]
@@ -142,13 +151,15 @@ def test_a_page_draws_a_route_by_leaflet(folder: Path, pages: tuple[Path, int], 
     from selenium.webdriver.chrome.service import Service as Driver
 
     options = webdriver.ChromeOptions()
-    for word in ("--headless=new", "--no-sandbox", "--disable-gpu", "--disable-dev-shm-usage", f"--user-data-dir={tmp_path}/browser"):
+    for word in ("--headless=new", "--no-sandbox", "--disable-gpu", "--disable-dev-shm-usage",
+                 f"--user-data-dir={tmp_path}/browser"):
         options.add_argument(word)
     room, port = pages
     origin = f"http://127.0.0.1:{port}"
     with Service(folder / "map.cu", "--tables", folder, "--origin", origin) as service:
         (room / "index.html").write_text(
-            PAGE.replace("PORT", str(service.port)).replace("PLACES", json.dumps([lon_lat(place) for place in (START, MIDDLE, END)])))
+            PAGE.replace("PORT", str(service.port)).replace(
+                "PLACES", json.dumps([lon_lat(place) for place in (START, MIDDLE, END)])))
         browser = webdriver.Chrome(options=options, service=Driver("/usr/bin/chromedriver"))
         try:
             browser.get(f"{origin}/")
@@ -161,7 +172,8 @@ def test_a_page_draws_a_route_by_leaflet(folder: Path, pages: tuple[Path, int], 
 def check_drawing(browser: Any) -> None:
     """The line goes from place to place on the screen, and each step has its mark."""
     run = browser.execute_script
-    [path, *marks] = run("return [...document.querySelectorAll('.leaflet-overlay-pane path')].map(path => path.getAttribute('d'))")
+    paths = "[...document.querySelectorAll('.leaflet-overlay-pane path')]"
+    [path, *marks] = run(f"return {paths}.map(path => path.getAttribute('d'))")
     drawn = [tuple(map(float, word.split())) for word in path.replace("M", "L").split("L")[1:]]
     wanted = [run("const p = map.latLngToLayerPoint([arguments[1], arguments[0]]); return [p.x, p.y]", *lon_lat(place))
               for place in (START, END)]

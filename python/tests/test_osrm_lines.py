@@ -1,4 +1,5 @@
-"""Lines as texts, beside the library that encodes polylines and a reader of JSON; and overviews beside a plain search."""
+"""Lines as texts, beside the library that encodes polylines and a reader of JSON; and overviews beside a plain
+search."""
 
 from __future__ import annotations
 
@@ -54,8 +55,8 @@ def test_a_line_is_put_together_from_its_parts(form: str, line: list[list[float]
 def test_few_places_are_written_as_many() -> None:
     places = np.cumsum(np.random.default_rng(1).normal(0, 1e-3, (FEW + 1, 2)), axis=0) + [9.5, 47.1]
     for form in FORMS.values():
-        assert json.loads(form.line(form.first(places[0]) + form.rest(places[:FEW]) + form.rest(places[FEW - 1:]))) == json.loads(
-            form.whole(places))
+        joined = form.line(form.first(places[0]) + form.rest(places[:FEW]) + form.rest(places[FEW - 1:]))
+        assert json.loads(joined) == json.loads(form.whole(places))
 
 
 def test_a_single_place() -> None:
@@ -117,7 +118,8 @@ def test_an_overview_has_the_ends_of_legs(line: list[list[float]], cut: int) -> 
     assert line[cut] in found and found[0] == line[0] and found[-1] == line[-1]
 
 
-@pytest.mark.parametrize(("spans", "zoom"), [((0.0, 0.0), 18), ((1e-9, 1e-9), 18), ((0.01, 0.01), 17), ((1.0, 0.1), 11), ((340.0, 100.0), 3)])
+@pytest.mark.parametrize(("spans", "zoom"), [((0.0, 0.0), 18), ((1e-9, 1e-9), 18), ((0.01, 0.01), 17), ((1.0, 0.1), 11),
+                                             ((340.0, 100.0), 3)])
 def test_the_zoom_shows_the_whole_line(spans: tuple[float, float], zoom: int) -> None:
     x, y = pixels(np.array([(0.0, 0.0), spans]))
     assert fitted_zoom(x, y) == zoom

@@ -1,4 +1,5 @@
-"""Routes over random towns with one-way streets, hours, turn restrictions, ferries and gates: what must hold of each answer."""
+"""Routes over random towns with one-way streets, hours, turn restrictions, ferries and gates: what must hold of each
+answer."""
 
 from __future__ import annotations
 
@@ -28,7 +29,8 @@ def length(places: list[list[float]]) -> float:
 def check_crossing(crossing: dict[str, Any], line: list[list[float]]) -> None:
     """An intersection has its streets in order, may be driven through, and lies on the step's line."""
     bearings, entry = crossing["bearings"], crossing["entry"]
-    assert bearings == sorted(set(bearings)) and all(0 <= bearing < 360 for bearing in bearings) and len(entry) == len(bearings)
+    assert bearings == sorted(set(bearings)) and len(entry) == len(bearings)
+    assert all(0 <= bearing < 360 for bearing in bearings)
     assert "out" not in crossing or entry[crossing["out"]]
     assert "in" not in crossing or 0 <= crossing["in"] < len(bearings)
     assert min(abs(x - crossing["location"][0]) + abs(y - crossing["location"][1]) for x, y in line) < 2e-6
@@ -68,7 +70,8 @@ def check_leg(leg: dict[str, Any]) -> None:
 
 def check_route(town: Town, places: list[str], depart: int) -> bool:
     """Whether there is a route; that it is as it must be, and as the drives are that it is made of."""
-    status, told = town.ask(f"/route/v1/car/{';'.join(places)}?depart={depart}&steps=true&annotations=true&geometries=geojson&overview=full")
+    status, told = town.ask(f"/route/v1/car/{';'.join(places)}?depart={depart}&steps=true&annotations=true"
+                            "&geometries=geojson&overview=full")
     if status != 200:
         assert (status, told["code"]) == (400, "NoRoute")
         return False

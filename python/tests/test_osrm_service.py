@@ -64,7 +64,8 @@ def differs(found: Any, wanted: Any, at: str = "answer") -> str:
     if isinstance(wanted, list):
         if not isinstance(found, list) or len(found) != len(wanted):
             return f"{at} has another length than {len(wanted)}: {found}"
-        return next((said for k, (one, other) in enumerate(zip(found, wanted)) if (said := differs(one, other, f"{at}[{k}]"))), "")
+        return next((said for k, (one, other) in enumerate(zip(found, wanted))
+                     if (said := differs(one, other, f"{at}[{k}]"))), "")
     if isinstance(wanted, type):
         return "" if isinstance(found, wanted) else f"{at} is {found!r}"
     if callable(wanted):
@@ -81,43 +82,56 @@ def test_differences_are_seen() -> None:
 A, B, C = place_of(0, 0), place_of(800, 800), place_of(5.0, 90.0)
 LAST, ISLAND = place_of(0, 800), place_of(5000, 100)
 ENDS = [tuple(map(float, place.split(","))) for place in (A, B)]
-STEPS = {"maneuver": {"type": str, "location": [float, float], "bearing_before": int, "bearing_after": int}, "geometry": str,
+STEPS = {"maneuver": {"type": str, "location": [float, float], "bearing_before": int, "bearing_after": int},
+         "geometry": str,
          "name": str, "mode": "driving", "driving_side": "right", "duration": float, "distance": float, "weight": float,
          "intersections": many(1, 20)}
 OK: list[tuple[str, Any]] = [
     (f"/route/v1/car/{A};{B}", {
         "code": "Ok", "data_version": re.compile("[0-9a-f]{12}").fullmatch, "waypoints": [
-            {"hint": str, "distance": near(0, 0.1), "name": str, "location": [near(ENDS[0][0], 1e-5), near(ENDS[0][1], 1e-5)]}, dict],
-        "routes": [{"distance": near(1600), "duration": near(230, 10), "weight": near(230, 10), "weight_name": "duration",
+            {"hint": str, "distance": near(0, 0.1), "name": str,
+             "location": [near(ENDS[0][0], 1e-5), near(ENDS[0][1], 1e-5)]}, dict],
+        "routes": [{"distance": near(1600), "duration": near(230, 10), "weight": near(230, 10),
+                    "weight_name": "duration",
                     "geometry": line(5, ENDS), "depart": int, "arrive": int,
-                    "legs": [{"distance": near(1600), "duration": near(230, 10), "summary": "", "steps": [], "annotation": NONE}]}]}),
+                    "legs": [{"distance": near(1600), "duration": near(230, 10), "summary": "", "steps": [],
+                              "annotation": NONE}]}]}),
     (f"/route/v1/any-name/{A};{B}.json", {"code": "Ok"}),
     (f"/route/v1/car/{A.replace(',', '%2C')}%3B{B}?overview=false", {"routes": [{"geometry": NONE}]}),
     (f"/route/v1/car/{A};{B}?geometries=polyline6", {"routes": [{"geometry": line(6, ENDS)}]}),
     (f"/route/v1/car/{A};{B}?geometries=geojson&overview=full",
      {"routes": [{"geometry": {"type": "LineString", "coordinates": many(9, 12)}}]}),
     (f"/route/v1/car/{A};{B}?overview=full", {"routes": [{"geometry": line(5, ENDS)}]}),
-    (f"/route/v1/car/{A};{LAST}?overview=simplified&geometries=geojson", {"routes": [{"geometry": {"coordinates": many(2, 2)}}]}),
+    (f"/route/v1/car/{A};{LAST}?overview=simplified&geometries=geojson",
+     {"routes": [{"geometry": {"coordinates": many(2, 2)}}]}),
     (f"/route/v1/car/{A};{B}?steps=true", {"routes": [{"legs": [{"summary": str, "steps": many(3, 12)}]}]}),
     (f"/route/v1/car/{A};{LAST}?steps=true", {"routes": [{"legs": [{"summary": "North 0", "steps": [
-        {**STEPS, "name": "North 0", "maneuver": {"type": "depart"}}, {**STEPS, "distance": 0.0, "maneuver": {"type": "arrive"}}]}]}]}),
+        {**STEPS, "name": "North 0", "maneuver": {"type": "depart"}},
+        {**STEPS, "distance": 0.0, "maneuver": {"type": "arrive"}}]}]}]}),
     (f"/route/v1/car/{A};{B}?steps=true&geometries=geojson", {"routes": [{"legs": [{"steps": many(3, 12)}]}]}),
     (f"/route/v1/car/{A};{B}?alternatives=true", {"routes": many(1, 1)}),
     (f"/route/v1/car/{A};{B}?alternatives=3&continue_straight=true", {"routes": many(1, 1)}),
     (f"/route/v1/car/{A};{B}?overview=false&alternatives=true&steps=true&hints=;", {"code": "Ok"}),
-    (f"/route/v1/car/{A};{B}?overview=full&steps=true&geometries=polyline6&alternatives=true&bearings=;", {"code": "Ok"}),
-    (f"/route/v1/car/{A};{B}?overview=full&steps=true&geometries=polyline6&alternatives=true&bearings=%3B0,180", {"code": "Ok"}),
-    (f"/route/v1/car/{A};{C};{B}?overview=false", {"routes": [{"legs": many(2, 2), "distance": near(1600)}], "waypoints": many(3, 3)}),
+    (f"/route/v1/car/{A};{B}?overview=full&steps=true&geometries=polyline6&alternatives=true&bearings=;",
+     {"code": "Ok"}),
+    (f"/route/v1/car/{A};{B}?overview=full&steps=true&geometries=polyline6&alternatives=true&bearings=%3B0,180",
+     {"code": "Ok"}),
+    (f"/route/v1/car/{A};{C};{B}?overview=false", {"routes": [{"legs": many(2, 2), "distance": near(1600)}],
+                                                   "waypoints": many(3, 3)}),
     (f"/route/v1/car/{A};{C};{B}?waypoints=0;2", {"routes": [{"legs": many(1, 1)}], "waypoints": many(2, 2)}),
-    (f"/route/v1/car/{A};{A}?steps=true", {"routes": [{"distance": 0.0, "duration": 0.0, "legs": [{"steps": many(2, 2)}]}]}),
+    (f"/route/v1/car/{A};{A}?steps=true", {"routes": [{"distance": 0.0, "duration": 0.0,
+                                                       "legs": [{"steps": many(2, 2)}]}]}),
     (f"/route/v1/car/{A};{B}?annotations=true", {"routes": [{"legs": [{"annotation": {
-        "duration": many(7, 12), "distance": many(7, 12), "speed": many(7, 12), "weight": many(7, 12), "nodes": many(8, 13),
+        "duration": many(7, 12), "distance": many(7, 12), "speed": many(7, 12), "weight": many(7, 12),
+        "nodes": many(8, 13),
         "datasources": many(7, 12), "metadata": {"datasource_names": many(1, 1)}}}]}]}),
     (f"/route/v1/car/{A};{B}?annotations=duration,nodes",
      {"routes": [{"legs": [{"annotation": {"duration": list, "nodes": list, "speed": NONE, "distance": NONE}}]}]}),
     (f"/route/v1/car/{A};{B}?annotations=false", {"routes": [{"legs": [{"annotation": NONE}]}]}),
-    (f"/route/v1/car/{A};{B}?depart=08:00", {"routes": [{"depart": 28800, "depart_time": "08:00:00", "arrive": near(29030, 10)}]}),
-    (f"/route/v1/car/{A};{B}?depart=86399", {"routes": [{"depart": 86399, "arrive": near(86629, 10), "arrive_time": str}]}),
+    (f"/route/v1/car/{A};{B}?depart=08:00", {"routes": [{"depart": 28800, "depart_time": "08:00:00",
+                                                         "arrive": near(29030, 10)}]}),
+    (f"/route/v1/car/{A};{B}?depart=86399", {"routes": [{"depart": 86399, "arrive": near(86629, 10),
+                                                         "arrive_time": str}]}),
     (f"/route/v1/car/{A};{B}?arrive=09:00", {"routes": [{"arrive": near(32400, 1), "depart": near(32170, 10)}]}),
     (f"/route/v1/car/{A};{C};{B}?arrive=32400", {"routes": [{"arrive": near(32399, 2), "legs": many(2, 2)}]}),
     (f"/route/v1/car/{A};{B}?generate_hints=false", {"waypoints": [{"hint": NONE}, {"hint": NONE}]}),
@@ -125,23 +139,32 @@ OK: list[tuple[str, Any]] = [
     (f"/route/v1/car/{A};{B}?radiuses=10;unlimited&approaches=;curb&snapping=any", {"code": "Ok"}),
     (f"/route/v1/car/{C};{B}?bearings=0,90;", {"code": "Ok"}),
     (f"/route/v1/car/{A};{B}?hints=;bad", {"code": "Ok"}),
-    (f"/route/v1/car/polyline({polyline.encode([(y, x) for x, y in ENDS])})?overview=false", {"routes": [{"distance": near(1600, 5)}]}),
-    (f"/route/v1/car/polyline6({polyline.encode([(y, x) for x, y in ENDS], 6)}).json", {"routes": [{"distance": near(1600, 2)}]}),
-    (f"/nearest/v1/car/{C}", {"waypoints": [{"nodes": [int, int], "hint": str, "distance": near(5, 0.1), "name": "North 0",
+    (f"/route/v1/car/polyline({polyline.encode([(y, x) for x, y in ENDS])})?overview=false",
+     {"routes": [{"distance": near(1600, 5)}]}),
+    (f"/route/v1/car/polyline6({polyline.encode([(y, x) for x, y in ENDS], 6)}).json",
+     {"routes": [{"distance": near(1600, 2)}]}),
+    (f"/nearest/v1/car/{C}", {"waypoints": [{"nodes": [int, int], "hint": str, "distance": near(5, 0.1),
+                                             "name": "North 0",
                                              "location": [near(9, 1e-5), float]}]}),
     (f"/nearest/v1/car/{C}.json?number=3", {"waypoints": many(3, 3)}),
     (f"/nearest/v1/car/{C}?number=100&generate_hints=false", {"waypoints": many(37, 42)}),
     (f"/nearest/v1/car/{C}?bearings=90,20", {"waypoints": [{"name": lambda name: name.startswith("East")}]}),
     (f"/nearest/v1/car/{place_of(9000, 9000)}?radiuses=unlimited", {"waypoints": [{"distance": float}]}),
-    (f"/table/v1/car/{A};{B};{C}", {"code": "Ok", "durations": [[0.0, near(230, 10), float], [float, 0.0, float], [float, float, 0.0]],
-                                    "distances": NONE, "sources": many(3, 3), "destinations": many(3, 3), "fallback_speed_cells": NONE}),
-    (f"/table/v1/car/{A};{B};{C}?sources=0&destinations=1;2", {"durations": [[float, float]], "sources": many(1, 1), "destinations": many(2, 2)}),
-    (f"/table/v1/car/{A};{B}?annotations=distance", {"durations": NONE, "distances": [[0.0, near(1600)], [near(1600), 0.0]]}),
-    (f"/table/v1/car/{A};{B}?annotations=duration,distance&depart=08:00", {"durations": many(2, 2), "distances": many(2, 2), "depart": 28800}),
+    (f"/table/v1/car/{A};{B};{C}", {"code": "Ok", "durations": [[0.0, near(230, 10), float], [float, 0.0, float],
+                                                                [float, float, 0.0]],
+                                    "distances": NONE, "sources": many(3, 3), "destinations": many(3, 3),
+                                    "fallback_speed_cells": NONE}),
+    (f"/table/v1/car/{A};{B};{C}?sources=0&destinations=1;2",
+     {"durations": [[float, float]], "sources": many(1, 1), "destinations": many(2, 2)}),
+    (f"/table/v1/car/{A};{B}?annotations=distance", {"durations": NONE,
+                                                     "distances": [[0.0, near(1600)], [near(1600), 0.0]]}),
+    (f"/table/v1/car/{A};{B}?annotations=duration,distance&depart=08:00",
+     {"durations": many(2, 2), "distances": many(2, 2), "depart": 28800}),
     (f"/table/v1/car/{A};{ISLAND}", {"durations": [[0.0, None], [None, 0.0]]}),
     (f"/table/v1/car/{A};{ISLAND}?fallback_speed=5&fallback_coordinate=input&scale_factor=2",
      {"durations": [[0.0, near(2000, 5)], [near(2000, 5), 0.0]], "fallback_speed_cells": [[0, 1], [1, 0]]}),
-    (f"/table/v1/car/polyline({polyline.encode([(47.0, 9.0)] * 100)})?generate_hints=false", {"durations": many(100, 100)}),
+    (f"/table/v1/car/polyline({polyline.encode([(47.0, 9.0)] * 100)})?generate_hints=false",
+     {"durations": many(100, 100)}),
 ]
 REFUSED: list[tuple[str, str, str]] = [
     ("/route/v1/car", "InvalidUrl", "coordinates"), ("/route/v1/", "InvalidUrl", ""), ("/table/x", "InvalidUrl", ""),
@@ -149,17 +172,24 @@ REFUSED: list[tuple[str, str, str]] = [
     (f"/match/v1/car/{A};{B}", "InvalidService", ""), ("/tile/v1/car/tile(1310,3166,13).mvt", "InvalidService", ""),
     (f"/route/v2/car/{A};{B}", "InvalidVersion", "v1"), (f"/nearest/v5/car/{A}", "InvalidVersion", ""),
     ("/route/v1/car/a;b", "InvalidQuery", "longitude"), (f"/route/v1/car/{A};", "InvalidQuery", "place 1"),
-    (f"/route/v1/car/nan,nan;{B}", "InvalidQuery", "place 0"), (f"/route/v1/car/{A};{B}?speed=5", "InvalidQuery", "steps"),
+    (f"/route/v1/car/nan,nan;{B}", "InvalidQuery", "place 0"),
+    (f"/route/v1/car/{A};{B}?speed=5", "InvalidQuery", "steps"),
     ("/route/v1/car/polyline(x", "InvalidQuery", "polyline"),
     (f"/route/v1/car/{A}", "InvalidOptions", "two places"), (f"/nearest/v1/car/{A};{B}", "InvalidOptions", "one place"),
-    (f"/route/v1/car/{A};{B}?overview=some", "InvalidOptions", "simplified"), (f"/nearest/v1/car/{A}?number=0", "InvalidOptions", "1 to"),
-    (f"/route/v1/car/{A};{B}?bearings=0,20", "InvalidOptions", "2 places"), (f"/route/v1/car/{A};{B}?steps=yes", "InvalidOptions", "true or false"),
-    (f"/route/v1/car/{A};{B}?depart=26:00", "InvalidOptions", "08:00"), (f"/table/v1/car/{A};{B}?sources=2", "InvalidOptions", "0 to 1"),
+    (f"/route/v1/car/{A};{B}?overview=some", "InvalidOptions", "simplified"),
+    (f"/nearest/v1/car/{A}?number=0", "InvalidOptions", "1 to"),
+    (f"/route/v1/car/{A};{B}?bearings=0,20", "InvalidOptions", "2 places"),
+    (f"/route/v1/car/{A};{B}?steps=yes", "InvalidOptions", "true or false"),
+    (f"/route/v1/car/{A};{B}?depart=26:00", "InvalidOptions", "08:00"),
+    (f"/table/v1/car/{A};{B}?sources=2", "InvalidOptions", "0 to 1"),
     (f"/table/v1/car/{A};{B}?fallback_speed=0", "InvalidOptions", "above 0"),
-    (f"/route/v1/car/{A};190,5", "InvalidValue", "place 1"), (f"/route/v1/car/{A};{B}?exclude=motorway", "InvalidValue", "motorway"),
-    ("/nearest/v1/car/47.001,9.001", "NoSegment", "write 9.001,47.001"), (f"/route/v1/car/{A};10.5,48", "NoSegment", "outside"),
+    (f"/route/v1/car/{A};190,5", "InvalidValue", "place 1"),
+    (f"/route/v1/car/{A};{B}?exclude=motorway", "InvalidValue", "motorway"),
+    ("/nearest/v1/car/47.001,9.001", "NoSegment", "write 9.001,47.001"),
+    (f"/route/v1/car/{A};10.5,48", "NoSegment", "outside"),
     (f"/nearest/v1/car/{C}?radiuses=4", "NoSegment", "within 4 m"),
-    (f"/route/v1/car/{A};{ISLAND}", "NoRoute", "place 0 to place 1"), (f"/route/v1/car/{A};{B}?arrive=00:00:10", "NoRoute", "arrive="),
+    (f"/route/v1/car/{A};{ISLAND}", "NoRoute", "place 0 to place 1"),
+    (f"/route/v1/car/{A};{B}?arrive=00:00:10", "NoRoute", "arrive="),
     (f"/route/v1/car/polyline({'?' * 1002})", "TooBig", "501"), (f"/nearest/v1/car/{A}?number=101", "TooBig", "100"),
     (f"/table/v1/car/polyline({polyline.encode([(47.0, 9.0)] * 1025)})", "TooBig", "1050625"),
     (f"/table/v1/car/polyline({polyline.encode([(47.0, 9.0)] * 101)})?annotations=distance", "TooBig", "10000"),
@@ -180,7 +210,8 @@ def test_what_is_refused(service: Service, path: str, code: str, says: str) -> N
 
 
 def test_headers(service: Service) -> None:
-    for path in (f"/route/v1/car/{A};{B}", f"/nearest/v1/car/{A}", f"/table/v1/car/{A};{B}", "/route/v1/car/x", "/trip/v1/car/x"):
+    for path in (f"/route/v1/car/{A};{B}", f"/nearest/v1/car/{A}", f"/table/v1/car/{A};{B}", "/route/v1/car/x",
+                 "/trip/v1/car/x"):
         reply = service.client.get(path, headers={"Origin": ORIGIN})
         assert reply.headers["content-type"] == "application/json; charset=UTF-8"
         assert reply.headers["catchup-version"] == reply.json()["data_version"]
@@ -244,7 +275,8 @@ def test_openapi_tells_the_paths(service: Service) -> None:
 def test_several_networks(folder: Path, tmp_path: Path) -> None:
     """The profile of an address is the name of a network; without a name a file answers to each."""
     walked = import_map(grid_map(), tmp_path, vehicle="foot")
-    words = [f"car={folder / 'map.cu'}", f"foot={walked / 'map.cu'}", "--tables", f"car={folder}", "--tables", f"foot={walked}"]
+    words = [f"car={folder / 'map.cu'}", f"foot={walked / 'map.cu'}", "--tables", f"car={folder}", "--tables",
+             f"foot={walked}"]
     with Service(*words) as service:
         car, foot = (service.get(f"/route/v1/{name}/{A};{B}?steps=true") for name in ("car", "foot"))
         status, told = service.ask(f"/route/v1/truck/{A};{B}")
@@ -252,7 +284,8 @@ def test_several_networks(folder: Path, tmp_path: Path) -> None:
         health = service.get("/health")
     assert foot["routes"][0]["duration"] > 3 * car["routes"][0]["duration"]
     assert [told["routes"][0]["legs"][0]["steps"][0]["mode"] for told in (car, foot)] == ["driving", "walking"]
-    assert car["data_version"] == health["profiles"]["car"] != foot["data_version"] == health["profiles"]["foot"] == own["version"]
+    assert car["data_version"] == health["profiles"]["car"] != health["profiles"]["foot"]
+    assert foot["data_version"] == health["profiles"]["foot"] == own["version"]
     assert (status, told["code"]) == (400, "InvalidValue") and "car, foot" in told["message"]
 
 

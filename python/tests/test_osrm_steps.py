@@ -44,17 +44,21 @@ def test_a_crossing(tmp_path: Path) -> None:
         assert found.told(1180, 1090) == ["depart into Main", "turn right into East", "arrive"]
         assert found.told(1090, 1270) == ["depart into East", "new name straight into West", "arrive"]
         [depart, turn, arrive] = found.steps(1180, 1090)
-    assert depart["maneuver"] == {"type": "depart", "location": depart["maneuver"]["location"], "bearing_before": 0, "bearing_after": 0}
+    assert depart["maneuver"] == {"type": "depart", "location": depart["maneuver"]["location"], "bearing_before": 0,
+                                  "bearing_after": 0}
     assert [turn["maneuver"][name] for name in ("bearing_before", "bearing_after")] == [0, 90]
     [crossing] = turn["intersections"]
     assert crossing["bearings"] == [0, 90, 180, 270] and crossing["entry"] == [True] * 4
     assert (crossing["in"], crossing["out"]) == (2, 1) and crossing["location"] == turn["maneuver"]["location"]
-    assert arrive["intersections"] == [{"in": 0, "entry": [True], "bearings": [270], "location": arrive["maneuver"]["location"]}]
-    assert depart["intersections"][0] == {"out": 0, "entry": [True], "bearings": [0], "location": depart["maneuver"]["location"]}
+    assert arrive["intersections"] == [{"in": 0, "entry": [True], "bearings": [270],
+                                        "location": arrive["maneuver"]["location"]}]
+    assert depart["intersections"][0] == {"out": 0, "entry": [True], "bearings": [0],
+                                          "location": depart["maneuver"]["location"]}
 
 
 def test_one_way_streets_and_forbidden_turns_are_no_entries(tmp_path: Path) -> None:
-    """From the south one may drive on and turn round: to the right a street leads here alone, to the left is forbidden."""
+    """From the south one may drive on and turn round: to the right a street leads here alone, to the left is
+    forbidden."""
     made = cross(OsmMap(), at0={"name": "Main"}, at90={"name": "In", "oneway": "-1"}, at180={"name": "Main"},
                  at270={"name": "Out", "oneway": "yes"})
     made.restrict(3, 1, 4, "no_left_turn")
@@ -138,7 +142,8 @@ def ring(name: str = "", radius: float = 40.0) -> OsmMap:
         made.node(number, radius * x, radius * y)
         made.node(10 + number, 600 * x, 600 * y)
         made.node(20 + number, radius * 0.7 * (x - y), radius * 0.7 * (y + x))
-    made.way([1, 21, 2, 22, 3, 23, 4, 24, 1], highway="tertiary", junction="roundabout", **({"name": name} if name else {}))
+    made.way([1, 21, 2, 22, 3, 23, 4, 24, 1], highway="tertiary", junction="roundabout",
+             **({"name": name} if name else {}))
     for number, street in enumerate(("North", "West", "South", "East"), 1):
         made.way([number, 10 + number], highway="tertiary", name=street)
     return made
@@ -185,7 +190,8 @@ def test_ferries(tmp_path: Path) -> None:
     made.way(row[1:3], route="ferry", name="Boat", duration="00:10")
     made.way(row[2:], highway="residential", name="Beach")
     with town(made, tmp_path) as found:
-        assert found.told(1, 4) == ["depart into Quay", "new name straight into Boat", "new name straight into Beach", "arrive"]
+        assert found.told(1, 4) == ["depart into Quay", "new name straight into Boat", "new name straight into Beach",
+                                    "arrive"]
         assert [step["mode"] for step in found.steps(1, 4)] == ["driving", "ferry", "driving", "driving"]
 
 

@@ -30,7 +30,8 @@ def check_leg(town: Town, leg: Leg) -> None:
     ends = town.places.ground.ends
     assert all(ends.head[one] == ends.tail[other] for one, other in zip(leg.roads, leg.roads[1:]))
     assert len(leg.seconds) == len(leg.roads) and list(leg.seconds) == sorted(leg.seconds)
-    assert [piece.road for piece in leg.pieces if piece.metres or not leg.roads][:1] == list(leg.roads[:1] or [leg.pieces[0].road])
+    driven = [piece.road for piece in leg.pieces if piece.metres or not leg.roads]
+    assert driven[:1] == list(leg.roads[:1] or [leg.pieces[0].road])
     times = [time for piece in leg.pieces for time in (piece.entered, piece.left)]
     assert times == sorted(times) and (times[0], times[-1]) == (leg.depart, leg.arrive)
     line = np.concatenate([piece.coordinates for piece in leg.pieces])
@@ -49,7 +50,8 @@ def compare(town: Town, pairs: int, seed: int, within: float) -> None:
             start, end, depart = town.anywhere(draw), town.anywhere(draw), draw.randrange(DAY)
             snaps = [town.places.nearest(place)[0] for place in (start, end)]
             near = [town.search.near(*place)[1] for place in (start, end)]
-            assert [[road for road, _ in snap.roads] for snap in snaps] == [[road for road, _ in roads] for roads in near]
+            for snap, roads in zip(snaps, near):
+                assert [road for road, _ in snap.roads] == [road for road, _ in roads]
             least = town.search.drive(near[0], near[1], depart)
             try:
                 [leg] = await town.places.legs(snaps, depart, ask)
@@ -99,7 +101,8 @@ def test_days_and_latest_departures_are_those_of_drives(made: Town) -> None:
             # Who leaves later never arrives earlier, midnight included.
             assert (np.diff(found) >= 0).all() and found[0] + DAY >= found[-1]
             pieces = days.pieces_of(found)
-            bounds = [max(0, piece.start + step) for piece in draw.sample(pieces, min(4, len(pieces))) for step in (-1, 0)]
+            bounds = [max(0, piece.start + step) for piece in draw.sample(pieces, min(4, len(pieces)))
+                      for step in (-1, 0)]
             for second in {0, DAY - 1, *bounds, *(draw.randrange(DAY) for _ in range(5))}:
                 assert await arrival(made, start, end, second, ask) == found[second]
             for by in (draw.randrange(DAY), int(found[draw.randrange(DAY)]), int(found[0]) - 1, int(found[-1]) + DAY):
@@ -164,7 +167,8 @@ def test_a_reach_has_what_drives_reach(made: Town) -> None:
             for road, begin, end, left in draw.sample(rows, min(5, len(rows))):
                 assert 0.0 <= begin <= end <= 1.0
                 place = places.lines.place(road, end)
-                snap = next((each for each in places.nearest(place, 4) if any(of == road for of, _ in each.roads)), None)
+                snap = next((each for each in places.nearest(place, 4)
+                             if any(of == road for of, _ in each.roads)), None)
                 if snap is not None:
                     arrive = await arrival(made, start, snap, depart, ask)
                     # The place is on a street that other roads lead along too.

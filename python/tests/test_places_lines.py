@@ -61,7 +61,8 @@ def test_lines_are_those_of_their_parts(made: Town, drives: list[Drive]) -> None
         coordinates, names, metres = (json.loads(b"[%b]" % text) for text in told)
         assert np.abs(np.array(coordinates) - wanted).max() <= 5.1e-7
         assert names == [name or ref for name, ref in map(lines.name, drive.roads)]
-        assert metres == pytest.approx([lines.metres[road] * (end - begin) for road, begin, end in drive.parts], abs=0.06)
+        assert metres == pytest.approx([lines.metres[road] * (end - begin) for road, begin, end in drive.parts],
+                                       abs=0.06)
         for precision in (5, 6):
             text = lines.line_encoded(drive.roads, drive.begin, drive.stop, precision)
             assert text == geometry.encode_polyline(wanted[:, 0], wanted[:, 1], precision)
@@ -69,10 +70,14 @@ def test_lines_are_those_of_their_parts(made: Town, drives: list[Drive]) -> None
 
 def test_what_is_kept_stays_small(made: Town, drives: list[Drive], monkeypatch: pytest.MonkeyPatch) -> None:
     lines = made.places.lines
-    wanted = [(lines.told(drive.roads, drive.begin, drive.stop), lines.line_encoded(drive.roads, drive.begin, drive.stop))
+    wanted = [(lines.told(drive.roads, drive.begin, drive.stop),
+               lines.line_encoded(drive.roads, drive.begin, drive.stop))
               for drive in drives if drive.roads]
     monkeypatch.setattr("catchup.places.lines._MOST_KEPT", 3)
-    assert wanted == [(lines.told(drive.roads, drive.begin, drive.stop), lines.line_encoded(drive.roads, drive.begin, drive.stop))
+    lines._told.clear()
+    lines._encoded.clear()
+    assert wanted == [(lines.told(drive.roads, drive.begin, drive.stop),
+                       lines.line_encoded(drive.roads, drive.begin, drive.stop))
                       for drive in drives if drive.roads]
     assert len(lines._told) <= 3 and all(len(kept) <= 3 for kept in lines._encoded.values())
 
@@ -86,7 +91,8 @@ def test_pieces_have_one_name_each(made: Town, drives: list[Drive]) -> None:
     lines = made.places.lines
     for drive in drives:
         leg = leg_of(lines, drive)
-        assert leg.pieces and sum(piece.metres for piece in leg.pieces) == pytest.approx(sum(map(metres_of, leg.pieces)), abs=0.5)
+        far = sum(map(metres_of, leg.pieces))
+        assert leg.pieces and sum(piece.metres for piece in leg.pieces) == pytest.approx(far, abs=0.5)
         for piece in leg.pieces:
             assert piece.kind == lines.kind(piece.road) and len(piece.coordinates) >= 2
             assert piece.metres == pytest.approx(metres_of(piece), abs=0.1)

@@ -1,4 +1,5 @@
-"""Where places meet the network: the nearest streets, their directions and sides, junctions, hints, and what is no place."""
+"""Where places meet the network: the nearest streets, their directions and sides, junctions, hints, and what is no
+place."""
 
 from __future__ import annotations
 
@@ -32,8 +33,9 @@ def at(x: float, y: float) -> tuple[float, float]:
 
 @pytest.fixture(scope="module")
 def village(program: Path, tmp_path_factory: pytest.TempPathFactory) -> Places:
-    """A square of 1,000 m: High Street in the south, that turns into Low Street halfway, a one-way street northwards in the
-    east, a bollard in the middle of the northern street, in the west a road for residents that leads out, and a lane."""
+    """A square of 1,000 m: High Street in the south, that turns into Low Street halfway, a one-way street northwards in
+    the east, a bollard in the middle of the northern street, in the west a road for residents that leads out, and a
+    lane."""
     made = OsmMap()
     for number, (x, y) in enumerate([(0, 0), (500, 0), (1000, 0), (1000, 1000), (0, 1000), (-500, 1000)], 1):
         made.node(number, x, y)
@@ -58,7 +60,8 @@ def made(request: pytest.FixtureRequest, program: Path, tmp_path_factory: pytest
 def ends_of(places: Places, snap: Snap) -> set[tuple[tuple[float, float], tuple[float, float], float]]:
     """The roads of a place by where they lead from and to, with their shares."""
     lines = {road: places.lines.cut((road, 0.0, 1.0)) for road, _ in snap.roads}
-    return {(tuple(np.round(lines[road][0], 5)), tuple(np.round(lines[road][-1], 5)), round(share, 3)) for road, share in snap.roads}
+    return {(tuple(np.round(lines[road][0], 5)), tuple(np.round(lines[road][-1], 5)), round(share, 3))
+            for road, share in snap.roads}
 
 
 def test_a_place_is_part_way_along_a_street_in_both_directions(village: Places) -> None:
@@ -71,7 +74,8 @@ def test_a_place_is_part_way_along_a_street_in_both_directions(village: Places) 
 
 
 def test_names_change_along_a_road(village: Places) -> None:
-    assert [(snap.name, snap.ref) for x in (100, 900) for snap in village.nearest(at(x, -20))] == [("High Street", ""), ("Low Street", "L 1")]
+    found = [(snap.name, snap.ref) for x in (100, 900) for snap in village.nearest(at(x, -20))]
+    assert found == [("High Street", ""), ("Low Street", "L 1")]
 
 
 def test_a_one_way_street_is_driven_one_way(village: Places) -> None:
@@ -108,7 +112,8 @@ def test_only_within_a_radius(village: Places) -> None:
     assert found.value.index == 0
 
 
-@pytest.mark.parametrize(("bearing", "ways"), [((90, 30), {"east"}), ((270, 10), {"west"}), ((0, 180), {"east", "west"}), ((450, 4), {"east"})])
+@pytest.mark.parametrize(("bearing", "ways"), [((90, 30), {"east"}), ((270, 10), {"west"}),
+                                               ((0, 180), {"east", "west"}), ((450, 4), {"east"})])
 def test_only_roads_in_a_direction(village: Places, bearing: tuple[int, int], ways: set[str]) -> None:
     [snap] = village.nearest(at(250, 10), bearing=bearing)
     assert snap.name == "High Street"
@@ -164,7 +169,8 @@ def test_numbers_of_openstreetmap(made: Town) -> None:
     for number in np.unique(osm).tolist():
         snap, nodes = made.places.at_osm(number), np.flatnonzero(osm == number).tolist()
         assert snap is not None
-        assert set(snap.roads) == {pair for node in nodes for pair in made.places.at_node(node).roads}  # type: ignore[union-attr]
+        there = [made.places.at_node(node) for node in nodes]
+        assert set(snap.roads) == {pair for each in there if each is not None for pair in each.roads}
 
 
 @settings(max_examples=150)
@@ -208,6 +214,7 @@ def test_streets_hold_their_roads(made: Town) -> None:
         line = streets.line(road)
         lines.setdefault(min(line.tobytes(), line[::-1].tobytes()), set()).add(road)
         assert len(streets.shares(road)) == len(line) and np.all(np.diff(streets.shares(road)) >= 0)
-    assert sorted(map(sorted, lines.values())) == sorted(sorted(streets.roads[street].tolist()) for street in range(len(streets)))
+    assert sorted(map(sorted, lines.values())) == sorted(sorted(streets.roads[street].tolist())
+                                                         for street in range(len(streets)))
     assert [min(streets.roads[street]) for street in range(len(streets))] == streets.lead.tolist()
     assert draw

@@ -47,7 +47,8 @@ def arrive(pieces: list[Piece], second: int) -> int:
     return second + piece.value if piece.kind == "travel" else day * DAY + piece.value
 
 
-@given(st.lists(profiles(), min_size=1, max_size=4), st.lists(st.floats(0, 3 * DAY), min_size=1, max_size=30), st.data())
+@given(st.lists(profiles(), min_size=1, max_size=4), st.lists(st.floats(0, 3 * DAY), min_size=1, max_size=30),
+       st.data())
 def test_arrivals_at_seconds_and_between(made: list[list[Piece]], times: list[float], data: st.DataObject) -> None:
     travel = Travel(np.arange(len(made), dtype=np.int32), profiles_of(made))
     road = data.draw(st.integers(0, len(made) - 1))
@@ -58,13 +59,15 @@ def test_arrivals_at_seconds_and_between(made: list[list[Piece]], times: list[fl
     roads = np.full(len(seconds), road)
     assert travel.arrive_all(roads, seconds).tolist() == wanted
     between = [travel.arrive_between(road, time) for time in times]
-    assert np.allclose(travel.arrive_all_between(np.full(len(times), road), np.array(times)), between, rtol=0, atol=1e-6)
+    assert np.allclose(travel.arrive_all_between(np.full(len(times), road), np.array(times)), between, rtol=0,
+                       atol=1e-6)
     for time, left in zip(times, between):
         low, high = arrive(made[road], math.floor(time)), arrive(made[road], math.floor(time) + 1)
         assert left == pytest.approx(min(low + time % 1, high), abs=1e-6)
 
 
-@given(st.lists(profiles(), min_size=1, max_size=3), st.lists(st.tuples(st.integers(0, 2 * DAY), st.integers(0, DAY)), min_size=1, max_size=10))
+@given(st.lists(profiles(), min_size=1, max_size=3), st.lists(st.tuples(st.integers(0, 2 * DAY), st.integers(0, DAY)),
+                                                              min_size=1, max_size=10))
 def test_where_a_second_may_make_no_difference(made: list[list[Piece]], windows: list[tuple[int, int]]) -> None:
     travel = Travel(np.arange(len(made), dtype=np.int32), profiles_of(made))
     rests = np.zeros(DAY, dtype=bool)

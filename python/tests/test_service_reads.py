@@ -245,7 +245,8 @@ def test_what_a_service_says_of_itself(service: Service, town: Path) -> None:
     assert service.ask("/docs")[0] == 404
     described = service.get("/openapi.json")
     assert {"/route", "/day", "/best", "/reach", "/table", "/latest", "/network", "/edits", "/edits/{name}", "/health",
-            "/metrics", *(f"/{name}/v1/{{profile}}/{{coordinates}}" for name in ("nearest", "route", "table"))} == set(described["paths"])
+            "/metrics", *(f"/{name}/v1/{{profile}}/{{coordinates}}"
+                          for name in ("nearest", "route", "table"))} == set(described["paths"])
     for methods in described["paths"].values():
         for method in methods.values():
             assert "422" not in method["responses"]

@@ -51,8 +51,9 @@ def command(
     context: click.Context, files: tuple[str, ...], names: tuple[str, ...], origins: tuple[str, ...],
     tables: tuple[str, ...], **words: object,
 ) -> None:
-    """Serves packed files to many clients over HTTP and JSON, and makes edits of them, each of which is on the disk before it is
-    confirmed. FILE is a packed file that `catchup build` made; with NAME=FILE several are served, each as a profile."""
+    """Serves packed files to many clients over HTTP and JSON, and makes edits of them, each of which is on the disk
+    before it is confirmed. FILE is a packed file that `catchup build` made; with NAME=FILE several are served, each as
+    a profile."""
     # What only a service needs is read only here: `--help` and wrong words need none of it.
     from catchup.service.options import Options, check, served_of
 
@@ -60,7 +61,8 @@ def command(
         files=served_of(files, tables), host=str(words["host"]), port=int(str(words["port"])),
         workers=int(str(words["workers"] or processors())), names=names, origins=origins,
         token=words["token"] if isinstance(words["token"], Path) else None,
-        log=None if words["log"] is None else str(words["log"]), zone=None if words["zone"] is None else str(words["zone"]),
+        log=None if words["log"] is None else str(words["log"]),
+        zone=None if words["zone"] is None else str(words["zone"]),
         has_access_log=bool(words["access_log"]),
         has_docs=bool(words["docs"]))
     check(options)

@@ -102,7 +102,8 @@ def _streets(path: Path, raw: RawMap, counts: Counts) -> Directed:
 
 
 def _network(directed: Directed, options: Options, counts: Counts) -> tuple[Network, Bools]:
-    """The roads between nodes and their copies, and the open streets that are joined by roads for destinations alone."""
+    """The roads between nodes and their copies, and the open streets that are joined by roads for destinations
+    alone."""
     time_streets(directed)
     mark_gates(directed)
     if options.through:
@@ -173,7 +174,8 @@ def _map(path: Path, labels: Labels, network: Network, shapes: Shapes, options: 
         segments.lon[network.node], segments.lat[network.node], osm[network.node], _small(network.copy), _small(network.tail),
         _small(network.head), _small(shapes.profile), labels.metres[street >> 1], _small(shapes.seconds),
         labels.way[street >> 1], osm[directed.tail[street]], osm[directed.head[street]], _small(labels.kind[street >> 1]), first,
-        segments.lon[points], segments.lat[points], labels.classes, properties, road_ring=labels.ring[street >> 1].astype(bool))
+        segments.lon[points], segments.lat[points], labels.classes, properties,
+        road_ring=labels.ring[street >> 1].astype(bool))
     return content, osm[points]
 
 

@@ -38,8 +38,8 @@ class Rule:
     ends: bool = False
     """For destinations alone."""
     too: "Rule | None" = None
-    """Where the way is open to all at some hours and for destinations alone at others: the way once more, as one that is
-    for destinations alone at all the hours at which anybody may enter it."""
+    """Where the way is open to all at some hours and for destinations alone at others: the way once more, as one that
+    is for destinations alone at all the hours at which anybody may enter it."""
     ferry: bool = False
     ring: bool = False
     """Part of a roundabout."""
@@ -70,7 +70,8 @@ def read_rule(tags: Tags, vehicle: Vehicle, weekday: int, without: frozenset[str
     out = _left_out(tags, kind, vehicle, access, base, without)
     if out is not None or base is None:
         return Rule(kind=kind, out=out or f"class: {kind}")
-    rule, too = _by_access(Rule(kind=kind, ferry=ferry, ring=tags.get("junction") in _RINGS, notes=tuple(notes)), access)
+    rule, too = _by_access(Rule(kind=kind, ferry=ferry, ring=tags.get("junction") in _RINGS, notes=tuple(notes)),
+                           access)
     done = _directed(rule, tags, vehicle, weekday, base)
     return done if too is None else replace(done, too=_directed(too, tags, vehicle, weekday, base))
 

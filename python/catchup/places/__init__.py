@@ -13,7 +13,7 @@ __all__ = ["Ask", "Leg", "NoRoute", "NoSegment", "Piece", "Place", "Places", "Sn
 
 
 def __getattr__(name: str) -> object:
-    """What needs numpy and scipy is loaded when it is first asked for."""
+    """What needs numpy is loaded when it is first asked for."""
     if name == "Places":
         from catchup.places import places
 

@@ -1,8 +1,8 @@
 """The ground around reached roads, as polygons.
 
-The ground is laid out in squares. Those that a reached road crosses count, and those around them. Their outline goes through
-the middles of edges from square to square, so corners are cut. Each reached road lies inside, nothing farther from one than
-three squares does, and a longer reach holds a shorter one.
+The ground is laid out in squares. Those that a reached road crosses count, and those around them. Their outline goes
+through the middles of edges from square to square, so corners are cut. Each reached road lies inside, nothing farther
+from one than three squares does, and a longer reach holds a shorter one.
 """
 
 from __future__ import annotations
@@ -52,7 +52,8 @@ class _Ground:
     def __init__(self, points: Floats) -> None:
         low, high = np.nanmin(points, axis=0), np.nanmax(points, axis=0)
         self._corner = low
-        self._scale = np.array([math.cos(math.radians(float(low[1] + high[1]) / 2)), 1.0]) * math.radians(1.0) * geometry.EARTH
+        flat = math.cos(math.radians(float(low[1] + high[1]) / 2))
+        self._scale = np.array([flat, 1.0]) * math.radians(1.0) * geometry.EARTH
         extent = (high - low) * self._scale
         self._side = max(SQUARE, float(extent.max()) / MOST_SQUARES)
         self._shape = tuple((extent // self._side).astype(int) + 1 + 2 * _MARGIN)
@@ -67,7 +68,8 @@ class _Ground:
         counts = np.ceil(2.5 * np.abs(step).max(axis=1, initial=0.0)).astype(np.int64) + 1
         rank = np.arange(counts.sum()) - np.repeat(np.cumsum(counts) - counts, counts)
         share = rank / np.repeat(np.maximum(counts - 1, 1), counts)
-        crossed = np.floor(np.repeat(start, counts, axis=0) + share[:, None] * np.repeat(step, counts, axis=0)).astype(np.int64)
+        begins, steps = (np.repeat(of, counts, axis=0) for of in (start, step))
+        crossed = np.floor(begins + share[:, None] * steps).astype(np.int64)
         found = np.zeros(self._shape, dtype=bool)
         found[crossed[:, 0], crossed[:, 1]] = True
         return _with_neighbours(_with_neighbours(found, 0), 1)
@@ -99,8 +101,8 @@ def _with_neighbours(squares: Bools, axis: int) -> Bools:
 
 
 def _rings(squares: Bools) -> list[Corners]:
-    """The outlines of squares, in half squares: what counts lies to the left of each, so they go round it, and the other way
-    round holes in it."""
+    """The outlines of squares, in half squares: what counts lies to the left of each, so they go round it, and the
+    other way round holes in it."""
     code = np.zeros((squares.shape[0] - 1, squares.shape[1] - 1), dtype=np.int8)
     for bit, (x, y) in enumerate(_AROUND):
         code |= squares[x:x + code.shape[0], y:y + code.shape[1]].astype(np.int8) << bit
@@ -128,8 +130,8 @@ def _without_straight(ring: Corners) -> Corners:
 
 
 def _edges_of(number: int) -> list[tuple[Corner, Corner]]:
-    """The pieces of outline between four middles, of which those count whose bits are set, in half squares: from halfway to
-    one that doesn't count, to halfway from one that doesn't. Two that are opposite don't touch."""
+    """The pieces of outline between four middles, of which those count whose bits are set, in half squares: from
+    halfway to one that doesn't count, to halfway from one that doesn't. Two that are opposite don't touch."""
     bits = [bool(number >> bit & 1) for bit in range(4)]
     halfway = [(x + _AROUND[at - 3][0], y + _AROUND[at - 3][1]) for at, (x, y) in enumerate(_AROUND)]
     leaves = [at for at in range(4) if bits[at] and not bits[at - 3]]

@@ -51,7 +51,8 @@ async def arrivals(driver: Driver, start: Snap, end: Snap, ask: Ask) -> Ints:
 def pieces_of(found: Ints) -> tuple[Piece, ...]:
     """Arrivals at each second of the day as pieces, in the spelling of the program's days."""
     seconds = np.arange(len(found))
-    ends_until, ends_travel = (np.append(np.flatnonzero(np.diff(values)) + 1, len(found)) for values in (found, found - seconds))
+    ends_until, ends_travel = (np.append(np.flatnonzero(np.diff(values)) + 1, len(found))
+                               for values in (found, found - seconds))
     pieces: list[Piece] = []
     at = 0
     while at < len(found):

@@ -21,9 +21,9 @@ from catchup.places.values import Ask, NoRoute, Snap
 
 @dataclass(frozen=True, slots=True)
 class Drive:
-    """A drive: `roads` in their order, the first from share `begin` of its metres on and the last up to share `stop`, and
-    `seconds` at which each is entered. All seconds count from the first leg's midnight. Where nothing is driven there are no
-    roads."""
+    """A drive: `roads` in their order, the first from share `begin` of its metres on and the last up to share `stop`,
+    and `seconds` at which each is entered. All seconds count from the first leg's midnight. Where nothing is driven
+    there are no roads."""
 
     start: Snap
     end: Snap
@@ -41,8 +41,8 @@ class Drive:
 
 
 class _Way(NamedTuple):
-    """A way from a beginning to an end: when one is at the end's node, and what the program said of the roads between, asked
-    at some second."""
+    """A way from a beginning to an end: when one is at the end's node, and what the program said of the roads between,
+    asked at some second."""
 
     source: Source
     target: Target
@@ -52,8 +52,8 @@ class _Way(NamedTuple):
 
 
 class Driver:
-    """Finds drives over one version of a network. `line` is the kind of line that asks for a drive: `q`, or `v` where the
-    program says the second at which each road is entered."""
+    """Finds drives over one version of a network. `line` is the kind of line that asks for a drive: `q`, or `v` where
+    the program says the second at which each road is entered."""
 
     def __init__(self, ends: Ends, travel: Travel, line: str = "q") -> None:
         self.ends = ends
@@ -155,8 +155,8 @@ def arrival(reply: str, second: int) -> int:
 
 
 def _between_seconds(source: Source, reply: str, later: str) -> tuple[float, int, str]:
-    """When one arrives who begins between two seconds, and the second and the reply that lead there: those of the later one
-    where that is as early."""
+    """When one arrives who begins between two seconds, and the second and the reply that lead there: those of the later
+    one where that is as early."""
     arrive = arrival(reply, source.second)
     if later and arrival(later, source.second + 1) == arrive:
         return arrive, source.second + 1, later

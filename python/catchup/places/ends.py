@@ -21,8 +21,8 @@ NO_ROAD = -1
 
 
 class Beginning(NamedTuple):
-    """Who leaves the place drives the rest of `road` behind `share` of it, and is at `node` then. Nothing is driven where the
-    share is 1; then there may be no road (NO_ROAD)."""
+    """Who leaves the place drives the rest of `road` behind `share` of it, and is at `node` then. Nothing is driven
+    where the share is 1; then there may be no road (NO_ROAD)."""
 
     node: int
     road: int

@@ -1,8 +1,8 @@
 """The nearest points of streets.
 
 Places are points on a ball of the earth's radius, and distances go straight through it: so all is exact anywhere on the
-earth, and no map is stretched. Segments of streets are cut into pieces of at most PIECE metres, whose middles stand in a
-k-d tree: whatever is nearer than some distance has the middle of a piece within that and half a piece.
+earth, and no map is stretched. Segments of streets are cut into pieces of at most PIECE metres, whose middles stand in
+the cells of a grid: whatever is nearer than some distance has the middle of a piece within that and half a piece.
 """
 
 from __future__ import annotations
@@ -12,20 +12,20 @@ from dataclasses import dataclass
 
 import numpy as np
 from numpy.typing import NDArray
-from scipy.spatial import cKDTree
 
 from catchup.geometry import EARTH
+from catchup.places.grid import Grid
 from catchup.places.streets import Streets
 from catchup.places.values import Place
 
 Shorts = NDArray[np.int32]
-Ints = NDArray[np.int64]
 Floats = NDArray[np.float64]
 
 PIECE = 80.0
 """Metres of the longest piece of a segment."""
 
 _FIRST_LOOK = 150.0
+_FARTHER = 2.0
 _FARTHEST = 2 * EARTH
 _SAME = 1e-6
 """Metres that make no difference."""
@@ -34,8 +34,9 @@ _SUM = np.ones(3)
 
 @dataclass(frozen=True, slots=True)
 class Found:
-    """The nearest point of each of some streets, the nearest first. street: int32[h]; segment: int32[h], its first point's
-    place among all points; part: float64[h], how much of the segment lies before the point; metres: float64[h]."""
+    """The nearest point of each of some streets, the nearest first. street: int32[h]; segment: int32[h], its first
+    point's place among all points; part: float64[h], how much of the segment lies before the point; metres:
+    float64[h]."""
 
     street: Shorts
     segment: Shorts
@@ -61,8 +62,8 @@ def _one_on_ball(place: Place) -> Floats:
 class Index:
     """Finds the nearest points of streets.
 
-    Of p pieces: _segment: int32[p]; _pieces: float64[p, 9], where each begins, the step to its end, 1 / its square, and how
-    much of its segment lies before it and in it.
+    Of p pieces: _segment: int32[p]; _pieces: float64[p, 9], where each begins, the step to its end, 1 / its square, and
+    how much of its segment lies before it and in it.
     """
 
     def __init__(self, streets: Streets) -> None:
@@ -82,11 +83,11 @@ class Index:
         self._pieces[:, 3:6] = steps
         self._pieces[:, 6] = 1.0 / np.maximum(np.einsum("ij,ij->i", steps, steps), _SAME * _SAME)
         self._pieces[:, 7], self._pieces[:, 8] = rank * width, width
-        self._tree = cKDTree(self._pieces[:, :3] + steps / 2, balanced_tree=False, compact_nodes=False)
+        self._grid = Grid(self._pieces[:, :3] + steps / 2)
 
     def nearest(self, place: Place, number: int, limit: float) -> Found:
-        """At least `number` of the nearest streets, and all that are as near as these; fewer where there are no more within
-        `limit` metres."""
+        """At least `number` of the nearest streets, and all that are as near as these; fewer where there are no more
+        within `limit` metres."""
         at = _one_on_ball(place)
         radius = min(_FIRST_LOOK, limit)
         while True:
@@ -95,13 +96,13 @@ class Index:
             found = self._found(pieces[near], part[near], np.sqrt(square[near]))
             if len(found.street) >= number or radius >= limit or radius >= _FARTHEST:
                 return found
-            radius = min(max(4 * radius, self._least(at)), limit)
+            radius = min(_FARTHER * radius, limit)
 
     def nearest_one(self, place: Place, limit: float) -> list[tuple[int, int, float]]:
-        """The nearest street, on it the segment, and how much of that lies before the nearest point; then others that are just
-        as near. None where there is none within `limit` metres."""
+        """The nearest street, on it the segment, and how much of that lies before the nearest point; then others that
+        are just as near. None where there is none within `limit` metres."""
         at = _one_on_ball(place)
-        radius = min(_FIRST_LOOK, limit)
+        radius, least = min(_FIRST_LOOK, limit), math.inf
         while True:
             pieces, part, square = self._look(at, radius)
             if len(pieces):
@@ -111,19 +112,20 @@ class Index:
                     break
             if radius >= limit or radius >= _FARTHEST:
                 return []
-            radius = min(self._least(at), limit)
+            radius = min(_FARTHER * radius, least + _SAME, limit)
         near = (square <= (least + _SAME) ** 2).nonzero()[0]
         if len(near) > 1:
             found = self._found(pieces[near], part[near], np.sqrt(square[near]))
             return list(zip(found.street.tolist(), found.segment.tolist(), found.part.tolist()))
         piece = int(pieces[row])
         segment = int(self._segment[piece])
-        return [(int(self._street[segment]), segment, float(self._pieces[piece, 7] + part[row] * self._pieces[piece, 8]))]
+        share = float(self._pieces[piece, 7] + part[row] * self._pieces[piece, 8])
+        return [(int(self._street[segment]), segment, share)]
 
-    def _look(self, at: Floats, radius: float) -> tuple[Ints, Floats, Floats]:
-        """All pieces that come as near as a radius to a point on the ball, and some others: how much of each lies before its
-        nearest point, and the square of how far that is."""
-        pieces = np.array(self._tree.query_ball_point(at, radius + PIECE / 2), dtype=np.int64)
+    def _look(self, at: Floats, radius: float) -> tuple[Shorts, Floats, Floats]:
+        """All pieces that come as near as a radius to a point on the ball, and some others: how much of each lies
+        before its nearest point, and the square of how far that is."""
+        pieces = self._grid.near(at, radius + PIECE / 2)
         rows = self._pieces.take(pieces, 0)
         step = rows[:, 3:6]
         away = at - rows[:, :3]
@@ -131,7 +133,7 @@ class Index:
         away -= part[:, None] * step
         return pieces, part, np.square(away) @ _SUM
 
-    def _found(self, pieces: Ints, part: Floats, metres: Floats) -> Found:
+    def _found(self, pieces: Shorts, part: Floats, metres: Floats) -> Found:
         """The nearest point of each street; of equally near ones, as at a junction, that of the lowest number first."""
         segment = self._segment[pieces]
         part = self._pieces[pieces, 7] + part * self._pieces[pieces, 8]
@@ -140,11 +142,3 @@ class Index:
         _, firsts = np.unique(street[order], return_index=True)
         order = order[np.sort(firsts)]
         return Found(street[order], segment[order], part[order], metres[order])
-
-    def _least(self, at: Floats) -> float:
-        """Within how many metres of a point on the ball there is a street: as far as that piece whose middle is nearest."""
-        _, piece = self._tree.query(at)
-        row = self._pieces[piece]
-        away, step = at - row[:3], row[3:6]
-        away -= min(max(float(away @ step) * float(row[6]), 0.0), 1.0) * step
-        return math.sqrt(away @ away) + _SAME

@@ -1,7 +1,8 @@
 """The latest departure that is in time.
 
 Who leaves later never arrives earlier, so a guess and steps from there will do. The guess is the program's: of each
-beginning and each end the latest departure between their nodes (line `l`), with the last seconds at which one may be there.
+beginning and each end the latest departure between their nodes (line `l`), with the last seconds at which one may be
+there.
 """
 
 from __future__ import annotations
@@ -44,8 +45,8 @@ async def latest(driver: Driver, start: Snap, end: Snap, by: int, ask: Ask, leg:
 
 
 async def latest_over(driver: Driver, snaps: Sequence[Snap], by: int, ask: Ask) -> list[Drive]:
-    """The drives over some places that leave as late as is in time: the first one on the first day, others perhaps later.
-    NoRoute(leg), TooLate(leg)."""
+    """The drives over some places that leave as late as is in time: the first one on the first day, others perhaps
+    later. NoRoute(leg), TooLate(leg)."""
     for leg in range(len(snaps) - 2, 0, -1):
         by = (await _latest_of_any_day(driver, snaps[leg], snaps[leg + 1], by, ask, leg)).depart
     drives = [await latest(driver, snaps[0], snaps[1], by, ask)]

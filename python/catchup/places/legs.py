@@ -18,7 +18,8 @@ def leg_of(lines: Lines, drive: Drive) -> Leg:
         pace = (left - entered) / (end - begin)
         for name, ref, low, high, coordinates in lines.stretches(part):
             until = left if high == end else entered + (high - begin) * pace
-            pieces.append(Piece(road, name, ref, kind, is_roundabout, (high - low) * metres, entered + (low - begin) * pace,
+            pieces.append(Piece(road, name, ref, kind, is_roundabout, (high - low) * metres,
+                                entered + (low - begin) * pace,
                                 until, coordinates))
     return Leg(drive.start, drive.end, drive.depart, drive.arrive, tuple(drive.roads), tuple(drive.seconds),
                tuple(pieces) or (_still(lines, drive),))

@@ -1,4 +1,5 @@
-"""What drives look like: their lines, in coordinates and in the texts that answers are made of, and the names along them.
+"""What drives look like: their lines, in coordinates and in the texts that answers are made of, and the names along
+them.
 
 A part of a drive is a road with the shares of its metres at which the part begins and ends: (road, 0.0, 1.0) is a whole
 road. What is made of whole roads is kept, since drives share most of them.
@@ -61,7 +62,8 @@ class Lines:
     """The lines and names of m roads. metres: float64[m]; kind: int32[m], a number into `kinds`, the classes of roads;
     ring: bool[m], whether a road is part of a roundabout."""
 
-    def __init__(self, streets: Streets, names: RoadNames, metres: Floats, kind: Shorts, kinds: list[str], ring: Bools) -> None:
+    def __init__(self, streets: Streets, names: RoadNames, metres: Floats, kind: Shorts, kinds: list[str],
+                 ring: Bools) -> None:
         self._streets = streets
         self._names = names
         self._text = names.longest()
@@ -148,7 +150,8 @@ class Lines:
         streets = self._streets
         street, is_forward, shares = streets.of_road[road], streets.is_forward[road], streets.shares(road)
         rows = self._rows[streets.first[street]:streets.first[street + 1]]
-        inner = (rows if is_forward else rows[::-1])[int(shares.searchsorted(begin, "right")):int(shares.searchsorted(end, "left"))]
+        low, high = int(shares.searchsorted(begin, "right")), int(shares.searchsorted(end, "left"))
+        inner = (rows if is_forward else rows[::-1])[low:high]
         line = b"%b,%b" % (inner.tobytes().replace(b"\0", b""), _told(self.place(road, end)))
         return Told(line, self._said[int(self._text[road])], b"%.1f" % (float(self.metres[road]) * (end - begin)))
 
@@ -196,7 +199,8 @@ class Lines:
 
 
 def parts_of(roads: Sequence[int], begin: float, end: float) -> list[Part]:
-    """The parts of roads that follow one another, one at least, from a share of the first one to one of the last one."""
+    """The parts of roads that follow one another, one at least, from a share of the first one to one of the last
+    one."""
     found = [(road, 0.0, 1.0) for road in roads]
     found[0] = (found[0][0], begin, 1.0)
     found[-1] = (*found[-1][:2], end)

@@ -24,8 +24,8 @@ _NEVER = -1
 
 @dataclass(frozen=True, slots=True)
 class _Columns:
-    """The ends of all targets. node: the nodes, each once; at: int64[e], each end's place among these; road, share: int64[e],
-    float64[e]; first: int64[T], where the ends of each target begin; empty: bool[T], whether it has none."""
+    """The ends of all targets. node: the nodes, each once; at: int64[e], each end's place among these; road, share:
+    int64[e], float64[e]; first: int64[T], where the ends of each target begin; empty: bool[T], whether it has none."""
 
     node: list[int]
     at: Ints
@@ -64,11 +64,13 @@ def _columns(ends: Sequence[Sequence[Target]]) -> _Columns:
     flat = [target for of in ends for target in of]
     at = [number.setdefault(target.node, len(number)) for target in flat]
     sizes = np.array([len(of) for of in ends])
-    return _Columns(list(number), np.array(at, dtype=np.int64), np.array([target.road for target in flat], dtype=np.int64),
+    return _Columns(list(number), np.array(at, dtype=np.int64),
+                    np.array([target.road for target in flat], dtype=np.int64),
                     np.array([target.share for target in flat], dtype=np.float64), np.cumsum(sizes) - sizes, sizes == 0)
 
 
-async def _block(driver: Driver, begins: Sequence[Sequence[Source]], columns: _Columns, depart: int, ask: Ask) -> Floats:
+async def _block(
+        driver: Driver, begins: Sequence[Sequence[Source]], columns: _Columns, depart: int, ask: Ask) -> Floats:
     """The travel times of some sources; nan where no way leads."""
     flat = [source for of in begins for source in of]
     times = await _times(driver, flat, columns.node, ask)
@@ -91,8 +93,9 @@ async def _times(driver: Driver, sources: Sequence[Source], nodes: Sequence[int]
     """When one is at each node who begins at each source, float64[sources, nodes]; infinite where no way leads."""
     arrive = await _arrivals([(source.node, source.second) for source in sources], nodes, ask)
     part = np.array([source.part for source in sources], dtype=np.float64)
+    last = [int(row.max(initial=source.second)) for row, source in zip(arrive, sources)]
     later = [row for row, source in enumerate(sources)
-             if source.part > 0.0 and driver.travel.has_rest(source.second, int(arrive[row].max(initial=source.second)))]
+             if source.part > 0.0 and driver.travel.has_rest(source.second, last[row])]
     times = np.where(arrive == _NEVER, np.inf, arrive + part[:, None])
     if later:
         behind = await _arrivals([(sources[row].node, sources[row].second + 1) for row in later], nodes, ask)
@@ -108,10 +111,13 @@ async def _arrivals(starts: Sequence[tuple[int, int]], nodes: Sequence[int], ask
     most = max(MOST_ENTRIES // len(nodes), 1) if nodes else MOST_ENTRIES
     parts = [(second, list(of)[at:at + most]) for second, of in by_second.items() for at in range(0, len(of), most)]
     said = ",".join(map(str, nodes))
-    replies = await ask([f"t,{second % DAY},{len(of)},{','.join(map(str, of))},{said}" for second, of in parts]) if nodes else []
+    lines = [f"t,{second % DAY},{len(of)},{','.join(map(str, of))},{said}" for second, of in parts]
+    replies = await ask(lines) if nodes else []
     row_of = {start: row for row, start in enumerate((node, second) for second, of in parts for node in of)}
     rows = [_entries(reply, len(of), len(nodes), second // DAY * DAY) for (second, of), reply in zip(parts, replies)]
-    return np.concatenate(rows)[[row_of[start] for start in starts]] if rows else np.empty((len(starts), 0), dtype=np.int64)
+    if not rows:
+        return np.empty((len(starts), 0), dtype=np.int64)
+    return np.concatenate(rows)[[row_of[start] for start in starts]]
 
 
 def _entries(reply: str, rows: int, width: int, day: int) -> Ints:

@@ -27,8 +27,8 @@ _SNAPS_KEPT = 4_096
 
 @dataclass(eq=False)
 class Ground:
-    """What is the same for all versions of a network: its streets and how they are found. profile: int32[m], the profiles
-    of its roads as they were imported."""
+    """What is the same for all versions of a network: its streets and how they are found. profile: int32[m], the
+    profiles of its roads as they were imported."""
 
     folder: Path
     streets: Streets
@@ -44,9 +44,11 @@ class Ground:
         streets = Streets.of(content)
         leaving = np.bincount(content.road_tail, minlength=len(content.node_lon)).astype(np.int32)
         ends = Ends(content.road_tail, content.road_head, content.node_copy, streets.junction, leaving)
-        lines = Lines(streets, content.names, content.road_metres, content.road_class, content.classes, content.road_ring)
+        lines = Lines(streets, content.names, content.road_metres, content.road_class, content.classes,
+                      content.road_ring)
         places = np.column_stack((content.node_lon, content.node_lat))
-        snapper = Snapper(streets, ends, lines, places, content.node_osm, content.properties.get("driving_side") == "left")
+        snapper = Snapper(streets, ends, lines, places, content.node_osm,
+                          content.properties.get("driving_side") == "left")
         return cls(folder, streets, ends, lines, snapper, content.road_profile)
 
     @cached_property
@@ -70,11 +72,13 @@ class Places:
 
     @classmethod
     def open(cls, folder: Path) -> Places:
-        """The places of the folder that catchup-import made. Raises Failure where there is no map.gpkg, or a bad one."""
+        """The places of the folder that catchup-import made. Raises Failure where there is no map.gpkg, or a bad
+        one."""
         return cls(Ground.open(Path(folder)))
 
     def over(self, travel: Travel, line: str = "q") -> Places:
-        """The same places with other travel functions; `line` is `v` where the program says when each road is entered."""
+        """The same places with other travel functions; `line` is `v` where the program says when each road is
+        entered."""
         return Places(self.ground, travel, line)
 
     @cached_property
@@ -87,14 +91,16 @@ class Places:
         """What drives look like."""
         return self.ground.lines
 
-    def nearest(self, place: Place, number: int = 1, *, radius: float | None = None, bearing: tuple[int, int] | None = None,
+    def nearest(self, place: Place, number: int = 1, *, radius: float | None = None,
+                bearing: tuple[int, int] | None = None,
                 curb: bool = False) -> list[Snap]:
         """The nearest points of up to `number` streets, the nearest first.
 
-        radius: metres within which they are; where none is said any distance will do in the map's box, and OUTSIDE metres
-        out of it. bearing: a direction in degrees clockwise from north and by how much another may differ from it: only
-        roads that are driven so count. curb: only the roads on whose side (the right one) the place lies, on streets that
-        are driven both ways. Raises NoSegment(0) where there is none, ValueError where this is no place on earth.
+        radius: metres within which they are; where none is said any distance will do in the map's box, and OUTSIDE
+        metres out of it. bearing: a direction in degrees clockwise from north and by how much another may differ from
+        it: only roads that are driven so count. curb: only the roads on whose side (the right one) the place lies, on
+        streets that are driven both ways. Raises NoSegment(0) where there is none, ValueError where this is no place on
+        earth.
         """
         if number == 1 and radius is None and bearing is None and not curb:
             return [self.nearest_one(place)]
@@ -132,8 +138,8 @@ class Places:
         return found
 
     async def legs(self, snaps: Sequence[Snap], depart: int, ask: Ask) -> list[Leg]:
-        """The best drives from each place to the next, each from when the one before arrives; `depart` is a second of the
-        day. Raises NoRoute(index of the leg)."""
+        """The best drives from each place to the next, each from when the one before arrives; `depart` is a second of
+        the day. Raises NoRoute(index of the leg)."""
         return [leg_of(self.lines, drive) for drive in await self.drives(snaps, depart, ask)]
 
     async def table(self, sources: Sequence[Snap], targets: Sequence[Snap], depart: int, ask: Ask) -> Floats:

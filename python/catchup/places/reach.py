@@ -20,8 +20,8 @@ Floats = NDArray[np.float64]
 
 @dataclass(frozen=True, slots=True)
 class Reached:
-    """Stretches of roads, each driven from share `begin` to share `end` of its metres, which takes from `entered` to `left`,
-    in seconds from the midnight before departure; by rising `entered`. road: int64[r]; the others: float64[r].
+    """Stretches of roads, each driven from share `begin` to share `end` of its metres, which takes from `entered` to
+    `left`, in seconds from the midnight before departure; by rising `entered`. road: int64[r]; the others: float64[r].
 
     A street that is driven both ways may be there twice, but no road and its copy.
     """
@@ -70,7 +70,8 @@ async def reached(driver: Driver, streets: Streets, start: Snap, depart: int, li
 
 def _begun(driver: Driver, start: Snap, depart: int) -> tuple[Ints, Floats, Floats, Floats, Floats]:
     """The rests of the roads on which drives begin."""
-    begins = [begin for begin in driver.ends.beginnings(start, driver.travel) if begin.road != NO_ROAD and begin.share < 1.0]
+    begins = [begin for begin in driver.ends.beginnings(start, driver.travel)
+              if begin.road != NO_ROAD and begin.share < 1.0]
     shares = np.array([begin.share for begin in begins], dtype=np.float64)
     takes = np.array([driver.travel.arrive(begin.road, depart) - depart for begin in begins], dtype=np.float64)
     return (np.array([begin.road for begin in begins], dtype=np.int64), shares, np.ones(len(begins)),

@@ -46,7 +46,8 @@ class Snapper:
         (west, south), (east, north) = (edge(streets.places, axis=0).tolist() for edge in (np.min, np.max))
         self.box: tuple[float, float, float, float] = west, south, east, north
 
-    def nearest(self, place: Place, number: int, radius: float | None, bearing: tuple[int, int] | None, curb: bool) -> list[Snap]:
+    def nearest(self, place: Place, number: int, radius: float | None, bearing: tuple[int, int] | None,
+                curb: bool) -> list[Snap]:
         """As Places.nearest."""
         check_place(place)
         limit = self._limit(place) if radius is None else float(radius)
@@ -101,7 +102,8 @@ class Snapper:
         road, share = roads[0]
         street = int(self._streets.of_road[road])
         name, ref = self._lines.name_at(road, share)
-        return Snap((lon, lat), (lon, lat), 0.0, street, share if self._streets.is_forward[road] else 1.0 - share, tuple(roads), name, ref)
+        return Snap((lon, lat), (lon, lat), 0.0, street, share if self._streets.is_forward[road] else 1.0 - share,
+                    tuple(roads), name, ref)
 
     def nodes_of(self, osm: int) -> list[int]:
         """The nodes of a number in OpenStreetMap."""
@@ -120,7 +122,8 @@ class Snapper:
     def _by_osm(self) -> Ints:
         return np.argsort(self._node_osm, kind="stable")
 
-    def _snaps(self, place: Place, found: Found, number: int, bearing: tuple[int, int] | None, curb: bool) -> list[Snap]:
+    def _snaps(self, place: Place, found: Found, number: int, bearing: tuple[int, int] | None,
+               curb: bool) -> list[Snap]:
         """Up to `number` of these streets that go the right way."""
         snaps: list[Snap] = []
         for street, segment, part in zip(found.street.tolist(), found.segment.tolist(), found.part.tolist()):
@@ -133,7 +136,8 @@ class Snapper:
                 break
         return snaps
 
-    def _right_way(self, place: Place, roads: list[int], segment: int, bearing: tuple[int, int] | None, curb: bool) -> list[int]:
+    def _right_way(self, place: Place, roads: list[int], segment: int, bearing: tuple[int, int] | None,
+                   curb: bool) -> list[int]:
         """Those of a street's roads that are driven in some direction, or on the side on which a place is."""
         (x, y), (u, v) = (self._streets.places[segment + step].tolist() for step in (0, 1))
         flat = math.cos(math.radians(y))
@@ -141,7 +145,8 @@ class Snapper:
         forward = self._streets.is_forward
         if bearing is not None:
             ahead = math.degrees(math.atan2(east, north))
-            roads = [road for road in roads if _differ(ahead if forward[road] else ahead + 180.0, bearing[0]) <= bearing[1]]
+            roads = [road for road in roads
+                     if _differ(ahead if forward[road] else ahead + 180.0, bearing[0]) <= bearing[1]]
         if curb and len({bool(forward[road]) for road in roads}) == 2:
             left = east * (place[1] - y) - north * (place[0] - x) * flat
             if left != 0.0:
@@ -171,8 +176,8 @@ class Snapper:
 
     def _through(self, junctions: Sequence[int]) -> list[tuple[int, float]]:
         """All roads of some junctions, with 0 where they begin there and 1 where they end there."""
-        return sorted((road, share) for junction in junctions for share, of in ((0.0, self._leaving), (1.0, self._coming))
-                      for road in of[junction].tolist())
+        return sorted((road, share) for junction in junctions
+                      for share, of in ((0.0, self._leaving), (1.0, self._coming)) for road in of[junction].tolist())
 
 
 def check_place(place: Place) -> None:

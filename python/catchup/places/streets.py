@@ -1,7 +1,7 @@
 """The streets of a map, and its junctions.
 
-A street is a line on the ground: all roads that are driven along it, in both directions and as copies, are its roads. It
-is kept once, in the sense of its lowest road. A junction is where streets meet: a node with all its copies.
+A street is a line on the ground: all roads that are driven along it, in both directions and as copies, are its roads.
+It is kept once, in the sense of its lowest road. A junction is where streets meet: a node with all its copies.
 """
 
 from __future__ import annotations
@@ -11,8 +11,6 @@ from functools import cached_property
 
 import numpy as np
 from numpy.typing import NDArray
-from scipy.sparse import coo_matrix
-from scipy.sparse.csgraph import connected_components
 
 from catchup import geometry
 from catchup.mapfile import MapFile
@@ -115,7 +113,8 @@ def _mixed(bits: NDArray[np.uint64]) -> NDArray[np.uint64]:
 
 
 def _points_of(first: Ints, lines: Shorts) -> tuple[Ints, Ints]:
-    """Where the points of some lines begin when they stand behind one another, and the place of each among all points."""
+    """Where the points of some lines begin when they stand behind one another, and the place of each among all
+    points."""
     sizes = first[lines + 1] - first[lines]
     begins = np.concatenate(([0], np.cumsum(sizes)))
     return begins, np.arange(begins[-1]) + np.repeat(first[lines] - begins[:-1], sizes)
@@ -143,22 +142,38 @@ def _same_sense(content: MapFile, lead: Shorts) -> Bools:
     same = np.ones(len(content), dtype=bool)
     for step in (1, 0):
         one, other = first[:-1] + step, first[lead] + step
-        differs = (content.point_lon[one] != content.point_lon[other]) | (content.point_lat[one] != content.point_lat[other])
-        ring = first[lead + 1] - 1
-        is_ring = (content.point_lon[first[lead]] == content.point_lon[ring]) & (content.point_lat[first[lead]] == content.point_lat[ring])
+        differs = _differ(content, one, other)
+        is_ring = ~_differ(content, first[lead], first[lead + 1] - 1)
         same &= ~(differs & (is_ring if step else ~is_ring))
     return same
 
 
+def _differ(content: MapFile, one: Ints, other: Ints) -> Bools:
+    """Which of some points aren't where the others are."""
+    differ: Bools = ((content.point_lon[one] != content.point_lon[other])
+                     | (content.point_lat[one] != content.point_lat[other]))
+    return differ
+
+
 def _junctions(content: MapFile, of_road: Shorts, is_forward: Bools) -> Shorts:
-    """A number for each node: nodes at which one end of a street has roads are one junction. At a barrier that blocks two
-    nodes have one place and stay two."""
+    """A number for each node: nodes at which one end of a street has roads are one junction. At a barrier that blocks
+    two nodes have one place and stay two."""
     nodes, streets = len(content.node_lon), int(of_road.max(initial=-1)) + 1
-    behind = nodes + 2 * of_road.astype(np.int64)
+    behind = 2 * of_road.astype(np.int64)
     ends = np.concatenate((behind + ~is_forward, behind + is_forward))
-    tied = np.concatenate((content.road_tail, content.road_head))
-    size = nodes + 2 * streets
-    links = coo_matrix((np.ones(len(ends), dtype=np.int8), (tied, ends)), shape=(size, size))
-    label = connected_components(links, directed=False)[1][:nodes]
+    tied = np.concatenate((content.road_tail, content.road_head)).astype(np.int64)
+    by_end, by_node = Grouped.by(ends.astype(np.int32), 2 * streets), Grouped.by(tied.astype(np.int32), nodes)
+    tied_by_end, ends_by_node = tied[by_end.things], ends[by_node.things]
+    has_road = np.diff(by_node.first) > 0
+    # Each takes the lowest node that any of its ends has, until none has a lower one.
+    label = np.arange(nodes)
+    while len(ends):
+        least = np.minimum.reduceat(label[tied_by_end], by_end.first[:-1])
+        lower = label.copy()
+        lower[has_road] = np.minimum.reduceat(least[ends_by_node], by_node.first[:-1][has_road])
+        lower = lower[lower]
+        if np.array_equal(lower, label):
+            break
+        label = lower
     _, found = np.unique(label, return_inverse=True)
     return np.asarray(found, dtype=np.int32)

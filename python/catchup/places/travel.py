@@ -61,8 +61,8 @@ class Travel:
         return float(arrive) if part == 0.0 else min(arrive + part, float(self.arrive(road, second + 1)))
 
     def entered(self, roads: list[int], second: int) -> tuple[list[int], int]:
-        """When each of some roads is entered that are driven one after the other from a second on, and when the last one is
-        left. Lines `v` of the program say the same."""
+        """When each of some roads is entered that are driven one after the other from a second on, and when the last
+        one is left. Lines `v` of the program say the same."""
         constant = self._constant
         takes = [constant[road] for road in roads]
         if min(takes, default=0) >= 0:
@@ -108,8 +108,9 @@ class Travel:
         return found
 
     def has_rest(self, begin: int, end: int) -> bool:
-        """Whether at some second from `begin` to `end` somebody may enter a road and leave it no later for entering it a
-        second later. Where not, who leaves any place a second later arrives at each other one a second later at least."""
+        """Whether at some second from `begin` to `end` somebody may enter a road and leave it no later for entering it
+        a second later. Where not, who leaves any place a second later arrives at each other one a second later at
+        least."""
         if self._rests is None:
             return False
         if end - begin >= DAY - 1:
@@ -130,14 +131,15 @@ class Travel:
 
     @cached_property
     def _keys(self) -> Ints:
-        """Where each piece begins, in one rising row: its profile's number times the seconds of a day, and its start."""
+        """Where each piece begins, in one rising row: its profile's number times the seconds of a day, and its
+        start."""
         number = np.repeat(np.arange(len(self._profiles)), np.diff(self._profiles.first))
         return number * DAY + self._profiles.start
 
     @cached_property
     def _rests(self) -> Ints | None:
-        """How many of the seconds before each are such that some road's arrival is that of the next second, int64[DAY + 1];
-        None where there are none."""
+        """How many of the seconds before each are such that some road's arrival is that of the next second, int64[DAY +
+        1]; None where there are none."""
         of = self._profiles
         is_used = np.zeros(len(of), dtype=bool)
         is_used[self._profile] = True
@@ -151,7 +153,8 @@ class Travel:
         after = np.append(arrive[1:], 0)
         after[of.first[1:] - 1] = arrive[of.first[:-1]] + DAY
         changes = np.zeros(DAY + 1, dtype=np.int64)
-        for begin, behind in ((start[used & is_until], end[used & is_until] - 1), (end[rests := used & (last == after)] - 1, end[rests])):
+        rests = used & (last == after)
+        for begin, behind in ((start[used & is_until], end[used & is_until] - 1), (end[rests] - 1, end[rests])):
             np.add.at(changes, begin, 1)
             np.add.at(changes, behind, -1)
         found = np.concatenate(([0], np.cumsum(np.cumsum(changes[:DAY]) > 0)))

@@ -18,7 +18,8 @@ Place: TypeAlias = tuple[float, float]
 """Longitude and latitude, in degrees."""
 
 Ask: TypeAlias = Callable[[Sequence[str]], Awaitable[Sequence[str]]]
-"""Script lines that go to one process of the program in one write, and its replies in their order, without line ends."""
+"""Script lines that go to one process of the program in one write, and its replies in their order, without line
+ends."""
 
 
 class NoSegment(CatchupError):
@@ -54,13 +55,12 @@ class TooLate(NoRoute):
 class Snap:
     """Where a place meets the network: a point of a road.
 
-    place: what was asked for. point: on the road. metres: from place to point.
-    street: a number that names this point's stretch of street, the same for both directions and all copies; with `share`
-    it is a hint by which `Places.hinted` finds the point again.
-    share: how much of the stretch lies before the point, 0 to 1 of its metres, in the sense of its lowest road's number.
-    roads: every road that may be driven through this point (both directions, copies, and at a junction all that meet
-    there), each with the share, 0 to 1 of its metres, that lies before the point.
-    name, ref: of the street there, "" where it has none.
+    place: what was asked for. point: on the road. metres: from place to point. street: a number that names this point's
+    stretch of street, the same for both directions and all copies; with `share` it is a hint by which `Places.hinted`
+    finds the point again. share: how much of the stretch lies before the point, 0 to 1 of its metres, in the sense of
+    its lowest road's number. roads: every road that may be driven through this point (both directions, copies, and at a
+    junction all that meet there), each with the share, 0 to 1 of its metres, that lies before the point. name, ref: of
+    the street there, "" where it has none.
     """
 
     place: Place
@@ -97,9 +97,9 @@ class Piece:
 class Leg:
     """A drive from one place to the next, the best there is.
 
-    depart, arrive: whole seconds from the first leg's midnight; `arrive` is the least arrival.
-    roads: numbers in order, those at the ends that are driven in part included; seconds: when each is entered.
-    pieces: what is driven, in order: one at least, and where nothing is driven (both ends are one point) one of 0 metres.
+    depart, arrive: whole seconds from the first leg's midnight; `arrive` is the least arrival. roads: numbers in order,
+    those at the ends that are driven in part included; seconds: when each is entered. pieces: what is driven, in order:
+    one at least, and where nothing is driven (both ends are one point) one of 0 metres.
     """
 
     start: Snap

@@ -20,7 +20,6 @@ Piece = tuple[int, str, int]
 async def day(version: Version, asked: dict[str, Any]) -> Response:
     """The answer to /day over places: the pieces, and a best way for each second of the day."""
     found = placed(version)
-    assert found is not None
     start, end, said = ends_of(found, asked)
     try:
         with version.held():
@@ -36,7 +35,6 @@ async def day(version: Version, asked: dict[str, Any]) -> Response:
 async def pieces_between(version: Version, start: Stop, end: Stop) -> list[Piece] | None:
     """The pieces of a day, each with its second, kind and value; none where no way leads."""
     found = placed(version)
-    assert found is not None
     one, other, _ = ends_of(found, {"from": start, "to": end})
     try:
         with version.held():

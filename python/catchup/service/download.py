@@ -31,11 +31,13 @@ def geojson(lines: Lines, snaps: Sequence[Snap], drives: Sequence[Drive], versio
     features: list[dict[str, Any]] = []
     for drive in drives:
         said = {"kind": "leg", **timed("depart", drive.depart), **timed("arrive", drive.arrive),
-                "travel": drive.arrive - drive.depart, "metres": round(metres_of(lines, drive), 1), "names": names_of(lines, drive)}
+                "travel": drive.arrive - drive.depart, "metres": round(metres_of(lines, drive), 1),
+                "names": names_of(lines, drive)}
         features.append({"type": "Feature", "properties": said, "geometry": {
             "type": "LineString", "coordinates": np.round(line_of(lines, drive), DECIMALS).tolist()}})
     for snap in snaps:
-        features.append({"type": "Feature", "properties": {"kind": "place", "name": snap.name or snap.ref}, "geometry": {
+        features.append({"type": "Feature", "properties": {"kind": "place", "name": snap.name or snap.ref},
+                         "geometry": {
             "type": "Point", "coordinates": [round(value, DECIMALS) for value in snap.point]}})
     return as_json({"type": "FeatureCollection", "features": features, "version": version})
 

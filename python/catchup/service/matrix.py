@@ -18,7 +18,6 @@ from catchup.service.words import DAY
 async def table(version: Version, asked: dict[str, Any]) -> Response:
     """The answer to /table over places."""
     found, depart = placed(version), asked["depart"]
-    assert found is not None
     if depart >= DAY:
         raise Refusal(400, "refused: second", hint="a second of the day is below 86400")
     sources, targets = ([snap_of(found.places, stop, name) for stop in asked[name]] for name in ("from", "to"))

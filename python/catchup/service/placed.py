@@ -25,8 +25,9 @@ if TYPE_CHECKING:
 
 @dataclass(frozen=True, slots=True)
 class Placed:
-    """The places of one version. `quick` asks the child for routes, `slow` the one for all that takes longer; both raise
-    the Refusal that a client gets where the program has no answer. Hold the version while several lines are asked."""
+    """The places of one version. `quick` asks the child for routes, `slow` the one for all that takes longer; both
+    raise the Refusal that a client gets where the program has no answer. Hold the version while several lines are
+    asked."""
 
     version: Version
     places: Places
@@ -34,12 +35,17 @@ class Placed:
     slow: Ask
 
 
-def placed(version: Version) -> Placed | None:
-    """The places of a version; None where its file is served without a map.gpkg among its --tables."""
-    if version.placed is None and version.ground is not None:
-        places = version.ground.over(travel_of(version.descriptor), "v" if version.has_seconds else "q")
-        version.placed = Placed(version, places, ask_of(lambda: version.quick), ask_of(lambda: version.slow))
+def placed(version: Version) -> Placed:
+    """The places of a version that has started, and whose network has some."""
+    assert version.placed is not None
     return version.placed
+
+
+def placed_of(version: Version) -> Placed:
+    """The places of a version whose children have started, with the times of its file."""
+    assert version.ground is not None
+    places = version.ground.over(travel_of(version.descriptor), "v" if version.has_seconds else "q")
+    return Placed(version, places, ask_of(lambda: version.quick), ask_of(lambda: version.slow))
 
 
 def ask_of(child: Callable[[], Child]) -> Ask:
@@ -85,5 +91,6 @@ def places_of(path: Path, folder: Path) -> Places:
         raise Failure(f"{path} is no packed file") from None
     ends = places.ground.ends
     if nodes != len(ends.copy) or not np.array_equal(roads[:, :2], np.column_stack((ends.tail, ends.head))):
-        raise Failure(f"{folder / MAP_FILE} isn't the map of {path}: both come of one import, by catchup-import --build")
+        raise Failure(
+            f"{folder / MAP_FILE} isn't the map of {path}: both come of one import, by catchup-import --build")
     return places

@@ -26,7 +26,6 @@ AT_ONCE: Final = 256                    # roads that are written before others g
 async def reach(version: Version, asked: dict[str, Any]) -> Response:
     """The answer to /reach over places."""
     found, depart = placed(version), asked["depart"]
-    assert found is not None
     if depart >= DAY:
         raise Refusal(400, "refused: second", hint="a second of the day is below 86400")
     snap = snap_of(found.places, asked["from"], "from")
@@ -40,7 +39,8 @@ async def reach(version: Version, asked: dict[str, Any]) -> Response:
 
 
 async def reach_within(found: Placed, said: dict[str, Any], asked: dict[str, Any]) -> Response:
-    """A FeatureCollection: the ground that is reached within each part of the time, the longest first, and the roads."""
+    """A FeatureCollection: the ground that is reached within each part of the time, the longest first, and the
+    roads."""
     depart, within, version = asked["depart"], asked["within"], found.version
     count = asked.get("bands", BANDS)
     snap = snap_of(found.places, asked["from"], "from")

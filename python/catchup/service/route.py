@@ -35,10 +35,9 @@ class Trip:
 
 
 async def route(version: Version, asked: dict[str, Any], accept: str = "") -> Response:
-    """The answer to /route over places: `asked` has `from`, `to`, perhaps `via`, `geometry` and `format`, and `depart` or
-    `by`; `accept` is the header."""
+    """The answer to /route over places: `asked` has `from`, `to`, perhaps `via`, `geometry` and `format`, and `depart`
+    or `by`; `accept` is the header."""
     found = placed(version)
-    assert found is not None
     geometry, form = geometry_of(asked, accept)
     stops = [asked["from"], *asked.get("via", ()), asked["to"]]
     names = ["from", *["via"] * (len(stops) - 2), "to"]
@@ -48,12 +47,14 @@ async def route(version: Version, asked: dict[str, Any], accept: str = "") -> Re
     more = {"by": asked["by"]} if "by" in asked else {}
     try:
         with version.held():
-            drives = await (by_arrival(found, snaps, asked["by"]) if more else by_departure(found, snaps, asked["depart"]))
+            drives = await (by_arrival(found, snaps, asked["by"]) if more
+                            else by_departure(found, snaps, asked["depart"]))
     except NoRoute as problem:
         if form is not None:
             raise Refusal(404, "too late" if isinstance(problem, TooLate) else "unreachable") from None
         more = more or timed("depart", asked["depart"])
-        return answer({"answer": "too late" if isinstance(problem, TooLate) else "unreachable", **said, **more}, version.name)
+        return answer({"answer": "too late" if isinstance(problem, TooLate) else "unreachable", **said, **more},
+                      version.name)
     trip = Trip(stops, snaps, drives, {**said, **more}, word)
     if form is not None:
         return downloaded(form, found.places.lines, snaps, drives, version.name)
@@ -62,8 +63,8 @@ async def route(version: Version, asked: dict[str, Any], accept: str = "") -> Re
 
 
 def geometry_of(asked: dict[str, Any], accept: str) -> tuple[str, str | None]:
-    """In which form lines are answered, and the format of a download where one is asked for. Where nothing is said lines
-    are there for coordinates and names of OpenStreetMap, and aren't for nodes."""
+    """In which form lines are answered, and the format of a download where one is asked for. Where nothing is said
+    lines are there for coordinates and names of OpenStreetMap, and aren't for nodes."""
     stops = [asked["from"], *asked.get("via", ()), asked["to"]]
     geometry = asked.pop("geometry", "none" if all(stop.node is not None for stop in stops) else "geojson")
     form = asked.pop("format", None)
@@ -91,9 +92,10 @@ async def by_arrival(found: Placed, snaps: Sequence[Snap], by: int) -> list[Driv
 def trip_told(trip: Trip, lines: Lines, geometry: str, version: Version) -> bytes:
     """The answer's JSON."""
     first, last = trip.drives[0], trip.drives[-1]
-    legs = [leg_told(drive, start, end, lines, geometry) for drive, start, end in zip(trip.drives, trip.stops, trip.stops[1:])]
-    return (b'{"answer":"%b",%b,"depart":%d,"depart_time":"%b","arrive":%d,"arrive_time":"%b","days_later":%d,"travel":%d,'
-            b'"roads":[%b],"legs":[%b],"places":[%b],"version":"%b"}') % (
+    legs = [leg_told(drive, start, end, lines, geometry)
+            for drive, start, end in zip(trip.drives, trip.stops, trip.stops[1:])]
+    return (b'{"answer":"%b",%b,"depart":%d,"depart_time":"%b","arrive":%d,"arrive_time":"%b","days_later":%d,'
+            b'"travel":%d,"roads":[%b],"legs":[%b],"places":[%b],"version":"%b"}') % (
         trip.word.encode(), as_json(trip.asked)[1:-1], first.depart, time_of_day(first.depart).encode(), last.arrive,
         time_of_day(last.arrive).encode(), last.arrive // DAY, last.arrive - first.depart,
         b",".join([listed(drive.roads) for drive in trip.drives if drive.roads]), b",".join(legs),
@@ -108,7 +110,8 @@ def leg_told(drive: Drive, start: Stop, end: Stop, lines: Lines, geometry: str) 
         line = b',"geometry":{"type":"LineString","coordinates":[%b]}' % told.line
     elif geometry == "polyline6":
         line = b',"geometry":%b' % as_json(encoded(drive, lines))
-    return b'{"from":%b,"to":%b,"depart":%d,"arrive":%d,"travel":%d,"roads":[%b],"seconds":[%b],"names":[%b],"metres":[%b]%b}' % (
+    return (b'{"from":%b,"to":%b,"depart":%d,"arrive":%d,"travel":%d,"roads":[%b],"seconds":[%b],"names":[%b],'
+            b'"metres":[%b]%b}') % (
         as_json(start.told()), as_json(end.told()), drive.depart, drive.arrive, drive.arrive - drive.depart,
         listed(drive.roads), listed(drive.seconds), told.names, told.metres, line)
 

@@ -18,7 +18,8 @@ def as_nodes(asked: dict[str, Any], kinds: dict[str, Kind]) -> dict[str, Any]:
     """What is asked of a network without a map, whose places are nodes by their numbers."""
     for name in ("geometry", "format", "within", "bands"):
         if name in asked:
-            raise Refusal(400, f"{name} needs a map", hint="start the service with --tables DIR, the folder of an import")
+            raise Refusal(400, f"{name} needs a map",
+                          hint="start the service with --tables DIR, the folder of an import")
     return {name: nodes_of(name, value, kinds[name]) if name in kinds else value for name, value in asked.items()}
 
 
@@ -57,7 +58,8 @@ def nearest(places: Places, place: Place, name: str) -> Snap:
     try:
         return places.nearest(place)[0]
     except ValueError:
-        raise Refusal(400, f"{name} is no place on the earth", hint=swapped or "lon is -180 to 180, lat -90 to 90") from None
+        hint = swapped or "lon is -180 to 180, lat -90 to 90"
+        raise Refusal(400, f"{name} is no place on the earth", hint=hint) from None
     except NoSegment:
         west, south, east, north = places.box
         raise Refusal(400, f"{name} is far from any road", hint=swapped or (

@@ -62,10 +62,11 @@ def draw_networks(options: Options) -> dict[Path, bytes]:
 
 def open_places(options: Options) -> dict[Path, Places]:
     """The places of each file among whose tables there is a map; Failure where that is another network's."""
-    found = {file.path: file.tables for file in options.files if file.tables is not None and (file.tables / MAP).exists()}
+    found = {file.path: file.tables for file in options.files
+             if file.tables is not None and (file.tables / MAP).exists()}
     if not found:
         return {}
-    # Only maps need numpy and scipy.
+    # Only maps need numpy.
     from catchup.service.osrm.guide import guide_of
     from catchup.service.placed import places_of
 

@@ -73,7 +73,7 @@ class Version:
         self.program = program
         self.has_seconds = False        # the program says the second at which each road is entered
         self.ground = ground            # the places of its network, with the times of the tables
-        self.placed: Placed | None = None   # the same with its own times
+        self.placed: Placed | None = None   # the same with its own times, where there are any
         self.holders = 0
         self.is_retired = False
         self.restarts: set[asyncio.Task[None]] = set()
@@ -98,6 +98,12 @@ class Version:
             # It opened the file, and was ended behind that.
             self.end_now()
             raise NotOpened(f"the program {said_of(self.quick.status)}") from None
+        if self.ground is not None:
+            try:
+                await asyncio.to_thread(self.read_travel)
+            except (packed.NotPacked, OSError):
+                self.end_now()
+                raise
         for child in children:
             child.on_gone = self.replace
             if child.gone.is_set():
@@ -110,6 +116,13 @@ class Version:
         self.name = self.digest[:packed.SHORT]
         self.name_bytes = self.name.encode()
         self.shape = packed.shape_of(self.descriptor)
+
+    def read_travel(self) -> None:
+        """Reads its times, for what is asked between places."""
+        # Only maps need numpy.
+        from catchup.service.placed import placed_of
+
+        self.placed = placed_of(self)
 
     async def start_child(self, limit: float) -> Child:
         """A child that has opened the file, and that is started again where it ends by itself."""

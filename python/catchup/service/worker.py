@@ -141,13 +141,7 @@ class Worker:
 
     def placed(self, profile: str) -> Placed | None:
         """The places of a profile's network, None where it has no map."""
-        network = self.network(profile)
-        if network.ground is None:
-            return None
-        # Only a service with maps needs what places need.
-        from catchup.service.placed import placed
-
-        return placed(network.current)
+        return self.network(profile).current.placed
 
     def version(self) -> str:
         """The version that this worker serves of the first file."""
@@ -157,8 +151,9 @@ class Worker:
         """The headers and the body of an error that comes before any path is known; with a code it is one of OSRM's."""
         version = self.version()
         headers = [(b"content-type", b"application/json"), (b"catchup-version", version.encode())]
-        told = {"error": text, "version": version} if code is None else {"code": code, "message": text, "data_version": version}
-        return headers, as_json(told)
+        if code is not None:
+            return headers, as_json({"code": code, "message": text, "data_version": version})
+        return headers, as_json({"error": text, "version": version})
 
     def job_counts(self) -> dict[str, int]:
         """How many jobs of all files there are in each state."""

@@ -103,10 +103,12 @@ async def drives(asked: AskedRoute, snaps: Sequence[Snap], placed: Placed, now: 
             return await latest_over(places.driver, snaps, asked.arrive, placed.slow)
         return await places.drives(snaps, now if asked.depart is None else asked.depart, placed.quick)
     except TooLate as problem:
-        raise Fault("NoRoute", f"whoever leaves place {problem.index} at midnight comes too late already: arrive later, or "
+        raise Fault("NoRoute",
+                    f"whoever leaves place {problem.index} at midnight comes too late already: arrive later, or "
                     f"leave on the day before by arrive={(asked.arrive or 0) + DAY}") from None
     except NoRoute as problem:
-        raise Fault("NoRoute", f"no way leads from place {problem.index} to place {problem.index + 1} at this time of day") from None
+        at = problem.index
+        raise Fault("NoRoute", f"no way leads from place {at} to place {at + 1} at this time of day") from None
 
 
 # ---- tables ----

@@ -119,7 +119,8 @@ def places_text(places: Floats) -> str:
     count = len(places)
     signs = [np.broadcast_to(np.frombuffer(sign, dtype=np.uint8), (count, len(sign))) for sign in (b",[", b",", b"]")]
     lon, lat = (decimal_text(places[:, at], DECIMALS) for at in (0, 1))
-    return np.concatenate((signs[0], lon, signs[1], lat, signs[2]), axis=1).tobytes().replace(b"\0", b"").decode("ascii")
+    texts = np.concatenate((signs[0], lon, signs[1], lat, signs[2]), axis=1).tobytes()
+    return texts.replace(b"\0", b"").decode("ascii")
 
 
 FORMS: Final[Mapping[str, Form]] = {"polyline": Polyline(5), "polyline6": Polyline(6), "geojson": GeoJson()}

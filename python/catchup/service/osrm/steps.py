@@ -11,8 +11,8 @@ from catchup.service.osrm.turns import Turn, Turns, turning_round
 
 @dataclass(frozen=True, slots=True)
 class Ring:
-    """What is told of a step into a roundabout, or out of it: OSRM's word for it, the number of the exit, and the stretch
-    whose street is told; rotary: the roundabout's name where it has one of its own."""
+    """What is told of a step into a roundabout, or out of it: OSRM's word for it, the number of the exit, and the
+    stretch whose street is told; rotary: the roundabout's name where it has one of its own."""
 
     kind: str
     exit: int
@@ -22,8 +22,8 @@ class Ring:
 
 @dataclass(frozen=True, slots=True)
 class Steps:
-    """The steps of a leg, but for the arrival. passages: into each stretch but the first. begins: the first stretch of each
-    step; the first one departs. rings: what is told of some steps, by their first stretches."""
+    """The steps of a leg, but for the arrival. passages: into each stretch but the first. begins: the first stretch of
+    each step; the first one departs. rings: what is told of some steps, by their first stretches."""
 
     passages: Sequence[Turn]
     begins: Sequence[int]
