@@ -170,8 +170,8 @@ class RoadNames:
         known: dict[tuple[str, str], int] = {}
         text = [known.setdefault((row[3] or "", row[4] or ""), len(known)) for row in rows]
         first = np.searchsorted(np.array([row[0] for row in rows], dtype=np.int64), np.arange(roads + 1))
-        return cls(first, np.array([row[1] for row in rows], dtype=np.float64), np.array([row[2] for row in rows], dtype=np.float64),
-                   np.array(text, dtype=np.int32), list(known))
+        begin, end = (np.array([row[column] for row in rows], dtype=np.float64) for column in (1, 2))
+        return cls(first, begin, end, np.array(text, dtype=np.int32), list(known))
 
     def only(self, road: int, metres: float) -> tuple[str, str] | None:
         """The name and the reference number of a road of some metres that has one all along, or none at all, which is
@@ -182,7 +182,7 @@ class RoadNames:
             return "", ""
         if count > 1 or self.begin[row] > _NEAR or self.end[row] < metres - _NEAR:
             return None
-        return self.texts[self.text[row]]
+        return self.texts[int(self.text[row])]
 
     def of(self, road: int) -> list[Span]:
         """The named parts of a road, in driving order."""

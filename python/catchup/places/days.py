@@ -2,6 +2,8 @@
 
 from __future__ import annotations
 
+import asyncio
+from collections.abc import Mapping, Sequence
 from dataclasses import dataclass
 
 import numpy as np
@@ -34,7 +36,17 @@ async def arrivals(driver: Driver, start: Snap, end: Snap, ask: Ask) -> Ints:
     targets = driver.ends.targets(end, driver.travel)
     pairs = list({(begin.node, target.node): None for begin in begins for target in targets})
     replies = await ask([f"d,{one},{other}" for one, other in pairs]) if pairs else []
-    days = {pair: _day_of(reply) for pair, reply in zip(pairs, replies)}
+    days = {pair: await asyncio.to_thread(_day_of, reply) for pair, reply in zip(pairs, replies)}
+    best = await asyncio.to_thread(_least, driver, begins, targets, days)
+    np.minimum(best, await asyncio.to_thread(_straight, driver, start, end), out=best)
+    if not np.isfinite(best[0]):
+        raise NoRoute(0)
+    return _nearest_seconds(best)
+
+
+def _least(driver: Driver, begins: Sequence[Beginning], targets: Sequence[Target],
+           days: Mapping[tuple[int, int], Ints | None]) -> Floats:
+    """The least arrival at a place over all its ends, for each second of departure; infinite where no way leads."""
     best = np.full(DAY, np.inf)
     for begin in begins:
         times = _begun(driver, begin)
@@ -42,10 +54,7 @@ async def arrivals(driver: Driver, start: Snap, end: Snap, ask: Ask) -> Ints:
             day = days[begin.node, target.node]
             if day is not None:
                 np.minimum(best, _finished(driver, target, _between(day, times)), out=best)
-    np.minimum(best, _straight(driver, start, end), out=best)
-    if not np.isfinite(best[0]):
-        raise NoRoute(0)
-    return _nearest_seconds(best)
+    return best
 
 
 def pieces_of(found: Ints) -> tuple[Piece, ...]:
@@ -71,7 +80,7 @@ async def choices(driver: Driver, start: Snap, end: Snap, found: Ints, ask: Ask)
     while at < DAY:
         drive = await driver.drive(start, end, at, ask)
         made.append(Choice(at, drive))
-        at = _end_of(driver, drive, at, found)
+        at = await asyncio.to_thread(_end_of, driver, drive, at, found)
     return made
 
 

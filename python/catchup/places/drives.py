@@ -144,6 +144,11 @@ class Driver:
         return numbers[::2], [entered + day for entered in numbers[1::2]], int(head[7:]) + day
 
 
+def roads_of(drives: Sequence[Drive]) -> int:
+    """How many roads some drives go over."""
+    return sum([len(drive.roads) for drive in drives])
+
+
 def nearest_second(time: float) -> int:
     """The whole second that is nearest to a time; of two the later one."""
     return math.floor(time + 0.5)

@@ -88,4 +88,5 @@ class Grid:
         first, behind = firsts[rows + left], firsts[rows + (right + 1)]
         sizes = behind - first
         ends = sizes.cumsum()
-        return things[np.arange(ends[-1]) + np.repeat(first - ends + sizes, sizes)]
+        found: Shorts = things[np.arange(ends[-1]) + np.repeat(first - ends + sizes, sizes)]
+        return found

@@ -8,6 +8,7 @@ from dataclasses import dataclass
 import numpy as np
 from numpy.typing import NDArray
 
+from catchup.beside import beside
 from catchup.clock import DAY
 from catchup.errors import CatchupError
 from catchup.places.drives import Driver
@@ -19,6 +20,12 @@ Floats = NDArray[np.float64]
 
 MOST_ENTRIES = 1_048_576
 """Of one line `t`."""
+ENTRIES = 64
+"""That are read in the time of one step."""
+
+TOGETHER = 32_768
+"""Entries that are asked for together, before others get their turn: of a line, and of some short lines."""
+
 _NEVER = -1
 
 
@@ -40,12 +47,18 @@ async def table(driver: Driver, sources: Sequence[Snap], targets: Sequence[Snap]
     found = np.full((len(sources), len(targets)), np.nan)
     if not len(sources) or not len(targets):
         return found
-    columns = _columns([driver.ends.targets(snap, driver.travel) for snap in targets])
-    begins = [driver.ends.sources(snap, depart, driver.travel) for snap in sources]
+    columns, begins = await beside(len(sources) + len(targets), _ends, driver, sources, targets, depart)
     for rows in _blocks([len(each) for each in begins], max(len(columns.at), len(columns.node))):
         found[rows] = await _block(driver, begins[rows], columns, depart, ask)
-    _go_straight(driver, sources, targets, depart, found)
+    await beside(len(sources) + len(targets), _go_straight, driver, sources, targets, depart, found)
     return found
+
+
+def _ends(driver: Driver, sources: Sequence[Snap], targets: Sequence[Snap],
+          depart: int) -> tuple[_Columns, list[list[Source]]]:
+    """The ends of drives to all targets, and the beginnings of drives from each source."""
+    begins = [driver.ends.sources(snap, depart, driver.travel) for snap in sources]
+    return _columns([driver.ends.targets(snap, driver.travel) for snap in targets]), begins
 
 
 def _blocks(sizes: Sequence[int], width: int) -> list[slice]:
@@ -74,9 +87,15 @@ async def _block(
     """The travel times of some sources; nan where no way leads."""
     flat = [source for of in begins for source in of]
     times = await _times(driver, flat, columns.node, ask)
+    return await beside(times.size // ENTRIES, _least, driver, begins, columns, times, depart)
+
+
+def _least(driver: Driver, begins: Sequence[Sequence[Source]], columns: _Columns, times: Floats,
+           depart: int) -> Floats:
+    """The travel times from when one is at each node."""
     sizes = np.array([len(of) for of in begins])
     found = np.full((len(begins), len(columns.first)), np.nan)
-    if not len(flat) or not len(columns.at):
+    if not len(times) or not len(columns.at):
         return found
     arrivals = _finished(driver, times[:, columns.at], columns)
     # A place without ends has none of the columns, and would be given its neighbour's.
@@ -108,16 +127,28 @@ async def _arrivals(starts: Sequence[tuple[int, int]], nodes: Sequence[int], ask
     by_second: dict[int, dict[int, None]] = {}
     for node, second in starts:
         by_second.setdefault(second, {})[node] = None
-    most = max(MOST_ENTRIES // len(nodes), 1) if nodes else MOST_ENTRIES
+    if not nodes or not starts:
+        return np.empty((len(starts), len(nodes)), dtype=np.int64)
+    most = max(TOGETHER // len(nodes), 1)
     parts = [(second, list(of)[at:at + most]) for second, of in by_second.items() for at in range(0, len(of), most)]
-    said = ",".join(map(str, nodes))
-    lines = [f"t,{second % DAY},{len(of)},{','.join(map(str, of))},{said}" for second, of in parts]
-    replies = await ask(lines) if nodes else []
     row_of = {start: row for row, start in enumerate((node, second) for second, of in parts for node in of)}
-    rows = [_entries(reply, len(of), len(nodes), second // DAY * DAY) for (second, of), reply in zip(parts, replies)]
-    if not rows:
-        return np.empty((len(starts), 0), dtype=np.int64)
+    rows: list[Ints] = []
+    for at in range(0, len(parts), most):
+        # Others get their turn between.
+        rows.append(await _asked(parts[at:at + most], nodes, ask))
     return np.concatenate(rows)[[row_of[start] for start in starts]]
+
+
+async def _asked(parts: Sequence[tuple[int, list[int]]], nodes: Sequence[int], ask: Ask) -> Ints:
+    """The entries of some lines, each of a second and the nodes where one begins then."""
+    said = ",".join(map(str, nodes))
+    replies = await ask([f"t,{second % DAY},{len(of)},{','.join(map(str, of))},{said}" for second, of in parts])
+
+    def entries() -> Ints:
+        return np.concatenate([_entries(reply, len(of), len(nodes), second // DAY * DAY)
+                               for (second, of), reply in zip(parts, replies)])
+
+    return await beside(sum(len(of) for _, of in parts) * len(nodes) // ENTRIES, entries)
 
 
 def _entries(reply: str, rows: int, width: int, day: int) -> Ints:

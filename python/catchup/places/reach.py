@@ -2,11 +2,14 @@
 
 from __future__ import annotations
 
+import asyncio
 from dataclasses import dataclass
+from typing import Final
 
 import numpy as np
 from numpy.typing import NDArray
 
+from catchup.beside import beside
 from catchup.clock import DAY
 from catchup.errors import CatchupError
 from catchup.places.drives import Driver
@@ -16,6 +19,9 @@ from catchup.places.values import Ask, Snap
 
 Ints = NDArray[np.int64]
 Floats = NDArray[np.float64]
+
+CHARACTERS: Final = 256
+"""Of a reply that are read in the time of one step."""
 
 
 @dataclass(frozen=True, slots=True)
@@ -52,6 +58,12 @@ async def node_times(driver: Driver, start: Snap, depart: int, ask: Ask) -> Floa
 async def reached(driver: Driver, streets: Streets, start: Snap, depart: int, limit: int, ask: Ask) -> Reached:
     """What is reached by who leaves a place at a second, before the second `limit`."""
     times = await node_times(driver, start, depart, ask)
+    return await asyncio.to_thread(_reached, driver, streets, start, times, (depart, limit))
+
+
+def _reached(driver: Driver, streets: Streets, start: Snap, times: Floats, span: tuple[int, int]) -> Reached:
+    """The same, from when each node is reached, and the seconds from which and up to which one drives."""
+    depart, limit = span
     entered = times[driver.ends.tail]
     roads = np.flatnonzero((entered < limit) & ~driver.travel.is_closed)
     left = driver.travel.arrive_all_between(roads, entered[roads])
@@ -81,13 +93,14 @@ def _begun(driver: Driver, start: Snap, depart: int) -> tuple[Ints, Floats, Floa
 async def _source_times(driver: Driver, source: Source, ask: Ask) -> Floats:
     """When each node is reached from a beginning."""
     [reply] = await ask([f"r,{source.node},{source.second % DAY}"])
-    times = _times_of(reply, source.second)
+    times = await beside(len(reply) // CHARACTERS, _times_of, reply, source.second)
     there = np.isfinite(times)
     latest = int(times[there].max(initial=source.second))
     if source.part == 0.0 or not driver.travel.has_rest(source.second, latest):
         return times + source.part
     [reply] = await ask([f"r,{source.node},{(source.second + 1) % DAY}"])
-    return np.minimum(times + source.part, _times_of(reply, source.second + 1))
+    later = await beside(len(reply) // CHARACTERS, _times_of, reply, source.second + 1)
+    return np.minimum(times + source.part, later)
 
 
 def _times_of(reply: str, second: int) -> Floats:

@@ -2,6 +2,7 @@
 
 from __future__ import annotations
 
+import re
 from collections.abc import Sequence
 from itertools import groupby
 from typing import Any, Final
@@ -16,6 +17,7 @@ from catchup.places.lines import DECIMALS, Floats, Lines
 from catchup.places.values import Snap
 from catchup.service.answers import as_json, timed
 
+NO_XML: Final = re.compile("[^\t\n\r -\ud7ff\ue000-\ufffd\U00010000-\U0010ffff]")
 FORMATS: Final = {"geojson": "application/geo+json", "gpx": "application/gpx+xml"}
 
 
@@ -36,9 +38,9 @@ def geojson(lines: Lines, snaps: Sequence[Snap], drives: Sequence[Drive], versio
         features.append({"type": "Feature", "properties": said, "geometry": {
             "type": "LineString", "coordinates": np.round(line_of(lines, drive), DECIMALS).tolist()}})
     for snap in snaps:
+        point = {"type": "Point", "coordinates": [round(value, DECIMALS) for value in snap.point]}
         features.append({"type": "Feature", "properties": {"kind": "place", "name": snap.name or snap.ref},
-                         "geometry": {
-            "type": "Point", "coordinates": [round(value, DECIMALS) for value in snap.point]}})
+                         "geometry": point})
     return as_json({"type": "FeatureCollection", "features": features, "version": version})
 
 
@@ -48,13 +50,18 @@ def gpx(lines: Lines, snaps: Sequence[Snap], drives: Sequence[Drive]) -> bytes:
     text = ['<?xml version="1.0" encoding="UTF-8"?>',
             '<gpx version="1.1" creator="catchup" xmlns="http://www.topografix.com/GPX/1/1">']
     for snap in snaps:
-        lon, lat = (round(value, DECIMALS) for value in snap.point)
-        text.append(f'<wpt lat="{lat}" lon="{lon}"><name>{escape(snap.name or snap.ref)}</name></wpt>')
+        lon, lat = snap.point
+        text.append(f'<wpt lat="{lat:.6f}" lon="{lon:.6f}"><name>{text_of(snap.name or snap.ref)}</name></wpt>')
     text.append(f"<trk><name>{said}</name>")
     for drive in drives:
-        points = np.round(line_of(lines, drive), DECIMALS).tolist()
-        text += ["<trkseg>", *(f'<trkpt lat="{lat}" lon="{lon}"/>' for lon, lat in points), "</trkseg>"]
+        points = line_of(lines, drive).tolist()
+        text += ["<trkseg>", *(f'<trkpt lat="{lat:.6f}" lon="{lon:.6f}"/>' for lon, lat in points), "</trkseg>"]
     return "\n".join([*text, "</trk>", "</gpx>", ""]).encode()
+
+
+def text_of(name: str) -> str:
+    """A name as XML, without characters that XML can't have."""
+    return escape(NO_XML.sub("", name))
 
 
 def line_of(lines: Lines, drive: Drive) -> Floats:

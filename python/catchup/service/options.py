@@ -92,17 +92,18 @@ def read_token(path: Path | None) -> bytes | None:
 
 
 def served_of(words: Sequence[str], tables: Sequence[str]) -> tuple[Served, ...]:
-    """The files of `FILE` or `NAME=FILE`, with the folders of `DIR` or `NAME=DIR`."""
+    """The files of `FILE` or `NAME=FILE`, with the folders of `DIR` or `NAME=DIR`: one without a name is of each file
+    that has none of its own."""
     folders = dict(parted(word) for word in tables)
+    of_others = folders.pop(None, None)
     found: dict[str | None, Served] = {}
     for word in words:
         name, path = parted(word)
         if name in found:
             raise Failure(f"{name or path} is named twice: give each file a name of its own, as car={path}")
-        found[name] = Served(name, resolved(path), folders.pop(name, None))
-    if None in folders and len(found) == 1:
-        [only] = found.values()
-        return (Served(only.name, only.path, folders.pop(None)),)
+        found[name] = Served(name, resolved(path), folders.pop(name, of_others) if name is not None else of_others)
+    if of_others is not None and all(file.tables != of_others for file in found.values()):
+        folders[None] = of_others
     if folders:
         raise Failure(f"--tables names no served file: {next(iter(folders.values()))}")
     return tuple(found.values())

@@ -76,9 +76,13 @@ def roads_of(descriptor: int) -> np.ndarray[tuple[int, int], np.dtype[np.uint32]
     return np.frombuffer(data, "<u4").reshape(-1, 3)
 
 
-def places_of(path: Path, folder: Path) -> Places:
-    """The places of a packed file, from the folder of the import that it was made of."""
-    places = Places.open(folder)
+def read_places(folder: Path) -> Places:
+    """The places of the folder of an import."""
+    return Places.open(folder)
+
+
+def checked_places(places: Places, path: Path, folder: Path) -> Places:
+    """The places of a folder, which have to be those of a packed file."""
     try:
         descriptor = os.open(path, os.O_RDONLY)
         try:

@@ -9,8 +9,10 @@ from typing import Any, Final
 import numpy as np
 from starlette.responses import Response
 
+from catchup.beside import beside
 from catchup.places.bands import bands
 from catchup.places.lines import Lines
+from catchup.places.matrix import ENTRIES, Floats
 from catchup.places.reach import Reached, node_times, reached
 from catchup.service.answers import answer, as_json, timed
 from catchup.service.errors import Refusal
@@ -34,8 +36,13 @@ async def reach(version: Version, asked: dict[str, Any]) -> Response:
         return await reach_within(found, said, asked)
     with version.held():
         times = await node_times(found.places.driver, snap, depart, found.slow)
+    return answer(said, version.name, raw=("arrive", await beside(len(times) // ENTRIES, listed, times)))
+
+
+def listed(times: Floats) -> bytes:
+    """Times as JSON, to the nearest second."""
     arrive = np.where(np.isfinite(times), np.floor(times + 0.5), -1).astype(np.int64)
-    return answer(said, version.name, raw=("arrive", as_json(arrive.tolist()).replace(b"-1", b"null")))
+    return as_json(arrive.tolist()).replace(b"-1", b"null")
 
 
 async def reach_within(found: Placed, said: dict[str, Any], asked: dict[str, Any]) -> Response:

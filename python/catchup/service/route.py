@@ -9,9 +9,10 @@ from typing import Any
 import numpy as np
 from starlette.responses import Response
 
+from catchup.beside import beside
 from catchup.clock import MOST_SECONDS
 from catchup.geometry import encode_polyline
-from catchup.places.drives import Drive
+from catchup.places.drives import Drive, roads_of
 from catchup.places.latest import latest_over
 from catchup.places.lines import Lines
 from catchup.places.values import NoRoute, Snap, TooLate
@@ -19,9 +20,10 @@ from catchup.service.answers import answer, as_json, time_of_day, timed
 from catchup.service.download import FORMATS, downloaded
 from catchup.service.errors import Refusal
 from catchup.service.placed import Placed, placed
-from catchup.service.stops import snap_of, told
+from catchup.service.stops import snap_of, snaps_of, told
 from catchup.service.versions import Version
 from catchup.service.words import DAY, Stop
+
 
 @dataclass(frozen=True, slots=True)
 class Trip:
@@ -37,29 +39,33 @@ class Trip:
 async def route(version: Version, asked: dict[str, Any], accept: str = "") -> Response:
     """The answer to /route over places: `asked` has `from`, `to`, perhaps `via`, `geometry` and `format`, and `depart`
     or `by`; `accept` is the header."""
-    found = placed(version)
     geometry, form = geometry_of(asked, accept)
-    stops = [asked["from"], *asked.get("via", ()), asked["to"]]
-    names = ["from", *["via"] * (len(stops) - 2), "to"]
-    snaps = [snap_of(found.places, stop, name) for stop, name in zip(stops, names)]
-    said = {name: told(asked[name]) for name in ("from", "to", "via") if name in asked}
-    word = "depart" if "by" in asked else "arrive"
-    more = {"by": asked["by"]} if "by" in asked else {}
-    try:
-        with version.held():
+    with version.held():
+        found = placed(version)
+        stops = [asked["from"], *asked.get("via", ()), asked["to"]]
+        snaps = [snap_of(found.places, asked["from"], "from"),
+                 *await snaps_of(found.places, asked.get("via", ()), "via"), snap_of(found.places, asked["to"], "to")]
+        said = {name: told(asked[name]) for name in ("from", "to", "via") if name in asked}
+        word = "depart" if "by" in asked else "arrive"
+        more = {"by": asked["by"]} if "by" in asked else {}
+        try:
             drives = await (by_arrival(found, snaps, asked["by"]) if more
                             else by_departure(found, snaps, asked["depart"]))
-    except NoRoute as problem:
-        if form is not None:
-            raise Refusal(404, "too late" if isinstance(problem, TooLate) else "unreachable") from None
-        more = more or timed("depart", asked["depart"])
-        return answer({"answer": "too late" if isinstance(problem, TooLate) else "unreachable", **said, **more},
-                      version.name)
-    trip = Trip(stops, snaps, drives, {**said, **more}, word)
+        except NoRoute as problem:
+            return unreached(version, problem, form, {**said, **(more or timed("depart", asked["depart"]))})
+    trip, lines, roads = Trip(stops, snaps, drives, {**said, **more}, word), found.places.lines, roads_of(drives)
     if form is not None:
-        return downloaded(form, found.places.lines, snaps, drives, version.name)
-    return Response(trip_told(trip, found.places.lines, geometry, version), 200, {"Catchup-Version": version.name},
-                    media_type="application/json")
+        return await beside(roads, downloaded, form, lines, snaps, drives, version.name)
+    body = await beside(roads, trip_told, trip, lines, geometry, version)
+    return Response(body, 200, {"Catchup-Version": version.name}, media_type="application/json")
+
+
+def unreached(version: Version, problem: NoRoute, form: str | None, said: dict[str, Any]) -> Response:
+    """What is answered where there is no route; a download is refused."""
+    word = "too late" if isinstance(problem, TooLate) else "unreachable"
+    if form is not None:
+        raise Refusal(404, word)
+    return answer({"answer": word, **said}, version.name)
 
 
 def geometry_of(asked: dict[str, Any], accept: str) -> tuple[str, str | None]:

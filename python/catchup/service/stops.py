@@ -2,8 +2,10 @@
 
 from __future__ import annotations
 
+from collections.abc import Sequence
 from typing import TYPE_CHECKING, Any, Final
 
+from catchup.beside import beside
 from catchup.places.values import NoSegment, Place, Snap
 from catchup.service.errors import Refusal
 from catchup.service.words import FORMS, Kind, Stop
@@ -11,6 +13,7 @@ from catchup.service.words import FORMS, Kind, Stop
 if TYPE_CHECKING:
     from catchup.places import Places
 
+STEPS: Final = 8                        # that it takes to look for a place
 NEEDS_MAP: Final = "other places need a map: start the service with --tables DIR, the folder of an import"
 
 
@@ -49,6 +52,14 @@ def snap_of(places: Places, stop: Stop, name: str) -> Snap:
     if found is None:
         raise Refusal(400, error, hint=hint)
     return found
+
+
+async def snaps_of(places: Places, stops: Sequence[Stop], name: str) -> list[Snap]:
+    """The same of some places, which are looked for beside the loop where they are many."""
+    def every() -> list[Snap]:
+        return [snap_of(places, stop, name) for stop in stops]
+
+    return await beside(STEPS * len(stops), every)
 
 
 def nearest(places: Places, place: Place, name: str) -> Snap:

@@ -68,10 +68,11 @@ def open_places(options: Options) -> dict[Path, Places]:
         return {}
     # Only maps need numpy.
     from catchup.service.osrm.guide import guide_of
-    from catchup.service.placed import places_of
+    from catchup.service.placed import checked_places, read_places
 
-    opened = {path: places_of(path, folder) for path, folder in found.items()}
-    for places in opened.values():
+    # Files of one folder, as of several weekdays, have one map.
+    places = {folder: read_places(folder) for folder in dict.fromkeys(found.values())}
+    for each in places.values():
         # It is made here once for all workers.
-        guide_of(places.ground)
-    return opened
+        guide_of(each.ground)
+    return {path: checked_places(places[folder], path, folder) for path, folder in found.items()}

@@ -10,10 +10,11 @@ from typing import Final
 import numpy as np
 from numpy.typing import NDArray
 
+from catchup.beside import beside
 from catchup.clock import DAY
 from catchup.geometry import metres
 from catchup.places import NoRoute, NoSegment, Place, Snap, TooLate
-from catchup.places.drives import Drive
+from catchup.places.drives import Drive, roads_of
 from catchup.places.latest import latest_over
 from catchup.service.osrm.address import Asked, AskedNearest, AskedRoute, AskedTable
 from catchup.service.osrm.annotations import nodes_beside
@@ -25,6 +26,7 @@ from catchup.service.osrm.texts import timed
 from catchup.service.placed import Placed
 
 MOST_DISTANCES: Final = 10_000          # entries of a table of distances
+STEPS: Final = 8                        # that it takes to look for a place
 AT_ONCE: Final = 16                     # drives of a table of distances that are asked for at once
 
 
@@ -87,8 +89,9 @@ def advice(place: Place, placed: Placed) -> str:
 
 async def drive(asked: AskedRoute, placed: Placed, guide: Guide, now: int) -> str:
     """A route over places. now: the second of the day that is meant where none is said."""
-    snaps = snapped(asked, placed, guide)
-    told = f'"routes":[{route(await drives(asked, snaps, placed, now), guide, asked)}]'
+    snaps = await beside(STEPS * len(asked.places), snapped, asked, placed, guide)
+    driven = await drives(asked, snaps, placed, now)
+    told = f'"routes":[{await beside(roads_of(driven), route, driven, guide, asked)}]'
     if asked.skip_waypoints:
         return told
     kept = snaps if asked.waypoints is None else [snaps[at] for at in sorted(set(asked.waypoints))]
@@ -116,7 +119,7 @@ async def drives(asked: AskedRoute, snaps: Sequence[Snap], placed: Placed, now: 
 
 async def table(asked: AskedTable, placed: Placed, guide: Guide, now: int) -> str:
     """A table between places."""
-    snaps = snapped(asked, placed, guide)
+    snaps = await beside(STEPS * len(asked.places), snapped, asked, placed, guide)
     sources = snaps if asked.sources is None else [snaps[at] for at in asked.sources]
     targets = snaps if asked.destinations is None else [snaps[at] for at in asked.destinations]
     depart = now if asked.depart is None else asked.depart
@@ -135,7 +138,8 @@ async def table(asked: AskedTable, placed: Placed, guide: Guide, now: int) -> st
     if guessed is not None:
         told.append(f'"fallback_speed_cells":{np.argwhere(guessed).tolist()}'.replace(" ", ""))
     if not asked.skip_waypoints:
-        told += [f'"sources":{waypoints(sources, guide, asked)}', f'"destinations":{waypoints(targets, guide, asked)}']
+        for name, each in (("sources", sources), ("destinations", targets)):
+            told.append(f'"{name}":{await beside(len(each), waypoints, each, guide, asked)}')
     return ",".join(told)
 
 

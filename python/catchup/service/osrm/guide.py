@@ -4,6 +4,7 @@ hints, and the numbers of its nodes in OpenStreetMap."""
 from __future__ import annotations
 
 import sqlite3
+import threading
 from contextlib import closing
 from dataclasses import dataclass
 from pathlib import Path
@@ -40,17 +41,23 @@ class NodeNumbers:
     def __init__(self, path: Path) -> None:
         self._path = path
         self._base: sqlite3.Connection | None = None
+        self._turn = threading.Lock()
 
     def of(self, road: int, count: int) -> list[int]:
         """The numbers of a road's nodes, in the sense of the drive; 0 for each where the map has others by now."""
         try:
-            if self._base is None:
-                self._base = sqlite3.connect(f"{self._path.absolute().as_uri()}?mode=ro", uri=True)
-            [blob] = self._base.execute("SELECT osm_nodes FROM road_nodes WHERE road = ?", (road,)).fetchone() or [b""]
+            with self._turn:
+                blob = self._read(road)
         except sqlite3.Error:
             blob = b""
         found: list[int] = np.frombuffer(blob, dtype="<i8").tolist() if len(blob) == 8 * count else [0] * count
         return found
+
+    def _read(self, road: int) -> bytes:
+        if self._base is None:
+            self._base = sqlite3.connect(f"{self._path.absolute().as_uri()}?mode=ro", uri=True, check_same_thread=False)
+        [blob] = self._base.execute("SELECT osm_nodes FROM road_nodes WHERE road = ?", (road,)).fetchone() or [b""]
+        return bytes(blob)
 
 
 def guide_of(ground: Ground) -> Guide:
