@@ -2,6 +2,7 @@
 
 from __future__ import annotations
 
+import contextlib
 import os
 import re
 import shutil
@@ -38,27 +39,39 @@ def as_pattern(printed: str) -> str:
     return ".*".join(re.escape(part) for part in printed.strip().split(".."))
 
 
+def free_ports(*printed: str) -> dict[str, str]:
+    """A free port for each that the page prints."""
+    with contextlib.ExitStack() as taken:
+        sockets = [taken.enter_context(socket.create_server(("127.0.0.1", 0))) for _ in printed]
+        return {name: str(each.getsockname()[1]) for name, each in zip(printed, sockets)}
+
+
 def test_the_pages_commands_do_what_is_printed(program: Path, tmp_path: Path) -> None:
     (tmp_path / "bin").mkdir()
-    for name, path in (("catchup", program), ("catchup-http", TOP / "bin" / "catchup-http")):
+    commands_of = {name: TOP / "bin" / name for name in ("catchup-http", "catchup-import")}
+    for name, path in {"catchup": program, **commands_of}.items():
         (tmp_path / "bin" / name).write_text(f'#!/bin/sh\nexec {path} "$@"\n')
         (tmp_path / "bin" / name).chmod(0o755)
     shutil.copytree(TOP / "examples", tmp_path / "examples", ignore=shutil.ignore_patterns("out"))
-    with socket.create_server(("127.0.0.1", 0)) as taken:
-        port = str(taken.getsockname()[1])
-    folder, service = tmp_path, None
-    environment = {**os.environ, "CATCHUP": str(program)}
+    ports = free_ports("8080", "8081")
+    port = ports["8080"]
+    services: list[subprocess.Popen[str]] = []
+    folder, environment = tmp_path, {**os.environ, "CATCHUP": str(program)}
     try:
         for command, printed in commands():
-            command = command.replace("8080", port)
+            for printed_port, own in ports.items():
+                command, printed = (text.replace(printed_port, own) for text in (command, printed))
             if command.startswith("cd "):
                 folder = folder / command[3:]
             elif command.endswith(" &"):
-                words = command[:-2].replace("catchup-http ", f"catchup-http --port {port} ").split()
+                words = command[:-2].split()
+                if "--port" not in words:
+                    words[1:1] = ["--port", port]
                 service = subprocess.Popen(words, cwd=folder, env=environment, stdout=subprocess.PIPE, text=True,
                                            start_new_session=True)
+                services.append(service)
                 assert service.stdout is not None
-                assert service.stdout.readline() == printed.replace("8080", port)
+                assert service.stdout.readline() == printed
             else:
                 done = subprocess.run(["bash", "-c", command], cwd=folder, env=environment, capture_output=True,
                                       text=True,
@@ -67,7 +80,7 @@ def test_the_pages_commands_do_what_is_printed(program: Path, tmp_path: Path) ->
                 assert re.match(as_pattern(printed), done.stdout.strip(), re.DOTALL), (command, done.stdout)
         check_client(port)
     finally:
-        if service is not None:
+        for service in services:
             os.killpg(service.pid, signal.SIGKILL)
             service.communicate()
 

@@ -87,7 +87,7 @@ async def _block(
     """The travel times of some sources; nan where no way leads."""
     flat = [source for of in begins for source in of]
     times = await _times(driver, flat, columns.node, ask)
-    return await beside(times.size // ENTRIES, _least, driver, begins, columns, times, depart)
+    return await beside(len(flat) * len(columns.at) // ENTRIES, _least, driver, begins, columns, times, depart)
 
 
 def _least(driver: Driver, begins: Sequence[Sequence[Source]], columns: _Columns, times: Floats,

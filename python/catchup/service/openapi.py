@@ -19,8 +19,8 @@ DRIVE: Final[dict[str, Any]] = {
 CHOICE: Final[dict[str, Any]] = {
     "depart": 28739, "depart_time": "07:58:59", "arrive": 28899, "arrive_time": "08:01:39", "days_later": 0,
     "travel": 160}
-NODE: Final = "a node by its number, as 17 or node:17"
-NODES: Final = "nodes with commas between"
+NODE: Final = "a node by its number, as 17 or node:17; over a map also lon,lat in degrees, or osm:1234"
+NODES: Final = "nodes with commas between, or such places with semicolons between"
 TIME: Final = "a second, or a time of day as 08:00 or 08:00:00"
 ERRORS: Final = {
     400: ("words that aren't as they must be, or that the program refuses",
@@ -62,21 +62,31 @@ def path(summary: str, words: list[dict[str, Any]], example: object, said: str =
 
 ENDS: Final = [word("from", NODE, "5"), word("to", NODE, "151")]
 DEPART: Final = word("depart", TIME, "08:00")
+SHAPES: Final = [
+    word("geometry", "over a map the form of lines: geojson, polyline6 or none", "geojson", needed=False),
+    word("format", "over a map json, or a download: geojson or gpx; Accept may say so too", "json", needed=False)]
+VIA: Final = word("via", "places between, in this order, with semicolons between", "20;80", needed=False)
+UNREACHED: Final[Responses] = {404: ("there is no route to download", {"error": "unreachable", "version": VERSION})}
+PLACED: Final = "the answer; over a map with `places`, and legs with `seconds`, `names`, `metres` and `geometry`"
 
 ROUTE: Final = path("The best drive", [
-    *ENDS, word("via", "places between, in this order, with semicolons between", "20;80", needed=False),
-    word("depart", TIME + "; or `arrive`", "08:00", needed=False),
-    word("arrive", "by when to be there, in place of `depart`", "09:00", needed=False)], DRIVE)
+    *ENDS, VIA, word("depart", TIME + "; or `arrive`", "08:00", needed=False),
+    word("arrive", "by when to be there, in place of `depart`", "09:00", needed=False), *SHAPES],
+    DRIVE, PLACED, more=UNREACHED)
 LATEST: Final = path(
-    "The last departure in time", [*ENDS, word("by", TIME + ", counted from the midnight before leaving", "09:00")],
-    {**DRIVE, "answer": "depart", "by": 32400})
+    "The last departure in time",
+    [*ENDS, word("by", TIME + ", counted from the midnight before leaving", "09:00"), *SHAPES],
+    {**DRIVE, "answer": "depart", "by": 32400}, PLACED, more=UNREACHED)
 DAY: Final = path("The whole day", ENDS, {
     "answer": "day", "from": 5, "to": 151, "pieces": [{"from": 0, "kind": "travel", "value": 160}], "version": VERSION})
 BEST: Final = path("The shortest drive that leaves in a window", [
     *ENDS, word("after", TIME, "07:00"), word("before", TIME, "09:00")], {
         "answer": "best", "from": 5, "to": 151, "after": 25200, "before": 32400, "best": CHOICE, "choices": [CHOICE],
         "version": VERSION})
-REACH: Final = path("How soon each node is reached", [word("from", NODE, "5"), DEPART], {
+REACH: Final = path("How soon each node is reached", [
+    word("from", NODE, "5"), DEPART,
+    word("within", "over a map a time, 1 to 86400: the answer is GeoJSON of roads and ground", "900", needed=False),
+    word("bands", "in how many parts the time is shown, 0 to 12", "3", needed=False)], {
     "answer": "reach", "from": 5, "depart": 28800, "depart_time": "08:00:00", "arrive": [29025, None, 28800],
     "version": VERSION})
 TABLE: Final = path("How soon each target is reached from each source", [

@@ -3,6 +3,7 @@
 from __future__ import annotations
 
 import csv
+import importlib
 import os
 from pathlib import Path
 from typing import TYPE_CHECKING
@@ -17,6 +18,8 @@ if TYPE_CHECKING:
     from catchup.places import Places
 
 MAP = "map.gpkg"
+ANSWERING = ("shapely.geometry", *(
+    f"catchup.service.{name}" for name in ("days", "matrix", "reach", "route", "osrm.answers")))
 NODES = ["node", "x", "y"]
 ROADS = ["arc", "tail", "head", "profile"]
 
@@ -66,7 +69,9 @@ def open_places(options: Options) -> dict[Path, Places]:
              if file.tables is not None and (file.tables / MAP).exists()}
     if not found:
         return {}
-    # Only maps need numpy.
+    # Only maps need numpy. What answers over them is loaded here once for all workers.
+    for name in ANSWERING:
+        importlib.import_module(name)
     from catchup.service.osrm.guide import guide_of
     from catchup.service.placed import checked_places, read_places
 

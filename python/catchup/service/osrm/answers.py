@@ -16,6 +16,7 @@ from catchup.geometry import metres
 from catchup.places import NoRoute, NoSegment, Place, Snap, TooLate
 from catchup.places.drives import Drive, roads_of
 from catchup.places.latest import latest_over
+from catchup.places.matrix import ENTRIES
 from catchup.service.osrm.address import Asked, AskedNearest, AskedRoute, AskedTable
 from catchup.service.osrm.annotations import nodes_beside
 from catchup.service.osrm.faults import Fault
@@ -131,7 +132,12 @@ async def table(asked: AskedTable, placed: Placed, guide: Guide, now: int) -> st
         found["durations"] = await placed.places.table(sources, targets, depart, placed.slow)
     if "distance" in asked.annotations:
         found["distances"] = await distances(sources, targets, depart, placed)
-    guessed = fill(found, crow_flies(sources, targets, asked), asked)
+    guessed = None
+    if asked.fallback_speed is not None:
+        guessed = fill(found, await beside(len(sources) * len(targets) // ENTRIES, crow_flies, sources, targets, asked),
+                       asked.fallback_speed)
+    if "durations" in found:
+        found["durations"] *= asked.scale_factor
     told = [timed("depart", depart)]
     for name, entries in found.items():
         told.append(f'"{name}":{await grid(entries)}')
@@ -169,14 +175,9 @@ def crow_flies(sources: Sequence[Snap], targets: Sequence[Snap], asked: AskedTab
     return metres(begin[:, None, 0], begin[:, None, 1], end[None, :, 0], end[None, :, 1])
 
 
-def fill(found: dict[str, Floats], straight: Floats, asked: AskedTable) -> NDArray[np.bool_] | None:
-    """Puts guesses where no way leads, and scales durations, both where that is asked for. Answers which entries are
-    guessed, None where no guesses are asked for."""
-    guessed = None
-    if asked.fallback_speed is not None:
-        guessed = np.isnan(next(iter(found.values())))
-        for name, entries in found.items():
-            entries[guessed] = (straight / asked.fallback_speed if name == "durations" else straight)[guessed]
-    if "durations" in found:
-        found["durations"] *= asked.scale_factor
+def fill(found: dict[str, Floats], straight: Floats, speed: float) -> NDArray[np.bool_]:
+    """Puts guesses where no way leads, and answers which entries these are: `straight` metres at some metres a second."""
+    guessed = np.isnan(next(iter(found.values())))
+    for name, entries in found.items():
+        entries[guessed] = (straight / speed if name == "durations" else straight)[guessed]
     return guessed

@@ -24,7 +24,7 @@ from catchup.service.osrm.overview import simplified
 from catchup.service.osrm.stepshapes import steps_told
 from catchup.service.osrm.texts import sums, text, timed
 
-ROWS: Final = 16                        # of a table that are written in one turn of the loop
+ENTRIES: Final = 4_096                  # of a table that are written in one turn of the loop
 
 
 def waypoint(snap: Snap, guide: Guide, *, with_hint: bool, more: str = "") -> str:
@@ -79,9 +79,9 @@ def joint(before: Leg, after: Leg, form: Form) -> str:
 
 async def grid(entries: Floats) -> str:
     """A table's rows; null where an entry is nan. Others are answered between its rows."""
-    rows = []
-    for row in np.round(entries, 1).tolist():
-        rows.append(json.dumps(row, separators=(",", ":")).replace("NaN", "null"))
-        if len(rows) % ROWS == 0:
+    rows, every = [], max(ENTRIES // max(entries.shape[1], 1), 1)
+    for row in entries:
+        rows.append(json.dumps(np.round(row, 1).tolist(), separators=(",", ":")).replace("NaN", "null"))
+        if len(rows) % every == 0:
             await asyncio.sleep(0)
     return f'[{",".join(rows)}]'
