@@ -7,6 +7,7 @@ import shutil
 import signal
 import sys
 import tempfile
+import threading
 from collections.abc import Iterator
 from pathlib import Path
 
@@ -22,11 +23,13 @@ from reporting import pytest_make_collect_report, pytest_terminal_summary  # noq
 from scripts import let_through, make_clone, set_writable  # noqa: E402
 from stub_checkout import Checkout  # noqa: E402
 
-from catchup.errors import CatchupError  # noqa: E402
+from catchup.errors import CatchupError, Ended  # noqa: E402
 from catchup.program import Child, run_program  # noqa: E402
 
 TOP = Path(__file__).resolve().parents[2]
 EXAMPLES = TOP / "examples"
+# The status of a launcher that has no program.
+NO_PROGRAM = 1
 
 try:
     import hypothesis
@@ -53,15 +56,28 @@ def pytest_collection_modifyitems(config: pytest.Config, items: list[pytest.Item
 
 @pytest.fixture(scope="session")
 def program() -> Path:
-    """The path of the program; skips where there is none. From then on the tests start it without the launcher, which
-    looks at each source first."""
+    """The path of the program; skips where there is none, and fails where there is one that doesn't answer a line before
+    another comes. From then on the tests start it without the launcher, which looks at each source first."""
     tables = [EXAMPLES / "rush_hour" / name for name in ("nodes.csv", "roads.csv", "profiles.csv")]
+    words: list[str | Path] = ["serve", *tables, "identity"]
     try:
-        with Child(["serve", *tables, "identity"]) as child:
-            child.ask("q,0,2,0")
-            found = Path(os.readlink(f"/proc/{child.pid}/exe"))
+        # The launcher may have to build it, however long that takes.
+        run = run_program(words)
     except CatchupError as error:
         pytest.skip(f"the program doesn't run here: {error}")
+    if run.status == NO_PROGRAM:
+        pytest.skip(f"the program doesn't run here: {run.error.strip()}")
+    with Child(words) as child:
+        # A reply that stays in the program would be waited for without end.
+        late = threading.Timer(60, child.kill)
+        late.start()
+        try:
+            assert child.ask("q,0,2,0") == "arrive=160 arcs=0 1"
+        except Ended as end:
+            pytest.fail(f"a line got no reply within a minute: {end}")
+        finally:
+            late.cancel()
+        found = Path(os.readlink(f"/proc/{child.pid}/exe"))
     os.environ["CATCHUP"] = str(found)
     return found
 
