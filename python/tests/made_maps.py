@@ -239,5 +239,66 @@ def mixed_town(seed: int) -> Made:
     return made
 
 
+WRITTEN: dict[str, list[str]] = {
+    "maxspeed": ["50", "50 mph", "30mph", "RO:urban", "DE:rural", "30;50", "70|50", "signals", "none", "10 knots", "49.5", "50 kmh", "DE:zone:30", "DE:zone30",
+                 "walk", "variable", "5 mph", "fast", "0", "DE:living_street", "CH:motorway", "60 km/h", "20 kph", "DE:bicycle_road", "GB:nsl_single"],
+    "maxspeed:forward": ["30", "70", "walk", "??"],
+    "maxspeed:backward": ["30", "20 mph"],
+    "source:maxspeed": ["DE:urban", "DE:rural", "sign", "DE:zone30"],
+    "maxspeed:type": ["DE:urban", "sign", "DE:rural"],
+    "zone:traffic": ["DE:urban", "DE:rural"],
+    "zone:maxspeed": ["DE:30", "30"],
+    "maxspeed:conditional": ["30 @ (22:00-06:00)", "120 @ (06:00-20:00); 100 @ (wet)", "20 mph @ (Mo-Fr 07:30-09:00,15:00-16:30)", "none @ (20:00-05:00)",
+                             "30 @ 10:00-14:00", "walk @ (Sa,Su)", "50 @ (weight>7.5)", "50 @ (06:00-20:00); fast @ (10:00-12:00)"],
+    "oneway": ["yes", "no", "1", "true", "-1", "reverse", "alternating", "reversible", "yes;no", "0", "false"],
+    "oneway:motorcar": ["no", "yes", "-1"],
+    "oneway:motor_vehicle": ["yes", "no"],
+    "oneway:conditional": ["yes @ (06:00-18:00)", "-1 @ (Mo-Fr 06:00-10:00); yes @ (Mo-Fr 15:00-19:00)", "no @ (20:00-06:00)", "reversible @ (07:00-09:00)"],
+    "junction": ["roundabout", "circular", "yes"],
+    "access": ["yes", "no", "private", "destination", "permissive", "agricultural", "agricultural;forestry", "delivery", "customers;no", "unknown", "permit", "Private"],
+    "vehicle": ["no", "destination", "agricultural;destination", "yes"],
+    "motor_vehicle": ["no", "private", "destination", "delivery", "yes", "residents", "designated"],
+    "motorcar": ["yes", "no", "designated", "destination", "limited"],
+    "hgv": ["no", "destination", "yes", "delivery"],
+    "bicycle": ["yes", "no", "designated", "use_sidepath", "dismount"],
+    "foot": ["yes", "no", "use_sidepath", "destination"],
+    "access:conditional": ["no @ (22:00-06:00)", "destination @ (Mo-Fr 06:00-09:00,16:00-19:00)", "no @ (22:00-06:00); destination @ (20:00-22:00)", "no @ (snow)",
+                           "delivery @ (05:00-11:00); no @ (11:00-05:00)", "yes @ (24/7)", "no @ (PH)"],
+    "motor_vehicle:conditional": ["no @ (Mo-Sa 10:00-18:00)", "destination @ (19:00-07:00)", "yes @ (18:00-10:00)", "no @ 08:00-09:00"],
+    "opening_hours": ["24/7", "06:00-22:00", "Mo-Fr 08:00-18:00; PH off", "sunrise-sunset", "Mo,We 10:00-12:00,14:00-16:00", "00:00-24:00", "22:00-06:00", "Mo-Fr",
+                      "Mo-Sa 07:00-20:00; Su off", "Apr-Oct: 08:00-20:00", "Mo-Su,PH 08:00-20:00", "08:00+", "off", "Fr-Mo 20:00-26:00", "Mo-Fr 06:00-24:00; Sa 08:00-12:00"],
+    "surface": ["asphalt", "gravel", "mud", "cobblestone", "unpaved", "paving_stones:30"],
+    "tracktype": ["grade1", "grade3", "grade5"],
+    "smoothness": ["good", "bad", "impassable", "very_horrible"],
+    "motorroad": ["yes", "no"],
+    "area": ["yes", "no"],
+    "disused": ["yes", "no"],
+    "impassable": ["yes"],
+    "cycleway": ["opposite_lane", "lane", "opposite"],
+}
+
+
+def odd_town(seed: int) -> Made:
+    """Tags as people write them, understood and not."""
+    draw = random.Random(seed)
+    kinds = [*CLASSES, *CLASSES, "motorway", "trunk", "primary_link", "track", "track", "footway", "path", "cycleway", "pedestrian", "steps", "road", "proposed"]
+    often = ["maxspeed", "maxspeed", "access", "oneway", "opening_hours", "motor_vehicle", "access:conditional", "maxspeed:conditional"]
+
+    def tags() -> Tags:
+        found = {"highway": draw.choice(kinds)}
+        for key in draw.sample([*WRITTEN, *often], draw.choice([0, 0, 0, 1, 1, 2, 3])):
+            found[key.replace(":", "__")] = draw.choice(WRITTEN[key])
+        return found
+
+    made, streets = grid(f"odd {seed}", draw, 8, tags)
+    restrict(draw, made, streets, 10)
+    for street in draw.sample(streets, 12):
+        found = {"barrier": draw.choice(["bollard", "gate", "lift_gate", "swing_gate", "block", "cattle_grid", "cycle_barrier", "kerb", "log", "toll_booth", "yes"])}
+        for key in draw.sample(["access", "motor_vehicle", "vehicle", "bicycle", "foot", "opening_hours", "access:conditional"], draw.choice([0, 0, 1, 2])):
+            found[key] = draw.choice(WRITTEN[key])
+        made.node_tags[draw.choice(street[3])] = found
+    return made
+
+
 THEMES: dict[str, Callable[[int], Made]] = {"hours": hours_town, "turns": turns_town, "ferries": ferry_town, "edges": edge_town,
-                                            "mixed": mixed_town}
+                                            "mixed": mixed_town, "odd": odd_town}

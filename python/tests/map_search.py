@@ -157,7 +157,8 @@ class Builder:
             if all(piece[1] == BARRED for piece in pieces):
                 self.blocked.add(node)
             elif any(piece[1] != OPEN for piece in pieces):
-                self.gates[node] = pieces
+                ends = any(piece[1] == ENDS for piece in pieces)
+                self.gates[node] = [(second, ENDS if ends and access == OPEN else access, 1.0) for second, access, _ in pieces]
                 self.forced.add(node)
 
     def _vertex(self, node: int) -> int:
@@ -171,7 +172,7 @@ class Builder:
         return self.single[node]
 
     def _way(self, number: int, nodes: list[int], tags: Tags) -> None:
-        if not self.rules.taken(tags):
+        if "highway" not in tags and tags.get("route") != "ferry":
             return
         sides = [self._pieces(tags, direction) for direction in (0, 1)]
         if sides == [None, None]:
@@ -194,19 +195,17 @@ class Builder:
             self.segments.append(Segment(number, k, ends, lengths[k], seconds, list(sides), ferry))
 
     def _pieces(self, tags: Tags, direction: int) -> list[Piece] | None:
-        """A day of one direction of a way; None where it is barred all day, but not where it is shut by its hours."""
-        usual = self.rules.speed(tags, direction)
-        pieces: list[Piece] = []
-        goes = False
+        """A day of one direction of a way; None where nobody may enter it at any hour. Of a ferry without its hours."""
         waits = self.rules.is_ferry(tags)
+        pieces: list[Piece] = []
         for second in changes(tags, self.weekday):
-            then = at_time(tags, second, self.weekday, hours=not waits)
-            access = self.rules.access(then) if self.rules.goes(then, direction) else BARRED
-            goes = goes or access != BARRED
+            then = at_time(tags, second, self.weekday, not waits, self.rules.used)
+            access = self.rules.access(then) if self.rules.taken(then) and self.rules.goes(then, direction) else BARRED
             if then.get("opening_hours") == "closed":
                 access = BARRED
-            pieces.append((second, access, 1.0 if waits else usual / self.rules.speed(then, direction)))
-        return _merged(pieces) if goes else None
+            ratio = 1.0 if waits or access == BARRED else self.rules.speed(tags, direction) / self.rules.speed(then, direction)
+            pieces.append((second, access, ratio))
+        return _merged(pieces) if any(piece[1] != BARRED for piece in pieces) else None
 
     def _force_ends(self) -> None:
         """Each via node of a restriction is an end, and so are both ends of its via ways."""

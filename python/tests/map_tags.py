@@ -6,6 +6,7 @@ Written anew for the tests, without the importer's code. Days of the week count 
 from __future__ import annotations
 
 import re
+from collections.abc import Callable
 from typing import Any
 
 Tags = dict[str, str]
@@ -83,8 +84,9 @@ def changes(tags: Tags, weekday: int) -> list[int]:
     return sorted({0} | {second for second in seconds if second < DAY})
 
 
-def at_time(tags: Tags, second: int, weekday: int, hours: bool = True) -> Tags:
-    """The tags as they hold at a second: conditional ones in their places; opening_hours is open or closed."""
+def at_time(tags: Tags, second: int, weekday: int, hours: bool = True, used: Callable[[str, str], bool] | None = None) -> Tags:
+    """The tags as they hold at a second: conditional ones in their places, where they are `used`; opening_hours is open or
+    closed."""
 
     def holds(when: str) -> bool:
         return any(a <= second < b for a, b in spans_today(when, weekday))
@@ -93,7 +95,7 @@ def at_time(tags: Tags, second: int, weekday: int, hours: bool = True) -> Tags:
     for key, value in tags.items():
         if key.endswith(":conditional"):
             for said, when in conditions(value):
-                if holds(when):
+                if holds(when) and (used is None or used(key, said)):
                     then[key.removesuffix(":conditional")] = said
     if hours and "opening_hours" in tags and hours_of(tags["opening_hours"]) is not None:
         then["opening_hours"] = "open" if holds(tags["opening_hours"]) else "closed"
@@ -135,7 +137,7 @@ class Rules:
 
     def word(self, value: str) -> int:
         """How open a value is; of a list its most open word counts."""
-        parts = [part.strip() for part in value.split(";")]
+        parts = [part.strip() for part in value.lower().split(";")]
         return min(OPEN if part in self.open else ENDS if part in self.ends else BARRED for part in parts)
 
     def decides(self, tags: Tags) -> str | None:
@@ -158,15 +160,13 @@ class Rules:
             return False
         if any(own in tags and self.word(tags[own]) != BARRED for own in self.who["own"]):
             return True
-        return tags["highway"] in self.speeds["let_in_by_access"] and key == "access" and tags["access"] != "private"
+        return tags["highway"] in self.speeds["let_in_by_access"] and key == "access" and "private" not in tags["access"].lower()
 
     def taken(self, tags: Tags) -> bool:
-        """Whether a way may be a road at all."""
+        """Whether a way is a road, by its tags as they hold at some second."""
         if tags.get("area") == "yes" or any(tags.get(key) == "yes" for key in ("abandoned", "disused", "impassable")):
             return False
         if any(self.speeds[key].get(tags.get(key)) == 0 for key in ("surface", "tracktype", "smoothness")):
-            return False
-        if tags.get("oneway") == "reversible" and "oneway:conditional" not in tags:
             return False
         if self.is_ferry(tags):
             named = "foot" in tags or "bicycle" in tags
@@ -179,14 +179,16 @@ class Rules:
         if key is None:
             implied = tags.get("junction") in ("roundabout", "circular") or tags.get("highway") == "motorway"
             return direction == 0 or not (implied and self.who["one_way"])
+        if tags[key] == "reversible":
+            return False
         if tags[key] in ("yes", "true", "1"):
             return direction == 0
         return direction == 1 or tags[key] not in ("-1", "reverse")
 
     def limit(self, text: str) -> float | None:
         """A limit in km/h; None where the text isn't understood."""
-        limits = [self._one_limit(part.strip()) for part in text.split(";")]
-        return min((x for x in limits if x is not None), default=None)
+        limits = [self._one_limit(part.strip()) for part in re.split("[;,|]", text)]
+        return min((x for x in limits if x), default=None)
 
     def _one_limit(self, text: str) -> float | None:
         found = re.fullmatch(r"(\d+(?:\.\d+)?)\s*(km/h|kmh|kph|mph|knots)?", text)
@@ -197,6 +199,10 @@ class Rules:
             return float(self.speeds["zones"][word])
         behind = re.fullmatch(r"[a-z_]*?(\d+)", word)
         return float(behind[1]) if behind else None
+
+    def used(self, key: str, value: str) -> bool:
+        """Whether a value of a conditional tag is one that is understood."""
+        return key != "maxspeed:conditional" or self.limit(value) is not None
 
     def speed(self, tags: Tags, direction: int) -> float:
         """km/h along a way (0) or against it (1)."""

@@ -180,13 +180,15 @@ def test_roads_for_destinations_alone(town: OsmMap, tmp_path: Path) -> None:
 
 def test_a_street_that_is_shut_all_day_joins_nothing(town: OsmMap, tmp_path: Path) -> None:
     """4 to 5 hangs on a private road, and on a street that opens at weekends: on a Monday it is behind the private one alone."""
-    town.node(6, 1000, 1000)
+    town.node(6, 1000, 1000), town.node(7, 0, -1000)
+    street(town, [7, 1])
     street(town, [1, 2, 3])
     street(town, [1, 6, 3])
     street(town, [3, 4], access="private")
     street(town, [4, 5])
     street(town, [5, 1], opening_hours="Sa,Su 05:30-23:15")
-    assert town.network(tmp_path).takes(1, 5) == 4 * 144
+    net = town.network(tmp_path)
+    assert net.takes(1, 5) == 4 * 144 and net.count("left out: closed all day") == 1
 
 
 @pytest.mark.parametrize("way, gate", [

@@ -21,51 +21,56 @@ class Access:
     """The conditions that aren't understood."""
 
     @property
-    def always(self) -> Said | None:
-        """What holds where no condition does; it is what the first step says where nothing changes."""
-        return self.steps[0][1]
-
-    @property
     def said(self) -> set[Said | None]:
         """All that is said in the day."""
         return {said for _, said in self.steps}
 
 
+def words_of(value: str) -> set[str]:
+    """The words of a value, which may be a list."""
+    return {word.strip() for word in value.lower().split(";")}
+
+
 def meaning(value: str, vehicle: Vehicle) -> Said:
-    """What a value says, which may be a list: the most open of its words decides."""
-    words = {word.strip() for word in value.lower().split(";")}
+    """What a value says: the most open of its words decides."""
+    words = words_of(value)
     if words & vehicle.open_words:
         return "open"
     return "ends" if words & vehicle.ends_words else "barred"
 
 
-def _value(tags: Tags, keys: tuple[str, ...], held: Callable[[str], str | None]) -> tuple[str | None, str | None]:
-    """The most special tag that says something, and its value."""
-    for key in keys:
-        value = held(key) or tags.get(key)
-        if value is not None:
-            return key, value
-    return None, None
-
-
-def read_access(tags: Tags, vehicle: Vehicle, weekday: int) -> Access:
-    """What the tags say of a vehicle on a day of the week (0 is Monday)."""
+def _over_day(tags: Tags, vehicle: Vehicle, weekday: int, say: Callable[[Tags], Said | None]) -> Access:
+    """What is said over a day of the week; `say` is given the tags of access as they hold at a second."""
     known: dict[str, list[tuple[str, Spans]]] = {}
     unknown: list[str] = []
     for key in vehicle.keys:
-        if key + ":conditional" in tags:
-            known[key], not_known = conditions(tags[key + ":conditional"], weekday)
-            unknown += not_known
+        known[key], not_known = conditions(tags.get(key + ":conditional", ""), weekday)
+        unknown += not_known
     steps: list[tuple[int, Said | None]] = []
     for second in turning_points(*known.values()):
-        _, value = _value(tags, vehicle.keys, lambda key: value_at(known.get(key, []), second))
-        said = None if value is None else meaning(value, vehicle)
+        held = {key: value for key in vehicle.keys if (value := value_at(known[key], second) or tags.get(key)) is not None}
+        said = say(held)
         if not steps or steps[-1][1] != said:
             steps.append((second, said))
-    decides, _ = _value(tags, vehicle.keys, lambda key: None)
-    return Access(tuple(steps), decides, tuple(unknown))
+    return Access(tuple(steps), next((key for key in vehicle.keys if key in tags), None), tuple(unknown))
 
 
-def lets_in(tags: Tags, vehicle: Vehicle) -> bool:
-    """Whether one of the vehicle's own tags lets it in, at some hour or at all."""
-    return any(meaning(tags[key], vehicle) != "barred" for key in vehicle.own if key in tags)
+def read_access(tags: Tags, vehicle: Vehicle, weekday: int) -> Access:
+    """What the tags say of a vehicle on a day of the week (0 is Monday). The most special one that is there decides."""
+    def say(held: Tags) -> Said | None:
+        return meaning(next(iter(held.values())), vehicle) if held else None
+
+    return _over_day(tags, vehicle, weekday, say)
+
+
+def read_opening(tags: Tags, vehicle: Vehicle, weekday: int, by_access: bool) -> Access:
+    """What they say of a class that isn't for the vehicle: it is barred but where one of the vehicle's own tags lets it in,
+    and with `by_access` where `access` does."""
+    def say(held: Tags) -> Said | None:
+        decides = next(iter(held), None)
+        lets = any(meaning(held[key], vehicle) != "barred" for key in vehicle.own if key in held)
+        if decides is None or not lets and not (by_access and decides == "access" and "private" not in words_of(held["access"])):
+            return "barred"
+        return meaning(held[decides], vehicle)
+
+    return _over_day(tags, vehicle, weekday, say)

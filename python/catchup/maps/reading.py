@@ -216,8 +216,9 @@ class _Nodes(osmium.SimpleHandler):
                 self._delay(node.id, tags)
 
     def _barrier(self, number: int, tags: dict[str, str]) -> None:
-        barrier, word = read_barrier(tags, self.wanted)
-        self.counts.add(f"{word}: {tags['barrier']}", number)
+        barrier, notes = read_barrier(tags, self.wanted)
+        for note in notes:
+            self.counts.add(note, number)
         if barrier is not None:
             self.barriers[number] = barrier
 
@@ -234,21 +235,23 @@ class _Nodes(osmium.SimpleHandler):
             self.delays[number] = seconds * (side != "backward"), seconds * (side != "forward")
 
 
-def read_barrier(tags: dict[str, str], wanted: Wanted) -> tuple[Barrier | None, str]:
-    """What a barrier is, None where it is simply passed, and the word that the report counts it by."""
+def read_barrier(tags: dict[str, str], wanted: Wanted) -> tuple[Barrier | None, list[str]]:
+    """What a barrier is, None where it is simply passed, and what the report counts of it."""
     access = read_access(tags, wanted.vehicle, wanted.weekday)
-    if access.said == {"barred"} or access.said == {None} and (
-            tags.get("locked") == "yes" or tags["barrier"] not in wanted.vehicle.passes):
-        return Barrier(blocked=True), "barriers"
-    held: Timing | None = timing([(second, None if said == "barred" else 1.0) for second, said in access.steps])
+    # Where the tags of access say nothing the barrier's kind decides.
+    usual = "barred" if tags.get("locked") == "yes" or tags["barrier"] not in wanted.vehicle.passes else "open"
+    steps = [(second, None if (said or usual) == "barred" else 1.0) for second, said in access.steps]
     spans = open_spans(tags["opening_hours"], wanted.weekday) if "opening_hours" in tags else None
-    held = combined(held, None if spans is None else open_in(spans))
+    held = combined(timing(steps), None if spans is None else open_in(spans))
+    notes = ["conditions not used: access"] * bool(access.unknown)
+    notes += ["opening hours not understood, taken as all day"] * ("opening_hours" in tags and spans is None)
     if held == NEVER:
-        return Barrier(blocked=True), "barriers"
+        return Barrier(blocked=True), [f"barriers: {tags['barrier']}", *notes]
     of = Barrier(ends="ends" in access.said, timing=None if held is None or held.plain else held)
     if of == Barrier():
-        return None, "passed"
-    return of, "gates at some hours" if of.timing is not None else "gates for destinations alone"
+        return None, [f"passed: {tags['barrier']}", *notes]
+    kind = "gates for destinations alone" if of.timing is None else "gates at some hours"
+    return of, [f"{kind}: {tags['barrier']}", *notes]
 
 
 def _apply(handler: osmium.SimpleHandler, path: Path) -> None:

@@ -3,7 +3,7 @@ from __future__ import annotations
 
 from dataclasses import dataclass, replace
 
-from catchup.maps.access import Access, Tags, lets_in, read_access
+from catchup.maps.access import Access, Tags, read_access, read_opening
 from catchup.maps.hours import conditions, open_spans, starts, turning_points, value_at
 from catchup.maps.timing import NEVER, Timing, combined, open_in, timing
 from catchup.maps.values import DAY, IMPLICIT, duration, kmh
@@ -64,24 +64,25 @@ def read_rule(tags: Tags, vehicle: Vehicle, weekday: int, without: frozenset[str
     access = read_access(tags, vehicle, weekday)
     base = vehicle.speeds.ferry if ferry else vehicle.speeds.classes.get(kind)
     notes: list[str] = []
-    if base is None and _opened(tags, kind, vehicle, access):
-        base = vehicle.speeds.let_in[kind]
-        notes.append(f"opened: {kind}")
+    if base is None and kind in vehicle.speeds.let_in:
+        access = read_opening(tags, vehicle, weekday, kind in vehicle.speeds.let_in_by_access)
+        if access.said != {"barred"}:
+            base = vehicle.speeds.let_in[kind]
+            notes.append(f"opened: {kind}")
     out = _left_out(tags, kind, vehicle, access, base, without)
     if out is not None or base is None:
         return Rule(kind=kind, out=out or f"class: {kind}")
     rule, too = _by_access(Rule(kind=kind, ferry=ferry, ring=tags.get("junction") in _RINGS, notes=tuple(notes)),
                            access)
     done = _directed(rule, tags, vehicle, weekday, base)
-    return done if too is None else replace(done, too=_directed(too, tags, vehicle, weekday, base))
+    if too is not None:
+        done = replace(done, too=_directed(too, tags, vehicle, weekday, base))
+    return Rule(kind=kind, out="closed all day") if _shut(done) and (done.too is None or _shut(done.too)) else done
 
 
-def _opened(tags: Tags, kind: str, vehicle: Vehicle, access: Access) -> bool:
-    """Whether a tag lets the vehicle in on a class that isn't for it."""
-    if kind not in vehicle.speeds.let_in or access.always == "barred":
-        return False
-    by_access = kind in vehicle.speeds.let_in_by_access and access.always in ("open", "ends")
-    return lets_in(tags, vehicle) or by_access and "private" not in tags.get("access", "")
+def _shut(rule: Rule) -> bool:
+    """Whether nobody may enter a way at any hour, in whichever direction."""
+    return rule.forth is None and rule.back is None
 
 
 def _left_out(tags: Tags, kind: str, vehicle: Vehicle, access: Access, base: float | None, without: frozenset[str]) -> str | None:
@@ -94,9 +95,9 @@ def _left_out(tags: Tags, kind: str, vehicle: Vehicle, access: Access, base: flo
         return "areas"
     if access.said == {"barred"}:
         return f"barred: {access.key}={tags[access.key]}" if access.key else "barred: at all hours"
-    if vehicle.name in ("bicycle", "foot") and tags.get("motorroad") == "yes" and access.always is None:
+    if vehicle.name in ("bicycle", "foot") and tags.get("motorroad") == "yes" and access.said == {None}:
         return "barred: motorroad=yes"
-    if kind == "ferry" and access.always is None and not vehicle.walks and ("foot" in tags or "bicycle" in tags):
+    if kind == "ferry" and access.said == {None} and not vehicle.walks and ("foot" in tags or "bicycle" in tags):
         return "ferries that name walkers or bicycles and no others"
     if any(tags.get(key) == "yes" for key in ("abandoned", "disused", "impassable")):
         return "abandoned, disused or impassable"
@@ -111,7 +112,7 @@ def _by_access(rule: Rule, access: Access) -> tuple[Rule, Rule | None]:
     """The rule with what access says over the day; and that of the way once more, where both are needed."""
     notes = rule.notes + ("conditions not used: access",) * bool(access.unknown)
     if len(access.steps) == 1:
-        ends = access.always == "ends"
+        ends = access.said == {"ends"}
         return replace(rule, ends=ends, notes=notes + ("for destinations alone",) * ends), None
     notes += ("open at some hours alone",)
     entered = timing([(second, None if said == "barred" else 1.0) for second, said in access.steps])
@@ -153,8 +154,8 @@ def _directed(rule: Rule, tags: Tags, vehicle: Vehicle, weekday: int, base: floa
         if "oneway:conditional" not in tags and oneway in (_BACK if forth else _YES):
             sides.append(None)
             continue
-        speed = _speed(limits["forward" if forth else "backward"], tags, vehicle, base, notes)
-        held = combined(held, _limits_by_hour(tags, vehicle, weekday, base, speed, notes))
+        speed = _speed(limits[forth], tags, vehicle, base, notes)
+        held = combined(held, _limits_by_hour(tags, vehicle, weekday, (forth, base, speed), notes))
         held = combined(held, _oneway_by_hour(tags, vehicle, weekday, forth, notes))
         sides.append(None if held == NEVER else Side(speed, held))
     if rule.ferry:
@@ -172,8 +173,8 @@ def _within(side: Side | None, of: Timing | None) -> Side | None:
     return None if held == NEVER else Side(side.kmh, held)
 
 
-def _limits(tags: Tags, vehicle: Vehicle, notes: list[str]) -> dict[str, float | None]:
-    """The limit of each direction in km/h, where one is known."""
+def _limits(tags: Tags, vehicle: Vehicle, notes: list[str]) -> dict[bool, float | None]:
+    """The limit along the way (True) and against it in km/h, where one is known."""
     def said(key: str) -> float | None:
         value = kmh(tags[key], vehicle.speeds.zones) if key in tags else None
         if key in tags and value is None and tags[key] not in IMPLICIT:
@@ -181,14 +182,14 @@ def _limits(tags: Tags, vehicle: Vehicle, notes: list[str]) -> dict[str, float |
         return value
 
     if not vehicle.maxspeed:
-        return {"forward": None, "backward": None}
+        return {True: None, False: None}
     own = next((value for value in map(said, vehicle.maxspeed) if value), None)
     zone = None
     if own is None and tags.get("highway") in vehicle.speeds.classes:
         zone = next((value for value in (kmh(tags[key], vehicle.speeds.zones) for key in _ZONES if key in tags) if value), None)
     if zone:
         notes.append("limits by zone or type of maxspeed")
-    return {side: said("maxspeed:" + side) or own or zone for side in ("forward", "backward")}
+    return {forth: said("maxspeed:" + side) or own or zone for forth, side in ((True, "forward"), (False, "backward"))}
 
 
 def _speed(limit: float | None, tags: Tags, vehicle: Vehicle, base: float, notes: list[str]) -> float:
@@ -201,19 +202,22 @@ def _speed(limit: float | None, tags: Tags, vehicle: Vehicle, base: float, notes
     return min(speed, cap, speeds.most)
 
 
-def _limits_by_hour(tags: Tags, vehicle: Vehicle, weekday: int, base: float, speed: float, notes: list[str]) -> Timing | None:
-    """How limits that hold at some hours change the seconds of a direction."""
+def _limits_by_hour(tags: Tags, vehicle: Vehicle, weekday: int, usual: tuple[bool, float, float], notes: list[str]) -> Timing | None:
+    """How limits that hold at some hours change the seconds of a direction: `usual` says whether it is along the way, the
+    speed of its class and its usual speed."""
     text = tags.get("maxspeed:conditional")
     if text is None or not vehicle.maxspeed:
         return None
+    forth, base, speed = usual
     known, unknown = conditions(text, weekday)
-    if unknown:
+    used = [(value, spans) for value, spans in known if kmh(value, vehicle.speeds.zones) is not None]
+    if unknown or len(used) < len(known):
         notes.append("conditions not used: maxspeed")
     steps: list[tuple[int, float | None]] = []
-    for second in turning_points(known):
-        value = value_at(known, second)
-        limit = None if value is None else kmh(value, vehicle.speeds.zones)
-        steps.append((second, 1.0 if limit is None else speed / _speed(limit, tags, vehicle, base, [])))
+    for second in turning_points(used):
+        value = value_at(used, second)
+        limits = {} if value is None else _limits({**tags, "maxspeed": value}, vehicle, [])
+        steps.append((second, speed / _speed(limits[forth], tags, vehicle, base, []) if limits else 1.0))
     of = timing(steps)
     if not of.plain:
         notes.append("limits at some hours")
@@ -221,18 +225,18 @@ def _limits_by_hour(tags: Tags, vehicle: Vehicle, weekday: int, base: float, spe
 
 
 def _oneway_by_hour(tags: Tags, vehicle: Vehicle, weekday: int, forth: bool, notes: list[str]) -> Timing | None:
-    """When a direction is closed because the way is one-way then."""
+    """When a direction is closed because the way is one-way then, or reversible."""
     text = tags.get("oneway:conditional")
     if text is None or vehicle.name == "foot":
         return None
     known, unknown = conditions(text, weekday)
     if unknown:
         notes.append("conditions not used: oneway")
-    plain = _oneway(tags, vehicle)
     steps: list[tuple[int, float | None]] = []
     for second in turning_points(known):
-        value = value_at(known, second) or plain
-        steps.append((second, None if value in (_BACK if forth else _YES) + ("reversible",) else 1.0))
+        value = value_at(known, second)
+        said = _oneway(tags if value is None else {**tags, "oneway": value}, vehicle)
+        steps.append((second, None if said in (_BACK if forth else _YES) + ("reversible",) else 1.0))
     of = timing(steps)
     return None if of.plain else of
 
