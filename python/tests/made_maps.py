@@ -275,6 +275,7 @@ WRITTEN: dict[str, list[str]] = {
     "disused": ["yes", "no"],
     "impassable": ["yes"],
     "cycleway": ["opposite_lane", "lane", "opposite"],
+    "route": ["ferry", "bus", "road"],
 }
 
 

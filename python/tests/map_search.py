@@ -386,12 +386,16 @@ def _pockets(network: Network) -> None:
     heads = [road.head for road, good in zip(roads, is_open) if good]
     count = len(network.vertex_osm)
     parts = igraph.Graph(count, list(zip(tails, heads)), directed=True).connected_components("strong")
-    labels, sizes = parts.membership, parts.sizes()
-    largest = sizes.index(max(sizes))
-    network.core = {v for v in range(count) if labels[v] == largest}
+    joined = {label: set(members) for label, members in enumerate(parts)}
+    network.core = joined[_largest(joined, network.vertex_osm)]
     for road in roads:
         if road.tail not in network.core or road.head not in network.core:
             road.pieces = _merged([(s, ENDS if a == OPEN else a, r) for s, a, r in road.pieces])
+
+
+def _largest(parts: dict[int, set[int]], vertex_osm: list[int]) -> int:
+    """The label of the part with the most vertices; of several such the one with the least node of OpenStreetMap."""
+    return min(parts, key=lambda label: (-len(parts[label]), min((vertex_osm[v] for v in parts[label]), default=0)))
 
 
 def restriction_of(members: list[tuple[str, int, str]]) -> tuple[set[int], list[int], list[int], set[int]] | None:
@@ -507,8 +511,8 @@ class Search:
         labels = graph.connected_components("strong").membership
         vertices: dict[int, set[int]] = defaultdict(set)
         for state, label in zip(states, labels):
-            vertices[label] |= {state[0]} if state[2] == 1 else set()
-        largest = labels.index(max(vertices, key=lambda label: len(vertices[label])))
+            vertices[label] |= {state[0]} & self.network.core if state[2] == 1 else set()
+        largest = labels.index(_largest(vertices, self.network.vertex_osm))
         ahead, behind = (set(graph.subcomponent(largest, mode)) for mode in ("out", "in"))
         return {states[k][0] for k in ahead} & {state[0] for state in firsts if number[state] in behind}
 
@@ -581,7 +585,7 @@ class Search:
         """The least arrival of all who enter now or later; only where something changes it may pay to be later."""
         road = self.network.roads[number]
         if len(road.pieces) == 1 and not closed and road.boards is None:
-            return now + self._takes(number, 1.0)
+            return now + self._takes(number, road.pieces[0][2])
         midnight = math.floor(now / DAY) * DAY
         times = {piece[0] for piece in road.pieces + (road.entry or [])} | {second for span in closed for second in span}
         found = []

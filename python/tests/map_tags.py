@@ -151,7 +151,7 @@ class Rules:
 
     def is_ferry(self, tags: Tags) -> bool:
         """Whether a way is taken as a ferry."""
-        return tags.get("route") == "ferry" and tags.get("highway") not in self.speeds["classes"]
+        return tags.get("route") == "ferry"
 
     def let_in(self, tags: Tags) -> bool:
         """Whether a tag lets the vehicle in on a class that isn't for it."""
@@ -167,6 +167,8 @@ class Rules:
         if tags.get("area") == "yes" or any(tags.get(key) == "yes" for key in ("abandoned", "disused", "impassable")):
             return False
         if any(self.speeds[key].get(tags.get(key)) == 0 for key in ("surface", "tracktype", "smoothness")):
+            return False
+        if tags.get("motorroad") == "yes" and self.vehicle in ("bicycle", "foot") and self.decides(tags) is None:
             return False
         if self.is_ferry(tags):
             named = "foot" in tags or "bicycle" in tags

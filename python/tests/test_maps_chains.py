@@ -93,7 +93,7 @@ def test_parts(count: int, links: list[tuple[int, int]], starts: int) -> None:
     assert set(np.flatnonzero(met).tolist()) == {other for node in begins for other in reach(node)}
     label = joined_parts(count, tail, head)
     assert all((label[a] == label[b]) == (b in reach(a, True)) for a in range(count) for b in range(count))
-    first = np.zeros(count, dtype=bool)
-    first[count - 1] = True
-    chosen, _ = largest_part(count, tail, head, first)
+    of = np.full(count, -1, dtype=np.int64)
+    of[count - 1] = 3
+    chosen, _ = largest_part(count, tail, head, of)
     assert chosen[count - 1]

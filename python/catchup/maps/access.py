@@ -55,10 +55,11 @@ def _over_day(tags: Tags, vehicle: Vehicle, weekday: int, say: Callable[[Tags], 
     return Access(tuple(steps), next((key for key in vehicle.keys if key in tags), None), tuple(unknown))
 
 
-def read_access(tags: Tags, vehicle: Vehicle, weekday: int) -> Access:
-    """What the tags say of a vehicle on a day of the week (0 is Monday). The most special one that is there decides."""
+def read_access(tags: Tags, vehicle: Vehicle, weekday: int, otherwise: Said | None = None) -> Access:
+    """What the tags say of a vehicle on a day of the week (0 is Monday). The most special one that is there decides; where
+    there is none, `otherwise` holds."""
     def say(held: Tags) -> Said | None:
-        return meaning(next(iter(held.values())), vehicle) if held else None
+        return meaning(next(iter(held.values())), vehicle) if held else otherwise
 
     return _over_day(tags, vehicle, weekday, say)
 
@@ -67,10 +68,9 @@ def read_opening(tags: Tags, vehicle: Vehicle, weekday: int, by_access: bool) ->
     """What they say of a class that isn't for the vehicle: it is barred but where one of the vehicle's own tags lets it in,
     and with `by_access` where `access` does."""
     def say(held: Tags) -> Said | None:
-        decides = next(iter(held), None)
+        decides = next(iter(held), "")
         lets = any(meaning(held[key], vehicle) != "barred" for key in vehicle.own if key in held)
-        if decides is None or not lets and not (by_access and decides == "access" and "private" not in words_of(held["access"])):
-            return "barred"
-        return meaning(held[decides], vehicle)
+        lets |= by_access and decides == "access" and "private" not in words_of(held["access"])
+        return meaning(held[decides], vehicle) if lets else "barred"
 
     return _over_day(tags, vehicle, weekday, say)

@@ -65,6 +65,13 @@ class Directed:
         """The directed streets that lead to each node."""
         return Groups(self.head[self.all], self.all, len(self.segments.osm))
 
+    @property
+    def meets_open(self) -> Bools:
+        """Whether a street that is open to all meets each node."""
+        found = np.zeros(len(self.segments.osm), dtype=bool)
+        found[self.streets.a[~self.ends]] = found[self.streets.b[~self.ends]] = True
+        return found
+
     @cached_property
     def first_step(self) -> Ints:
         """The first step of each directed street."""

@@ -29,15 +29,19 @@ def _labels(graph: igraph.Graph, mode: str) -> Ints:
     return np.array(graph.connected_components(mode=mode).membership, dtype=np.int64)
 
 
-def largest_part(count: int, tail: Ints, head: Ints, first: Bools | None = None) -> tuple[Bools, int]:
-    """The nodes of the largest part in which each leads to each other, and how many parts there are. Where `first` says
-    nodes, the part with the most of these is the largest, and among such the one with the most nodes."""
+def largest_part(count: int, tail: Ints, head: Ints, of: Ints | None = None) -> tuple[Bools, int]:
+    """The nodes of the largest part in which each leads to each other, and how many parts there are. Where `of` says what
+    each node is a copy of, or -1, the part with copies of the most things is the largest, and among such the one with the
+    most nodes."""
     if not count:
         return np.zeros(0, dtype=bool), 0
     label = _labels(_graph(count, tail, head), "strong")
     sizes = np.bincount(label)
-    if first is not None:
-        sizes = sizes + (count + 1) * np.bincount(label[first], minlength=len(sizes))
+    if of is not None:
+        copies = np.flatnonzero(of >= 0)
+        things = int(of.max(initial=0)) + 1
+        kinds = np.unique(label[copies] * things + of[copies]) // things
+        sizes = sizes + (count + 1) * np.bincount(kinds, minlength=len(sizes))
     # Of parts that are as large the one with the first node, however parts are numbered.
     node = int((sizes == sizes.max())[label].argmax())
     return label == label[node], len(sizes)

@@ -38,7 +38,7 @@ def largest(network: Network, counts: Counts, islands: bool = False) -> Bools:
     """The states of the nodes that are reached from the largest part and lead to it, so far as a drive that begins at one
     of these nodes gets to them; with `islands` all states."""
     count = len(network.node)
-    part, parts = largest_part(count, network.tail, network.head, network.open)
+    part, parts = largest_part(count, network.tail, network.head, np.where(network.open, network.node, -1))
     counts.add("parts", number=parts)
     if islands:
         return np.ones(count, dtype=bool)

@@ -237,10 +237,9 @@ class _Nodes(osmium.SimpleHandler):
 
 def read_barrier(tags: dict[str, str], wanted: Wanted) -> tuple[Barrier | None, list[str]]:
     """What a barrier is, None where it is simply passed, and what the report counts of it."""
-    access = read_access(tags, wanted.vehicle, wanted.weekday)
-    # Where the tags of access say nothing the barrier's kind decides.
-    usual = "barred" if tags.get("locked") == "yes" or tags["barrier"] not in wanted.vehicle.passes else "open"
-    steps = [(second, None if (said or usual) == "barred" else 1.0) for second, said in access.steps]
+    passed = tags["barrier"] in wanted.vehicle.passes and tags.get("locked") != "yes"
+    access = read_access(tags, wanted.vehicle, wanted.weekday, "open" if passed else "barred")
+    steps = [(second, None if said == "barred" else 1.0) for second, said in access.steps]
     spans = open_spans(tags["opening_hours"], wanted.weekday) if "opening_hours" in tags else None
     held = combined(timing(steps), None if spans is None else open_in(spans))
     notes = ["conditions not used: access"] * bool(access.unknown)

@@ -61,7 +61,7 @@ def read_rule(tags: Tags, vehicle: Vehicle, weekday: int, without: frozenset[str
     kind = "ferry" if ferry else tags.get("highway")
     if kind is None:
         return None
-    access = read_access(tags, vehicle, weekday)
+    access = read_access(tags, vehicle, weekday, "barred" if _for_others(tags, kind, vehicle) else None)
     base = vehicle.speeds.ferry if ferry else vehicle.speeds.classes.get(kind)
     notes: list[str] = []
     if base is None and kind in vehicle.speeds.let_in:
@@ -69,9 +69,9 @@ def read_rule(tags: Tags, vehicle: Vehicle, weekday: int, without: frozenset[str
         if access.said != {"barred"}:
             base = vehicle.speeds.let_in[kind]
             notes.append(f"opened: {kind}")
-    out = _left_out(tags, kind, vehicle, access, base, without)
-    if out is not None or base is None:
-        return Rule(kind=kind, out=out or f"class: {kind}")
+    out = f"class: {kind}" if base is None else _left_out(tags, kind, vehicle, access, without)
+    if base is None or out is not None:
+        return Rule(kind=kind, out=out)
     rule, too = _by_access(Rule(kind=kind, ferry=ferry, ring=tags.get("junction") in _RINGS, notes=tuple(notes)),
                            access)
     done = _directed(rule, tags, vehicle, weekday, base)
@@ -85,20 +85,24 @@ def _shut(rule: Rule) -> bool:
     return rule.forth is None and rule.back is None
 
 
-def _left_out(tags: Tags, kind: str, vehicle: Vehicle, access: Access, base: float | None, without: frozenset[str]) -> str | None:
-    """Why a way isn't taken; None where it is."""
-    if base is None:
-        return None
+def _for_others(tags: Tags, kind: str, vehicle: Vehicle) -> str | None:
+    """Why a way isn't for the vehicle where no tag of access says so; None where it is."""
+    if vehicle.name in ("bicycle", "foot") and tags.get("motorroad") == "yes":
+        return "barred: motorroad=yes"
+    if kind == "ferry" and not vehicle.walks and ("foot" in tags or "bicycle" in tags):
+        return "ferries that name walkers or bicycles and no others"
+    return None
+
+
+def _left_out(tags: Tags, kind: str, vehicle: Vehicle, access: Access, without: frozenset[str]) -> str | None:
+    """Why a way of a class that is for the vehicle isn't taken; None where it is."""
     if kind in without:
         return f"asked to be left out: {kind}"
     if tags.get("area") == "yes":
         return "areas"
     if access.said == {"barred"}:
-        return f"barred: {access.key}={tags[access.key]}" if access.key else "barred: at all hours"
-    if vehicle.name in ("bicycle", "foot") and tags.get("motorroad") == "yes" and access.said == {None}:
-        return "barred: motorroad=yes"
-    if kind == "ferry" and access.said == {None} and not vehicle.walks and ("foot" in tags or "bicycle" in tags):
-        return "ferries that name walkers or bicycles and no others"
+        said = f"barred: {access.key}={tags[access.key]}" if access.key else _for_others(tags, kind, vehicle)
+        return said or "barred: at all hours"
     if any(tags.get(key) == "yes" for key in ("abandoned", "disused", "impassable")):
         return "abandoned, disused or impassable"
     if any(of.get(tags.get(key, "")) == 0 for key, of in vehicle.speeds.rough.items()):

@@ -119,8 +119,9 @@ def network_of(directed: Directed, ends: Bools, chains: dict[Chain, Spans], slow
     rows = np.array(build.roads, dtype=np.int64).reshape(-1, 5)
     none = np.zeros(len(tail), dtype=np.int64)
     nodes = np.concatenate((build.nodes, np.array([node for node, _, _ in build.states], dtype=np.int64)))
-    phases = np.concatenate((~build.touches[build.nodes], np.array([phase == 1 for _, phase, _ in build.states], dtype=bool)))
-    return Network(nodes, _copies(nodes, len(build.nodes)), phases, np.concatenate((tail, rows[:, 0])),
+    between = np.concatenate((~build.touches[build.nodes], np.array([phase == 1 for _, phase, _ in build.states], dtype=bool)))
+    is_open = between & directed.meets_open[nodes]
+    return Network(nodes, _copies(nodes, len(build.nodes)), is_open, np.concatenate((tail, rows[:, 0])),
                    np.concatenate((head, rows[:, 1])), np.concatenate((street, rows[:, 2])),
                    np.concatenate((none, rows[:, 3])), np.concatenate((none, rows[:, 4])), list(build.spans))
 
