@@ -183,6 +183,8 @@ class Rules:
             return direction == 0 or not (implied and self.who["one_way"])
         if tags[key] == "reversible":
             return False
+        if self.vehicle == "bicycle" and tags[key] in ("yes", "true", "1") and tags.get("cycleway", "").startswith("opposite"):
+            return True
         if tags[key] in ("yes", "true", "1"):
             return direction == 0
         return direction == 1 or tags[key] not in ("-1", "reverse")
@@ -204,14 +206,13 @@ class Rules:
 
     def used(self, key: str, value: str) -> bool:
         """Whether a value of a conditional tag is one that is understood."""
-        return key != "maxspeed:conditional" or self.limit(value) is not None
+        return not key.startswith("maxspeed") or self.limit(value) is not None
 
     def speed(self, tags: Tags, direction: int) -> float:
         """km/h along a way (0) or against it (1)."""
         kind = tags.get("highway", "")
-        if self.is_ferry(tags):
-            return float(self.speeds["ferry"])
-        usual = self.speeds["classes"].get(kind) or self.speeds["let_in"][kind]
+        usual = (self.speeds["ferry"] if self.is_ferry(tags) else
+                 self.speeds["classes"].get(kind) or self.speeds["let_in"][kind])
         keys = ["maxspeed:forward" if direction == 0 else "maxspeed:backward", *self.who["maxspeed"]]
         if kind in self.speeds["classes"]:
             keys += ["zone:maxspeed", "maxspeed:type", "source:maxspeed", "zone:traffic"]

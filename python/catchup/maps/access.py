@@ -4,7 +4,7 @@ from __future__ import annotations
 from dataclasses import dataclass
 from typing import Callable, Literal, Mapping
 
-from catchup.maps.hours import Spans, conditions, turning_points, value_at
+from catchup.maps.hours import over_day
 from catchup.maps.vehicles import Vehicle
 
 Said = Literal["open", "ends", "barred"]
@@ -17,8 +17,8 @@ class Access:
     steps: tuple[tuple[int, Said | None], ...]
     key: str | None
     """The tag that decides where no condition holds."""
-    unknown: tuple[str, ...]
-    """The conditions that aren't understood."""
+    unknown: bool
+    """Whether there are conditions that aren't understood."""
 
     @property
     def said(self) -> set[Said | None]:
@@ -41,18 +41,13 @@ def meaning(value: str, vehicle: Vehicle) -> Said:
 
 def _over_day(tags: Tags, vehicle: Vehicle, weekday: int, say: Callable[[Tags], Said | None]) -> Access:
     """What is said over a day of the week; `say` is given the tags of access as they hold at a second."""
-    known: dict[str, list[tuple[str, Spans]]] = {}
-    unknown: list[str] = []
-    for key in vehicle.keys:
-        known[key], not_known = conditions(tags.get(key + ":conditional", ""), weekday)
-        unknown += not_known
+    day, all_used = over_day(tags, vehicle.keys, weekday)
     steps: list[tuple[int, Said | None]] = []
-    for second in turning_points(*known.values()):
-        held = {key: value for key in vehicle.keys if (value := value_at(known[key], second) or tags.get(key)) is not None}
-        said = say(held)
+    for second, then in day:
+        said = say({key: then[key] for key in vehicle.keys if key in then})
         if not steps or steps[-1][1] != said:
             steps.append((second, said))
-    return Access(tuple(steps), next((key for key in vehicle.keys if key in tags), None), tuple(unknown))
+    return Access(tuple(steps), next((key for key in vehicle.keys if key in tags), None), not all_used)
 
 
 def read_access(tags: Tags, vehicle: Vehicle, weekday: int, otherwise: Said | None = None) -> Access:

@@ -7,7 +7,7 @@ in rules parted by semicolons, of which the later ones replace the earlier ones 
 from __future__ import annotations
 
 import re
-from typing import Iterable
+from collections.abc import Callable, Iterable, Mapping
 
 from catchup.maps.values import DAY
 
@@ -143,3 +143,20 @@ def turning_points(*several: list[tuple[str, Spans]]) -> list[int]:
     """The seconds of the day at which values may change, 0 first."""
     ends = {second for known in several for _, spans in known for span in spans for second in span}
     return sorted({0} | {second for second in ends if second < DAY})
+
+
+def over_day(tags: Mapping[str, str], keys: Iterable[str], weekday: int,
+             used: Callable[[str], bool] = lambda value: True) -> tuple[list[tuple[int, dict[str, str]]], bool]:
+    """From each second of a day on at which a condition of one of these tags may begin or end: the tags as they then hold,
+    those with conditions in the place of those without. And whether all conditions are understood and their values `used`."""
+    known: dict[str, list[tuple[str, Spans]]] = {}
+    all_used = True
+    for key in keys:
+        found, unknown = conditions(tags.get(key + ":conditional", ""), weekday)
+        known[key] = [(value, spans) for value, spans in found if used(value)]
+        all_used &= not unknown and len(known[key]) == len(found)
+    day = []
+    for second in turning_points(*known.values()):
+        held = {key: value for key in known if (value := value_at(known[key], second)) is not None}
+        day.append((second, {**tags, **held}))
+    return day, all_used

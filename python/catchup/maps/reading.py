@@ -60,6 +60,8 @@ class RawMap:
     way_name: NDArray[np.int32]
     first: Ints
     refs: Ints
+    placed: Ints
+    """Nodes whose places stand in their ways: number, and place in ten-millionths of a degree, a column each."""
     restrictions: list[Restriction]
     node_ids: Ints = field(default_factory=lambda: np.empty(0, dtype=np.int64))
     """The nodes that ways use and that are there, by rising number."""
@@ -96,6 +98,7 @@ class _Ways(osmium.SimpleHandler):
         self.versions: dict[int, int] = {}
         self.ids, self.rule_of, self.name_of = array("q"), array("i"), array("i")
         self.first, self.refs = array("q", [0]), array("q")
+        self.placed, self.has_places = array("q"), False
         self.left_out: dict[int, list[int]] = {}
         self.restrictions: list[Restriction] = []
         self.relations: set[int] = set()
@@ -123,8 +126,13 @@ class _Ways(osmium.SimpleHandler):
         self.ids.append(number)
         self.rule_of.append(rule)
         self.name_of.append(self.names.setdefault((tags.get("name", ""), tags.get("ref", "")), len(self.names)))
-        self.refs.extend([node.ref for node in way.nodes])
+        nodes = way.nodes
+        self.refs.extend([node.ref for node in nodes])
         self.first.append(len(self.refs))
+        self.has_places |= len(nodes) > 0 and (nodes[0].location.valid() or nodes[-1].location.valid())
+        if self.has_places:
+            for node in nodes:
+                self.placed.extend((node.ref, node.x, node.y))
 
     def _rule(self, tags: dict[str, str]) -> int:
         """The number of a new rule."""
@@ -242,7 +250,7 @@ def read_barrier(tags: dict[str, str], wanted: Wanted) -> tuple[Barrier | None, 
     steps = [(second, None if said == "barred" else 1.0) for second, said in access.steps]
     spans = open_spans(tags["opening_hours"], wanted.weekday) if "opening_hours" in tags else None
     held = combined(timing(steps), None if spans is None else open_in(spans))
-    notes = ["conditions not used: access"] * bool(access.unknown)
+    notes = ["conditions not used: access"] * access.unknown
     notes += ["opening hours not understood, taken as all day"] * ("opening_hours" in tags and spans is None)
     if held == NEVER:
         return Barrier(blocked=True), [f"barriers: {tags['barrier']}", *notes]
@@ -288,7 +296,8 @@ def read_ways(path: Path, wanted: Wanted, counts: Counts) -> RawMap:
     if not handler.ids:
         raise Failure(f"{path}: no way in it is a road for {_whom(wanted.vehicle.name)}")
     raw = RawMap(handler.rules, list(handler.names), _ints(handler.ids), _ints(handler.rule_of).astype(np.int32),
-                 _ints(handler.name_of).astype(np.int32), _ints(handler.first), _ints(handler.refs), handler.restrictions)
+                 _ints(handler.name_of).astype(np.int32), _ints(handler.first), _ints(handler.refs),
+                 _ints(handler.placed).reshape(-1, 3), handler.restrictions)
     _count_notes(raw, counts)
     return raw
 
@@ -297,7 +306,8 @@ def read_nodes(path: Path, raw: RawMap, wanted: Wanted, counts: Counts) -> None:
     """Adds the places of the ways' nodes, their barriers and delays."""
     handler = _Nodes(set(np.unique(raw.refs).tolist()), wanted, counts)
     _apply(handler, path)
-    ids, x, y = _ints(handler.ids), _ints(handler.x), _ints(handler.y)
+    there = np.column_stack((_ints(handler.ids), _ints(handler.x), _ints(handler.y)))
+    ids, x, y = np.concatenate((there, raw.placed[raw.placed[:, 1] != _NOWHERE])).T
     ids, rows = np.unique(ids, return_index=True)
     lon, lat = x[rows] * _FIXED, y[rows] * _FIXED
     good = (np.abs(lon) <= 180.0) & (np.abs(lat) <= 90.0) & (x[rows] != _NOWHERE)

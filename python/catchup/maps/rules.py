@@ -1,10 +1,11 @@
 """What the tags of a way say of it: in which directions one may go, how fast, when, and whether to its end alone."""
 from __future__ import annotations
 
+from collections.abc import Callable, Iterable
 from dataclasses import dataclass, replace
 
 from catchup.maps.access import Access, Tags, read_access, read_opening
-from catchup.maps.hours import conditions, open_spans, starts, turning_points, value_at
+from catchup.maps.hours import open_spans, over_day, starts
 from catchup.maps.timing import NEVER, Timing, combined, open_in, timing
 from catchup.maps.values import DAY, IMPLICIT, duration, kmh
 from catchup.maps.vehicles import Vehicle
@@ -15,10 +16,10 @@ LONGEST = 5 * DAY
 _YES, _BACK = ("yes", "true", "1"), ("-1", "reverse")
 _NO = ("no", "false", "0")
 _RINGS = ("roundabout", "circular")
+_SIDES = ("maxspeed:forward", "maxspeed:backward")
 _ZONES = ("zone:maxspeed", "maxspeed:type", "source:maxspeed", "zone:traffic")
 _OTHER = ("highway", "route", "junction", "area", "abandoned", "disused", "impassable", "duration", "interval",
-          "opening_hours", "foot", "bicycle", "motorroad", "cycleway", "surface", "tracktype", "smoothness",
-          "oneway:conditional", "maxspeed:conditional", "maxspeed:forward", "maxspeed:backward", *_ZONES)
+          "opening_hours", "foot", "bicycle", "motorroad", "cycleway", "surface", "tracktype", "smoothness", *_ZONES)
 
 
 @dataclass(frozen=True)
@@ -51,8 +52,8 @@ class Rule:
 
 def relevant_tags(vehicle: Vehicle) -> frozenset[str]:
     """The tags that a rule is made of."""
-    keys = vehicle.keys + tuple(key + ":conditional" for key in vehicle.keys)
-    return frozenset(keys + vehicle.oneway + vehicle.maxspeed + _OTHER)
+    timed = vehicle.keys + vehicle.oneway + vehicle.maxspeed + _SIDES
+    return frozenset(timed + tuple(key + ":conditional" for key in timed) + _OTHER)
 
 
 def read_rule(tags: Tags, vehicle: Vehicle, weekday: int, without: frozenset[str] = frozenset()) -> Rule | None:
@@ -107,14 +108,19 @@ def _left_out(tags: Tags, kind: str, vehicle: Vehicle, access: Access, without: 
         return "abandoned, disused or impassable"
     if any(of.get(tags.get(key, "")) == 0 for key, of in vehicle.speeds.rough.items()):
         return "abandoned, disused or impassable"
-    if _oneway(tags, vehicle) == "reversible" and "oneway:conditional" not in tags:
+    if _oneway(tags, vehicle) == "reversible" and not _changes(tags, vehicle.oneway):
         return "reversible"
     return None
 
 
+def _changes(tags: Tags, keys: Iterable[str]) -> bool:
+    """Whether one of these tags has conditions."""
+    return any(key + ":conditional" in tags for key in keys)
+
+
 def _by_access(rule: Rule, access: Access) -> tuple[Rule, Rule | None]:
     """The rule with what access says over the day; and that of the way once more, where both are needed."""
-    notes = rule.notes + ("conditions not used: access",) * bool(access.unknown)
+    notes = rule.notes + ("conditions not used: access",) * access.unknown
     if len(access.steps) == 1:
         ends = access.said == {"ends"}
         return replace(rule, ends=ends, notes=notes + ("for destinations alone",) * ends), None
@@ -152,14 +158,16 @@ def _directed(rule: Rule, tags: Tags, vehicle: Vehicle, weekday: int, base: floa
     elif oneway not in (None, "reversible") + _YES + _NO + _BACK:
         notes.append(f"oneway not understood, taken as both ways: {oneway}")
     limits = _limits(tags, vehicle, notes)
+    by_hour = _changes(tags, vehicle.oneway)
     sides: list[Side | None] = []
     for forth in (True, False):
-        held = rule.forth.timing if rule.forth is not None else None
-        if "oneway:conditional" not in tags and oneway in (_BACK if forth else _YES):
+        if not by_hour and oneway in (_BACK if forth else _YES):
             sides.append(None)
             continue
         speed = _speed(limits[forth], tags, vehicle, base, notes)
-        held = combined(held, _limits_by_hour(tags, vehicle, weekday, (forth, base, speed), notes))
+        held = rule.forth.timing if rule.forth is not None else None
+        if not rule.ferry:
+            held = combined(held, _limits_by_hour(tags, vehicle, weekday, _speeds(forth, vehicle, base), notes))
         held = combined(held, _oneway_by_hour(tags, vehicle, weekday, forth, notes))
         sides.append(None if held == NEVER else Side(speed, held))
     if rule.ferry:
@@ -193,7 +201,7 @@ def _limits(tags: Tags, vehicle: Vehicle, notes: list[str]) -> dict[bool, float 
         zone = next((value for value in (kmh(tags[key], vehicle.speeds.zones) for key in _ZONES if key in tags) if value), None)
     if zone:
         notes.append("limits by zone or type of maxspeed")
-    return {forth: said("maxspeed:" + side) or own or zone for forth, side in ((True, "forward"), (False, "backward"))}
+    return {forth: said(key) or own or zone for forth, key in zip((True, False), _SIDES)}
 
 
 def _speed(limit: float | None, tags: Tags, vehicle: Vehicle, base: float, notes: list[str]) -> float:
@@ -206,42 +214,32 @@ def _speed(limit: float | None, tags: Tags, vehicle: Vehicle, base: float, notes
     return min(speed, cap, speeds.most)
 
 
-def _limits_by_hour(tags: Tags, vehicle: Vehicle, weekday: int, usual: tuple[bool, float, float], notes: list[str]) -> Timing | None:
-    """How limits that hold at some hours change the seconds of a direction: `usual` says whether it is along the way, the
-    speed of its class and its usual speed."""
-    text = tags.get("maxspeed:conditional")
-    if text is None or not vehicle.maxspeed:
-        return None
-    forth, base, speed = usual
-    known, unknown = conditions(text, weekday)
-    used = [(value, spans) for value, spans in known if kmh(value, vehicle.speeds.zones) is not None]
-    if unknown or len(used) < len(known):
+def _speeds(forth: bool, vehicle: Vehicle, base: float) -> Callable[[Tags], float]:
+    """The speed of a direction by the tags of its way."""
+    return lambda tags: _speed(_limits(tags, vehicle, [])[forth], tags, vehicle, base, [])
+
+
+def _limits_by_hour(tags: Tags, vehicle: Vehicle, weekday: int, speed_of: Callable[[Tags], float],
+                    notes: list[str]) -> Timing | None:
+    """How limits that hold at some hours change the seconds of a direction, whose speed by its tags `speed_of` says."""
+    keys = (*vehicle.maxspeed, *_SIDES) if vehicle.maxspeed else ()
+    day, all_used = over_day(tags, keys, weekday, lambda value: kmh(value, vehicle.speeds.zones) is not None)
+    if not all_used:
         notes.append("conditions not used: maxspeed")
-    steps: list[tuple[int, float | None]] = []
-    for second in turning_points(used):
-        value = value_at(used, second)
-        limits = {} if value is None else _limits({**tags, "maxspeed": value}, vehicle, [])
-        steps.append((second, speed / _speed(limits[forth], tags, vehicle, base, []) if limits else 1.0))
-    of = timing(steps)
-    if not of.plain:
-        notes.append("limits at some hours")
-    return None if of.plain else of
+    of = timing([(second, speed_of(tags) / speed_of(then)) for second, then in day])
+    if of.plain:
+        return None
+    notes.append("limits at some hours")
+    return of
 
 
 def _oneway_by_hour(tags: Tags, vehicle: Vehicle, weekday: int, forth: bool, notes: list[str]) -> Timing | None:
     """When a direction is closed because the way is one-way then, or reversible."""
-    text = tags.get("oneway:conditional")
-    if text is None or vehicle.name == "foot":
-        return None
-    known, unknown = conditions(text, weekday)
-    if unknown:
+    day, all_used = over_day(tags, vehicle.oneway, weekday)
+    if not all_used:
         notes.append("conditions not used: oneway")
-    steps: list[tuple[int, float | None]] = []
-    for second in turning_points(known):
-        value = value_at(known, second)
-        said = _oneway(tags if value is None else {**tags, "oneway": value}, vehicle)
-        steps.append((second, None if said in (_BACK if forth else _YES) + ("reversible",) else 1.0))
-    of = timing(steps)
+    shut = (_BACK if forth else _YES) + ("reversible",)
+    of = timing([(second, None if _oneway(then, vehicle) in shut else 1.0) for second, then in day])
     return None if of.plain else of
 
 
