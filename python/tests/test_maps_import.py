@@ -2,21 +2,26 @@
 from __future__ import annotations
 
 import os
+import re
 import shutil
 import sqlite3
 import subprocess
 import sys
 from pathlib import Path
+from typing import Any
 
 import numpy as np
 import pytest
-from commands import BIN, call, check_refused, interrupt, run, run_into_closed_pipe
+from commands import BIN, Ran, call, check_refused, interrupt, run, run_into_closed_pipe
 from osm_maps import Net, OsmMap
 
 from catchup import tables
+from catchup.errors import Failure
 from catchup.mapfile import MapFile
+from catchup.maps import importing
 from catchup.maps.importing import Options, import_osm
 from catchup.maps.report import listed
+from catchup.maps.vehicles import VEHICLES
 from catchup.program import Child, run_program
 
 TOP = Path(__file__).resolve().parents[2]
@@ -54,6 +59,11 @@ def small(tmp_path: Path) -> Path:
     return made.write(tmp_path / "small.osm")
 
 
+def imported(*words: str | Path, **how: Any) -> Ran:
+    """Runs catchup-import osm in this process, as `call` does."""
+    return call("catchup-import", "osm", *words, **how)
+
+
 def left(folder: Path) -> list[str]:
     """What stands in a folder, hidden or not."""
     return sorted(path.name for path in folder.iterdir())
@@ -64,8 +74,11 @@ def test_what_is_made(small: Path, tmp_path: Path, program: Path) -> None:
     assert (ran.status, ran.error) == (0, "")
     assert left(tmp_path / "out") == FILES and left(tmp_path) == ["out", "small.osm"]
     lines = ran.output.splitlines()
-    assert lines[0].startswith("small.osm: 4 junctions (0 of them copies), 6 roads, ") and lines[-1].startswith(f"next      {BIN}/catchup build ")
-    assert [line.split()[0] for line in lines[1:-2]] == ["taken", "left", "lost", "barriers", "turns", "speeds", "names", "warnings"]
+    assert lines[0].startswith("small.osm: 4 junctions (0 of them copies), 6 roads, ")
+    words = [line.split()[0] for line in lines[1:-1]]
+    assert words == ["taken", "left", "lost", "barriers", "turns", "speeds", "names", "warnings", "made"]
+    assert re.fullmatch(rf"made +{tmp_path}/out in [0-9.]+ s and [0-9,]+ MB", lines[-2])
+    assert lines[-1].startswith(f"next      {BIN}/catchup build ")
     assert (tmp_path / "out" / "report.txt").read_text(encoding="utf-8").startswith("\n".join(lines[:-2]) + "\n")
     network = tables.read_network(tmp_path / "out")
     assert len(network.nodes) == 4 and len(network.roads) == 6
@@ -77,10 +90,11 @@ def test_what_is_made(small: Path, tmp_path: Path, program: Path) -> None:
 
 def test_the_packed_file_answers(small: Path, tmp_path: Path, program: Path) -> None:
     ran = run("catchup-import", "osm", small, tmp_path / "out", "--build")
-    assert ran.status == 0 and ran.output.splitlines()[-1] == f"next      {BIN}/catchup-http {tmp_path}/out/map.cu --tables {tmp_path}/out"
+    said = f"next      {BIN}/catchup-http {tmp_path}/out/map.cu --tables {tmp_path}/out"
+    assert ran.status == 0 and ran.output.splitlines()[-1] == said
     # Found by its name, it calls others by theirs.
-    again = subprocess.run(["catchup-import", "osm", small, "again", "--build"], cwd=tmp_path, capture_output=True, text=True,
-                           env={**os.environ, "PATH": f"{BIN}:{os.environ['PATH']}"})
+    again = subprocess.run(["catchup-import", "osm", small, "again", "--build"], cwd=tmp_path, capture_output=True,
+                           text=True, env={**os.environ, "PATH": f"{BIN}:{os.environ['PATH']}"})
     assert again.stdout.splitlines()[-1] == "next      catchup-http again/map.cu --tables again"
     found = MapFile.open(tmp_path / "out" / "map.gpkg")
     nodes = {osm: node for node, osm in enumerate(found.node_osm.tolist())}
@@ -97,38 +111,44 @@ def test_the_same_map_makes_the_same_bytes(small: Path, tmp_path: Path, program:
 
 def test_an_empty_folder_is_taken(small: Path, tmp_path: Path, program: Path) -> None:
     (tmp_path / "out").mkdir()
-    assert call("catchup-import", "osm", small, "out", cwd=tmp_path).status == 0 and left(tmp_path / "out") == FILES
+    assert imported(small, "out", cwd=tmp_path).status == 0 and left(tmp_path / "out") == FILES
 
 
 def test_a_folder_that_isnt_empty(small: Path, tmp_path: Path, program: Path) -> None:
-    """Left alone, but for --force; and then what an import doesn't make stays. An old packed file is of another map, and goes."""
+    """Left alone, but for --force; and then what an import doesn't make stays. An old packed file goes."""
     out = tmp_path / "out"
     out.mkdir()
     (out / "mine.txt").write_text("mine", encoding="utf-8")
     (out / "roads.csv").write_text("old", encoding="utf-8")
     (out / "map.cu").write_text("old", encoding="utf-8")
-    check_refused(call("catchup-import", "osm", small, out), 1, "isn't empty; name another, or replace")
+    check_refused(imported(small, out), 1, "isn't empty; name another, or replace")
     assert left(out) == ["map.cu", "mine.txt", "roads.csv"] and (out / "roads.csv").read_text(encoding="utf-8") == "old"
-    assert call("catchup-import", "osm", small, out, "--force").status == 0
+    assert imported(small, out, "--force").status == 0
     assert left(out) == sorted([*FILES, "mine.txt"]) and (out / "mine.txt").read_text(encoding="utf-8") == "mine"
     assert (out / "roads.csv").read_text(encoding="utf-8") != "old" and left(tmp_path) == ["out", "small.osm"]
 
 
+NO_MAP = "this isn't a whole file of OpenStreetMap"
+HISTORY = "this is a history or a file of changes"
+
+
 @pytest.mark.parametrize("name, content, says", [
-    ("none.osm.pbf", None, "none.osm.pbf: there is no such file"),
-    ("text.txt", b"hello\n", "text.txt: this isn't a whole file of OpenStreetMap: Could not detect file format"),
-    ("text.osm", b"hello\n", "text.osm: this isn't a whole file of OpenStreetMap: XML parsing error"),
-    ("text.osm.pbf", b"hello\n", "text.osm.pbf: this isn't a whole file of OpenStreetMap: PBF error"),
-    ("empty.osm.pbf", b"", "empty.osm.pbf: this isn't a whole file of OpenStreetMap"),
-    ("cut.osm", b'<?xml version="1.0"?><osm version="0.6"><node id="1" lat="1"', "cut.osm: this isn't a whole file of OpenStreetMap: XML"),
-    ("bare.osm", b'<?xml version="1.0"?><osm version="0.6"></osm>', "bare.osm: no way in it is a road for cars"),
-    ("history.osh", b'<?xml version="1.0"?><osm version="0.6"></osm>', "history.osh: this is a history or a file of changes"),
-    ("change.osc", b'<?xml version="1.0"?><osmChange version="0.6"></osmChange>', "change.osc: this is a history or a file of changes")])
-def test_files_that_are_no_map(tmp_path: Path, name: str, content: bytes | None, says: str) -> None:
+    ("none.osm.pbf", None, "there is no such file"),
+    ("text.txt", "hello\n", f"{NO_MAP}: Could not detect file format"),
+    ("text.osm", "hello\n", f"{NO_MAP}: XML parsing error"),
+    ("text.osm.pbf", "hello\n", f"{NO_MAP}: PBF error"),
+    ("text.osm.bz2", "hello\n", NO_MAP),
+    ("empty.osm.pbf", "", NO_MAP),
+    ("cut.osm", '<?xml version="1.0"?><osm version="0.6"><node id="1" lat="1"', f"{NO_MAP}: XML"),
+    ("page.osm", "<html><body>busy</body></html>", NO_MAP),
+    ("bare.osm", '<?xml version="1.0"?><osm version="0.6"></osm>', "no way in it is a road for cars"),
+    ("history.osh", '<?xml version="1.0"?><osm version="0.6"></osm>', HISTORY),
+    ("change.osc", '<?xml version="1.0"?><osmChange version="0.6"></osmChange>', HISTORY)])
+def test_files_that_are_no_map(tmp_path: Path, name: str, content: str | None, says: str) -> None:
     if content is not None:
-        (tmp_path / name).write_bytes(content)
+        (tmp_path / name).write_text(content, encoding="utf-8")
     before = left(tmp_path)
-    check_refused(call("catchup-import", "osm", name, "out", cwd=tmp_path), 1, f"catchup-import: {says}")
+    check_refused(imported(name, "out", cwd=tmp_path), 1, f"catchup-import: {name}: {says}")
     assert left(tmp_path) == before
 
 
@@ -136,7 +156,7 @@ def test_files_that_are_no_map(tmp_path: Path, name: str, content: bytes | None,
 def test_a_map_that_is_cut(real_map: Path, tmp_path: Path, part: float) -> None:
     content = real_map.read_bytes()
     (tmp_path / "cut.osm.pbf").write_bytes(content[:int(len(content) * part)])
-    check_refused(call("catchup-import", "osm", tmp_path / "cut.osm.pbf", tmp_path / "out"), 1, "this isn't a whole file of OpenStreetMap")
+    check_refused(imported(tmp_path / "cut.osm.pbf", tmp_path / "out"), 1, NO_MAP)
     assert left(tmp_path) == ["cut.osm.pbf"]
 
 
@@ -144,30 +164,58 @@ def test_a_map_that_is_damaged(real_map: Path, tmp_path: Path) -> None:
     content = bytearray(real_map.read_bytes())
     content[len(content) // 2:len(content) // 2 + 50] = bytes(50)
     (tmp_path / "bad.osm.pbf").write_bytes(content)
-    check_refused(call("catchup-import", "osm", tmp_path / "bad.osm.pbf", tmp_path / "out"), 1, "this isn't a whole file of OpenStreetMap")
+    check_refused(imported(tmp_path / "bad.osm.pbf", tmp_path / "out"), 1, NO_MAP)
     assert left(tmp_path) == ["bad.osm.pbf"]
 
 
 def test_folders_that_cant_be_made(small: Path, tmp_path: Path) -> None:
-    check_refused(call("catchup-import", "osm", small, small), 1, "this is a file, and no folder")
-    check_refused(call("catchup-import", "osm", small, tmp_path / "no" / "out"), 1, "there is no folder to make it in")
+    check_refused(imported(small, small), 1, "this is a file, and no folder")
+    check_refused(imported(small, tmp_path / "no" / "out"), 1, "there is no folder to make it in")
     check_refused(run("catchup-import", "osm", tmp_path, tmp_path / "out"), 1, "this isn't a file")
 
 
 @pytest.mark.parametrize("words, says", [
-    ([], "Missing argument 'DIR'"), (["out", "--vehicle", "tram"], "'tram' is not one of"), (["out", "--bbox", "1,2,3"], "isn't four numbers"),
-    (["out", "--bbox", "9,47,8,48"], "west before east"), (["out", "--weekday", "monday"], "is not one of"), (["out", "--spare", "-1"], "not in the range"),
-    (["out", "--quickly"], "No such option"), (["out", "more"], "unexpected extra argument")])
+    ([], "Missing argument 'DIR'"), (["out", "more"], "unexpected extra argument"),
+    (["out", "--quickly"], "No such option"),
+    (["out", "--vehicle", "tram"], "'tram' is not one of"), (["out", "--weekday", "monday"], "is not one of"),
+    (["out", "--bbox", "1,2,3"], "isn't four numbers"), (["out", "--bbox", "9,47,8,48"], "west before east"),
+    (["out", "--spare", "-1"], "not in the range"), (["out", "--signals", "-1"], "not in the range"),
+    (["out", "--crossings", "long"], "is not a valid float"), (["out", "--left", "1.5"], "is not a valid integer"),
+    (["out", "--right"], "requires an argument")])
 def test_wrong_words(small: Path, tmp_path: Path, words: list[str], says: str) -> None:
-    check_refused(call("catchup-import", "osm", small, *words, cwd=tmp_path), 2, says)
+    check_refused(imported(small, *words, cwd=tmp_path), 2, says)
     assert left(tmp_path) == ["small.osm"]
+
+
+@pytest.mark.parametrize("words, said", [
+    ([], {}), (["--weekday", "su"], {"weekday": "su"}), (["--rush"], {"rush": True}), (["--spare", "3"], {"spare": 3}),
+    *((["--vehicle", vehicle], {"vehicle": vehicle}) for vehicle in VEHICLES),
+    (["--signals", "20", "--crossings", "2.5"], {"signals": 20.0, "crossings": 2.5}),
+    (["--left", "20", "--right", "5"], {"left": 20, "right": 5}),
+    (["--without", "service, track"], {"without": frozenset(("service", "track"))}),
+    (["--bbox", "9,47,9.5,47.5"], {"bbox": (9.0, 47.0, 9.5, 47.5)}),
+    (["--no-private"], {"private": False}), (["--through"], {"through": True}), (["--turn-back"], {"turn_back": True}),
+    (["--islands"], {"islands": True}), (["--speeds", "mine.toml"], {"speeds": Path("mine.toml")})])
+def test_what_is_asked(small: Path, tmp_path: Path, monkeypatch: pytest.MonkeyPatch, words: list[str],
+                       said: dict[str, Any]) -> None:
+    asked: list[Options] = []
+
+    def stop(path: Path, options: Options, tell: object) -> None:
+        asked.append(options)
+        raise Failure("that is enough")
+
+    monkeypatch.setattr(importing, "import_osm", stop)
+    check_refused(imported(small, tmp_path / "out", *words), 1, "that is enough")
+    assert asked == [Options(**said)] and left(tmp_path) == ["small.osm"]
 
 
 def test_speeds_of_ones_own(small: Path, tmp_path: Path, program: Path) -> None:
     (tmp_path / "fast.toml").write_text("[car.classes]\nresidential = 50\n", encoding="utf-8")
-    assert call("catchup-import", "osm", small, tmp_path / "out", "--speeds", tmp_path / "fast.toml", "--without", "service").status == 0
+    words = ("--speeds", tmp_path / "fast.toml", "--without", "service")
+    assert imported(small, tmp_path / "out", *words).status == 0
     assert MapFile.open(tmp_path / "out" / "map.gpkg").road_seconds.tolist() == [144, 144]
-    check_refused(call("catchup-import", "osm", small, tmp_path / "no", "--speeds", tmp_path / "none.toml"), 1, "none.toml: there is no such file")
+    ran = imported(small, tmp_path / "no", "--speeds", tmp_path / "none.toml")
+    check_refused(ran, 1, "none.toml: there is no such file")
 
 
 def test_classes_that_there_are_none_of(small: Path, tmp_path: Path) -> None:
@@ -192,9 +240,11 @@ def test_without_metis(tmp_path: Path, program: Path) -> None:
             if "metis" not in tool.name and not (tools / tool.name).exists():
                 (tools / tool.name).symlink_to(tool)
     ran = run("catchup-import", "osm", small, tmp_path / "out", "--build", env={"PATH": str(tools)})
-    assert ran.status == 0 and ran.error.startswith("catchup-import: metis isn't installed, so the order is that of a plain dissection")
+    said = "catchup-import: metis isn't installed, so the order is that of a plain dissection"
+    assert ran.status == 0 and ran.error.startswith(said)
     out = tmp_path / "out"
-    assert run_program(["order", out / "nodes.csv", out / "roads.csv", out / "profiles.csv", tmp_path / "order"]).status == 0
+    made = [out / name for name in ("nodes.csv", "roads.csv", "profiles.csv")]
+    assert run_program(["order", *made, tmp_path / "order"]).status == 0
     assert (out / "order.csv").read_bytes() == (tmp_path / "order").read_bytes()
 
 
@@ -205,15 +255,16 @@ def test_the_program_fails(small: Path, tmp_path: Path) -> None:
     ran = run("catchup-import", "osm", small, tmp_path / "out", "--build", env={"CATCHUP": str(fails)})
     check_refused(ran, 1, "catchup build ended with status 11: too many shortcuts")
     assert left(tmp_path) == ["catchup", "small.osm"]
-    check_refused(call("catchup-import", "osm", small, tmp_path / "out", "--build", env={"CATCHUP": "/none"}), 1, "CATCHUP names /none")
+    check_refused(imported(small, tmp_path / "out", "--build", env={"CATCHUP": "/none"}), 1, "CATCHUP names /none")
 
 
 def test_interrupted(small: Path, tmp_path: Path) -> None:
     slow = tmp_path / "catchup"
     slow.write_text(f"#!/bin/sh\n: > {tmp_path}/begun\nexec sleep 60\n", encoding="utf-8")
     slow.chmod(0o755)
-    process = subprocess.Popen([BIN / "catchup-import", "osm", small, tmp_path / "out", "--build"], stdout=subprocess.PIPE,
-                               stderr=subprocess.PIPE, env={**os.environ, "CATCHUP": str(slow)}, start_new_session=True)
+    words = [BIN / "catchup-import", "osm", small, tmp_path / "out", "--build"]
+    process = subprocess.Popen(words, stdout=subprocess.PIPE, stderr=subprocess.PIPE,
+                               env={**os.environ, "CATCHUP": str(slow)}, start_new_session=True)
     assert interrupt(process, tmp_path / "begun") == (130, b"")
     assert left(tmp_path) == ["begun", "catchup", "small.osm"]
 
@@ -228,13 +279,16 @@ def test_progress_on_a_terminal_alone(small: Path, tmp_path: Path, program: Path
     if script is None:
         pytest.skip("the command script isn't installed (bsdutils), which makes a terminal")
     words = f"{BIN / 'catchup-import'} osm {small} {tmp_path / 'out'} > {tmp_path / 'said'}"
-    done = subprocess.run([script, "-qec", words, "/dev/null"], capture_output=True, text=True, timeout=60, stdin=subprocess.DEVNULL)
-    assert done.returncode == 0 and "\x1b[" in done.stdout and (tmp_path / "said").read_text(encoding="utf-8").startswith("small.osm: ")
+    done = subprocess.run([script, "-qec", words, "/dev/null"], capture_output=True, text=True, timeout=60,
+                          stdin=subprocess.DEVNULL)
+    assert done.returncode == 0 and "\x1b[" in done.stdout
+    assert (tmp_path / "said").read_text(encoding="utf-8").startswith("small.osm: ")
 
 
 def test_help() -> None:
     ran = run("catchup-import", "osm", "--help")
-    assert ran.status == 0 and all(option in ran.output for option in ("--build", "--vehicle", "--weekday", "--speeds", "--rush", "--spare"))
+    options = ("--build", "--vehicle", "--weekday", "--speeds", "--rush", "--spare")
+    assert ran.status == 0 and all(option in ran.output for option in options)
 
 
 # ---- a real map ----
@@ -243,9 +297,10 @@ def test_help() -> None:
 def test_the_real_map(real: Path) -> None:
     """Its report, as it was looked through by hand: 97 % of the kilometres are one part."""
     said = (real.parent / "said").read_text(encoding="utf-8")
-    for text in (f"{REAL}: 2,281 junctions (57 of them copies), 5,392 roads, ", "599 names; 399 km", "1,587 of 2,753 ways; 22 for destinations alone",
-                 "19 opened by a tag (track 19); 8 loops cut in two", "16 barred (motorcar=no 8, motor_vehicle=no 6, access=no 2)",
-                 "8 km (2.1 %) in 56 junctions", "32 whole ways (service 18, residential 10, unclassified 2, living_street 1, track 1)",
+    for text in (f"{REAL}: 2,281 junctions (57 of them copies), 5,392 roads, ", "599 names; 399 km",
+                 "1,587 of 2,753 ways; 22 for destinations alone", "19 opened by a tag (track 19); 8 loops cut in two",
+                 "16 barred (motorcar=no 8, motor_vehicle=no 6, access=no 2)", "8 km (2.1 %) in 56 junctions",
+                 "32 whole ways (service 18, residential 10, unclassified 2, living_street 1, track 1)",
                  "12 block (bollard 10, cycle_barrier 2); 5 passed", "2 restrictions; made no 1", "warnings  none"):
         assert text in said
 
@@ -254,12 +309,15 @@ def test_the_real_map_is_a_geopackage(real: Path) -> None:
     """ogrinfo reads both layers, without a warning."""
     if shutil.which("ogrinfo") is None:
         pytest.skip("ogrinfo isn't installed (gdal-bin)")
-    done = subprocess.run(["ogrinfo", "-so", "-al", "-ro", real / "map.gpkg"], capture_output=True, text=True, timeout=60)
+    words = ["ogrinfo", "-so", "-al", "-ro", real / "map.gpkg"]
+    done = subprocess.run(words, capture_output=True, text=True, timeout=60)
     assert done.returncode == 0 and done.stderr == "", done
-    for text in ("Layer name: nodes\nGeometry: Point\nFeature Count: 2281", "Layer name: roads\nGeometry: Line String\nFeature Count: 5392",
+    for text in ("Layer name: nodes\nGeometry: Point\nFeature Count: 2281",
+                 "Layer name: roads\nGeometry: Line String\nFeature Count: 5392",
                  "Layer name: names", "FID Column = road", "osm_way: Integer64", "metres: Real", "class: String"):
         assert text in done.stdout
-    done = subprocess.run(["ogrinfo", "-q", "-ro", "-where", "name = 'Landstrasse'", real / "map.gpkg", "roads"], capture_output=True, text=True, timeout=60)
+    words = ["ogrinfo", "-q", "-ro", "-where", "name = 'Landstrasse'", real / "map.gpkg", "roads"]
+    done = subprocess.run(words, capture_output=True, text=True, timeout=60)
     assert "LINESTRING (9.5" in done.stdout
 
 
@@ -268,11 +326,13 @@ def test_the_real_maps_file_and_tables_agree(real: Path) -> None:
     assert (found.road_tail == network.roads.tail).all() and (found.road_head == network.roads.head).all()
     assert (found.road_profile == network.roads.profile).all()
     static = [network.profiles.pieces(profile) for profile in network.roads.profile.tolist()]
-    assert all(len(pieces) == 1 and pieces[0].value == seconds for pieces, seconds in zip(static, found.road_seconds.tolist()))
+    assert all(len(pieces) == 1 for pieces in static)
+    assert [pieces[0].value for pieces in static] == found.road_seconds.tolist()
     # Each line leads from its tail's place to its head's, and is as long as it is said to be.
     first, last = found.road_first[:-1], found.road_first[1:] - 1
     for points, nodes in ((first, found.road_tail), (last, found.road_head)):
-        assert (found.point_lon[points] == found.node_lon[nodes]).all() and (found.point_lat[points] == found.node_lat[nodes]).all()
+        assert (found.point_lon[points] == found.node_lon[nodes]).all()
+        assert (found.point_lat[points] == found.node_lat[nodes]).all()
         assert (found.point_osm[points] == found.node_osm[nodes]).all()
     from catchup.geometry import along
     lengths = np.array([along(*found.line(road))[-1] for road in range(len(found))])
@@ -282,10 +342,11 @@ def test_the_real_maps_file_and_tables_agree(real: Path) -> None:
 def test_the_real_maps_seconds_are_shared_out(real: Path) -> None:
     """All roads of a class together: within 0.2 % of their metres at its speed."""
     found = MapFile.open(real / "map.gpkg")
-    primary = found.road_class == found.classes.index("residential")
+    residential = found.road_class == found.classes.index("residential")
     with sqlite3.connect(real / "map.gpkg") as base:
         plain = base.execute("SELECT count(*) FROM roads WHERE class = 'residential'").fetchone()[0]
-    assert plain == primary.sum() and found.road_seconds[primary].sum() == pytest.approx(found.road_metres[primary].sum() * 3.6 / 25, rel=0.03)
+    seconds, metres = found.road_seconds[residential].sum(), found.road_metres[residential].sum()
+    assert plain == residential.sum() and seconds == pytest.approx(metres * 3.6 / 25, rel=0.03)
 
 
 def test_one_street_is_closed_alone(real: Path) -> None:
@@ -299,13 +360,15 @@ def test_one_street_is_closed_alone(real: Path) -> None:
         road = roads[len(roads) // 2]
         twins = np.flatnonzero((found.road_profile == found.road_profile[road]) & (np.arange(len(found)) != road))
         twin = int(twins[0])
-        lines = [f"q,{found.road_tail[twin]},{found.road_head[twin]},28800", f"a,{road},{spare}", "q,100,2000,28800",
-                 f"q,{found.road_tail[twin]},{found.road_head[twin]},28800", f"a,{road},{found.road_profile[road]}", "q,100,2000,28800"]
-        twin_before, edited, after, twin_after, _, again = child.ask_all(lines)
+        ask_twin = f"q,{found.road_tail[twin]},{found.road_head[twin]},28800"
+        twin_before, edited, after, twin_after, _, again = child.ask_all([
+            ask_twin, f"a,{road},{spare}", "q,100,2000,28800", ask_twin, f"a,{road},{found.road_profile[road]}",
+            "q,100,2000,28800"])
         assert edited.startswith("done ") and str(road) not in after.split("arcs=")[1].split() and again == before
         assert int(after[7:].split()[0]) > int(before[7:].split()[0]) and twin_after == twin_before
         # Slowed instead of closed: it may be driven, and takes five minutes.
-        slow = child.ask_all([f"s,{spare + 1},0,travel,300", f"a,{road},{spare + 1}", f"q,{found.road_tail[road]},{found.road_head[road]},0"])
+        slow = child.ask_all([f"s,{spare + 1},0,travel,300", f"a,{road},{spare + 1}",
+                              f"q,{found.road_tail[road]},{found.road_head[road]},0"])
         assert slow[2].startswith("arrive=") and int(slow[2][7:].split()[0]) <= 300
 
 
@@ -331,20 +394,23 @@ def test_every_restriction_of_the_real_map(real_map: Path) -> None:
             on = {ways[other] for other in net.out[copy]}
             assert target not in on and net.copy[copy] > 0 and net.copy[start] == 0
             tried += 1
-        others = [road for road in range(len(ways)) if net.osm[net.head[road]] == via and ways[road] not in (source, target)]
+        others = [road for road in range(len(ways))
+                  if net.osm[net.head[road]] == via and ways[road] not in (source, target)]
         assert not come or any(target in {ways[on] for on in net.out[net.head[road]]} for road in others)
     assert (len(found), tried) == (2, 1)
 
 
-@pytest.mark.parametrize("vehicle, fewer, more", [("truck", 5000, 6000), ("bicycle", 8000, 16000), ("foot", 8000, 20000)])
-def test_the_real_map_for_others(real_map: Path, tmp_path: Path, program: Path, vehicle: str, fewer: int, more: int) -> None:
-    assert call("catchup-import", "osm", real_map, tmp_path / "out", "--vehicle", vehicle).status == 0
-    assert fewer < len(MapFile.open(tmp_path / "out" / "map.gpkg")) < more
+@pytest.mark.parametrize("vehicle, roads", [
+    ("truck", (5000, 6000)), ("bicycle", (8000, 16000)), ("foot", (8000, 20000))])
+def test_the_real_map_for_others(real_map: Path, tmp_path: Path, program: Path, vehicle: str,
+                                 roads: tuple[int, int]) -> None:
+    assert imported(real_map, tmp_path / "out", "--vehicle", vehicle).status == 0
+    assert roads[0] < len(MapFile.open(tmp_path / "out" / "map.gpkg")) < roads[1]
 
 
 def test_the_real_map_with_rush_hours(real_map: Path, tmp_path: Path, program: Path) -> None:
     """With the hours' factors a drive over main roads takes longer at 8 than at 12."""
-    assert call("catchup-import", "osm", real_map, tmp_path / "out", "--rush", "--build").status == 0
+    assert imported(real_map, tmp_path / "out", "--rush", "--build").status == 0
     with Child(["ask", tmp_path / "out" / "map.cu"]) as child:
         arrivals = [int(child.ask(f"q,100,2000,{second}")[7:].split()[0]) - second for second in (8 * 3600, 12 * 3600)]
     assert arrivals[0] > 1.2 * arrivals[1]
@@ -352,13 +418,20 @@ def test_the_real_map_with_rush_hours(real_map: Path, tmp_path: Path, program: P
 
 def test_quick_enough(real_map: Path, tmp_path: Path, program: Path) -> None:
     """Order and packed file with it, in four seconds of one processor."""
-    code = "import resource, sys; from catchup.commands import catchup_import; sys.argv[1:] = sys.argv[1:]\n" \
-           "try: catchup_import.main()\n" \
-           "finally: print(sum(sum(resource.getrusage(who)[:2]) for who in (resource.RUSAGE_SELF, resource.RUSAGE_CHILDREN)))"
-    done = subprocess.run([sys.executable, "-c", code, "osm", real_map, tmp_path / "out", "--build"], capture_output=True, text=True,
-                          timeout=60, env={**os.environ, "PYTHONPATH": str(TOP / "python")})
+    code = """
+import resource
+from catchup.commands import catchup_import
+try:
+    catchup_import.main()
+finally:
+    print(sum(sum(resource.getrusage(who)[:2]) for who in (resource.RUSAGE_SELF, resource.RUSAGE_CHILDREN)))
+"""
+    words = [sys.executable, "-c", code, "osm", real_map, tmp_path / "out", "--build"]
+    done = subprocess.run(words, capture_output=True, text=True, timeout=60,
+                          env={**os.environ, "PYTHONPATH": str(TOP / "python")})
     assert done.returncode == 0 and float(done.stdout.splitlines()[-1]) < 4, done
 
 
 def test_listed() -> None:
-    assert listed({"a": 1200, "b": 2}) == "a 1,200, b 2" and listed({str(n): n for n in range(8)}).endswith(", 5 5, ..") and listed({}) == ""
+    assert listed({"a": 1200, "b": 2}) == "a 1,200, b 2" and listed({}) == ""
+    assert listed({str(n): n for n in range(8)}).endswith(", 5 5, ..")
