@@ -3,6 +3,7 @@
 from __future__ import annotations
 
 import asyncio
+import os
 import socket
 import time
 from collections.abc import Iterator
@@ -10,7 +11,8 @@ from dataclasses import dataclass, field
 
 import pytest
 
-from catchup.service.accepting import Sort, brings_much, sort_of
+from catchup.service.accepting import Acceptor, Counts, Sort, brings_much, sort_of
+from catchup.service.process import Pipe
 from catchup.service.turns import MOST_HUNG_UP, MOST_LARGE, PIECES, PROMPT, Turns
 
 # ---- clients, by what they have sent ----
@@ -56,6 +58,47 @@ def test_a_client_that_is_gone_is_known(listener: socket.socket) -> None:
             client.close()
             time.sleep(0.05)
             assert sort_of(accepted) is Sort.GONE
+
+
+def test_clients_that_were_put_aside_are_taken_once_at_the_end(listener: socket.socket) -> None:
+    """A turn that was asked for before finds nothing more: two connections over one file end the worker."""
+    made = []
+
+    def make(address: tuple[object, ...]) -> asyncio.Protocol:
+        made.append(address)
+        return asyncio.Protocol()
+
+    async def run() -> None:
+        acceptor = Acceptor(listener, make, Counts(), 0, lambda: 0, 10)
+        for _ in range(5):
+            acceptor.aside[Sort.LARGE].append(listener.accept())
+        acceptor.call_aside()
+        acceptor.close()
+        await asyncio.sleep(0.05)
+
+    clients = [socket.create_connection(listener.getsockname()) for _ in range(5)]
+    asyncio.run(run())
+    assert len(made) == len(set(made)) == 5
+    for client in clients:
+        client.close()
+
+
+def test_a_pipe_is_closed_once() -> None:
+    """uvloop has closed it by then, and its number may be another file's; Python's own loop leaves it to us."""
+    async def is_open() -> bool:
+        ends = os.pipe()
+        os.close(ends[0])
+        Pipe(ends[1]).close()
+        try:
+            os.close(ends[1])
+        except OSError:
+            return False
+        return True
+
+    uvloop = pytest.importorskip("uvloop", reason="python3-uvloop isn't installed")
+    with asyncio.Runner(loop_factory=uvloop.new_event_loop) as runner:
+        assert runner.run(is_open())
+    assert not asyncio.run(is_open())
 
 
 @pytest.mark.parametrize(("head", "wanted"), [

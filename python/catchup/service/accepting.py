@@ -13,7 +13,6 @@ from __future__ import annotations
 import asyncio
 import contextlib
 import enum
-import itertools
 import mmap
 import re
 import socket
@@ -202,8 +201,10 @@ class Acceptor:
         with contextlib.suppress(OSError):
             self.take_all()
         self.listener.close()
-        for client in itertools.chain(*self.aside.values()):
-            self.welcome(client)
+        # None may be taken again by a turn that was asked for before: two connections over one file end the worker.
+        for line in self.aside.values():
+            while line:
+                self.welcome(line.popleft())
 
     def take_all(self) -> None:
         """Takes those that wait; an OSError says that there are no more."""

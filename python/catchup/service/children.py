@@ -9,7 +9,7 @@ from collections.abc import Callable, Sequence
 
 from catchup.service.errors import Refusal, ended
 from catchup.service.limits import START_SECONDS
-from catchup.service.process import Start, said_of
+from catchup.service.process import Start, handed_on, said_of
 
 LEAVE_SECONDS = 1.0                     # for which a process that has closed its streams may still run
 LEAVE_PAUSE = 0.005
@@ -74,11 +74,11 @@ class Child(asyncio.Protocol):
                                   stderr=subprocess.DEVNULL).process()
         except OSError as problem:
             raise NotOpened(f"{program} can't be started: {problem.strerror}") from None
-        writer, _ = await loop.connect_write_pipe(asyncio.BaseProtocol, process.stdin)
+        writer, _ = await loop.connect_write_pipe(asyncio.BaseProtocol, handed_on(process.stdin))
         child = cls(process, writer, limit)
         # Before anything can come: the program says why it refuses a file without being asked.
         reply = child.ask(PROBE)
-        await loop.connect_read_pipe(lambda: child, process.stdout)
+        await loop.connect_read_pipe(lambda: child, handed_on(process.stdout))
         try:
             async with asyncio.timeout(START_SECONDS):
                 said = await reply

@@ -65,6 +65,31 @@ _starter: Final = ThreadPoolExecutor(
     1, "starter", functools.partial(signal.pthread_sigmask, signal.SIG_BLOCK, LEFT_TO_THE_SERVICE))
 
 
+class Pipe:
+    """An end of a pipe for the loop. uvloop closes a descriptor by itself before it closes what it was given: closed
+    twice, it may be another file's by then, which a thread has opened meanwhile."""
+
+    def __init__(self, descriptor: int) -> None:
+        self.descriptor = descriptor
+        self.is_left = type(asyncio.get_running_loop()).__module__.startswith("uvloop")
+
+    def fileno(self) -> int:
+        """Its descriptor."""
+        return self.descriptor
+
+    def close(self) -> None:
+        """Closes it where the loop hasn't."""
+        if not self.is_left:
+            os.close(self.descriptor)
+
+
+def handed_on(pipe: IO[bytes] | None) -> Pipe:
+    """A process's pipe for the loop."""
+    assert pipe is not None
+    with pipe:
+        return Pipe(os.dup(pipe.fileno()))
+
+
 def try_lock(descriptor: int) -> bool:
     """Locks an open file or folder where nobody else holds it."""
     try:
