@@ -293,14 +293,24 @@ def test_a_thousand_idle_connections_take_little_memory(town: Path, capsys: pyte
     assert whole < 200
 
 
-def test_idle_clients_go_where_there_are_too_many(town: Path) -> None:
-    """With few open files allowed, a new client takes the place of the one that has been idle for the longest."""
+def test_clients_that_are_waited_for_go_where_there_are_too_many(town: Path) -> None:
+    """With few open files allowed, a new client takes the place of the one that has been waited for the longest: for a
+    request, for the rest of its head or of its body, or to close behind a refusal."""
+    head = b"POST /edits HTTP/1.1\r\n" + H + b"Content-Length: 9\r\n\r\n"
     with Service(town, most_files=180) as service:
-        clients = [service.connect() for _ in range(80)]
-        assert service.get("/health")["status"] == "ok"
-        clients[0].settimeout(5)
-        assert clients[0].recv(1) == b""
-        clients[-1].sendall(HEALTH)
-        assert clients[-1].recv(1000).startswith(b"HTTP/1.1 200")
-        for client in clients:
-            client.close()
+        for sent in (b"", b"G", head, head + b"a", b"no request\r\n\r\n"):
+            clients = [service.connect() for _ in range(80)]
+            for client in clients:
+                client.sendall(sent)
+            for _ in range(3):
+                with service.connect() as client:
+                    client.sendall(HEALTH)
+                    assert client.recv(1000).startswith(b"HTTP/1.1 200"), sent
+            clients[0].settimeout(5)
+            assert sent.endswith(b"\n\r\n") or clients[0].recv(1) == b""
+            if not sent:
+                clients[-1].sendall(HEALTH)
+                assert clients[-1].recv(1000).startswith(b"HTTP/1.1 200")
+            for client in clients:
+                client.close()
+        assert service.end() == (0, "", "")

@@ -72,7 +72,7 @@ class Crowd:
         self.begin_plain: BeginPlain = lambda cycle, found: False
         self.turns = Turns()
         self.everyone: set[Connection] = set()
-        self.idlers: dict[Connection, None] = {}    # those with no request in work, the longest such first
+        self.waiting: dict[Connection, None] = {}   # those whose clients are waited for, the longest such first
         self.holders: dict[Connection, int] = {}    # those with many bytes on their way, and how many
         self.is_ending = False
         self.date = b""
@@ -85,13 +85,20 @@ class Crowd:
             each.is_due(now)
 
     def admit(self, connection: Connection) -> bool:
-        """Takes a connection in; where there are too many that goes which has had nothing to do for the longest."""
-        if len(self.everyone) >= self.most:
-            if not self.idlers:
-                return False
-            next(iter(self.idlers)).abort()
+        """Takes a connection in; where there are too many that goes whose client has been waited for the longest: for
+        a request, for the rest of one, or to take an answer. Where all are in work it answers that this one goes."""
+        has_room = len(self.everyone) < self.most
+        if not has_room and self.waiting:
+            next(iter(self.waiting)).abort()
+            has_room = True
         self.everyone.add(connection)
-        return True
+        self.waiting[connection] = None
+        return has_room
+
+    def wait_for(self, connection: Connection) -> None:
+        """From now on the client is waited for."""
+        self.waiting.pop(connection, None)
+        self.waiting[connection] = None
 
     def hold(self, connection: Connection, size: int) -> None:
         """Takes note of bytes on their way. Where they are too many, those go that hold some for the longest."""
@@ -106,7 +113,7 @@ class Crowd:
     def forget(self, connection: Connection) -> None:
         """A connection is gone."""
         self.everyone.discard(connection)
-        self.idlers.pop(connection, None)
+        self.waiting.pop(connection, None)
         self.holders.pop(connection, None)
         self.turns.forget(connection)
 
@@ -254,6 +261,7 @@ class Connection(HttpToolsProtocol):  # type: ignore[misc]
         self.held, self.at = b"", 0     # what came and isn't read yet, from this place on
         self.looked = 0                 # how far a head that isn't whole was looked at
         self.blank = 0                  # bytes of empty lines before it
+        self.has_begun = False          # a head has begun to come
         self.is_busy = False            # a request is in work
         self.is_closing = False         # nothing more is read
         self.has_ended = False          # the client sends nothing more
@@ -272,9 +280,7 @@ class Connection(HttpToolsProtocol):  # type: ignore[misc]
         # As uvicorn's, but that the system isn't asked for addresses.
         self.connections.add(self)
         self.transport, self.flow = transport, FlowControl(transport)
-        if self.crowd.admit(self):
-            self.crowd.idlers[self] = None
-        else:
+        if not self.crowd.admit(self):
             self.refuse(503, "too many clients at once", b"retry-after: 1\r\n")
 
     def connection_lost(self, exc: Exception | None) -> None:
@@ -345,9 +351,8 @@ class Connection(HttpToolsProtocol):  # type: ignore[misc]
         looked, self.looked = max(self.at, self.looked - 1), len(self.held)
         if BAD_ENDS.search(self.held, looked):
             self.refuse(400, "the request's head has bytes that have no place there")
-        elif self in self.crowd.idlers:
-            del self.crowd.idlers[self]
-            self.deadline = self.loop.time() + HEAD_SECONDS
+        elif not self.has_begun:
+            self.has_begun, self.deadline = True, self.loop.time() + HEAD_SECONDS
 
     def refuse_long(self) -> None:
         if self.held.find(b"\r\n", self.at, self.at + LONGEST_TARGET + 64) < 0:
@@ -465,8 +470,8 @@ class Connection(HttpToolsProtocol):  # type: ignore[misc]
             expect_100_continue=self.read.get(b"expect", b"").lower() == b"100-continue", keep_alive=keeps,
             on_response=self.on_response_complete)
         self.cycle.connection, self.cycle.began = self, time.monotonic()
-        self.is_busy = True
-        self.crowd.idlers.pop(self, None)
+        self.is_busy, self.has_begun = True, False
+        self.crowd.waiting.pop(self, None)
         self.deadline = float("inf")
         self.is_large = self.body is not None and (not isinstance(self.body, Sized) or self.body.left > LARGE_BODY)
         if self.body is None:
@@ -476,6 +481,9 @@ class Connection(HttpToolsProtocol):  # type: ignore[misc]
             # The parser waits for the body, which it doesn't get.
             self.parser = httptools.HttpRequestParser(self)
             self.loop.call_soon(self.take_body)
+            if not self.is_large:
+                # Large ones are few, and come in turns.
+                self.crowd.wait_for(self)
         plain = self.scope["catchup.plain"]
         if plain is None or not self.crowd.begin_plain(self.cycle, plain):
             self.crowd.turns.add(self)
@@ -518,6 +526,7 @@ class Connection(HttpToolsProtocol):  # type: ignore[misc]
             self.deadline = self.body_began + BODY_SECONDS + self.body_size / BODY_RATE
         if self.body.is_over:
             self.body, self.deadline = None, float("inf")
+            self.crowd.waiting.pop(self, None)
             self.crowd.turns.forget(self)
         self.hand_on(piece)
         if self.body is None and self.at < len(self.held):
@@ -559,6 +568,7 @@ class Connection(HttpToolsProtocol):  # type: ignore[misc]
         elif not self.cycle.keep_alive:
             self.is_closing = True
             self.deadline = self.loop.time() + TAKE_SECONDS
+            self.crowd.wait_for(self)
             self.transport.close()
         else:
             self.rest()
@@ -569,7 +579,7 @@ class Connection(HttpToolsProtocol):  # type: ignore[misc]
         if self.flow.write_paused:
             self.is_busy = True
             return
-        self.crowd.idlers[self] = None
+        self.crowd.wait_for(self)
         self.deadline = self.loop.time() + IDLE_SECONDS
         if self.at < len(self.held):
             # More is read only once all that is there is begun.
@@ -598,7 +608,7 @@ class Connection(HttpToolsProtocol):  # type: ignore[misc]
             self.transport.close()
             return
         self.is_busy = True
-        self.crowd.idlers.pop(self, None)
+        self.crowd.wait_for(self)
         self.held, self.at, self.body = b"", 0, None
         self.crowd.turns.forget(self)
         self.deadline = self.loop.time() + LINGER_SECONDS
@@ -615,7 +625,7 @@ class Connection(HttpToolsProtocol):  # type: ignore[misc]
             if unsent < self.unsent:
                 self.unsent, self.deadline = unsent, now + TAKE_SECONDS
                 return
-        if self.is_closing or self.flow.write_paused or self in self.crowd.idlers:
+        if self.is_closing or self.flow.write_paused or not (self.is_busy or self.has_begun):
             self.abort()
         elif self.body is not None and self.flow.read_paused:
             # What has come isn't taken yet: that isn't its client's fault.
@@ -628,6 +638,7 @@ class Connection(HttpToolsProtocol):  # type: ignore[misc]
 
     def pause_writing(self) -> None:
         super().pause_writing()
+        self.crowd.wait_for(self)
         self.unsent = self.transport.get_write_buffer_size()
         self.deadline = self.loop.time() + TAKE_SECONDS
 
@@ -636,6 +647,7 @@ class Connection(HttpToolsProtocol):  # type: ignore[misc]
         self.crowd.holders.pop(self, None)
         if self.is_closing:
             return
+        self.crowd.waiting.pop(self, None)
         self.deadline = float("inf")
         if self.is_busy and self.cycle is not None and self.cycle.response_complete:
             self.rest()
