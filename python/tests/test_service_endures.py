@@ -98,6 +98,24 @@ def edited_bytes(good: bytes, path: Path) -> bytes:
     return out.read_bytes()
 
 
+def test_what_is_no_file_is_not_served(file: Path) -> None:
+    """A pipe, of which nobody writes the other end, holds up nobody."""
+    good = file.read_bytes()
+    for make in (os.mkfifo, os.mkdir):
+        with Service(file) as service:
+            file.unlink()
+            make(file)
+            told = wait_for(lambda: service.get("/health"), lambda told: "refused" in told)
+            assert (told["status"], told["refused"]) == ("ok", "town.cu is no file")
+            assert service.get(ROUTE)["answer"] == "arrive" and service.ask("/edits", "POST", b"a,0,1")[0] == 503
+            for worker in service.workers():
+                os.kill(worker, signal.SIGKILL)
+                assert wait_for(lambda: service.workers(), lambda found: found and found != [worker])
+            assert wait_for(lambda: status_of(service), lambda status: status == 200) == 200
+        (os.rmdir if make is os.mkdir else os.unlink)(file)
+        file.write_bytes(good)
+
+
 def test_a_file_that_is_gone_is_served_on(file: Path) -> None:
     good = file.read_bytes()
     with Service(file) as service:
@@ -203,9 +221,10 @@ def ask_on_new_connections(service: Service, found: list[str], is_over: threadin
             found.append(str(problem))
 
 
-@pytest.mark.parametrize("number", [signal.SIGHUP, signal.SIGTERM])
-def test_requests_on_their_way_are_answered(file: Path, number: int) -> None:
-    """At a reload all are; at the end all are whose connection was taken."""
+@pytest.mark.parametrize(("number", "to_all"), [
+    (signal.SIGHUP, False), (signal.SIGHUP, True), (signal.SIGTERM, False), (signal.SIGTERM, True)])
+def test_requests_on_their_way_are_answered(file: Path, number: int, to_all: bool) -> None:
+    """At a reload all are; at the end all are whose connection was taken. The same where all processes are asked."""
     with Service(file, workers=2) as service:
         found: list[str] = []
         is_over = threading.Event()
@@ -214,7 +233,10 @@ def test_requests_on_their_way_are_answered(file: Path, number: int) -> None:
             client.start()
         assert wait_for(lambda: len(found) > 20)
         before = set(service.workers())
-        service.process.send_signal(number)
+        if to_all:
+            os.killpg(service.process.pid, number)
+        else:
+            service.process.send_signal(number)
         if number == signal.SIGHUP:
             assert wait_for(lambda: (len(service.workers()), set(service.workers()) & before),
                             lambda now: now == (2, set()))
@@ -226,6 +248,53 @@ def test_requests_on_their_way_are_answered(file: Path, number: int) -> None:
         for client in clients:
             client.join()
         assert set(found) <= {"HTTP/1.1 200", "refused"} if number == signal.SIGTERM else set(found) == {"HTTP/1.1 200"}
+
+
+def test_other_signals_end_nothing(file: Path) -> None:
+    """Nor does the end where many clients were put aside."""
+    with Service(file, workers=2) as service:
+        before = service.workers()
+        for number in (signal.SIGUSR1, signal.SIGUSR2, signal.SIGWINCH):
+            os.killpg(service.process.pid, number)
+        os.kill(before[0], signal.SIGQUIT)
+        head = b"POST /edits HTTP/1.1\r\nHost: localhost\r\nContent-Length: 1000000\r\n\r\na"
+        for _ in range(600):
+            with service.connect() as client:
+                client.sendall(head)
+        assert service.workers() == before
+        assert service.end() == (0, "", "")
+
+
+def test_a_worker_that_hangs_is_replaced(file: Path, monkeypatch: pytest.MonkeyPatch) -> None:
+    """It is ended without leaving a core, and only where it gives no sign for long, whatever becomes of the clock."""
+    supervisor = pytest.importorskip("catchup.service.supervisor")
+    ended: list[tuple[int, int]] = []
+
+    class Sign:
+        at = 5.0
+
+        def last_update(self) -> float:
+            return self.at
+
+    class Hung:
+        tmp = Sign()
+
+    class Arbiter:
+        timeout = 20
+        WORKERS = {17: Hung()}
+
+        def kill_worker(self, pid: int, number: int) -> None:
+            ended.append((pid, number))
+
+    now = 1000.0
+    monkeypatch.setattr(time, "monotonic", lambda: now)
+    arbiter = Arbiter()
+    for seconds, sign, wanted in ((0, 5.0, 0), (15, 9e9, 0), (19, 9e9, 0), (1.5, 9e9, 1)):
+        now += seconds
+        Hung.tmp.at = sign
+        supervisor.ServiceArbiter.murder_workers(arbiter)
+        assert len(ended) == wanted
+    assert ended == [(17, signal.SIGKILL)]
 
 
 def test_children_have_no_files_but_their_own(file: Path) -> None:

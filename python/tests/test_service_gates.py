@@ -176,6 +176,43 @@ def test_closed_or_full_outputs_stop_nothing(town: Path) -> None:
     assert process.wait(SECONDS) == 0
 
 
+def test_closed_outputs_are_no_other_files(town: Path) -> None:
+    """What is opened next would take their numbers, and be written to."""
+    process = subprocess.Popen(["sh", "-c", 'exec "$0" "$@" <&- >&- 2>&-', HTTP, "--port", "0", "--workers", "1",
+                                "--access-log", town])
+    try:
+        port = wait_for_port(process.pid)
+        for number in (0, 1, 2):
+            assert os.readlink(f"/proc/{process.pid}/fd/{number}") == os.devnull
+        with socket.create_connection(("127.0.0.1", port), timeout=SECONDS) as client:
+            client.sendall(b"GET /nothing HTTP/1.0\r\nHost: localhost\r\n\r\n")
+            assert b" 404 " in read_all(client)
+    finally:
+        process.terminate()
+    assert process.wait(SECONDS) == 0
+
+
+def test_nobody_waits_for_a_log_that_is_not_read(town: Path) -> None:
+    """A pipe and a socket are full after a few hundred lines; a file takes all."""
+    ours, theirs = socket.socketpair()
+    for error in (subprocess.PIPE, theirs.fileno()):
+        process = subprocess.Popen([HTTP, "--port", "0", "--workers", "1", "--access-log", town],
+                                   stdout=subprocess.PIPE, stderr=error, text=True)
+        assert process.stdout is not None
+        port = int(process.stdout.readline().rstrip("/\n").rpartition(":")[2])
+        request = b"GET /nothing?%b HTTP/1.1\r\nHost: localhost\r\n\r\n" % (b"x" * 4000)
+        with socket.create_connection(("127.0.0.1", port), timeout=SECONDS) as client:
+            client.sendall(request * 200)
+            client.shutdown(socket.SHUT_WR)
+            assert read_all(client).count(b"HTTP/1.1 404") == 200
+        process.terminate()
+        assert process.wait(SECONDS) == 0
+        process.communicate()
+    assert ours.recv(100).startswith(b"127.0.0.1 GET /nothing?xx")
+    ours.close()
+    theirs.close()
+
+
 def wait_for_port(pid: int) -> int:
     from serving import wait_for
 

@@ -20,7 +20,7 @@ from catchup.service.limits import LONGEST_JSON, MOST_WORDS
 from catchup.service.osrm.paths import KIND, make_router
 from catchup.service.protocol import Cycle
 from catchup.service.reads import PlainRoute, route_asked
-from catchup.service.versions import tell
+from catchup.service.telling import tell
 from catchup.service.worker import Worker, said_of
 
 Scope = MutableMapping[str, Any]

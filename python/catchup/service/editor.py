@@ -25,7 +25,8 @@ from catchup.service.limits import TOLD_REFUSALS
 from catchup.service.process import Start, said_of, try_lock
 from catchup.service.roadedits import Edit, Profiles, lines_of
 from catchup.service.spool import Spool, next_of, recover, sweep
-from catchup.service.versions import Network, identity_of, tell
+from catchup.service.telling import tell
+from catchup.service.versions import Network, identity_of
 
 LOCK_PAUSE: Final = 0.01                # between two tries to take the folder's lock
 CANCEL_PAUSE: Final = 0.2               # between two looks whether another worker was asked to end a job

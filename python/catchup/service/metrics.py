@@ -1,135 +1,142 @@
-"""What operators count, of all workers together: files in a folder of this service that each worker writes by
-itself."""
+"""What operators count, of all workers together.
+
+Each worker counts in its part of memory that all share. So no disk has to have room for it, and what a worker has
+counted stays where it ends.
+"""
 
 from __future__ import annotations
 
-import os
-import shutil
-import tempfile
-from collections.abc import Iterable
-from importlib import import_module
-from pathlib import Path
-from typing import Any, Final
+import mmap
+import re
+from bisect import bisect_left
+from collections.abc import Iterable, Iterator
+from http import HTTPStatus
+from typing import Final
 
-from catchup.service.process import try_lock
+from prometheus_client import CollectorRegistry, generate_latest
+from prometheus_client.core import CounterMetricFamily, GaugeMetricFamily, HistogramMetricFamily, Metric
+from prometheus_client.registry import Collector
 
-PREFIX: Final = "catchup-http-"
-LOCK: Final = "lock"
-TOLD: Final = "told"
-PATHS: Final = frozenset([
-    "/", "/route", "/day", "/best", "/reach", "/table", "/latest", "/network", "/edits", "/edit", "/health", "/metrics",
-    "/openapi.json", "/docs"])
+from catchup.service.accepting import SLOTS
 
+OTHER: Final = "other"                  # paths that aren't known count together
+PATHS: Final = (
+    "/", "/route", "/day", "/best", "/reach", "/table", "/latest", "/network", "/edits", "/edits/ID", "/edit",
+    "/health", "/metrics", "/openapi.json", "/docs", "/nearest/v1", "/route/v1", "/table/v1", OTHER)
+PATH_AT: Final = {path: at for at, path in enumerate(PATHS)}
+OF_MANY: Final = re.compile(r"/edits/|(/(?:nearest|route|table)/v1)/")
+STATUSES: Final = tuple(int(status) for status in HTTPStatus)
+STATUS_AT: Final = {status: at for at, status in enumerate(STATUSES)}
+BOUNDS: Final = (0.001, 0.002, 0.005, 0.01, 0.02, 0.05, 0.1, 0.2, 0.5, 1, 2, 5, 10, 30)
 
-def make_folder() -> Path:
-    """A folder for the counts of one service, which it keeps locked; those of killed ones go away."""
-    room = Path(tempfile.gettempdir())
-    for old in room.glob(PREFIX + "*"):
-        remove_left(old)
-    folder = Path(tempfile.mkdtemp(prefix=PREFIX))
-    descriptor = os.open(folder / LOCK, os.O_RDWR | os.O_CREAT | os.O_CLOEXEC, 0o600)
-    try_lock(descriptor)
-    # The lock lasts as long as a process of the service does.
-    os.set_inheritable(descriptor, False)
-    os.environ["PROMETHEUS_MULTIPROC_DIR"] = str(folder)
-    # Now, and not when a signal tells that a worker has gone: that may come in the middle of an import.
-    import_module("prometheus_client.multiprocess")
-    return folder
-
-
-def remove_left(folder: Path) -> None:
-    """Removes the folder of a service that is gone."""
-    try:
-        descriptor = os.open(folder / LOCK, os.O_RDWR | os.O_CLOEXEC)
-    except OSError:
-        return
-    try:
-        if try_lock(descriptor):
-            shutil.rmtree(folder, ignore_errors=True)
-    finally:
-        os.close(descriptor)
+# The numbers of a worker's part, one after the other.
+IS_USED: Final = 0
+CHILDREN: Final = 1
+SECONDS: Final = 2                      # their sum
+BUCKETS: Final = 3                      # answers by seconds, up to each bound and above all
+REQUESTS: Final = BUCKETS + len(BOUNDS) + 1     # answers by path and status
+NUMBERS: Final = REQUESTS + len(PATHS) * len(STATUSES)
+MOST_KNOWN: Final = 1_000               # addresses whose place among the numbers is kept in mind
 
 
-def first_to_tell(folder: Path | None, line: str) -> bool:
-    """Whether no worker of this service has told a line yet."""
-    if folder is None:
-        return True
-    import hashlib
+class Figures:
+    """The numbers of all workers, in memory that forked processes share."""
 
-    name = TOLD + hashlib.blake2b(line.encode(), digest_size=12).hexdigest()
-    try:
-        os.close(os.open(folder / name, os.O_CREAT | os.O_EXCL | os.O_CLOEXEC, 0o600))
-    except FileExistsError:
-        return False
-    except OSError:
-        return True
-    return True
+    def __init__(self) -> None:
+        self.cells = memoryview(mmap.mmap(-1, 8 * NUMBERS * SLOTS)).cast("d")
+
+    def part(self, slot: int) -> memoryview[float]:
+        """A worker's numbers."""
+        part: memoryview[float] = self.cells[slot * NUMBERS:(slot + 1) * NUMBERS]
+        part[IS_USED] = 1
+        return part
+
+    def leave(self, slot: int) -> None:
+        """A worker is gone, and its children with it. What it counted stays."""
+        self.cells[slot * NUMBERS + CHILDREN] = 0
+
+    def sums(self) -> list[float]:
+        """The numbers of all workers together."""
+        parts = [self.cells[slot * NUMBERS:(slot + 1) * NUMBERS].tolist()
+                 for slot in range(SLOTS) if self.cells[slot * NUMBERS + IS_USED]]
+        return [sum(each) for each in zip(*parts)]
 
 
 class Metrics:
-    """The counters of one worker."""
+    """What one worker counts, and tells of all."""
 
-    def __init__(self) -> None:
-        # Only here: the library chooses where it counts as it is read.
-        from prometheus_client import CollectorRegistry, Counter, Gauge, Histogram
-
-        self.registry = CollectorRegistry()
-        self.requests = Counter(
-            "catchup_requests", "Requests that were answered", ["path", "status"], registry=self.registry)
-        self.seconds = Histogram(
-            "catchup_request_seconds", "Seconds from a request's head to its answer", registry=self.registry,
-            buckets=(0.001, 0.002, 0.005, 0.01, 0.02, 0.05, 0.1, 0.2, 0.5, 1, 2, 5, 10, 30))
-        self.children = Gauge(
-            "catchup_children", "Children that answer", registry=self.registry, multiprocess_mode="livesum")
-        self.cells: dict[tuple[str, int], Any] = {}
+    def __init__(self, figures: Figures, slot: int) -> None:
+        self.figures = figures
+        self.part = figures.part(slot)
+        self.known: dict[tuple[str, int], int] = {}
 
     def told(self, path: str, status: int, seconds: float) -> None:
         """Counts an answer."""
-        cell = self.cells.get((path, status))
-        if cell is None:
-            cell = self.cell(path, status)
-        cell.inc()
-        self.seconds.observe(seconds)
+        at = self.known.get((path, status))
+        if at is None:
+            at = self.find(path, status)
+        part = self.part
+        part[at] += 1
+        part[BUCKETS + bisect_left(BOUNDS, seconds)] += 1
+        part[SECONDS] += seconds
 
-    def cell(self, path: str, status: int) -> Any:
-        """The counter of a path and a status; paths that aren't known count together."""
-        if path.startswith("/edits/"):
-            name = "/edits/ID"
-        else:
-            name = path if path in PATHS else "other"
-        found = self.requests.labels(name, str(status))
-        if name == path:
-            self.cells[path, status] = found
-        return found
+    def find(self, path: str, status: int) -> int:
+        """Where the answers of a path and a status are counted."""
+        found = OF_MANY.match(path)
+        name = path if found is None else found[1] or "/edits/ID"
+        at = REQUESTS + PATH_AT.get(name, PATH_AT[OTHER]) * len(STATUSES) + STATUS_AT[status]
+        if path in PATH_AT and len(self.known) < MOST_KNOWN:
+            self.known[path, status] = at
+        return at
+
+    def tell_children(self, many: int) -> None:
+        """So many children of this worker answer."""
+        self.part[CHILDREN] = many
 
     def text(self, versions: Iterable[tuple[str, str]], jobs: dict[str, int]) -> bytes:
         """All counts, as Prometheus reads them. `versions` are profiles with what is served of each."""
-        from prometheus_client import CollectorRegistry, generate_latest
-        from prometheus_client.core import GaugeMetricFamily
-        from prometheus_client.multiprocess import MultiProcessCollector
-        from prometheus_client.registry import Collector
-
-        class Now(Collector):
-            """What is so just now."""
-
-            def collect(self) -> Iterable[GaugeMetricFamily]:
-                served = GaugeMetricFamily(
-                    "catchup_version_info", "The version that is served", labels=["version", "profile"])
-                for profile, version in versions:
-                    served.add_metric([version, profile], 1)
-                states = GaugeMetricFamily("catchup_jobs", "Edits that are kept in mind", labels=["state"])
-                for state, count in jobs.items():
-                    states.add_metric([state], count)
-                return [served, states]
-
         registry = CollectorRegistry()
-        MultiProcessCollector(registry)  # type: ignore[no-untyped-call]
-        registry.register(Now())
+        registry.register(Told([*families_of(self.figures.sums()), *states_of(versions, jobs)]))
         return bytes(generate_latest(registry))
 
 
-def forget_worker(pid: int) -> None:
-    """A worker is gone: its children no longer count."""
-    from prometheus_client.multiprocess import mark_process_dead
+class Told(Collector):
+    """Metrics that are there already."""
 
-    mark_process_dead(pid)  # type: ignore[no-untyped-call]
+    def __init__(self, families: list[Metric]) -> None:
+        self.families = families
+
+    def collect(self) -> Iterable[Metric]:
+        """All of them."""
+        return self.families
+
+
+def families_of(sums: list[float]) -> Iterator[Metric]:
+    """The metrics of all workers' numbers."""
+    requests = CounterMetricFamily("catchup_requests", "Requests that were answered", labels=["path", "status"])
+    counts = iter(sums[REQUESTS:])
+    for path in PATHS:
+        for status in STATUSES:
+            if count := next(counts):
+                requests.add_metric([path, str(status)], count)
+    yield requests
+    buckets: list[tuple[str, float]] = []
+    total = 0.0
+    for bound, count in zip([*map(float, BOUNDS), "+Inf"], sums[BUCKETS:REQUESTS]):
+        total += count
+        buckets.append((str(bound), total))
+    yield HistogramMetricFamily("catchup_request_seconds", "Seconds from a request's head to its answer",
+                                buckets=buckets, sum_value=sums[SECONDS])
+    yield GaugeMetricFamily("catchup_children", "Children that answer", sums[CHILDREN])
+
+
+def states_of(versions: Iterable[tuple[str, str]], jobs: dict[str, int]) -> Iterator[Metric]:
+    """The metrics of what is served, and of jobs."""
+    served = GaugeMetricFamily("catchup_version_info", "The version that is served", labels=["version", "profile"])
+    for profile, version in versions:
+        served.add_metric([version, profile], 1)
+    yield served
+    states = GaugeMetricFamily("catchup_jobs", "Edits that are kept in mind", labels=["state"])
+    for state, count in jobs.items():
+        states.add_metric([state], count)
+    yield states

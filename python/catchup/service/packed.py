@@ -55,15 +55,15 @@ def read_header(descriptor: int) -> Header:
 def read_digest(descriptor: int) -> str:
     """The digest at an open packed file's end: 64 lower-case hexadecimal digits."""
     size = os.fstat(descriptor).st_size
-    data = os.pread(descriptor, DIGEST_BYTES, max(size - DIGEST_BYTES, 0))
+    data = os.pread(descriptor, DIGEST_BYTES, size - DIGEST_BYTES) if size >= DIGEST_BYTES else b""
     if len(data) < DIGEST_BYTES:
         raise NotPacked("file: short")
     return data.hex()
 
 
 def digest_of(path: str) -> str:
-    """The digest at the end of the packed file of a path."""
-    descriptor = os.open(path, os.O_RDONLY)
+    """The digest at the end of the packed file of a path. Where a pipe stands there nobody is waited for."""
+    descriptor = os.open(path, os.O_RDONLY | os.O_NONBLOCK)
     try:
         return read_digest(descriptor)
     finally:

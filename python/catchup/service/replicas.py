@@ -27,7 +27,8 @@ from catchup.service.limits import LOG_SECONDS, LONGEST_LINES
 from catchup.service.process import try_lock
 from catchup.service.roadedits import edits_of_entry, entry_of
 from catchup.service.spool import Spool
-from catchup.service.versions import Network, tell
+from catchup.service.telling import tell
+from catchup.service.versions import Network
 
 ADDRESS: Final = re.compile(r"(rediss?://[^/]+/[0-9]+)/([A-Za-z0-9_.:-]{1,200})")
 FIRST: Final = "0"                      # stands for the entry before the first

@@ -25,13 +25,15 @@ from catchup.program import Child, find_program, run_program
 from catchup.service.accepting import UNUSED, Acceptor, Address, Counts
 from catchup.service.app import Front, make_app
 from catchup.service.limits import DRAIN_SECONDS, LAST_SECONDS, MOST_CONNECTIONS
-from catchup.service.metrics import forget_worker, make_folder
+from catchup.service.metrics import Figures, Metrics
+from catchup.service.notes import make_folder
 from catchup.service.options import Options
 from catchup.service.process import end_with
 from catchup.service.protocol import Connection
 from catchup.service.streets import streets_of
 from catchup.service.tables import draw_networks, open_places
-from catchup.service.versions import Kept, tell
+from catchup.service.telling import open_streams, tell
+from catchup.service.versions import Kept
 from catchup.service.worker import Shared, Worker, said_of
 
 BACKLOG: Final = 1_024                  # clients that wait to be taken
@@ -45,6 +47,8 @@ DRAIN_PAUSE: Final = 0.02
 GRACE_SECONDS: Final = 0.5              # for requests that are on their way as the service ends
 START_PAUSE: Final = 0.1
 ASK_SECONDS: Final = 0.5                # after which workers are asked again to end: one that has just begun missed it
+LEFT_TO_THE_ARBITER: Final = (
+    signal.SIGINT, signal.SIGHUP, signal.SIGQUIT, signal.SIGUSR1, signal.SIGUSR2, signal.SIGWINCH)
 UVICORN: Final[dict[str, Any]] = {
     "loop": "uvloop", "lifespan": "off", "log_config": None, "access_log": False, "date_header": False,
     "server_header": False, "proxy_headers": False, "ws": "none"}
@@ -68,6 +72,7 @@ class Setting:
     folder: Path
     shared: Shared
     counts: Counts
+    figures: Figures
 
 
 class DrainingServer(Server):  # type: ignore[misc]
@@ -134,7 +139,7 @@ class DrainingServer(Server):  # type: ignore[misc]
 async def serve(sockets: list[socket.socket], slot: int, notify: Any = None, pause: float = 0.0) -> None:
     """Serves in this process until a signal comes."""
     asyncio.get_running_loop().set_exception_handler(tell_error)
-    worker = Worker(Setting.options, Setting.folder, Setting.shared)
+    worker = Worker(Setting.options, Setting.folder, Setting.shared, Metrics(Setting.figures, slot))
     front = Front(worker, make_app(worker))
     worker.crowd.begin_plain = front.begin_plain
     config = Config(front, http=Connection, backlog=BACKLOG, callback_notify=notify, timeout_notify=pause, **UVICORN)
@@ -154,6 +159,12 @@ if HAS_GUNICORN:
             problem = sys.exc_info()[1]
             tell(f"{msg}: {said_of(problem) if problem is not None else ''}")
 
+        def warning(self, msg: str, *args: Any, **kwargs: Any) -> None:
+            """What an operator should know, in a line as all others are; a trace would stand behind its first one."""
+            tell((msg % args if args else msg).partition("\n")[0])
+
+        error = critical = warning
+
     class ServiceWorker(UvicornWorker):  # type: ignore[misc]
         """A worker that ends with its arbiter."""
 
@@ -169,7 +180,9 @@ if HAS_GUNICORN:
 
         def init_signals(self) -> None:
             super().init_signals()
-            signal.signal(signal.SIGINT, signal.SIG_IGN)
+            # Signals to all processes are for the arbiter; nobody who asks for a reload wants requests broken off.
+            for number in LEFT_TO_THE_ARBITER:
+                signal.signal(number, signal.SIG_IGN)
             # Until the server itself takes it.
             signal.signal(signal.SIGTERM, lambda *_: sys.exit(0))
 
@@ -207,6 +220,21 @@ if HAS_GUNICORN:
             raise StopIteration
 
         handle_quit = handle_int
+
+        def murder_workers(self) -> None:
+            """Ends workers that give no sign, whatever becomes of the clock. gunicorn would have them leave a core."""
+            now = time.monotonic()
+            for pid, worker in list(self.WORKERS.items()):
+                with contextlib.suppress(OSError, ValueError):
+                    sign = worker.tmp.last_update()
+                    if sign != getattr(worker, "sign", None):
+                        worker.sign, worker.seen = sign, now
+                    elif now - worker.seen > self.timeout:
+                        tell(f"worker {pid} gives no sign and is ended")
+                        self.kill_worker(pid, signal.SIGKILL)
+
+        def handle_usr1(self) -> None:
+            """gunicorn would have the workers open their logs again, which ends them."""
 
         def handle_usr2(self) -> None:
             """gunicorn would start another service beside this one."""
@@ -267,9 +295,7 @@ def take_slot(_: object, worker: Any) -> None:
 def let_go(_: object, worker: Any) -> None:
     """A worker is gone."""
     Setting.counts.cells[worker.slot] = UNUSED
-    # This is called by a signal, in the middle of anything.
-    with contextlib.suppress(OSError):
-        forget_worker(worker.pid)
+    Setting.figures.leave(worker.slot)
 
 
 def address_of(listener: socket.socket) -> str:
@@ -327,22 +353,25 @@ def find_at_once(options: Options) -> None:
 
 
 def allow_files() -> int:
-    """Allows as many open files as connections need, and answers how many connections a worker may have."""
+    """Allows as many open files as connections need, with those put aside, and answers how many connections a worker
+    may have."""
     soft, hard = resource.getrlimit(resource.RLIMIT_NOFILE)
     most = hard if hard != resource.RLIM_INFINITY else 1 << 20
-    soft = max(soft, min(most, MOST_CONNECTIONS + SPARE_FILES))
+    soft = max(soft, min(most, MOST_CONNECTIONS * (ASIDE + 2) // ASIDE + SPARE_FILES))
     resource.setrlimit(resource.RLIMIT_NOFILE, (soft, hard))
-    return max(min(MOST_CONNECTIONS, soft - SPARE_FILES), 8)
+    return max(min(MOST_CONNECTIONS, (soft - SPARE_FILES) * ASIDE // (ASIDE + 2)), 8)
 
 
 def start(options: Options) -> None:
     """Serves until a signal asks for the end."""
+    open_streams()
     find_program()
     check_files(options)
     find_at_once(options)
     Setting.options = options
     Setting.shared = Shared(draw_networks(options), streets_of(options), open_places(options), {}, allow_files())
     Setting.counts = Counts()
+    Setting.figures = Figures()
     listener = listen(options)
     logging.raiseExceptions = False
     Setting.folder = make_folder()

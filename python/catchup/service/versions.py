@@ -5,6 +5,7 @@ from __future__ import annotations
 import asyncio
 import contextlib
 import os
+import stat
 from collections.abc import Awaitable, Callable, Iterator
 from pathlib import Path
 from typing import TYPE_CHECKING
@@ -14,6 +15,7 @@ from catchup.service.children import DRIVE_PROBE, PROBE, Child, NotOpened
 from catchup.service.errors import Refusal
 from catchup.service.limits import PROBE_SECONDS, QUICK_SECONDS, SLOW_SECONDS
 from catchup.service.process import said_of
+from catchup.service.telling import tell
 
 if TYPE_CHECKING:
     from catchup.places import Places
@@ -22,12 +24,7 @@ if TYPE_CHECKING:
 Identity = tuple[int, int, int, int]
 HEARTBEAT_SECONDS = 5.0
 AGAIN_SECONDS = 1.0
-
-
-def tell(line: str) -> None:
-    """A line on standard error, which may be closed or full: whoever reads it not is served all the same."""
-    with contextlib.suppress(OSError):
-        os.write(2, f"catchup-http: {' '.join(line.split())}\n".encode())
+NO_MEMORY = "ended with status 9"
 
 
 def identity_of(found: os.stat_result) -> Identity:
@@ -230,9 +227,11 @@ async def probe(child: Child) -> bool:
     return True
 
 
-def was_killed(problem: Exception) -> bool:
-    """Whether a child was ended by a signal, which says nothing of its file."""
-    return " was ended by SIG" in str(problem)
+def may_pass(problem: Exception) -> bool:
+    """Whether a problem says nothing of the file: a child that was ended or couldn't be started, or no memory."""
+    said = str(problem)
+    return (isinstance(problem, OSError) or " was ended by SIG" in said or "can't be started" in said
+            or said.endswith(NO_MEMORY))
 
 
 class Network:
@@ -269,13 +268,17 @@ class Network:
         """Changes over to the file that stands in the place, where it isn't the one that is served."""
         async with self.turn:
             try:
-                descriptor = os.open(self.path, os.O_RDONLY | os.O_CLOEXEC)
+                # Where a pipe stands there nobody is waited for.
+                descriptor = os.open(self.path, os.O_RDONLY | os.O_CLOEXEC | os.O_NONBLOCK)
             except OSError as problem:
                 self.refuse(f"{self.path.name} can't be read: {problem.strerror}", None)
                 return
-            identity = identity_of(os.fstat(descriptor))
-            if identity == self.tried:
+            found = os.fstat(descriptor)
+            identity = identity_of(found)
+            if identity == self.tried or not stat.S_ISREG(found.st_mode):
                 os.close(descriptor)
+                if identity != self.tried:
+                    self.refuse(f"{self.path.name} is no file", identity)
                 return
             await self.try_version(descriptor, identity)
 
@@ -315,7 +318,7 @@ class Network:
             await starting
         except (packed.NotPacked, NotOpened, Refusal, OSError) as problem:
             version.let_go(has_started=False)
-            self.refuse(str(problem), None if was_killed(problem) else identity)
+            self.refuse(str(problem), None if may_pass(problem) else identity)
             return
         if self.shape is not None and version.shape != self.shape:
             version.retire()

@@ -5,7 +5,6 @@ from __future__ import annotations
 import asyncio
 import contextlib
 import functools
-import os
 import sqlite3
 from collections.abc import Coroutine
 from dataclasses import dataclass
@@ -20,13 +19,15 @@ from catchup.service.answers import as_json
 from catchup.service.editor import Editor, Refused
 from catchup.service.errors import Refusal, told_briefly
 from catchup.service.limits import WATCH_SECONDS
-from catchup.service.metrics import Metrics, first_to_tell
+from catchup.service.metrics import Metrics
+from catchup.service.notes import first_to_tell
 from catchup.service.options import Options
 from catchup.service.osrm.paths import Osrm
 from catchup.service.protocol import Crowd, Headers
 from catchup.service.reads import Tables
 from catchup.service.streets import Streets
-from catchup.service.versions import AGAIN_SECONDS, Kept, Network, tell, watch
+from catchup.service.telling import say, tell
+from catchup.service.versions import AGAIN_SECONDS, Kept, Network, watch
 
 if TYPE_CHECKING:
     from catchup.places import Places
@@ -49,12 +50,12 @@ class Shared:
 class Worker:
     """One process of a service."""
 
-    def __init__(self, options: Options, folder: Path | None, shared: Shared) -> None:
+    def __init__(self, options: Options, folder: Path | None, shared: Shared, metrics: Metrics) -> None:
         self.options = options
         self.folder = folder
         self.gates = options.gates()
         self.program = str(find_program())
-        self.metrics = Metrics()
+        self.metrics = metrics
         tell_once = functools.partial(first_to_tell, folder)
         self.networks = [Network(file.name, file.path, self.program, shared.kept.get(file.path), tell_once)
                          for file in options.files]
@@ -66,7 +67,7 @@ class Worker:
         self.drawn = {network: shared.drawn[network.path] for network in self.networks if network.path in shared.drawn}
         self.streets = {network: shared.streets.get(network.path, Streets()) for network in self.networks}
         self.editors = {network: Editor(network, self.program) for network in self.networks}
-        self.crowd = Crowd(shared.most, self.error, self.metrics.told, log_access if options.has_access_log else None)
+        self.crowd = Crowd(shared.most, self.error, self.metrics.told, say if options.has_access_log else None)
         self.acceptors: list[Acceptor] = []
         self.tables = Tables()
         self.osrm = Osrm(self.placed, options.now, self.version)
@@ -98,7 +99,7 @@ class Worker:
         for acceptor in self.acceptors:
             acceptor.tell()
         versions = [network.current for network in self.networks]
-        self.metrics.children.set(sum(
+        self.metrics.tell_children(sum(
             not child.gone.is_set() for version in versions for child in (version.quick, version.slow)))
 
     def end_edits(self) -> None:
@@ -169,12 +170,6 @@ def worker_of(request: Request) -> Worker:
     """The worker that answers a request."""
     found: Worker = request.app.state.worker
     return found
-
-
-def log_access(line: str) -> None:
-    """A line of the access log, on standard error: the client, what it asked, the status and milliseconds."""
-    with contextlib.suppress(OSError):
-        os.write(2, line.encode("ascii", "replace") + b"\n")
 
 
 def said_of(problem: BaseException) -> str:
