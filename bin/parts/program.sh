@@ -13,18 +13,23 @@ fail() {
 
 # The lines of crates.txt that the program stands on: its own crate's and, one by one, those of the crates below.
 closure() {
-  awk '
-    { sub(/#.*/, ""); at = index($0, ":"); split($0, word, /[ \t:]+/) }
-    at { line[word[1]] = $0; uses[word[1]] = substr($0, at + 1); order[++lines] = word[1] }
-    END {
-      wanted[last = 1] = "catchup"
-      for (i = 1; i <= last; i++) {
-        if (seen[wanted[i]]++ || !(wanted[i] in line)) continue
-        count = split(uses[wanted[i]], more, " ")
-        for (k = 1; k <= count; k++) wanted[++last] = more[k]
-      }
-      for (i = 1; i <= lines; i++) if (order[i] in seen) { $0 = line[order[i]]; $1 = $1; print }
-    }' "$top/crates.txt"
+  local - line name at below order=() wanted=(catchup)
+  local -A line_of wanted_once
+  set -f
+  while IFS= read -r line || [ -n "$line" ]; do
+    line="${line%%#*}" name="${line%%[[:blank:]:]*}"
+    [[ -n $name && $line == *:* ]] || continue
+    line_of[$name]="$line" order+=("$name")
+  done <"$top/crates.txt"
+  for ((at = 0; at < ${#wanted[@]}; at++)); do
+    name="${wanted[at]}"
+    [[ -n ${line_of[$name]-} && -z ${wanted_once[$name]-} ]] || continue
+    wanted_once[$name]=1 wanted+=(${line_of[$name]#*:})
+  done
+  for name in "${order[@]}"; do
+    below=(${line_of[$name]})
+    [ -z "${wanted_once[$name]-}" ] || echo "${below[*]}"
+  done
 }
 
 # The version of the product: that of the newest heading of the change log.
