@@ -10,6 +10,7 @@ from collections.abc import Iterator
 from pathlib import Path
 
 import pytest
+from commands import call, check_refused, run
 from conftest import EXAMPLES
 from serving import HTTP, SECONDS, Service, digest_of, read_all
 
@@ -112,40 +113,50 @@ def test_origins_of_elsewhere(origin: str, host: str, wanted: bool) -> None:
 # ---- starts and ends ----
 
 
-def refused(*words: str | Path, **environment: str) -> tuple[int, str, str]:
-    found = subprocess.run([HTTP, *words], capture_output=True, text=True, timeout=SECONDS,
-                           env={**os.environ, **environment}, check=False)
-    return found.returncode, found.stdout, found.stderr
+@pytest.fixture(scope="module")
+def room(tmp_path_factory: pytest.TempPathFactory) -> Path:
+    """A folder with a token, a file that holds none, and a packed file cut short."""
+    folder = tmp_path_factory.mktemp("room")
+    for name, text in (("token", TOKEN), ("bad", "short"), ("short.cu", "CATCHUPH")):
+        (folder / name).write_text(text)
+    return folder
 
 
-def test_words_that_start_nothing(town: Path, tmp_path: Path) -> None:
-    short = tmp_path / "short.cu"
-    short.write_text("CATCHUPH")
-    bad = tmp_path / "bad"
-    bad.write_text("short")
-    cases: list[tuple[tuple[str | Path, ...], int, str]] = [
-        ((), 2, "Missing argument"), ((town, "--port", "65536"), 2, "65535"), ((town, "--port", "1_8_0"), 2, "number"),
-        ((town, "--port", "\u0661\u0662"), 2, "number"), ((town, "--keep", "x"), 2, "--keep"),
-        ((town, "--workers", "0"), 2, "number"),
-        ((tmp_path / "none.cu",), 1, "No such file"), ((tmp_path,), 1, "is no file"), ((short,), 6, "file: short"),
-        ((town, "--host", "0.0.0.0"), 1, "--token"), ((town, "--token", tmp_path / "none"), 1, "can't be read"),
-        ((town, "--token", bad), 1, "holds no token"), ((town, "--origin", "x"), 1, "is no origin"),
-        ((town, "--name", "a b"), 1, "is no name"),
-        ((town, "--tables", EXAMPLES / "rush_hour"), 1, "aren't tables of"),
-        ((town, "--tables", "/dev/zero"), 1, "can't be read"),
-        ((f"car={town}", f"car={town}"), 1, "named twice"),
-        ((town, "--tables", f"car={EXAMPLES / 'town'}"), 1, "names no served file"),
-        ((town, "--host", "203.0.113.1", "--token", "{token}"), 1, "can't listen on 203.0.113.1")]
-    token = tmp_path / "token"
-    token.write_text(TOKEN)
-    for words, status, said in cases:
-        found = refused(*(str(word).replace("{token}", str(token)) for word in words))
-        assert (found[0], found[1], found[2].count("\n")) == (status, "", 1), found
-        assert found[2].startswith("catchup-http: ") and said in found[2], found
-    assert refused(town, CATCHUP=str(tmp_path / "none"))[0] == 1
+WRONG = [
+    ("", 2, "Missing argument"), ("{town} --port 65536", 2, "65535"), ("{town} --port 1_8_0", 2, "number"),
+    ("{town} --port \u0661\u0662", 2, "number"), ("{town} --keep x", 2, "--keep"), ("{town} --workers 0", 2, "number"),
+    ("none.cu", 1, "No such file"), (".", 1, "is no file"), ("{town} --host 0.0.0.0", 1, "--token"),
+    ("{town} --token none", 1, "can't be read"), ("{town} --token bad", 1, "holds no token"),
+    ("{town} --origin x", 1, "is no origin"), ("{town} --name a,b", 1, "is no name"),
+    ("car={town} car={town}", 1, "named twice"), (f"{{town}} --tables car={EXAMPLES}/town", 1, "names no served file")]
+
+
+@pytest.mark.parametrize(("words", "status", "said"), WRONG)
+def test_words_that_start_nothing(town: Path, room: Path, words: str, status: int, said: str) -> None:
+    """Words that are refused before anything is opened: in this process, since to start one takes the longest."""
+    check_refused(call("catchup-http", *words.format(town=town).split(), cwd=room), status, said)
+
+
+# What is found out by the program, the tables and the system: by processes of their own.
+CANNOT = [
+    ("", 2, "Missing argument"), ("short.cu", 6, "file: short"),
+    (f"{{town}} --tables {EXAMPLES}/rush_hour", 1, "aren't tables of"),
+    ("{town} --tables /dev/zero", 1, "can't be read"),
+    ("{town} --host 203.0.113.1 --token token", 1, "can't listen on 203.0.113.1")]
+
+
+@pytest.mark.parametrize(("words", "status", "said"), CANNOT)
+def test_what_cannot_be_served(town: Path, room: Path, words: str, status: int, said: str) -> None:
+    ran = run("catchup-http", *words.format(town=town).split(), cwd=room)
+    check_refused(ran, status, said)
+    assert ran.error.startswith("catchup-http: ")
+
+
+def test_a_port_that_is_taken_and_no_program(town: Path, tmp_path: Path) -> None:
     with socket.create_server(("127.0.0.1", 0)) as other:
-        status, _, error = refused(town, "--port", str(other.getsockname()[1]))
-        assert status == 1 and "can't listen on 127.0.0.1 port" in error
+        ran = run("catchup-http", town, "--port", str(other.getsockname()[1]))
+    check_refused(ran, 1, "can't listen on 127.0.0.1 port")
+    check_refused(call("catchup-http", town, env={"CATCHUP": str(tmp_path / "none")}), 1, "CATCHUP names")
 
 
 @pytest.mark.parametrize("number", [signal.SIGTERM, signal.SIGINT])
