@@ -10,12 +10,11 @@ import signal
 import socket
 import subprocess
 import sys
-import time
 from pathlib import Path
 
 import pytest
 from conftest import TOP
-from serving import SECONDS, wait_for
+from serving import SECONDS
 
 PAGE = TOP / "docs" / "SERVICE.md"
 UNIT = TOP / "packaging" / "service" / "catchup-http.service"
@@ -112,93 +111,3 @@ def test_the_unit_is_one_that_systemd_takes(tmp_path: Path) -> None:
     text = UNIT.read_text()
     for wanted in ("DynamicUser=yes", "ProtectSystem=strict", "NoNewPrivileges=yes", "KillMode=mixed"):
         assert f"\n{wanted}\n" in text
-
-
-# ---- the page in a browser ----
-
-
-START, END = 5, 151
-SHOWN = "return ['clock', 'answer', 'says', 'roads'].map(id => document.getElementById(id).textContent)"
-
-
-def test_the_page_shows_what_the_program_says(town: Path, tmp_path: Path) -> None:
-    webdriver = pytest.importorskip("selenium.webdriver", reason="python3-selenium isn't installed")
-    if shutil.which("chromium") is None or shutil.which("chromedriver") is None:
-        pytest.skip("chromium and chromedriver aren't installed")
-    from serving import Service
-
-    path = tmp_path / "town.cu"
-    path.write_bytes(town.read_bytes())
-    options = webdriver.ChromeOptions()
-    for word in ("--headless=new", "--no-sandbox", "--disable-gpu", "--disable-dev-shm-usage",
-                 f"--user-data-dir={tmp_path}/browser"):
-        options.add_argument(word)
-    from selenium.webdriver.chrome.service import Service as Driver
-
-    with Service(path, "--tables", TOP / "examples" / "town") as service:
-        browser = webdriver.Chrome(options=options, service=Driver("/usr/bin/chromedriver"))
-        try:
-            check_page(browser, service, path)
-        finally:
-            browser.quit()
-
-
-def check_page(browser: object, service: object, path: Path) -> None:
-    from selenium.webdriver.common.action_chains import ActionChains
-    from serving import Service, ask_program
-
-    assert isinstance(service, Service)
-    page = browser
-    page.set_window_size(1280, 900)  # type: ignore[attr-defined]
-    page.get(f"http://127.0.0.1:{service.port}/")  # type: ignore[attr-defined]
-    run = page.execute_script  # type: ignore[attr-defined]
-    assert wait_for(lambda: run("return network.nodes.length"), lambda many: many == 159) == 159
-    box = page.find_element("id", "map")  # type: ignore[attr-defined]
-    for node in (START, END):
-        x, y = run(f"const p = placeOf({node}), b = at('map').getBoundingClientRect(); "
-                   "return [p[0] - b.width / 2, p[1] - b.height / 2]")
-        ActionChains(page).move_to_element_with_offset(box, round(x), round(y)).click().perform()
-    wanted = as_shown(ask_program(path, f"q,{START},{END},28800")[0], 28800)
-    assert wait_for(lambda: run(SHOWN), lambda found: found == wanted) == wanted
-    for second in (*range(0, 86_400, 3600), 61_500):
-        run(f"at('depart').value = {second}; at('depart').dispatchEvent(new Event('input'))")
-    wanted = as_shown(ask_program(path, f"q,{START},{END},61500")[0], 61500)
-    assert wait_for(lambda: run(SHOWN), lambda found: found == wanted) == wanted
-    [day] = ask_program(path, f"d,{START},{END}")
-    starts = [[int(piece.split(",")[0]),
-               int(piece.split(",")[2]) - (int(piece.split(",")[0]) if ",until," in piece else 0)]
-              for piece in day.split(" ")[1:]]
-    found = wait_for(lambda: run("return state.day && state.day.points.filter((_, index) => index % 2 === 0)"),
-                     lambda found: found == starts)
-    assert found == starts
-    assert len(run("return at('rush').textContent").split(", ")) >= 2
-    reach = service.get(f"/reach?from={START}&depart=61500")["arrive"]
-    assert wait_for(lambda: run("return state.reach && state.reach.arrive"), lambda found: found == reach) == reach
-    for width in (1280, 720, 500):
-        page.set_window_size(width, 900)  # type: ignore[attr-defined]
-        time.sleep(0.3)
-        assert run("return document.documentElement.scrollWidth <= innerWidth")
-    line = "s,0,0,travel,600"
-    wanted = as_shown(ask_program(path, line, f"q,{START},{END},61500")[1], 61500)
-    service.edit(line)
-    assert wait_for(lambda: run(SHOWN), lambda found: found == wanted) == wanted
-
-
-def as_shown(reply: str, depart: int) -> list[str]:
-    """What the page has to say of a reply of the program's."""
-    found = re.fullmatch(r"arrive=(\d+) arcs=(.*)", reply)
-    assert found
-    arrive, roads = int(found[1]), found[2]
-    return [clock(depart), "→ " + clock(arrive), f"{span(arrive - depart)} over {len(roads.split())} roads",
-            "Roads: " + roads]
-
-
-def clock(second: int) -> str:
-    text = time.strftime("%H:%M:%S", time.gmtime(second % 86_400)).removesuffix(":00")
-    return text + (" the next day" if second >= 86_400 else "")
-
-
-def span(seconds: int) -> str:
-    hours, minutes, rest = seconds // 3600, seconds // 60 % 60, seconds % 60
-    words = [f"{hours} h"] * bool(hours) + [f"{minutes} min"] * bool(minutes) + [f"{rest} s"] * bool(rest and not hours)
-    return " ".join(words) or "0 s"

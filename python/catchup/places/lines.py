@@ -19,6 +19,7 @@ from catchup.mapfile import RoadNames
 from catchup.places.streets import Streets
 from catchup.places.values import Place
 
+Ints = NDArray[np.int64]
 Shorts = NDArray[np.int32]
 Floats = NDArray[np.float64]
 Rows = NDArray[np.void]
@@ -76,6 +77,17 @@ class Lines:
         self._told: dict[int, Told] = {}
         self._encoded: dict[int, dict[int, str]] = {}
         self._stretches: dict[int, list[Stretch]] = {}
+
+    @property
+    def kinds(self) -> tuple[Shorts, list[str]]:
+        """Of each road its class, int32[m], a number into a list of them."""
+        return self._kind, self._kinds
+
+    @property
+    def names(self) -> tuple[Ints, list[tuple[str, str]]]:
+        """Of each road the name and the reference number of most of it, int64[m]: a number into a list of them, -1 where it
+        has none."""
+        return self._text, self._names.texts
 
     def kind(self, road: int) -> str:
         """A road's class."""

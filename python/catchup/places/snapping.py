@@ -46,6 +46,11 @@ class Snapper:
         (west, south), (east, north) = (edge(streets.places, axis=0).tolist() for edge in (np.min, np.max))
         self.box: tuple[float, float, float, float] = west, south, east, north
 
+    @property
+    def node_places(self) -> geometry.Floats:
+        """Longitude and latitude of each node, float64[n, 2]."""
+        return self._node_places
+
     def nearest(self, place: Place, number: int, radius: float | None, bearing: tuple[int, int] | None,
                 curb: bool) -> list[Snap]:
         """As Places.nearest."""

@@ -18,6 +18,7 @@ from catchup.service.errors import Refusal
 from catchup.service.gates import PREFLIGHT, READS
 from catchup.service.limits import LONGEST_JSON, MOST_WORDS
 from catchup.service.osrm.paths import KIND, make_router
+from catchup.service.page.paths import router as page_router
 from catchup.service.protocol import Cycle
 from catchup.service.reads import PlainRoute, route_asked
 from catchup.service.telling import tell
@@ -28,7 +29,7 @@ Receive = Callable[[], Awaitable[MutableMapping[str, Any]]]
 Send = Callable[[MutableMapping[str, Any]], Awaitable[None]]
 
 # Each has the paths of one field; further ones are added here.
-ROUTERS: Final = (reads.router, edits.router, state.router)
+ROUTERS: Final = (reads.router, edits.router, state.router, page_router)
 JSON_HEADER: Final = (b"content-type", b"application/json")
 VERSION_HEADER: Final = b"catchup-version"
 # These need nothing of the framework, and many are asked.

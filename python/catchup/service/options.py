@@ -18,6 +18,7 @@ from catchup.service.gates import OWN_NAMES, Gates
 NAMED: Final = re.compile(r"([A-Za-z0-9_.-]{1,64})=(.+)", re.DOTALL)
 NAME: Final = re.compile(r"[A-Za-z0-9_.:\[\]-]{1,255}")
 ORIGIN: Final = re.compile(r"https?://[A-Za-z0-9_.\[\]:-]{1,255}")
+TILES: Final = re.compile(r"(?:https?://(?:\{s\}\.)?[A-Za-z0-9_.\[\]:-]{1,255})?/[A-Za-z0-9_.~%/{}@?=&+-]{1,1000}")
 TOKEN: Final = re.compile(rb"[!-~]{16,4096}")
 
 
@@ -45,6 +46,9 @@ class Options:
     has_access_log: bool = False
     has_docs: bool = False
     zone: str | None = None
+    tiles: str | None = None            # where the page's base map is
+    attribution: str | None = None      # whose it is
+    leaflet: Path | None = None         # a folder with Leaflet, where it isn't the system's
 
     def now(self) -> int:
         """The second of the day that it is, in the zone of the roads; in this machine's where none is said."""
@@ -137,6 +141,7 @@ def check(options: Options) -> None:
         if not ORIGIN.fullmatch(origin):
             raise Failure(f"--origin {origin!r} is no origin: write it as https://maps.example.org")
     read_token(options.token)
+    check_page(options)
     if options.zone is not None:
         zone_of(options.zone)
     if options.log is not None:
@@ -144,3 +149,12 @@ def check(options: Options) -> None:
         from catchup.service.replicas import parted as parted_log
 
         parted_log(options.log)
+
+
+def check_page(options: Options) -> None:
+    """Refuses options of the page that lead nowhere."""
+    if options.tiles is not None and not (TILES.fullmatch(options.tiles) and all(
+            word in options.tiles for word in ("{z}", "{x}", "{y}"))):
+        raise Failure(f"--tiles {options.tiles!r} is no address of tiles: write it as https://tiles.example.org/{{z}}/{{x}}/{{y}}.png")
+    if options.leaflet is not None and not (options.leaflet / "leaflet.js").is_file():
+        raise Failure(f"--leaflet {options.leaflet} has no leaflet.js")

@@ -61,12 +61,16 @@ def ask_of(child: Callable[[], Child]) -> Ask:
 
 def travel_of(descriptor: int) -> Travel:
     """The travel functions of an open packed file's roads."""
+    return Travel(roads_of(descriptor)[:, 2].astype(np.int32), profiles_of(descriptor))
+
+
+def profiles_of(descriptor: int) -> Profiles:
+    """The profiles of an open packed file."""
     header = packed.read_header(descriptor)
     first = np.frombuffer(packed.read_exactly(descriptor, 8 * (header.profiles + 1), header.starts_at), "<u8")
     pieces = np.frombuffer(packed.read_exactly(descriptor, 12 * header.pieces, header.pieces_at), "<u4").reshape(-1, 3)
     start, kind, value = (pieces[:, column] for column in range(3))
-    profiles = Profiles(first.astype(np.int64), start.astype(np.int32), kind.astype(np.int8), value.astype(np.int64))
-    return Travel(roads_of(descriptor)[:, 2].astype(np.int32), profiles)
+    return Profiles(first.astype(np.int64), start.astype(np.int32), kind.astype(np.int8), value.astype(np.int64))
 
 
 def roads_of(descriptor: int) -> np.ndarray[tuple[int, int], np.dtype[np.uint32]]:

@@ -3,8 +3,7 @@
 from __future__ import annotations
 
 import asyncio
-from pathlib import Path
-from typing import Any, Final
+from typing import Any
 
 from fastapi import APIRouter, Request
 from fastapi.openapi.docs import get_swagger_ui_html
@@ -18,13 +17,6 @@ from catchup.service.words import take
 from catchup.service.worker import worker_of
 
 router = APIRouter()
-PAGE: Final = Path(__file__).with_name("page") / "page.html"
-PAGE_HEADERS: Final = {
-    "Content-Security-Policy":
-        "default-src 'none'; script-src 'unsafe-inline'; style-src 'unsafe-inline'; connect-src 'self'; "
-        "img-src data:; base-uri 'none'; form-action 'none'; frame-ancestors 'none'",
-    "X-Content-Type-Options": "nosniff",
-}
 
 
 @router.get("/health", **openapi.HEALTH)
@@ -98,11 +90,3 @@ async def docs(request: Request) -> Response:
     if not worker_of(request).options.has_docs:
         raise Refusal(404, "there is nothing of this path", hint="--docs shows it")
     return get_swagger_ui_html(openapi_url="/openapi.json", title="catchup")
-
-
-@router.get("/", include_in_schema=False)
-async def page(request: Request) -> Response:
-    """The page."""
-    take(request.scope["query_string"], {})
-    return Response(PAGE.read_bytes(), media_type="text/html",
-                    headers={**PAGE_HEADERS, "Catchup-Version": worker_of(request).version()})

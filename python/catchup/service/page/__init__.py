@@ -1,0 +1,1 @@
+"""The page: what it is drawn from, and the paths that it asks."""

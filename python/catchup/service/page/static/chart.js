@@ -1,0 +1,114 @@
+// The map: Leaflet with a base map where there is one, our roads, and what is clicked and pointed at.
+
+import { onTheme } from "./palette.js";
+import { Roads } from "./roads.js";
+import { onReachable } from "./service.js";
+import { setView, state } from "./state.js";
+import { latLng, worldOf, ZOOM } from "./world.js";
+
+const { L } = window;
+const OSM = '&copy; <a href="https://www.openstreetmap.org/copyright">OpenStreetMap contributors</a>';
+const POINTED = 9;              // pixels within which a street is pointed at
+
+export class Chart {
+  constructor(element, setting) {
+    const { map: found } = setting;
+    this.found = found;
+    const [west, north, east, south] = found.box;
+    this.bounds = L.latLngBounds(latLng(west, south), latLng(east, north));
+    this.map = L.map(element, {
+      zoomControl: false, attributionControl: false, preferCanvas: true, renderer: L.canvas({ padding: 0.3 }), worldCopyJump: false,
+      zoomSnap: 0.5, wheelPxPerZoomLevel: 90, minZoom: 1, maxZoom: ZOOM, maxBoundsViscosity: 0.6,
+    });
+    this.addControls(setting);
+    this.map.setMaxBounds(this.bounds.pad(1.5));
+    this.show(state.view);
+    const deepest = Math.ceil(Math.log2(900 / Math.max(found.mean, 1)) + ZOOM);
+    this.map.setMaxZoom(Math.min(Math.max(deepest, found.is_plane ? 3 : 18), ZOOM));
+    this.map.setMinZoom(Math.max(Math.floor(this.map.getBoundsZoom(this.bounds)) - 2, 1));
+    if (setting.tiles) {
+      L.tileLayer(setting.tiles, { className: "base", maxZoom: ZOOM, maxNativeZoom: 19, attribution: setting.attribution ?? OSM }).addTo(this.map);
+    }
+    // The roads lie under what is drawn over them.
+    this.map.createPane("roads").style.zIndex = 350;
+    this.map.createPane("ground").style.zIndex = 340;
+    this.roads = new Roads(found, { pane: "roads", minZoom: 0, maxZoom: ZOOM }).addTo(this.map);
+    this.listen();
+  }
+
+  addControls(setting) {
+    L.control.zoom({ position: "topleft", zoomInTitle: "Closer", zoomOutTitle: "Wider" }).addTo(this.map);
+    const whole = L.control({ position: "topleft" });
+    whole.onAdd = () => {
+      const bar = L.DomUtil.create("div", "leaflet-bar"), button = L.DomUtil.create("a", "whole", bar);
+      Object.assign(button, { href: "#", title: "The whole network", textContent: "▣", role: "button" });
+      button.setAttribute("aria-label", "The whole network");
+      L.DomEvent.disableClickPropagation(bar).on(button, "click", event => {
+        L.DomEvent.preventDefault(event);
+        this.fit();
+      });
+      return bar;
+    };
+    whole.addTo(this.map);
+    const attribution = L.control.attribution({ position: "bottomright", prefix: false });
+    if (!setting.map.is_plane) attribution.addAttribution(`Roads ${OSM}`);
+    attribution.addAttribution('<a href="https://leafletjs.com">Leaflet</a>');
+    attribution.addTo(this.map);
+    if (!setting.map.is_plane) L.control.scale({ position: "bottomleft", imperial: false }).addTo(this.map);
+  }
+
+  // Shows the whole network, or some bounds; until somebody moves the map, it shows them whatever its size becomes.
+  fit(options = {}, bounds = this.bounds) {
+    this.fitted = bounds;
+    this.isFitting = true;
+    this.map.fitBounds(bounds, { padding: [22, 22], maxZoom: 17, ...options });
+    this.isFitting = false;
+  }
+
+  // The view of an address, as 12/47.1/9.5; the whole network where there is none.
+  show(view) {
+    const [zoom, lat, lon] = (view ?? "").split("/").map(Number);
+    if ([zoom, lat, lon].every(Number.isFinite) && view && this.bounds.pad(2).contains([lat, lon])) this.map.setView([lat, lon], zoom, { animate: false });
+    else this.fit({ animate: false });
+  }
+
+  viewNow() {
+    const { lat, lng } = this.map.getCenter();
+    return `${+this.map.getZoom().toFixed(2)}/${lat.toFixed(5)}/${lng.toFixed(5)}`;
+  }
+
+  listen() {
+    this.map.on("moveend", () => setView(this.viewNow()));
+    // Whoever moves the map keeps the view.
+    this.map.on("dragstart", () => { this.fitted = null; });
+    this.map.getContainer().addEventListener("wheel", () => { this.fitted = null; }, { passive: true });
+    this.map.on("zoomstart", () => { if (!this.isFitting) this.fitted = null; });
+    this.map.on("click contextmenu", event => this.onClick?.(event.latlng, event));
+    const pointed = event => this.point(event.latlng, event.containerPoint);
+    this.map.on("mousemove", pointed).on("mouseout dragstart", () => this.point(null));
+    onTheme(() => this.roads.restyle());
+    // What didn't come while the service was gone.
+    onReachable(isThere => { if (isThere) this.roads.redraw(); });
+    new ResizeObserver(() => {
+      this.map.invalidateSize({ pan: false });
+      if (this.fitted) this.fit({ animate: false }, this.fitted);
+    }).observe(this.map.getContainer());
+  }
+
+  // The street at a place of the map; -1 where there is none.
+  streetAt(place, pixels = POINTED) {
+    const { x, y } = worldOf(place), zoom = this.map.getZoom();
+    return this.roads.data.street(x, y, Math.round(zoom), pixels * 2 ** (ZOOM - zoom));
+  }
+
+  // Tells the street under the pointer, once the pointer rests.
+  point(place, at) {
+    clearTimeout(this.pointing);
+    this.onPoint?.(-1, null);
+    if (!place || this.map._animatingZoom) return;
+    this.pointing = setTimeout(() => {
+      const street = this.streetAt(place);
+      if (street >= 0) this.onPoint?.(street, at);
+    }, 90);
+  }
+}

@@ -1,0 +1,145 @@
+"""A browser for the tests of the service's page: chromium, led by selenium."""
+
+from __future__ import annotations
+
+import os
+import shutil
+from collections.abc import Callable
+from pathlib import Path
+from typing import Any, TypeVar
+
+import pytest
+from serving import Service, wait_for as wait_long
+
+SECONDS = 60
+LAPTOP = 1280, 800
+PHONE = 390, 844
+WORDS = ("--headless=new", "--no-sandbox", "--disable-gpu", "--disable-dev-shm-usage", "--hide-scrollbars")
+# Whether all is drawn that is in view.
+IS_DRAWN = """
+const page = window.catchup, tiles = page ? Object.values(page.chart.roads._tiles ?? {}) : [];
+return tiles.length > 0 && tiles.every(tile => tile.el.isDrawn) && !page.isDrawing() && page.chart.roads.ways !== null;
+"""
+SPOT = """
+const { map } = catchup.chart, box = map.getContainer().getBoundingClientRect();
+const spot = map.latLngToContainerPoint([arguments[1], arguments[0]]);
+return [Math.round(box.left + spot.x), Math.round(box.top + spot.y)];
+"""
+
+
+Found = TypeVar("Found")
+
+
+def wait_for(find: Callable[[], Found], wanted: Callable[[Found], bool] = bool) -> Found:
+    """What is found once it is as wanted, or at the end of the time."""
+    return wait_long(find, wanted, SECONDS)
+
+
+class Browser:
+    """A browser with one window, or more. Pictures go to the folder of CATCHUP_PICTURES where that is set."""
+
+    def __init__(self, room: Path) -> None:
+        webdriver = pytest.importorskip("selenium.webdriver", reason="python3-selenium isn't installed")
+        if shutil.which("chromium") is None or shutil.which("chromedriver") is None:
+            pytest.skip("chromium and chromedriver aren't installed")
+        from selenium.webdriver.chrome.service import Service as Driver
+
+        options = webdriver.ChromeOptions()
+        for word in (*WORDS, f"--user-data-dir={room}/browser"):
+            options.add_argument(word)
+        options.set_capability("goog:loggingPrefs", {"browser": "ALL"})
+        self.driver = webdriver.Chrome(options=options, service=Driver("/usr/bin/chromedriver"))
+        self.driver.set_page_load_timeout(60)
+        self.run = self.driver.execute_script
+
+    def open(self, service: Service, address: str = "", size: tuple[int, int] = LAPTOP, *, dark: bool = False,
+             is_drawn: bool = True) -> None:
+        """Opens the page of a service, at some size; waits until its roads are drawn."""
+        self.resize(size)
+        self.command("Emulation.setEmulatedMedia", features=[
+            {"name": "prefers-color-scheme", "value": "dark" if dark else "light"}])
+        self.driver.get("about:blank")
+        self.driver.get_log("browser")
+        self.driver.get(f"http://127.0.0.1:{service.port}/{address}")
+        if is_drawn:
+            assert wait_for(lambda: self.run(IS_DRAWN)), self.problems()
+
+    def resize(self, size: tuple[int, int]) -> None:
+        """Shows the page at another size; a narrow one is a phone's, with touch."""
+        is_phone = size[0] < 720
+        self.command("Emulation.setDeviceMetricsOverride", width=size[0], height=size[1], deviceScaleFactor=1, mobile=is_phone)
+        self.command("Emulation.setTouchEmulationEnabled", enabled=is_phone)
+
+    def command(self, name: str, **words: Any) -> Any:
+        """What the browser itself is told."""
+        return self.driver.execute_cdp_cmd(name, words)
+
+    def wait(self, script: str, wanted: Callable[[Any], bool] = bool) -> Any:
+        """What a script answers once that is as wanted."""
+        found = wait_for(lambda: self.run(script), wanted)
+        assert wanted(found), (script, found, self.problems())
+        return found
+
+    def text(self, name: str) -> str:
+        """The text of an element."""
+        return str(self.run("return document.getElementById(arguments[0]).innerText", name))
+
+    def wait_text(self, name: str, part: str) -> str:
+        """The text of an element once it has some part."""
+        found = wait_for(lambda: self.text(name), lambda text: part in text)
+        assert part in found, (name, found, self.problems())
+        return found
+
+    def click(self, name: str) -> None:
+        """Clicks an element."""
+        self.driver.find_element("id", name).click()
+
+    def mouse(self, kind: str, x: int, y: int, **words: Any) -> None:
+        """A movement or a button of the mouse."""
+        self.command("Input.dispatchMouseEvent", type=kind, x=x, y=y, **words)
+
+    def click_map(self, lon: float, lat: float) -> None:
+        """Clicks a place on the map."""
+        x, y = self.run(SPOT, lon, lat)
+        self.mouse("mousePressed", x, y, button="left", clickCount=1)
+        self.mouse("mouseReleased", x, y, button="left", clickCount=1)
+
+    def drag(self, start: tuple[int, int], end: tuple[int, int]) -> None:
+        """Drags from one pixel to another."""
+        self.mouse("mousePressed", *start, button="left", clickCount=1)
+        for part in range(1, 6):
+            at = [round(one + (other - one) * part / 5) for one, other in zip(start, end)]
+            self.mouse("mouseMoved", at[0], at[1], button="left", buttons=1)
+        self.mouse("mouseReleased", *end, button="left", clickCount=1)
+
+    def touch(self, kind: str, *points: tuple[float, float]) -> None:
+        """Fingers on the screen."""
+        self.command("Input.dispatchTouchEvent", type=kind, touchPoints=[{"x": x, "y": y} for x, y in points])
+
+    def set_value(self, name: str, value: object, event: str = "change") -> None:
+        """Sets a field as if somebody had typed it."""
+        self.run("const each = document.getElementById(arguments[0]); each.value = arguments[1];"
+                 "each.dispatchEvent(new Event(arguments[2], { bubbles: true }))", name, str(value), event)
+
+    def problems(self) -> list[str]:
+        """The errors and warnings in the console."""
+        return [f"{line['level']} {line['message']}" for line in self.driver.get_log("browser") if line["level"] != "INFO"]
+
+    def elsewhere(self) -> list[str]:
+        """What was asked of other origins."""
+        found: list[str] = self.run("return performance.getEntries().map(each => each.name)"
+                                    ".filter(name => /^[a-z]+:/.test(name) && !name.startsWith(location.origin) && !name.startsWith('data:'))")
+        return found
+
+    def is_wider(self) -> bool:
+        """Whether the page is wider than the screen."""
+        return bool(self.run("return document.documentElement.scrollWidth > innerWidth"))
+
+    def picture(self, name: str) -> None:
+        """Keeps a picture where somebody wants to look at it."""
+        if folder := os.environ.get("CATCHUP_PICTURES"):
+            self.driver.save_screenshot(f"{folder}/{name}.png")
+
+    def close(self) -> None:
+        """Ends the browser."""
+        self.driver.quit()

@@ -1,0 +1,329 @@
+"""The service's page in a browser, on a laptop and on a phone."""
+
+from __future__ import annotations
+
+import re
+import shutil
+import time
+from collections.abc import Iterator
+from pathlib import Path
+
+import pytest
+from browsing import LAPTOP, PHONE, Browser, wait_for
+from commands import run
+from conftest import EXAMPLES
+from serving import Service, ask_program
+
+# Of the village: its main street in the west and in the east, and the middle of a lane.
+WEST, EAST = (9.5005, 47.2005), (9.5125, 47.2005)
+VILLAGE = EXAMPLES / "village" / "village.osm"
+pytestmark = pytest.mark.xdist_group("page")
+
+
+@pytest.fixture(scope="module")
+def browser(tmp_path_factory: pytest.TempPathFactory) -> Iterator[Browser]:
+    found = Browser(tmp_path_factory.mktemp("browser"))
+    yield found
+    found.close()
+
+
+@pytest.fixture(scope="module")
+def folder(program: Path, tmp_path_factory: pytest.TempPathFactory) -> Path:
+    """The folder of the village's map."""
+    found = tmp_path_factory.mktemp("village") / "map"
+    ran = run("catchup-import", "osm", VILLAGE, found, "--build", "--rush", "--spare", "8")
+    assert ran.status == 0, ran
+    return found
+
+
+@pytest.fixture(scope="module")
+def village(folder: Path) -> Iterator[Service]:
+    with Service(folder / "map.cu", "--tables", folder, "--zone", "Europe/Zurich") as service:
+        yield service
+
+
+@pytest.fixture(scope="module")
+def plane(town: Path, tmp_path_factory: pytest.TempPathFactory) -> Iterator[Service]:
+    path = tmp_path_factory.mktemp("plane") / "town.cu"
+    shutil.copy(town, path)
+    with Service(path, "--tables", EXAMPLES / "town") as service:
+        yield service
+
+
+def places_of(browser: Browser) -> list[str]:
+    """What the fields of places have."""
+    found: list[str] = browser.run("return [...document.querySelectorAll('.place input')].map(each => each.value)")
+    return found
+
+
+def is_sound(browser: Browser) -> None:
+    """Nothing is in the console, nothing was asked of elsewhere, and nothing is wider than the screen."""
+    assert browser.problems() == []
+    assert browser.elsewhere() == []
+    assert not browser.is_wider()
+
+
+def clock(second: int) -> str:
+    """A time of day as the page writes it."""
+    return time.strftime("%H:%M:%S", time.gmtime(second % 86_400)).removesuffix(":00")
+
+
+def span(seconds: int) -> str:
+    """A span as the page writes it."""
+    words = [f"{seconds // 60} min"] * bool(seconds // 60) + [f"{seconds % 60} s"] * bool(seconds % 60)
+    return " ".join(words)
+
+
+def test_a_route_by_two_clicks(browser: Browser, village: Service) -> None:
+    west, south, east, north = corners(village)
+    browser.open(village, "#depart=07:40")
+    browser.click_map(west + 0.05 * (east - west), (south + north) / 2)
+    browser.wait("return catchup.state.places[0]?.x > 0")
+    browser.click_map(east - 0.05 * (east - west), (south + north) / 2)
+    words = browser.wait("return catchup.state.places.every(each => each?.x) && catchup.state.places.map(each => each.word)")
+    found = village.get(f"/route?from={words[0]}&to={words[1]}&depart=07:40")
+    said = browser.wait_text("answer", span(found["travel"]))
+    assert f"{clock(found['depart'])} → {clock(found['arrive'])}" in said
+    streets = browser.text("streets")
+    names = [name for name in dict.fromkeys(name for leg in found["legs"] for name in leg["names"]) if name]
+    assert names and all(name in streets for name in names)
+    assert "07:40" in streets and re.search(r"\d+ m\b", streets)
+    assert browser.text("said") == f"→ {clock(found['arrive'])}"
+    check_curve(browser, village, words)
+    check_downloads(browser, village)
+    browser.picture("route")
+    is_sound(browser)
+
+
+def corners(service: Service) -> tuple[float, float, float, float]:
+    """West, south, east and north of a served map."""
+    found = [value for x, y in ([0, 1], [2, 3]) for value in degrees(service.get("/page/setting")["map"]["box"], x, y)]
+    return found[0], found[3], found[2], found[1]
+
+
+def degrees(box: list[int], x: int, y: int) -> tuple[float, float]:
+    from catchup.service.page.sheet import degrees_of
+
+    return degrees_of(box[x], box[y])
+
+
+def check_curve(browser: Browser, village: Service, words: list[str]) -> None:
+    """The curve is that of the day, with the present departure and where another route takes over."""
+    day = village.get(f"/day?from={words[0]}&to={words[1]}")
+    browser.wait("return catchup.day.curve !== null")
+    for piece in day["pieces"]:
+        travel = piece["value"] - (piece["from"] if piece["kind"] == "until" else 0)
+        assert browser.run("return catchup.day.curve.travels[arguments[0]]", piece["from"]) == travel
+    changes = [route["from"] for route in day["routes"] if route["from"]]
+    assert browser.run("return catchup.day.curve.changes") == changes
+    assert browser.run("return catchup.day.depart") == 7 * 3600 + 40 * 60
+    assert "Shortest" in browser.text("day-said")
+
+
+def check_downloads(browser: Browser, village: Service) -> None:
+    """Both downloads are files of the route."""
+    for name, kind in (("gpx", "application/gpx+xml"), ("geojson", "application/geo+json")):
+        address = browser.run("return document.getElementById(arguments[0]).getAttribute('href')", name)
+        reply = village.client.get(address)
+        assert (reply.status_code, reply.headers["content-type"]) == (200, kind)
+
+
+def test_the_address_keeps_all(browser: Browser, village: Service) -> None:
+    west, south, east, north = corners(village)
+    middle = (south + north) / 2
+    browser.open(village, f"#from={west:.5f},{middle:.5f}&to={east:.5f},{middle:.5f}&arrive=08:30")
+    assert browser.wait_text("said", "leave at")
+    browser.click("add")
+    browser.click_map((west + east) / 2, north)
+    browser.wait("return catchup.state.places.length === 3 && catchup.state.places[1]?.x && document.querySelectorAll('.stop').length === 3")
+    browser.set_value("time", "8.45")
+    browser.wait("return location.hash.includes('arrive=08:45') && location.hash.includes('via=')")
+    address, shown = browser.run("return location.hash"), browser.wait_text("said", "leave at")
+    browser.open(village, address)
+    assert browser.wait_text("said", shown) == shown
+    assert browser.run("return location.hash") == address and len(places_of(browser)) == 3
+    # Changed in the open tab.
+    browser.run("location.hash = '#mode=reach&depart=06:00&within=300&from=' + catchup.state.places[0].word")
+    browser.wait_text("reach-said", "06:00")
+    browser.run("location.hash = '#from=&depart=07:00'")
+    browser.wait_text("answer", "Click on the map")
+    assert places_of(browser) == ["", ""]
+    is_sound(browser)
+
+
+def test_places_are_found_by_names_and_numbers_and_dragged(browser: Browser, village: Service) -> None:
+    from selenium.webdriver.common.keys import Keys
+
+    browser.open(village, "#depart=07:00")
+    start, end = browser.driver.find_elements("css selector", ".place input")
+    start.send_keys("berg")
+    browser.wait("return document.querySelector('.found:not([hidden]) li')?.innerText.includes('Bergweg')")
+    start.send_keys(Keys.ENTER)
+    browser.wait("return catchup.state.places[0]?.name === 'Bergweg'")
+    end.send_keys("node:0", Keys.ENTER)
+    browser.wait("return catchup.state.places[1]?.word === '0'")
+    before = browser.wait_text("answer", "→")
+    x, y = browser.run("const box = document.querySelectorAll('.pin.last')[0].getBoundingClientRect();"
+                       "return [Math.round(box.x + box.width / 2), Math.round(box.y + box.height / 2)]")
+    browser.drag((x, y), (x + 200, y + 40))
+    browser.wait("return catchup.state.places[1]?.word !== '0'")
+    assert wait_for(lambda: browser.text("answer"), lambda text: text != before and "→" in text) != before
+    browser.click("swap")
+    browser.wait("return catchup.state.places[1]?.name === 'Bergweg'")
+    end = browser.driver.find_elements("css selector", ".place input")[1]
+    end.send_keys("nowhere at all")
+    browser.wait("return document.querySelector('.found:not([hidden])')?.innerText.includes('Nothing')")
+    is_sound(browser)
+
+
+def test_reach_has_one_scale_a_day(browser: Browser, village: Service) -> None:
+    west, south, east, north = corners(village)
+    browser.open(village, f"#mode=reach&from={west:.5f},{(south + north) / 2:.5f}&depart=07:40&within=300")
+    browser.wait("return catchup.reach.bands !== null && catchup.reach.layer.getLayers().length > 0")
+    legend, said = browser.text("bands"), browser.wait_text("reach-said", "07:40")
+    assert "to 50 s" in legend and "to 5 min" in legend
+    browser.picture("reach")
+    browser.set_value("slider", 3 * 3600, "input")
+    at_night = browser.wait_text("reach-said", "03:00")
+    assert browser.text("bands") == legend
+    assert int(re.findall(r"(\d+) %", at_night)[0]) >= int(re.findall(r"(\d+) %", said)[0])
+    found = village.client.get("/page/reach", params={"from": browser.run("return catchup.state.places[0].word"), "depart": "03:00",
+                                                      "within": "300", "bands": "6"}).content
+    assert browser.run("return [...catchup.reach.bands]") == [6 if band == 255 else band for band in found]
+    is_sound(browser)
+
+
+def test_a_road_is_closed_by_clicks_and_others_follow(browser: Browser, village: Service) -> None:
+    # The mill's lane leads both ways.
+    [lane] = village.get("/page/search?q=M%C3%BChleweg")["places"][:1]
+    lon, lat = (float(word) for word in lane["place"].split(","))
+    first = browser.driver.current_window_handle
+    browser.open(village, "#mode=traffic&depart=08:00")
+    browser.driver.switch_to.new_window("tab")
+    browser.open(village, "#mode=traffic&depart=08:00")
+    other, version = browser.driver.current_window_handle, village.get("/health")["version"]
+    browser.driver.switch_to.window(first)
+    browser.click_map(lon, lat)
+    browser.wait_text("road", "Mühleweg")
+    browser.picture("traffic")
+    for name in ("close", "some-hours"):
+        browser.click(name)
+    browser.set_value("since", "7", "input")
+    browser.set_value("until", "9:00", "input")
+    browser.click("apply")
+    said = browser.wait_text("road", "Confirmed as version")
+    now = village.get("/health")["version"]
+    assert now != version and now in said and "closed from 07:00 to 09:00" in said
+    street = browser.run("return catchup.chart.roads.ways.findIndex(way => way & 64)")
+    browser.wait("return [...catchup.chart.roads.ways].some(way => way & 64)")
+    assert street == -1 or village.get(f"/page/street?street={street}")["name"] == "Mühleweg"
+    browser.picture("closed")
+    browser.driver.switch_to.window(other)
+    browser.wait("return [...catchup.chart.roads.ways].some(way => way & 64)")
+    browser.wait_text("notice", now)
+    browser.driver.close()
+    browser.driver.switch_to.window(first)
+    browser.run("document.querySelector('#edits button').click()")
+    browser.wait_text("road", "is as it was")
+    assert browser.wait("return ![...catchup.chart.roads.ways].some(way => way & 64)")
+    is_sound(browser)
+
+
+def test_a_refused_edit_says_why(browser: Browser, folder: Path, tmp_path: Path) -> None:
+    path, token = tmp_path / "map.cu", tmp_path / "token"
+    path.write_bytes((folder / "map.cu").read_bytes())
+    token.write_text("a-long-enough-token-of-tests\n")
+    with Service(path, "--tables", folder, "--token", token) as service:
+        lane = service.get("/page/search?q=Gartenweg")["places"][0]
+        browser.open(service, "#mode=traffic&depart=12:00", PHONE)
+        browser.click_map(*(float(word) for word in lane["place"].split(",")))
+        browser.wait_text("road", "Gartenweg")
+        browser.click("apply")
+        browser.wait_text("told", "token")
+        assert not browser.is_wider()
+        browser.set_value("token", "a-long-enough-token-of-tests", "input")
+        browser.click("apply")
+        browser.wait_text("road", "Confirmed as version")
+        browser.picture("token")
+
+
+def test_a_phone(browser: Browser, village: Service) -> None:
+    west, south, east, north = corners(village)
+    middle = (south + north) / 2
+    browser.open(village, f"#from={west:.5f},{middle:.5f}&to={east:.5f},{middle:.5f}&depart=07:40", PHONE, dark=True)
+    browser.wait_text("answer", "→")
+    browser.wait("return catchup.day.curve !== null")
+    browser.picture("phone")
+    zoom = browser.run("return catchup.chart.map.getZoom()")
+    x, y = 195.0, 180.0
+    browser.touch("touchStart", (x - 30, y), (x + 30, y))
+    for step in range(1, 6):
+        browser.touch("touchMove", (x - 30 - 12 * step, y), (x + 30 + 12 * step, y))
+    browser.touch("touchEnd")
+    assert browser.wait("return catchup.chart.map.getZoom()", lambda now: now > zoom) > zoom
+    for mode in ("reach", "traffic", "route"):
+        browser.click(f"tab-{mode}")
+        browser.wait(f"return document.getElementById('pane-{mode}').hidden === false && location.hash.includes('mode=') === {str(mode != 'route').lower()}")
+        assert not browser.is_wider()
+        browser.picture(f"phone-{mode}")
+    small = browser.run("return [...document.querySelectorAll('button, select, input')].filter(each => each.offsetParent"
+                        " && each.getBoundingClientRect().height < 24 && each.type !== 'checkbox' && each.type !== 'radio').map(each => each.id)")
+    assert small == []
+    is_sound(browser)
+
+
+def test_a_network_without_a_map(browser: Browser, plane: Service, town: Path) -> None:
+    browser.open(plane, "#depart=08:00")
+    for node in (5, 151):
+        found = plane.get(f"/page/search?q=node:{node}")["places"][0]
+        lat, lon = browser.run("const spot = L.CRS.EPSG3857.pointToLatLng(L.point(arguments[0], arguments[1]), 20); return [spot.lat, spot.lng]",
+                               found["x"], found["y"])
+        browser.click_map(lon, lat)
+        browser.wait(f"return catchup.state.places.some(place => place?.word === '{node}')")
+    [reply] = ask_program(town, "q,5,151,28800")
+    arrive = int(re.findall(r"arrive=(\d+)", reply)[0])
+    roads = reply.partition("arcs=")[2].split()
+    assert f"08:00 → {clock(arrive)}, {len(roads)} roads" in browser.wait_text("answer", clock(arrive))
+    assert [f"Road {road}" for road in roads] == re.findall(r"Road \d+", browser.text("streets"))
+    [day] = ask_program(town, "d,5,151")
+    browser.wait("return catchup.day.curve !== null")
+    for piece in day.split(" ")[1:]:
+        second, kind, value = piece.split(",")
+        travel = int(value) - (int(second) if kind == "until" else 0)
+        assert browser.run("return catchup.day.curve.travels[arguments[0]]", int(second)) == travel
+    browser.picture("plane")
+    plane.edit("s,0,0,travel,600")
+    browser.wait_text("notice", "The network has changed")
+    is_sound(browser)
+
+
+def test_there_is_no_map(browser: Browser, town: Path) -> None:
+    with Service(town) as service:
+        browser.open(service, is_drawn=False)
+        assert "--tables" in browser.wait_text("empty", "There is no map")
+        is_sound(browser)
+        browser.picture("no-map")
+
+
+def test_the_service_is_gone_and_comes_back(browser: Browser, folder: Path, tmp_path: Path) -> None:
+    path = tmp_path / "map.cu"
+    path.write_bytes((folder / "map.cu").read_bytes())
+    with Service(path, "--tables", folder) as service:
+        browser.open(service, "#from=0&to=9&depart=08:00", LAPTOP)
+        browser.wait_text("answer", "→")
+        port = service.port
+    browser.wait_text("notice", "can't be reached")
+    browser.picture("gone")
+    with Service(path, "--tables", folder, "--port", str(port)):
+        browser.wait_text("notice", "is back")
+        browser.set_value("time", "9:00")
+        browser.wait_text("answer", "09:00 →")
+
+
+def test_a_place_that_cant_be_reached(browser: Browser, village: Service) -> None:
+    # Into a one-way street's beginning nobody comes who may not turn round: the way back is another one, or none.
+    browser.open(village, "#from=0&to=0&depart=08:00")
+    browser.wait("return document.getElementById('answer').innerText.length > 0")
+    browser.run("location.hash = '#from=0&to=999&depart=08:00'")
+    browser.wait_text("notice", "There is no place 999")
+    assert places_of(browser)[1] == ""
