@@ -9,7 +9,7 @@ from typing import Final, ParamSpec, TypeVar
 Words = ParamSpec("Words")
 Found = TypeVar("Found")
 
-FEW: Final = 256
+FEW: Final = 1_024
 """Things that are gone through in the loop itself: it takes less than a few milliseconds."""
 
 

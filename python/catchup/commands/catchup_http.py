@@ -38,7 +38,8 @@ class Digits(click.ParamType):
 @click.option("--port", type=Digits(0, 65_535), default="8080", show_default=True, help="The port; 0 takes a free one.")
 @click.option("--host", default="127.0.0.1", show_default=True, metavar="ADDRESS", help="Where to listen: this machine alone.")
 @click.option("--workers", type=Digits(1, 256), default=None, help="Worker processes; one a processor where none is said.")
-@click.option("--tables", multiple=True, metavar="[NAME=]DIR", help="A folder with the file's nodes.csv and roads.csv, for the page.")
+@click.option("--tables", multiple=True, metavar="[NAME=]DIR",
+              help="A folder with the file's tables, for the page; with its map.gpkg places may be coordinates.")
 @click.option("--name", "names", multiple=True, metavar="NAME", help="A name under which it is reached; may be said again.")
 @click.option("--origin", "origins", multiple=True, metavar="ORIGIN", help="Another page's origin that may read and write.")
 @click.option("--token", type=click.Path(path_type=Path), metavar="FILE", help="A file with the token that writes need.")

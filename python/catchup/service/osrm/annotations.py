@@ -74,7 +74,7 @@ def nodes_of(stretch: Stretch, guide: Guide) -> list[int]:
 def nodes_beside(road: int, share: float, guide: Guide) -> list[int]:
     """The numbers in OpenStreetMap of both ends of the segment of a road that has a point."""
     shares = guide.ground.streets.shares(road)
-    behind = int(np.clip(np.searchsorted(shares, share), 1, len(shares) - 1))
+    behind = min(max(int(shares.searchsorted(share)), 1), len(shares) - 1)
     return guide.nodes.of(road, len(shares))[behind - 1:behind + 1]
 
 

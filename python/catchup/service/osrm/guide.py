@@ -20,6 +20,7 @@ from catchup.service.osrm.stretches import Stretches
 from catchup.service.osrm.turns import Turns
 
 _KEPT: Final = "osrm_guide"
+MOST_KEPT: Final = 65_536               # roads whose numbers are kept
 MODES: Final = {"bicycle": "cycling", "foot": "walking"}
 
 
@@ -42,15 +43,25 @@ class NodeNumbers:
         self._path = path
         self._base: sqlite3.Connection | None = None
         self._turn = threading.Lock()
+        self._kept: dict[int, bytes] = {}
 
     def of(self, road: int, count: int) -> list[int]:
         """The numbers of a road's nodes, in the sense of the drive; 0 for each where the map has others by now."""
+        blob = self._kept.get(road)
+        if blob is None:
+            blob = self._keep(road)
+        found: list[int] = np.frombuffer(blob, dtype="<i8").tolist() if len(blob) == 8 * count else [0] * count
+        return found
+
+    def _keep(self, road: int) -> bytes:
+        """What the map has of a road, which is kept; where that is too much, all others go."""
+        if len(self._kept) >= MOST_KEPT:
+            self._kept.clear()
         try:
             with self._turn:
-                blob = self._read(road)
+                found = self._kept[road] = self._read(road)
         except sqlite3.Error:
-            blob = b""
-        found: list[int] = np.frombuffer(blob, dtype="<i8").tolist() if len(blob) == 8 * count else [0] * count
+            found = b""
         return found
 
     def _read(self, road: int) -> bytes:

@@ -37,8 +37,8 @@ class Leg:
 
     def line(self) -> Floats:
         """Its places, float64[n, 2]."""
-        lines = [stretch.places for stretch in self.stretches]
-        return np.concatenate([lines[0], *[line[1:] for line in lines[1:]]])
+        behind = [stretch.behind for stretch in self.stretches]
+        return np.frombuffer(self.stretches[0].places[0].tobytes() + b"".join(behind)).reshape(-1, 2)
 
 
 def legs_of(drives: Sequence[Drive], wanted: Sequence[int] | None, stretches: Stretches, form: str) -> list[Leg]:

@@ -6,6 +6,7 @@ before, so the text of a road's places but the first is the same wherever the ro
 
 from __future__ import annotations
 
+import functools
 import math
 from abc import ABC, abstractmethod
 from collections.abc import Mapping, Sequence
@@ -14,7 +15,7 @@ from typing import Final
 import numpy as np
 from numpy.typing import NDArray
 
-from catchup.geometry import decimal_text, encode_behind
+from catchup.geometry import decimal_text
 
 Floats = NDArray[np.float64]
 Ints = NDArray[np.int64]
@@ -25,7 +26,10 @@ FEW: Final = 12                         # places up to which one after the other
 
 
 class Form(ABC):
-    """A form of lines. Places are longitude and latitude in degrees, float64[n, 2] where there are many."""
+    """A form of lines. Places are longitude and latitude in degrees, float64[n, 2] where there are many. The texts of
+    a line's places stand between `opens` and `closes`."""
+
+    opens = closes = '"'
 
     @abstractmethod
     def first(self, place: Place) -> str:
@@ -35,9 +39,9 @@ class Form(ABC):
     def rest(self, places: Floats) -> str:
         """The text of all places of a line but the first."""
 
-    @abstractmethod
     def line(self, text: str) -> str:
         """The JSON of a line, from the texts of its places."""
+        return f"{self.opens}{text}{self.closes}"
 
     @abstractmethod
     def single(self, place: Place) -> str:
@@ -60,12 +64,12 @@ class Polyline(Form):
 
     def rest(self, places: Floats) -> str:
         if len(places) > FEW:
-            return escaped(encode_behind([places], self.decimals)[0])
+            scaled = places[:, ::-1] * self.units
+            # As `unit` has them.
+            whole = np.copysign(np.floor(np.abs(scaled) + 0.5), scaled).astype(np.int64)
+            return escaped("".join(map(letters, np.diff(whole, axis=0).ravel().tolist())))
         values = [(unit(lon, self.units), unit(lat, self.units)) for lon, lat in places.tolist()]
         return escaped("".join([letters(y - v) + letters(x - u) for (u, v), (x, y) in zip(values, values[1:])]))
-
-    def line(self, text: str) -> str:
-        return f'"{text}"'
 
     def single(self, place: Place) -> str:
         return f'"{self.first(place)}"'
@@ -74,6 +78,8 @@ class Polyline(Form):
 class GeoJson(Form):
     """GeoJSON's LineString, which has two places at least."""
 
+    opens, closes = '{"type":"LineString","coordinates":[', "]}"
+
     def first(self, place: Place) -> str:
         return point(place)
 
@@ -81,9 +87,6 @@ class GeoJson(Form):
         if len(places) > FEW:
             return places_text(places[1:])
         return "".join([f",{point(place)}" for place in places[1:].tolist()])
-
-    def line(self, text: str) -> str:
-        return f'{{"type":"LineString","coordinates":[{text}]}}'
 
     def single(self, place: Place) -> str:
         return self.line(f"{point(place)},{point(place)}")
@@ -104,6 +107,7 @@ def unit(degrees: float, units: float) -> int:
     return int(degrees * units + math.copysign(0.5, degrees))
 
 
+@functools.lru_cache(maxsize=65_536)
 def letters(value: int) -> str:
     """The letters of one number of a polyline."""
     value = ~(value << 1) if value < 0 else value << 1

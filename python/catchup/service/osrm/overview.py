@@ -25,7 +25,7 @@ LINE_KIND: Final = 0x80000002           # with three numbers a place
 def pixels(places: Floats) -> tuple[Floats, Floats]:
     """Where places are on the map of the world at zoom 0, in pixels from its north-western corner: x and y,
     float64[n]."""
-    lat = np.radians(np.clip(places[:, 1], -POLE, POLE))
+    lat = np.radians(np.minimum(np.maximum(places[:, 1], -POLE), POLE))
     return (places[:, 0] / 360 + 0.5) * TILE, (0.5 - np.arcsinh(np.tan(lat)) / (2 * math.pi)) * TILE
 
 
@@ -38,8 +38,10 @@ def fitted_zoom(x: Floats, y: Floats) -> int:
 def simplified(parts: Sequence[Floats]) -> Floats:
     """The places that are left of a line, float64[k, 2]: the ends of each part, and what lies between by Douglas and
     Peucker. parts: float64[n, 2], longitude and latitude in degrees, each beginning where the one before ends."""
-    x, y = pixels(np.concatenate(parts))
+    x, y = pixels(np.concatenate(parts) if len(parts) > 1 else parts[0])
     tolerance = PIXELS / 2.0**fitted_zoom(x, y)
+    if len(parts) == 1:
+        return np.asarray(parts[0][kept_of(x, y, tolerance)])
     found, begin = [], 0
     for part in parts:
         end = begin + len(part)
@@ -55,8 +57,9 @@ def kept_of(x: Floats, y: Floats, tolerance: float) -> Ints:
     if count < 3:
         return np.arange(count)
     # The library takes a third number of each place along, so places come back with theirs.
-    numbered = np.column_stack((x, y, np.arange(count)))
+    numbered = np.empty((count, 3))
+    numbered[:, 0], numbered[:, 1], numbered[:, 2] = x, y, np.arange(count)
     line = wkb.loads(LINE.pack(1, LINE_KIND, count) + numbered.tobytes()).simplify(tolerance, preserve_topology=False)
     left = np.frombuffer(wkb.dumps(line, output_dimension=3, srid=None), dtype="<f8", offset=LINE.size)[2::3]
     # Of a line that comes back to where it began nothing may be left.
-    return np.union1d(left.astype(np.int64), (0, count - 1))
+    return left.astype(np.int64) if len(left) > 1 else np.array((0, count - 1))

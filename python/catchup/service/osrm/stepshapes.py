@@ -30,10 +30,14 @@ def steps_told(leg: Leg, guide: Guide, form: Form) -> tuple[str, str]:
     so_far = list(accumulate([stretch.metres for stretch in stretches], initial=0.0))
     seconds = [leg.depart, *[leg.entered[at] for at in begins[1:]], leg.arrive]
     takes = [max(end - begin, 0.0) for begin, end in zip(seconds, seconds[1:])]
-    told = []
+    told, opens, closes = [], form.opens, form.closes
     for head, begin, end, second in zip(heads, begins, ends, takes):
-        line, crossings = form.line(stretches[begin].first + "".join(rests[begin:end])), "".join(passed[begin:end - 1])
-        told.append(f'{{{head}{crossings}],"geometry":{line},{sums(second, so_far[end] - so_far[begin])}}}')
+        # As texts.sums; most time goes into this.
+        seconds_told, metres = f"{second:.1f}", so_far[end] - so_far[begin]
+        crossings, rest = ("".join(passed[begin:end - 1]), "".join(rests[begin:end])) if end - begin > 1 else (
+            "", rests[begin])
+        told.append(f'{{{head}{crossings}],"geometry":{opens}{stretches[begin].first}{rest}{closes},'
+                    f'"duration":{seconds_told},"distance":{metres:.1f},"weight":{seconds_told}}}')
     told.append(arrival(leg, form))
     return ",".join(told), summary_of(leg, steps, takes)
 

@@ -27,8 +27,9 @@ class Stretch:
     """A part of a road under one name, as it is driven.
 
     low, high: the shares of the road's metres at which it begins and ends. places: float64[k, 2], longitude and
-    latitude in degrees, two at least. at: its first place as JSON. first, rest: the texts of its first place and of the
-    others, in the form of lines that was asked for. street: OSRM's members of a step that tell which street it is.
+    latitude in degrees, two at least. behind: the bytes of all places but the first. at: its first place as JSON.
+    first, rest: the texts of its first place and of the others, in the form of lines that was asked for. street: OSRM's
+    members of a step that tell which street it is.
     """
 
     road: int
@@ -40,6 +41,7 @@ class Stretch:
     high: float
     metres: float
     places: Floats
+    behind: bytes
     at: str
     first: str
     rest: str
@@ -96,7 +98,7 @@ class Stretches:
         number = f'"ref":{text(ref)},' if ref else ""
         street = f'"name":{text(name)},{number}"mode":"{mode}","driving_side":"{self._side}"'
         return Stretch(road, name, ref, kind, self._lines.is_roundabout(road), low, high, (high - low) * whole, places,
-                       point(begin), write.first(begin), write.rest(places), street)
+                       places[1:].tobytes(), point(begin), write.first(begin), write.rest(places), street)
 
     def _still(self, drive: Drive, form: str) -> Stretch:
         """The stretch of a drive between two places that are one."""
