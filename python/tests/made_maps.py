@@ -294,7 +294,7 @@ def odd_town(seed: int) -> Made:
             found[key.replace(":", "__")] = draw.choice(WRITTEN[key])
         return found
 
-    made, streets = grid(f"odd {seed}", draw, 8, tags)
+    made, streets = grid(f"odd {seed}", draw, 10, tags)
     restrict(draw, made, streets, 10)
     for street in draw.sample(streets, 12):
         found = {"barrier": draw.choice(["bollard", "gate", "lift_gate", "swing_gate", "block", "cattle_grid", "cycle_barrier", "kerb", "log", "toll_booth", "yes"])}

@@ -63,7 +63,14 @@ def speeds(of: Rule) -> tuple[float | None, float | None]:
     (dict(highway="primary", smoothness="bad", surface="mud"), (10, 10)),
     (dict(highway="living_street", surface="gravel"), (10, 10)),
     (dict(highway="primary", surface="asphalt"), (65, 65)),
+    # Of a list the least counts; links, tolls and lanes for buses change nothing.
+    (dict(highway="residential", maxspeed="50;30"), (24, 24)),
+    (dict(highway="motorway", maxspeed="DE:motorway", toll="yes", oneway="yes"), (104, None)),
+    (dict(highway="motorway_link", oneway="yes", maxspeed="70 mph"), (90.1233, None)),
+    (dict(highway="secondary", lanes__psv="1", busway="lane", maxspeed="GB:nsl_single"), (77.28, 77.28)),
+    (dict(highway="trunk", maxspeed="RO:trunk", oneway="yes", oneway__bus="no"), (80, None)),
     (dict(route="ferry"), (5, 5)),
+    (dict(route="ferry", maxspeed="10 knots", highway="primary"), (14.816, 14.816)),
     (dict(route="ferry", motor_vehicle="yes", foot="yes"), (5, 5)),
 ])
 def test_directions_and_speeds(tags: dict[str, str], expected: tuple[float | None, float | None]) -> None:
@@ -79,7 +86,7 @@ def test_directions_and_speeds(tags: dict[str, str], expected: tuple[float | Non
     (dict(access="private", vehicle="yes"), False), (dict(motor_vehicle="private", motorcar="yes"), False),
     # A list is as open as the most open of its words.
     (dict(access="agricultural;destination"), True), (dict(access="no;yes"), False), (dict(access="Destination"), True),
-    (dict(access="unknown"), False), (dict(foot="no", bicycle="no"), False),
+    (dict(access="unknown"), False), (dict(foot="no", bicycle="no"), False), (dict(access="yes", bus="no", hgv="no"), False),
 ])
 def test_access(tags: dict[str, str], ends: bool) -> None:
     found = rule(highway="residential", **tags)
@@ -92,6 +99,12 @@ def test_access(tags: dict[str, str], ends: bool) -> None:
     (dict(highway="residential", access="yes", motorcar="no"), "barred: motorcar=no"),
     (dict(highway="residential", motor_vehicle="agricultural;forestry"), "barred: motor_vehicle=agricultural;forestry"),
     (dict(highway="residential", access="military"), "barred: access=military"),
+    (dict(highway="service", access="no", bus="yes"), "barred: access=no"),
+    (dict(highway="residential", motor_vehicle="no", psv="yes"), "barred: motor_vehicle=no"),
+    (dict(highway="busway"), "class: busway"), (dict(highway="construction"), "class: construction"),
+    (dict(highway="residential", opening_hours="off"), "closed all day"),
+    (dict(highway="residential", opening_hours="Sa,Su"), "closed all day"),
+    (dict(highway="residential", opening_hours="06:00-12:00", access__conditional="no @ (06:00-12:00)"), "closed all day"),
     (dict(highway="footway"), "class: footway"), (dict(highway="track"), "class: track"), (dict(highway="proposed"), "class: proposed"),
     (dict(highway="service", area="yes"), "areas"),
     (dict(highway="residential", oneway="reversible"), "reversible"),
@@ -175,12 +188,31 @@ NIGHT = closed_in(((0, 6 * H), (22 * H, DAY)))
     (dict(vehicle__conditional="no @ (Sa,Su 10:00-12:00)"), False, None),
     (dict(motor_vehicle__conditional="no @ (weight>7.5)"), False, None),
     (dict(opening_hours="06:00-22:00"), False, NIGHT), (dict(opening_hours="sunrise-sunset"), False, None),
-    (dict(opening_hours="24/7"), False, None),
+    (dict(opening_hours="24/7"), False, None), (dict(opening_hours="Mo-Fr 06:00-22:00; PH off"), False, NIGHT),
 ])
 def test_hours(tags: dict[str, str], ends: bool, forth: Timing | None) -> None:
     found = rule(highway="residential", **tags)
     assert found.out is None and found.ends == ends and found.too is None
     assert found.forth is not None and found.forth.timing == forth and found.back is not None and found.back.timing == forth
+
+
+@pytest.mark.parametrize("vehicle, tags, ends", [
+    ("car", dict(highway="footway", motor_vehicle__conditional="yes @ (06:00-22:00)"), False),
+    ("car", dict(highway="pedestrian", motor_vehicle="no", motor_vehicle__conditional="delivery @ (06:00-22:00)"), True),
+    ("car", dict(highway="track", access__conditional="yes @ (06:00-22:00)"), False),
+    ("car", dict(highway="track", motorcar="yes", motorcar__conditional="no @ (22:00-06:00)"), False),
+    ("car", dict(route="ferry", foot="yes", motor_vehicle__conditional="yes @ (06:00-22:00)"), False),
+    ("bicycle", dict(highway="primary", motorroad="yes", bicycle__conditional="yes @ (06:00-22:00)"), False),
+])
+def test_hours_of_what_a_tag_opens(vehicle: str, tags: dict[str, str], ends: bool) -> None:
+    found = rule(vehicle, True, **tags)
+    assert (found.out, found.ends, found.too) == (None, ends, None)
+    assert found.forth is not None and found.forth.timing == NIGHT
+
+
+def test_a_class_that_isnt_for_it_is_not_opened_by_a_condition_that_bars() -> None:
+    assert rule(highway="footway", motor_vehicle__conditional="no @ (22:00-06:00)").out == "class: footway"
+    assert rule(highway="track", access__conditional="private @ (06:00-22:00)").out == "class: track"
 
 
 def test_barred_at_all_hours() -> None:
@@ -200,6 +232,25 @@ def test_limits_at_some_hours() -> None:
     assert found.forth.timing is not None and found.forth.timing.steps == ((0, 2.0), (6 * H, 1.0), (22 * H, 2.0))
 
 
+@pytest.mark.parametrize("tags, forth, back", [
+    (dict(maxspeed="100", maxspeed__forward__conditional="50 @ (22:00-06:00)"), True, False),
+    (dict(maxspeed="100", maxspeed__motorcar__conditional="50 @ (22:00-06:00)"), True, True),
+    (dict(maxspeed="100", maxspeed__hgv__conditional="50 @ (22:00-06:00)"), False, False),
+    (dict(maxspeed="100", maxspeed__backward="100", maxspeed__conditional="50 @ (22:00-06:00)"), True, False),
+    (dict(maxspeed="100", maxspeed__conditional="DE:urban @ (22:00-06:00)"), True, True),
+    (dict(maxspeed="100", maxspeed__conditional="fast @ (22:00-06:00)"), False, False),
+])
+def test_limits_at_some_hours_of_one_side_or_vehicle(tags: dict[str, str], forth: bool, back: bool) -> None:
+    found = rule(highway="primary", **tags)
+    twice = Timing(((0, 2.0), (6 * H, 1.0), (22 * H, 2.0)))
+    assert [side and side.timing for side in (found.forth, found.back)] == [twice if forth else None, twice if back else None]
+
+
+def test_limits_of_a_ferry_are_the_same_all_day() -> None:
+    found = rule(route="ferry", maxspeed="10", maxspeed__conditional="5 @ (22:00-06:00)")
+    assert found.forth is not None and (found.forth.kmh, found.forth.timing) == (8, None)
+
+
 def test_one_way_at_some_hours() -> None:
     found = rule(highway="primary", oneway__conditional="yes @ (07:00-09:00)")
     assert found.forth is not None and found.forth.timing is None
@@ -210,6 +261,11 @@ def test_one_way_at_some_hours() -> None:
     found = rule(highway="primary", oneway="yes", oneway__conditional="no @ (20:00-24:00)")
     assert found.forth is not None and found.forth.timing is None
     assert found.back is not None and found.back.timing == open_in(((20 * H, DAY),))
+    # Of the vehicle's own tags; an ordinary one doesn't stand against them.
+    found = rule(highway="primary", oneway="yes", oneway__motor_vehicle__conditional="no @ (20:00-24:00)")
+    assert found.back is not None and found.back.timing == open_in(((20 * H, DAY),))
+    found = rule(highway="primary", oneway__motorcar="no", oneway__conditional="yes @ (20:00-24:00)")
+    assert found.back is not None and found.back.timing is None
     # Where the condition isn't understood, what is said without one holds.
     found = rule(highway="primary", oneway="yes", oneway__conditional="no @ wet")
     assert found.back is None and "conditions not used: oneway" in found.notes
@@ -226,6 +282,27 @@ def test_ferries(tags: dict[str, str], seconds: int | None, departures: tuple[in
     found = rule(route="ferry", **tags)
     assert found.ferry and found.seconds == seconds and found.forth is not None
     assert found.forth.timing == (None if departures is None else Timing(departures=departures))
+
+
+@pytest.mark.parametrize("tags, note", [
+    (dict(oneway="alternating"), "alternating, taken as open both ways without a wait"),
+    (dict(oneway="sometimes"), "oneway not understood, taken as both ways: sometimes"),
+    (dict(maxspeed="fast"), "maxspeed not understood: fast"), (dict(maxspeed__forward="??"), "maxspeed not understood: ??"),
+    (dict(maxspeed__conditional="30 @ wet"), "conditions not used: maxspeed"),
+    (dict(maxspeed__conditional="fast @ (08:00-10:00)"), "conditions not used: maxspeed"),
+    (dict(oneway__conditional="yes @ wet"), "conditions not used: oneway"),
+    (dict(access__conditional="no @ (weight>7.5)"), "conditions not used: access"),
+    (dict(opening_hours="sunrise-sunset"), "opening hours not understood, taken as all day"),
+    (dict(route="ferry", duration="a while"), "durations not understood: a while"),
+    (dict(route="ferry", duration="P9D"), "durations not understood: P9D"),
+    (dict(route="ferry", interval="often"), "intervals not understood, taken as none: often"),
+    (dict(route="ferry", interval="01:00", opening_hours="by day"), "opening hours not understood, taken as all day"),
+    (dict(access__conditional="no @ (08:00-10:00)"), "open at some hours alone"),
+    (dict(source__maxspeed="DE:urban"), "limits by zone or type of maxspeed"),
+    (dict(surface="mud"), "slowed by surface, tracktype or smoothness"),
+])
+def test_what_the_report_counts(tags: dict[str, str], note: str) -> None:
+    assert rule(highway="residential", **tags).notes.count(note) == 1
 
 
 def test_a_ferry_that_goes_on_other_days_alone() -> None:
