@@ -56,8 +56,8 @@ def pytest_collection_modifyitems(config: pytest.Config, items: list[pytest.Item
 
 @pytest.fixture(scope="session")
 def program() -> Path:
-    """The path of the program; skips where there is none, and fails where there is one that doesn't answer a line before
-    another comes. From then on the tests start it without the launcher, which looks at each source first."""
+    """The path of the program; skips where there is none, and fails where one is there that doesn't answer a line before
+    the next comes. From then on the tests start it without the launcher, which looks at each source first."""
     tables = [EXAMPLES / "rush_hour" / name for name in ("nodes.csv", "roads.csv", "profiles.csv")]
     words: list[str | Path] = ["serve", *tables, "identity"]
     try:
