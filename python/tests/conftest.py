@@ -74,7 +74,7 @@ def program() -> Path:
         try:
             assert child.ask("q,0,2,0") == "arrive=160 arcs=0 1"
         except Ended as end:
-            pytest.fail(f"a line got no reply within a minute: {end}")
+            pytest.fail(f"a line got no reply: {end}")
         finally:
             late.cancel()
         found = Path(os.readlink(f"/proc/{child.pid}/exe"))
