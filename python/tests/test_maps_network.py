@@ -539,6 +539,10 @@ def test_more_than_the_limit(town: OsmMap, tmp_path: Path, monkeypatch: pytest.M
     with pytest.raises(Failure, match=r"4 junctions and 6 roads are more than the 3 .*--without service,track \(roads of these: service 2.*--bbox"):
         town.network(tmp_path)
     assert town.network(tmp_path, without=frozenset({"service"})).junctions == [1, 3]
+    monkeypatch.setattr(tables, "MOST_NODES", 1)
+    town.restrict(1, 2, 2, "no_left_turn")
+    with pytest.raises(Failure, match=r"junctions \(\d+ of them copies: --turn-back and --through need fewer\) and"):
+        town.network(tmp_path)
 
 
 @pytest.mark.parametrize("tags, says", [

@@ -13,7 +13,8 @@ Tags = Mapping[str, str]
 
 @dataclass(frozen=True)
 class Access:
-    """What the tags of access say over a day: from each second on, open, ends, barred, or None where they say nothing."""
+    """What the tags of access say over a day: from each second on, open, ends, barred, or None where they say
+    nothing."""
     steps: tuple[tuple[int, Said | None], ...]
     key: str | None
     """The tag that decides where no condition holds."""
@@ -51,8 +52,8 @@ def _over_day(tags: Tags, vehicle: Vehicle, weekday: int, say: Callable[[Tags], 
 
 
 def read_access(tags: Tags, vehicle: Vehicle, weekday: int, otherwise: Said | None = None) -> Access:
-    """What the tags say of a vehicle on a day of the week (0 is Monday). The most special one that is there decides; where
-    there is none, `otherwise` holds."""
+    """What the tags say of a vehicle on a day of the week (0 is Monday). The most special one that is there decides;
+    where there is none, `otherwise` holds."""
     def say(held: Tags) -> Said | None:
         return meaning(next(iter(held.values())), vehicle) if held else otherwise
 
@@ -60,8 +61,8 @@ def read_access(tags: Tags, vehicle: Vehicle, weekday: int, otherwise: Said | No
 
 
 def read_opening(tags: Tags, vehicle: Vehicle, weekday: int, by_access: bool) -> Access:
-    """What they say of a class that isn't for the vehicle: it is barred but where one of the vehicle's own tags lets it in,
-    and with `by_access` where `access` does."""
+    """What they say of a class that isn't for the vehicle: it is barred but where one of the vehicle's own tags lets it
+    in, and with `by_access` where `access` does."""
     def say(held: Tags) -> Said | None:
         decides = next(iter(held), "")
         lets = any(meaning(held[key], vehicle) != "barred" for key in vehicle.own if key in held)

@@ -8,9 +8,9 @@ from catchup.maps.graph import joined_parts
 
 
 def positions(after: Ints) -> tuple[Ints, Ints, Bools]:
-    """Of things i that are followed by after[i], or by nothing where that is -1, no two by the same: the first of each one's
-    chain, how many are before it, and which are in rings, whose numbers then mean nothing. Takes as many rounds as the
-    longest chain has binary digits."""
+    """Of things i that are followed by after[i], or by nothing where that is -1, no two by the same: the first of each
+    one's chain, how many are before it, and which are in rings, whose numbers then mean nothing. Takes as many rounds
+    as the longest chain has binary digits."""
     n = len(after)
     before = np.full(n, -1, dtype=np.int64)
     linked = np.flatnonzero(after >= 0)

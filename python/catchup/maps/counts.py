@@ -43,7 +43,8 @@ class Counts:
 
     def under(self, start: str) -> dict[str, int]:
         """The counters whose names begin so, by the rest of their names, the largest first."""
-        found = {what[len(start):]: int(count) for what, count in self._counts.items() if what.startswith(start) and count}
+        found = {what[len(start):]: int(count) for what, count in self._counts.items()
+                 if what.startswith(start) and count}
         return dict(sorted(found.items(), key=lambda item: (-item[1], item[0])))
 
     def names(self) -> list[str]:

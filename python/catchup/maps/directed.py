@@ -106,7 +106,8 @@ class Directed:
 
 
 def directed_of(segments: Segments, raw: RawMap, streets: Streets) -> Directed:
-    """The directed streets; those that are open to all at some hours and for destinations alone at others stand twice."""
+    """The directed streets; those that are open to all at some hours and for destinations alone at others stand
+    twice."""
     rule = raw.way_rule[segments.way[streets.steps[streets.first[:-1]] >> 1]]
     twice = np.flatnonzero(np.array([of.too is not None for of in raw.rules], dtype=bool)[rule])
     count = len(streets)

@@ -30,9 +30,9 @@ def _labels(graph: igraph.Graph, mode: str) -> Ints:
 
 
 def largest_part(count: int, tail: Ints, head: Ints, of: Ints | None = None) -> tuple[Bools, int]:
-    """The nodes of the largest part in which each leads to each other, and how many parts there are. Where `of` says what
-    each node is a copy of, or -1, the part with copies of the most things is the largest, and among such the one with the
-    most nodes."""
+    """The nodes of the largest part in which each leads to each other, and how many parts there are. Where `of` says
+    what each node is a copy of, or -1, the part with copies of the most things is the largest, and among such the one
+    with the most nodes."""
     if not count:
         return np.zeros(0, dtype=bool), 0
     label = _labels(_graph(count, tail, head), "strong")

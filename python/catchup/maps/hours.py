@@ -1,8 +1,9 @@
 """Opening hours and conditions by the hour, as they hold on one day of the week.
 
-Understood are days of the week (`Mo-Fr`, `Sa,Su`), times (`08:00-12:00,13:00-17:00`, over midnight too), `24/7` and `off`,
-in rules parted by semicolons, of which the later ones replace the earlier ones on the days that they name. Holidays (`PH`,
-`SH`) are passed over: the day is none. Whatever else is written (months, sunrise, weights, `wet`) isn't understood.
+Understood are days of the week (`Mo-Fr`, `Sa,Su`), times (`08:00-12:00,13:00-17:00`, over midnight too), `24/7` and
+`off`, in rules parted by semicolons, of which the later ones replace the earlier ones on the days that they name.
+Holidays (`PH`, `SH`) are passed over: the day is none. Whatever else is written (months, sunrise, weights, `wet`) isn't
+understood.
 """
 from __future__ import annotations
 
@@ -22,7 +23,8 @@ _OFF = ("off", "closed")
 
 
 def _days_of(text: str) -> set[int] | None:
-    """The days of the week that a text names; none of them where it names holidays alone; None where it isn't understood."""
+    """The days of the week that a text names; none of them where it names holidays alone; None where it isn't
+    understood."""
     days: set[int] = set()
     for part in text.split(","):
         ends = [word.strip() for word in part.split("-")]
@@ -106,14 +108,15 @@ def open_spans(text: str, weekday: int) -> Spans | None:
 
 
 def starts(text: str, every: int, weekday: int) -> tuple[int, ...] | None:
-    """The seconds of a day at which something begins that goes every so many seconds in opening hours, the last second of
-    each span with it; None where the hours aren't understood."""
+    """The seconds of a day at which something begins that goes every so many seconds in opening hours, the last second
+    of each span with it; None where the hours aren't understood."""
     days = week(text)
     if days is None or every <= 0:
         return None
-    found = {second for begin, end in days[weekday] for second in range(begin, end + 1, every) if second < DAY}
-    found |= {second - DAY for begin, end in days[weekday - 1] for second in range(begin, end + 1, every) if second >= DAY}
-    return tuple(sorted(found))
+    today, before = ([second for begin, end in spans for second in range(begin, end + 1, every)]
+                     for spans in (days[weekday], days[weekday - 1]))
+    over = (second - DAY for second in before if second >= DAY)
+    return tuple(sorted({*(second for second in today if second < DAY), *over}))
 
 
 def conditions(text: str, weekday: int) -> tuple[list[tuple[str, Spans]], list[str]]:
@@ -147,8 +150,9 @@ def turning_points(*several: list[tuple[str, Spans]]) -> list[int]:
 
 def over_day(tags: Mapping[str, str], keys: Iterable[str], weekday: int,
              used: Callable[[str], bool] = lambda value: True) -> tuple[list[tuple[int, dict[str, str]]], bool]:
-    """From each second of a day on at which a condition of one of these tags may begin or end: the tags as they then hold,
-    those with conditions in the place of those without. And whether all conditions are understood and their values `used`."""
+    """From each second of a day on at which a condition of one of these tags may begin or end: the tags as they then
+    hold, those with conditions in the place of those without. And whether all conditions are understood and their
+    values `used`."""
     known: dict[str, list[tuple[str, Spans]]] = {}
     all_used = True
     for key in keys:

@@ -72,7 +72,8 @@ def import_osm(path: Path, options: Options, tell: Tell) -> Made:
     """Makes a network of a map; `tell` hears what is done next. Failure where it can't be made."""
     vehicle = read_vehicle(options.vehicle, options.speeds, options.private)
     check_classes(options.without, vehicle)
-    wanted = Wanted(vehicle, WEEKDAYS.index(options.weekday), options.without, options.bbox, options.signals, options.crossings)
+    wanted = Wanted(vehicle, WEEKDAYS.index(options.weekday), options.without, options.bbox, options.signals,
+                    options.crossings)
     counts = Counts()
     check_file(path)
     tell("reading its ways")
@@ -85,7 +86,8 @@ def import_osm(path: Path, options: Options, tell: Tell) -> Made:
     network, behind = _network(directed, options, counts)
     labels = Labels(directed)
     kept = network.kept(largest(network, counts, options.islands))
-    counts.add("metres behind roads for destinations alone", number=float(labels.metres[_used(directed, kept) & behind].sum()))
+    metres_behind = labels.metres[_used(directed, kept) & behind].sum()
+    counts.add("metres behind roads for destinations alone", number=float(metres_behind))
     _check_size(path, kept, labels)
     tell("times and names")
     return _made(path, labels, kept, lost_of(directed, labels, kept, network), options, counts)
@@ -132,9 +134,11 @@ def _check_size(path: Path, network: Network, labels: Labels) -> None:
     by_class = np.bincount(labels.kind[network.street >> 1], minlength=len(labels.classes))
     small = [kind for kind in ("service", "track", "residential", "living_street") if kind in labels.classes]
     shares = ", ".join(f"{kind} {by_class[labels.classes.index(kind)]:,}" for kind in small)
-    raise Failure(f"{path}: {nodes:,} junctions and {roads:,} roads are more than the {tables.MOST_NODES:,} and "
-                  f"{tables.MOST_ROADS:,} that catchup takes; leave out small roads by --without service,track (roads of "
-                  f"these: {shares or 'none'}), or take a part of the map by --bbox WEST,SOUTH,EAST,NORTH")
+    copies = int((network.copy > 0).sum())
+    fewer = f" ({copies:,} of them copies: --turn-back and --through need fewer)" if copies else ""
+    raise Failure(f"{path}: {nodes:,} junctions{fewer} and {roads:,} roads are more than the {tables.MOST_NODES:,} and "
+                  f"{tables.MOST_ROADS:,} that catchup takes; leave out small roads by --without service,track (roads "
+                  f"of these: {shares or 'none'}), or take a part of the map by --bbox WEST,SOUTH,EAST,NORTH")
 
 
 def _made(path: Path, labels: Labels, network: Network, lost: Lost, options: Options, counts: Counts) -> Made:
@@ -171,9 +175,11 @@ def _map(path: Path, labels: Labels, network: Network, shapes: Shapes, options: 
                   "attribution": "© OpenStreetMap contributors, Open Database License 1.0"}
     osm = segments.osm
     content = MapFile(
-        segments.lon[network.node], segments.lat[network.node], osm[network.node], _small(network.copy), _small(network.tail),
-        _small(network.head), _small(shapes.profile), labels.metres[street >> 1], _small(shapes.seconds),
-        labels.way[street >> 1], osm[directed.tail[street]], osm[directed.head[street]], _small(labels.kind[street >> 1]), first,
+        segments.lon[network.node], segments.lat[network.node], osm[network.node], _small(network.copy),
+        _small(network.tail), _small(network.head), _small(shapes.profile), labels.metres[street >> 1],
+        _small(shapes.seconds),
+        labels.way[street >> 1], osm[directed.tail[street]], osm[directed.head[street]],
+        _small(labels.kind[street >> 1]), first,
         segments.lon[points], segments.lat[points], labels.classes, properties,
         road_ring=labels.ring[street >> 1].astype(bool))
     return content, osm[points]

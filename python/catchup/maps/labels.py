@@ -12,7 +12,8 @@ from catchup.maps.directed import Directed
 
 @dataclass
 class Spans:
-    """The named parts of roads: road r has those from first[r] to first[r + 1], in driving order, in metres along it."""
+    """The named parts of roads: road r has those from first[r] to first[r + 1], in driving order, in metres along
+    it."""
     first: Ints
     begin: Floats
     end: Floats

@@ -35,8 +35,8 @@ class Lost:
 
 
 def largest(network: Network, counts: Counts, islands: bool = False) -> Bools:
-    """The states of the nodes that are reached from the largest part and lead to it, so far as a drive that begins at one
-    of these nodes gets to them; with `islands` all states."""
+    """The states of the nodes that are reached from the largest part and lead to it, so far as a drive that begins at
+    one of these nodes gets to them; with `islands` all states."""
     count = len(network.node)
     part, parts = largest_part(count, network.tail, network.head, np.where(network.open, network.node, -1))
     counts.add("parts", number=parts)
@@ -73,4 +73,5 @@ def lost_of(directed: Directed, labels: Labels, kept: Network, whole: Network) -
     junctions = int((whole.copy == 0).sum()) - int((kept.copy == 0).sum())
     return Lost(float(metres[used].sum()), float(metres[~used].sum()), junctions,
                 dict(sorted(ways.items(), key=lambda item: (-item[1], item[0]))),
-                {labels.classes[k]: float(lost_metres[k]) for k in np.argsort(-lost_metres, kind="stable") if lost_metres[k] > 0})
+                {labels.classes[k]: float(lost_metres[k]) for k in np.argsort(-lost_metres, kind="stable")
+                 if lost_metres[k] > 0})

@@ -20,21 +20,23 @@ def mark_gates(directed: Directed) -> None:
 
 
 def spread(directed: Directed, counts: Counts) -> Bools:
-    """Streets that are joined with all others by roads for destinations alone are such roads too. Returns which they are."""
+    """Streets that are joined with all others by roads for destinations alone are such roads too. Returns which they
+    are."""
     if not directed.ends.any():
         return np.zeros(len(directed.streets), dtype=bool)
     streets, count = directed.streets, len(directed.segments.osm)
     open_to_all = directed.all[~directed.ends[directed.all >> 1]]
     heart, _ = largest_part(count, directed.tail[open_to_all], directed.head[open_to_all])
     found = ~directed.ends & ~(heart[streets.a] & heart[streets.b])
-    counts.add_all("streets behind roads for destinations alone", directed.first_way[2 * np.flatnonzero(found)].tolist())
+    ways = directed.first_way[2 * np.flatnonzero(found)]
+    counts.add_all("streets behind roads for destinations alone", ways.tolist())
     directed.ends |= found
     return found
 
 
 def through_streets(directed: Directed, restricted: Iterable[int]) -> Bools:
-    """The streets for destinations alone that need no watch: nobody can drive through where there is one entrance alone,
-    unless that is by turning round, which matters only where turns are restricted."""
+    """The streets for destinations alone that need no watch: nobody can drive through where there is one entrance
+    alone, unless that is by turning round, which matters only where turns are restricted."""
     streets, ends, count = directed.streets, directed.ends, len(directed.segments.osm)
     if not ends.any():
         return np.zeros(len(streets), dtype=bool)

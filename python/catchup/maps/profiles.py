@@ -18,7 +18,8 @@ from catchup.replies import Piece
 
 @dataclass
 class Shapes:
-    """The profile of each road, and the pieces of each profile. Profile 0 is closed; the last `spare` are of no road."""
+    """The profile of each road, and the pieces of each profile. Profile 0 is closed; the last `spare` are of no
+    road."""
     seconds: Ints
     """What each road takes at its usual speed."""
     profile: Ints
@@ -27,8 +28,9 @@ class Shapes:
 
 
 def time_streets(directed: Directed) -> None:
-    """Finds the timing of each directed street, by its rule, and by a gate that it begins at; a ferry's is for who boards
-    it. Those that are never open are taken away, so that they join nothing. Comes before what asks which streets there are."""
+    """Finds the timing of each directed street, by its rule, and by a gate that it begins at; a ferry's is for who
+    boards it. Those that are never open are taken away, so that they join nothing. Comes before what asks which streets
+    there are."""
     raw, segments, streets, timings = directed.raw, directed.segments, directed.streets, directed.timings
     table = np.zeros((2, 2, len(raw.rules)), dtype=np.int64)
     for number, rule in enumerate(raw.rules):
@@ -53,7 +55,8 @@ def time_streets(directed: Directed) -> None:
 def rush_timings(labels: Labels, rush: Rush | None) -> Ints:
     """The timing of each street by its class, where rush hours are asked for."""
     timings = labels.of.timings
-    of_class = [timings.number(Timing(rush.steps[kind]) if rush and kind in rush.steps else None) for kind in labels.classes]
+    of_class = [timings.number(Timing(rush.steps[kind]) if rush and kind in rush.steps else None)
+                for kind in labels.classes]
     return np.array(of_class, dtype=np.int64)[labels.kind]
 
 
@@ -61,7 +64,8 @@ def shapes_of(network: Network, directed: Directed, seconds: WholeSeconds, rush:
     """The profiles of the roads. `rush` has the timings of streets at rush hours."""
     timings, street = directed.timings, network.street
     count, spans = len(timings.all), len(network.spans)
-    kinds, kind = np.unique((directed.timing[street] * count + rush[street >> 1]) * spans + network.closed, return_inverse=True)
+    timed = directed.timing[street] * count + rush[street >> 1]
+    kinds, kind = np.unique(timed * spans + network.closed, return_inverse=True)
     roads_of = Groups(kind, np.arange(len(street)), len(kinds))
     known: dict[tuple[Piece, ...], int] = {CLOSED: 0}
     profile = np.zeros(len(street), dtype=np.int64)

@@ -112,7 +112,8 @@ class _Ways(osmium.SimpleHandler):
         number: int = way.id
         if number in self.versions:
             if self.versions[number] != way.version:
-                raise Failure("ways have several versions in it, so it's a history: make a map of it by 'osmium time-filter'")
+                raise Failure("ways have several versions in it, so it's a history: make a map of it by "
+                              "'osmium time-filter'")
             return self.counts.add("left out: the same number again", number)
         self.versions[number] = way.version
         key = tuple((tag.k, tag.v) for tag in tags if tag.k in self.relevant)
@@ -146,11 +147,12 @@ class _Ways(osmium.SimpleHandler):
             return
         self.relations.add(relation.id)
         members = [(member.role, member.type, member.ref) for member in relation.members]
-        read_restriction(relation.id, {tag.k: tag.v for tag in tags}, members, self.wanted, self.counts, self.restrictions)
+        said = {tag.k: tag.v for tag in tags}
+        read_restriction(relation.id, said, members, self.wanted, self.counts, self.restrictions)
 
 
-def read_restriction(number: int, tags: dict[str, str], members: list[tuple[str, str, int]], wanted: Wanted, counts: Counts,
-                     to: list[Restriction]) -> None:
+def read_restriction(number: int, tags: dict[str, str], members: list[tuple[str, str, int]], wanted: Wanted,
+                     counts: Counts, to: list[Restriction]) -> None:
     """Appends what a relation of type restriction restricts of the vehicle, or counts why nothing."""
     vehicle = wanted.vehicle
     own = {key.removeprefix("restriction:") for key in vehicle.restriction if ":" in key}
@@ -161,14 +163,16 @@ def read_restriction(number: int, tags: dict[str, str], members: list[tuple[str,
         return counts.add("restrictions: they except it", number)
     if any(key in tags for key in ("day_on", "hour_on", "day_off", "hour_off")):
         return counts.add("restrictions: at times that aren't understood", number)
-    of = {role: frozenset(ref for r, kind, ref in members if r == role and kind == "w") for role in ("from", "via", "to")}
+    of = {role: frozenset(ref for r, kind, ref in members if r == role and kind == "w")
+          for role in ("from", "via", "to")}
     nodes = [ref for role, kind, ref in members if role == "via" and kind == "n"]
     if not of["from"] or not of["to"] or len(nodes) + bool(of["via"]) != 1:
         return counts.add("restrictions: members missing or too many", number)
     found = _kinds(tags, wanted)
     if not found:
-        return counts.add("restrictions: at times that aren't understood" if any(key.endswith(":conditional") for key in tags)
-                          else "restrictions: not understood", number)
+        timed = any(key.endswith(":conditional") for key in tags)
+        what = "at times that aren't understood" if timed else "not understood"
+        return counts.add(f"restrictions: {what}", number)
     for kind, spans in found.items():
         if spans:
             to.append(Restriction(number, kind, of["from"], nodes[0] if nodes else None, of["via"], of["to"], spans))

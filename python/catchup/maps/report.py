@@ -32,11 +32,13 @@ def warnings(counts: Counts, lost: Lost) -> list[str]:
     """What whoever uses the network should know."""
     found = []
     if lost.share > 0.05:
-        found.append(f"{100 * lost.share:.1f} % of the kilometres are lost, since they aren't joined with the largest part")
+        found.append(f"{100 * lost.share:.1f} % of the kilometres are lost, since they aren't joined with the "
+                     "largest part")
     main = {kind: ways for kind, ways in lost.ways.items() if kind.removesuffix("_link") in MAIN}
     if main:
         found.append(f"main roads are among what is lost: {listed(main)}")
-    for start, text in (("restrictions: at times that aren't understood", "restrictions at times that aren't understood are left out"),
+    for start, text in (("restrictions: at times that aren't understood",
+                         "restrictions at times that aren't understood are left out"),
                         ("conditions not used: ", "conditions by the hour or else aren't used"),
                         ("opening hours not understood", "opening hours aren't understood, and taken as all day"),
                         ("durations not understood", "durations of ferries aren't understood"),
@@ -49,8 +51,8 @@ def warnings(counts: Counts, lost: Lost) -> list[str]:
             found.append(f"{number:,} {text}")
     behind = counts.amount("metres behind roads for destinations alone")
     if behind > 1000:
-        found.append(f"{behind / 1000:.1f} km of open roads are joined with the others by roads for destinations alone, so one "
-                     "can't drive through there")
+        found.append(f"{behind / 1000:.1f} km of open roads are joined with the others by roads for destinations "
+                     "alone, so one can't drive through there")
     return found
 
 
@@ -64,7 +66,8 @@ def summary(source: str, sizes: Sizes, counts: Counts, lost: Lost) -> list[str]:
     lines = [f"{source}: {sizes.nodes:,} junctions ({sizes.copies:,} of them copies), {sizes.roads:,} roads, "
              f"{sizes.profiles:,} profiles, {sizes.names:,} names; {lost.taken / 1000:,.0f} km"]
     lines.append(_row("taken", [
-        f"{counts['ways taken']:,} of {counts['ways']:,} ways", f"{counts['for destinations alone']:,} for destinations alone",
+        f"{counts['ways taken']:,} of {counts['ways']:,} ways",
+        f"{counts['for destinations alone']:,} for destinations alone",
         f"{sum(opened.values()):,} opened by a tag ({listed(opened)})" if opened else "",
         f"{counts['loops cut in two']:,} loops cut in two", _some(counts, "open at some hours alone"),
         _some(counts, "ferries with departures")]))
@@ -73,7 +76,8 @@ def summary(source: str, sizes: Sizes, counts: Counts, lost: Lost) -> list[str]:
         f"{sum(barred.values()):,} barred ({listed(barred)})" if barred else "", listed(others)]))
     lost_ways = {kind.upper() if kind.removesuffix("_link") in MAIN else kind: n for kind, n in lost.ways.items()}
     lines.append(_row("lost", [
-        f"{lost.lost / 1000:,.0f} km ({100 * lost.share:.1f} %) in {lost.junctions:,} junctions not joined with the largest part",
+        f"{lost.lost / 1000:,.0f} km ({100 * lost.share:.1f} %) in {lost.junctions:,} junctions not joined with the "
+        "largest part",
         f"{sum(lost_ways.values()):,} whole ways ({listed(lost_ways)})" if lost_ways else ""]))
     blocked, passed = counts.under("barriers: "), counts.under("passed: ")
     lines.append(_row("barriers", [
@@ -86,7 +90,8 @@ def summary(source: str, sizes: Sizes, counts: Counts, lost: Lost) -> list[str]:
         f"not made: {listed(unmade)}" if unmade else ""]))
     lines.append(_row("speeds", [
         f"{counts['limits by zone or type of maxspeed']:,} ways by zone",
-        f"{counts['slowed by surface, tracktype or smoothness']:,} slowed by surface", _some(counts, "limits at some hours")]))
+        f"{counts['slowed by surface, tracktype or smoothness']:,} slowed by surface",
+        _some(counts, "limits at some hours")]))
     lines.append(_row("names", [f"{sizes.several_names:,} roads with more than one name"]))
     found = warnings(counts, lost)
     lines.append(_row("warnings", found or ["none"]))

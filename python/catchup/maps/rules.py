@@ -198,7 +198,8 @@ def _limits(tags: Tags, vehicle: Vehicle, notes: list[str]) -> dict[bool, float 
     own = next((value for value in map(said, vehicle.maxspeed) if value), None)
     zone = None
     if own is None and tags.get("highway") in vehicle.speeds.classes:
-        zone = next((value for value in (kmh(tags[key], vehicle.speeds.zones) for key in _ZONES if key in tags) if value), None)
+        limits = (kmh(tags[key], vehicle.speeds.zones) for key in _ZONES if key in tags)
+        zone = next((value for value in limits if value), None)
     if zone:
         notes.append("limits by zone or type of maxspeed")
     return {forth: said(key) or own or zone for forth, key in zip((True, False), _SIDES)}

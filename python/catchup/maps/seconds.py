@@ -1,8 +1,8 @@
 """How long each directed street takes, in whole seconds.
 
 A street takes the nearest whole second, a half upwards. So none is off by more than half a second, but many short ones
-along a way might together gain or lose much. Where by that a stretch of a way would be off by more than SPARE and a SHARE
-of its seconds, its last street is rounded the other way, and is off by less than a second.
+along a way might together gain or lose much. Where by that a stretch of a way would be off by more than SPARE and a
+SHARE of its seconds, its last street is rounded the other way, and is off by less than a second.
 """
 from __future__ import annotations
 
@@ -66,7 +66,8 @@ def _next_in_way(segments: Segments, steps: Ints) -> Ints:
 
 
 class WholeSeconds:
-    """The whole seconds of directed streets. Those that follow one another along a way, in one direction, are a chain."""
+    """The whole seconds of directed streets. Those that follow one another along a way, in one direction, are a
+    chain."""
 
     def __init__(self, directed: Directed, exact: Floats) -> None:
         """`exact` has the seconds of each, not rounded."""

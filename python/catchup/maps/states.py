@@ -1,9 +1,8 @@
 """The roads of the network: directed streets between nodes, and between copies of nodes where a drive's past matters.
 
 A copy of a node stands for what a drive that gets there has behind it: which forbidden chains it has begun, which turns
-would take it how long, and whether it has left the roads for destinations alone that it began on (phase 1), or is on such
-again and has to end there (phase 2).
-A drive begins at a node's first one, and may end at any.
+would take it how long, and whether it has left the roads for destinations alone that it began on (phase 1), or is on
+such again and has to end there (phase 2). A drive begins at a node's first one, and may end at any.
 """
 from __future__ import annotations
 
@@ -17,7 +16,8 @@ from catchup.maps.hours import Spans, merged
 from catchup.maps.turns import Chain
 
 Left = frozenset[tuple[Chain, Spans, int]]
-"""What of chains is still to drive, with the hours at which they are forbidden, or with the seconds that their end takes."""
+"""What of chains is still to drive, with the hours at which they are forbidden, or with the seconds that their end
+takes."""
 
 _NONE: Left = frozenset()
 
@@ -43,14 +43,15 @@ class Network:
         """The network of these states alone."""
         number = np.cumsum(states) - 1
         roads = states[self.tail] & states[self.head]
-        return Network(self.node[states], self.copy[states], self.open[states], number[self.tail[roads]], number[self.head[roads]],
-                       self.street[roads], self.closed[roads], self.delay[roads], self.spans)
+        return Network(self.node[states], self.copy[states], self.open[states], number[self.tail[roads]],
+                       number[self.head[roads]], self.street[roads], self.closed[roads], self.delay[roads], self.spans)
 
 
 class _Builder:
     """Finds the copies that are reached, one after the other."""
 
-    def __init__(self, directed: Directed, ends: Bools, chains: dict[Chain, Spans], slow: list[tuple[int, int, int]]) -> None:
+    def __init__(self, directed: Directed, ends: Bools, chains: dict[Chain, Spans],
+                 slow: list[tuple[int, int, int]]) -> None:
         self.of, self.ends = directed, ends
         begun: dict[int, list[tuple[Chain, Spans, int]]] = {}
         for chain, spans in chains.items():
@@ -110,16 +111,18 @@ class _Builder:
         self.roads.append((state, to, d, self.spans.setdefault(closed, len(self.spans)), delay))
 
 
-def network_of(directed: Directed, ends: Bools, chains: dict[Chain, Spans], slow: list[tuple[int, int, int]]) -> Network:
-    """The roads and states of all directed streets; `ends` says which streets nobody may drive through, `slow` which turns
-    take how many seconds."""
+def network_of(directed: Directed, ends: Bools, chains: dict[Chain, Spans],
+               slow: list[tuple[int, int, int]]) -> Network:
+    """The roads and states of all directed streets; `ends` says which streets nobody may drive through, `slow` which
+    turns take how many seconds."""
     build = _Builder(directed, ends, chains, slow)
     tail, head, street = build.plain()
     build.from_copies()
     rows = np.array(build.roads, dtype=np.int64).reshape(-1, 5)
     none = np.zeros(len(tail), dtype=np.int64)
     nodes = np.concatenate((build.nodes, np.array([node for node, _, _ in build.states], dtype=np.int64)))
-    between = np.concatenate((~build.touches[build.nodes], np.array([phase == 1 for _, phase, _ in build.states], dtype=bool)))
+    copies_between = np.array([phase == 1 for _, phase, _ in build.states], dtype=bool)
+    between = np.concatenate((~build.touches[build.nodes], copies_between))
     is_open = between & directed.meets_open[nodes]
     return Network(nodes, _copies(nodes, len(build.nodes)), is_open, np.concatenate((tail, rows[:, 0])),
                    np.concatenate((head, rows[:, 1])), np.concatenate((street, rows[:, 2])),

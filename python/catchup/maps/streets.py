@@ -1,8 +1,8 @@
 """Streets: the stretches between junctions, joined of the ways of a map.
 
 A segment is a stretch of a way between two of its nodes that follow each other. Driven along its way it has the number
-2 s, driven against it 2 s + 1; such a number is a step. A street is a chain of steps, over nodes at which there is nothing
-to choose. It may be driven both ways.
+2 s, driven against it 2 s + 1; such a number is a step. A street is a chain of steps, over nodes at which there is
+nothing to choose. It may be driven both ways.
 """
 from __future__ import annotations
 
@@ -34,7 +34,8 @@ class Segments:
     osm: Ints
     lon: Floats
     lat: Floats
-    """Of each node: its number in OpenStreetMap, and its place. At a barrier that blocks, several nodes have one number."""
+    """Of each node: its number in OpenStreetMap, and its place. At a barrier that blocks, several nodes have one
+    number."""
 
     @property
     def steps(self) -> int:
@@ -80,7 +81,8 @@ def segments_of(raw: RawMap, counts: Counts) -> Segments:
     node = np.minimum(np.searchsorted(raw.node_ids, refs), len(raw.node_ids) - 1)
     there = raw.node_ids[node] == refs
     counts.add_all("ways cut or left out: their nodes aren't there", np.unique(raw.way_ids[way_of[~there]]).tolist())
-    counts.add_all("left out: less than two nodes", raw.way_ids[np.bincount(way_of, minlength=len(raw.way_ids)) < 2].tolist())
+    nodes_of = np.bincount(way_of, minlength=len(raw.way_ids))
+    counts.add_all("left out: less than two nodes", raw.way_ids[nodes_of < 2].tolist())
     at = np.flatnonzero((way_of[1:] == way_of[:-1]) & there[1:] & there[:-1])
     joined = np.zeros(len(at) + 1, dtype=bool)
     joined[1:-1] = (at[1:] == at[:-1] + 1) & (way_of[at[1:]] == way_of[at[:-1]])

@@ -1,7 +1,7 @@
 """What of a road changes over the day, and the pieces of the profile that says so.
 
-Whoever comes to a road may wait there. So a road that is closed for some hours is a wait for its opening, and where a road
-is slow and then fast again, nobody who enters it while it is slow arrives later than who waits until it is fast.
+Whoever comes to a road may wait there. So a road that is closed for some hours is a wait for its opening, and where a
+road is slow and then fast again, nobody who enters it while it is slow arrives later than who waits until it is fast.
 """
 from __future__ import annotations
 
@@ -19,8 +19,9 @@ ALWAYS: Spans = ((0, DAY),)
 
 @dataclass(frozen=True)
 class Timing:
-    """How a road is over the day: from each second on a factor of its seconds, or None while it is closed. The first step
-    is at second 0. Where it is a ferry's, its departures: then the steps say when one may come to wait for them."""
+    """How a road is over the day: from each second on a factor of its seconds, or None while it is closed. The first
+    step is at second 0. Where it is a ferry's, its departures: then the steps say when one may come to wait for
+    them."""
     steps: tuple[tuple[int, float | None], ...] = ((0, 1.0),)
     departures: tuple[int, ...] = ()
 
@@ -141,7 +142,8 @@ def pieces(of: Timing | None, takes: Callable[[float], int]) -> tuple[Piece, ...
             done.append(Piece(start, "travel", travel))
         if turn < end:
             done.append(Piece(turn, "until", later))
-    return tuple(piece for i, piece in enumerate(done) if i == 0 or (done[i - 1].kind, done[i - 1].value) != (piece.kind, piece.value))
+    said = [(piece.kind, piece.value) for piece in done]
+    return tuple(piece for i, piece in enumerate(done) if i == 0 or said[i - 1] != said[i])
 
 
 def _departures(of: Timing, seconds: int) -> tuple[Piece, ...]:

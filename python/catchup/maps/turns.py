@@ -1,8 +1,8 @@
 """Turn restrictions, as chains of directed streets of which nobody may drive all, one after the other.
 
-A restriction of a node is a chain of two; one over ways is longer. What is `only_` allowed forbids each other street. Who
-came by a street with a restricted turn may not turn back at the next three junctions either, so that nobody gets past a
-restriction by a turn behind it; at dead ends everybody may turn.
+A restriction of a node is a chain of two; one over ways is longer. What is `only_` allowed forbids each other street.
+Who came by a street with a restricted turn may not turn back at the next three junctions either, so that nobody gets
+past a restriction by a turn behind it; at dead ends everybody may turn.
 """
 from __future__ import annotations
 
@@ -24,7 +24,8 @@ LONGEST = 60
 
 
 def kept_nodes(raw: RawMap, segments: Segments) -> Bools:
-    """The nodes at which streets end for the sake of restrictions and barriers, though nothing else may be chosen there."""
+    """The nodes at which streets end for the sake of restrictions and barriers, though nothing else may be chosen
+    there."""
     via = [of.node for of in raw.restrictions if of.node is not None]
     gates = [number for number, barrier in raw.barriers.items() if not barrier.blocked]
     keep = np.isin(segments.osm, np.array(via + gates, dtype=np.int64))
@@ -129,7 +130,8 @@ class _Finder:
                     self.add(path + (d,), spans)
 
     def no_way_round(self) -> None:
-        """Forbids turning back at the next junctions behind each restriction, and between junctions up to the one behind."""
+        """Forbids turning back at the next junctions behind each restriction, and between junctions up to the one
+        behind."""
         for chain, spans in list(self.chains.items()):
             work = [(chain[:i], JUNCTIONS) for i in range(1, len(chain))]
             while work:
@@ -145,7 +147,8 @@ class _Finder:
                         work.append((path + (d,), left - junction))
 
 
-def forbidden(directed: Directed, restrictions: list[Restriction], counts: Counts, turn_back: bool = False) -> dict[Chain, Spans]:
+def forbidden(directed: Directed, restrictions: list[Restriction], counts: Counts,
+              turn_back: bool = False) -> dict[Chain, Spans]:
     """The chains that nobody may drive to their end, and when. With `turn_back` one may turn behind a restriction."""
     finder = _Finder(directed, restrictions, counts)
     for one in restrictions:

@@ -40,7 +40,8 @@ def duration(text: str) -> int | None:
         total = days * DAY + hours * 3600 + minutes * 60 + seconds
     elif re.fullmatch(r"\d+(:\d\d){0,2}", text):
         parts = [int(part) for part in text.split(":")]
-        total = parts[0] * 60 if len(parts) == 1 else parts[0] * 3600 + parts[1] * 60 + (parts[2] if len(parts) == 3 else 0)
+        hours, minutes, seconds = (0, *parts, 0) if len(parts) == 1 else (*parts, 0)[:3]
+        total = hours * 3600 + minutes * 60 + seconds
     else:
         return None
     return total or None

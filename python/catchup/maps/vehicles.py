@@ -61,7 +61,9 @@ def _own_speeds(path: Path) -> dict[str, Any]:
 
 
 def _is_speed(value: Any, zero: bool = False) -> bool:
-    return isinstance(value, (int, float)) and not isinstance(value, bool) and (0 < value <= 1000 or zero and value == 0)
+    if isinstance(value, bool) or not isinstance(value, (int, float)):
+        return False
+    return 0 < value <= 1000 or zero and value == 0
 
 
 def _checked(where: str, name: str, known: Any, value: Any) -> Any:
@@ -113,13 +115,14 @@ def check_classes(classes: frozenset[str], vehicle: Vehicle) -> None:
 
 
 def read_vehicle(name: str, speeds: Path | None = None, private: bool = True) -> Vehicle:
-    """What is known of a vehicle; with `private` false, private roads are barred instead of open to those who live there."""
+    """What is known of a vehicle; with `private` false, private roads are barred instead of open to those who live
+    there."""
     table = _data("vehicles.toml")
     words, of = table["words"], table[name]
+    ends = frozenset(words["ends"] + (words["private"] if private else []))
     return Vehicle(name, tuple(of["keys"]), frozenset(of["own"]), tuple(of["oneway"]), tuple(of["maxspeed"]),
-                   tuple(of["restriction"]), frozenset(of["except"]), of["one_way"], of["walks"], frozenset(of["passes"]),
-                   frozenset(words["open"]), frozenset(words["ends"] + (words["private"] if private else [])),
-                   read_speeds(name, speeds))
+                   tuple(of["restriction"]), frozenset(of["except"]), of["one_way"], of["walks"],
+                   frozenset(of["passes"]), frozenset(words["open"]), ends, read_speeds(name, speeds))
 
 
 @dataclass(frozen=True)

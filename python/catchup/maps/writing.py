@@ -28,7 +28,8 @@ def check_folder(folder: Path, force: bool) -> None:
     if not folder.resolve().parent.is_dir():
         raise Failure(f"{folder}: there is no folder to make it in")
     if folder.is_dir() and not force and any(folder.iterdir()):
-        raise Failure(f"{folder}: this folder isn't empty; name another, or replace what an import makes in it by --force")
+        raise Failure(f"{folder}: this folder isn't empty; name another, or replace what an import makes in it by "
+                      "--force")
 
 
 @contextmanager
@@ -88,8 +89,8 @@ def write_all(made: Made, folder: Path, build: bool, tell: Tell) -> list[str]:
         tables.write_order(folder / ORDER, metis_order(len(made.network.nodes), roads.tail, roads.head))
     except MetisMissing:
         _run("order", folder, ORDER)
-        said.append("metis isn't installed, so the order is that of a plain dissection: answers take longer. 'apt-get install "
-                    "metis', and import again")
+        said.append("metis isn't installed, so the order is that of a plain dissection: answers take longer. "
+                    "'apt-get install metis', and import again")
     (folder / REPORT).write_text(made.report, encoding="utf-8")
     if build:
         tell("building map.cu")
