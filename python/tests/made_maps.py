@@ -66,14 +66,16 @@ Street = tuple[int, int, int, list[int]]  # way, from, to, all its nodes
 def grid(name: str, draw: random.Random, size: int, tags: Callable[[], Tags]) -> tuple[Made, list[Street]]:
     """A town of streets between the corners of a grid, each a way of its own with tags of its own; some are missing."""
     made = Made(name)
-    corner = {(x, y): made.node(x + draw.uniform(-0.3, 0.3), y + draw.uniform(-0.3, 0.3)) for x in range(size) for y in range(size)}
+    corner = {(x, y): made.node(x + draw.uniform(-0.3, 0.3), y + draw.uniform(-0.3, 0.3))
+              for x in range(size) for y in range(size)}
     streets: list[Street] = []
     for (x, y), one in corner.items():
         for other in (corner.get((x + 1, y)), corner.get((x, y + 1))):
             if other is None or draw.random() < 0.1:
                 continue
             (x1, y1), (x2, y2) = made.nodes[one], made.nodes[other]
-            between = [made.node(x1 + (x2 - x1) * k / 3, y1 + (y2 - y1) * k / 3 + 0.05 * k) for k in (1, 2)[: draw.randrange(3)]]
+            between = [made.node(x1 + (x2 - x1) * k / 3, y1 + (y2 - y1) * k / 3 + 0.05 * k)
+                       for k in (1, 2)[: draw.randrange(3)]]
             nodes = [one, *between, other]
             streets.append((made.way(nodes, **tags()), one, other, nodes))
     return made, streets
@@ -139,10 +141,13 @@ def restrict(draw: random.Random, made: Made, streets: list[Street], count: int)
         if not first or not last:
             continue
         one, other = draw.choice(first)[0], draw.choice(last)[0]
-        kind = draw.choice(["no_left_turn", "no_right_turn", "no_straight_on", "only_straight_on", "only_right_turn", "no_u_turn"])
-        more: Tags = draw.choice([{}, {}, {}, {"except": "bus"}, {"except": "bus;motorcar"}, {"except": "motor_vehicle"}])
+        kind = draw.choice(["no_left_turn", "no_right_turn", "no_straight_on", "only_straight_on", "only_right_turn",
+                            "no_u_turn"])
+        more: Tags = draw.choice([{}, {}, {}, {"except": "bus"}, {"except": "bus;motorcar"},
+                                  {"except": "motor_vehicle"}])
         hours = draw.choice([None, None, None, _hours(draw)])
-        said: Tags = {"restriction": kind} if hours is None or kind.startswith("only") else {"restriction__conditional": f"{kind} @ ({hours})"}
+        always = hours is None or kind.startswith("only")
+        said: Tags = {"restriction": kind} if always else {"restriction__conditional": f"{kind} @ ({hours})"}
         if draw.random() < 0.4 and kind != "only_right_turn":
             made.turn([("way", one, "from"), ("way", via[0], "via"), ("way", other, "to")], **said, **more)
         else:
@@ -163,13 +168,15 @@ def sail(draw: random.Random, made: Made, streets: list[Street], count: int) -> 
     corners = sorted({node for street in streets for node in street[1:3]})
     quays = []
     for _ in range(count):
-        shore, middle, far = draw.choice(corners), made.node(6 + draw.random(), 6), made.node(8 + draw.random(), 8 + draw.random())
+        shore, middle = draw.choice(corners), made.node(6 + draw.random(), 6)
+        far = made.node(8 + draw.random(), 8 + draw.random())
         tags = {"route": "ferry", "duration": draw.choice(["10", "00:12", "PT15M", "00:07:30"])}
         kind = draw.randrange(5)
         if kind < 3:
             tags["interval"] = draw.choice(["20", "00:30", "45", "01:10"])
             if kind < 2:
-                tags["opening_hours"] = draw.choice(["18:00-02:00", "06:00-22:00", "Mo-Fr 05:30-01:15", "22:15-21:45", _hours(draw)])
+                tags["opening_hours"] = draw.choice(
+                    ["18:00-02:00", "06:00-22:00", "Mo-Fr 05:30-01:15", "22:15-21:45", _hours(draw)])
         elif kind == 3:
             tags["opening_hours"] = _hours(draw)
         else:
@@ -201,9 +208,11 @@ def for_some(draw: random.Random) -> Tags:
 
 
 BARRIERS: list[Tags] = [
-    {"barrier": "bollard"}, {"barrier": "gate"}, {"barrier": "gate", "locked": "yes"}, {"barrier": "gate", "access": "no"},
+    {"barrier": "bollard"}, {"barrier": "gate"}, {"barrier": "gate", "locked": "yes"},
+    {"barrier": "gate", "access": "no"},
     {"barrier": "lift_gate", "access": "private"}, {"barrier": "bollard", "motorcar": "yes"},
-    {"barrier": "gate", "motor_vehicle:conditional": "no @ (20:00-06:00)"}, {"barrier": "gate", "opening_hours": "06:00-21:00"}]
+    {"barrier": "gate", "motor_vehicle:conditional": "no @ (20:00-06:00)"},
+    {"barrier": "gate", "opening_hours": "06:00-21:00"}]
 
 
 def put_rings(draw: random.Random, made: Made, streets: list[Street], count: int) -> None:
@@ -233,43 +242,54 @@ def mixed_town(seed: int) -> Made:
     sail(draw, made, streets, 4)
     put_rings(draw, made, streets, 3)
     for street in draw.sample(streets, 10):
-        made.node_tags[draw.choice(street[3])] = draw.choice([*BARRIERS, {"barrier": "bollard", "access": "destination"}])
+        barriers = [*BARRIERS, {"barrier": "bollard", "access": "destination"}]
+        made.node_tags[draw.choice(street[3])] = draw.choice(barriers)
     made.gone = set(draw.sample(sorted(made.nodes), 4))
     made.deleted = {street[0] for street in draw.sample(streets, 2)}
     return made
 
 
 WRITTEN: dict[str, list[str]] = {
-    "maxspeed": ["50", "50 mph", "30mph", "RO:urban", "DE:rural", "30;50", "70|50", "signals", "none", "10 knots", "49.5", "50 kmh", "DE:zone:30", "DE:zone30",
-                 "walk", "variable", "5 mph", "fast", "0", "DE:living_street", "CH:motorway", "60 km/h", "20 kph", "DE:bicycle_road", "GB:nsl_single"],
+    "maxspeed": ["50", "50 mph", "30mph", "RO:urban", "DE:rural", "30;50", "70|50", "signals", "none", "10 knots",
+                 "49.5", "50 kmh", "DE:zone:30", "DE:zone30",
+                 "walk", "variable", "5 mph", "fast", "0", "DE:living_street", "CH:motorway", "60 km/h", "20 kph",
+                 "DE:bicycle_road", "GB:nsl_single"],
     "maxspeed:forward": ["30", "70", "walk", "??"],
     "maxspeed:backward": ["30", "20 mph"],
     "source:maxspeed": ["DE:urban", "DE:rural", "sign", "DE:zone30"],
     "maxspeed:type": ["DE:urban", "sign", "DE:rural"],
     "zone:traffic": ["DE:urban", "DE:rural"],
     "zone:maxspeed": ["DE:30", "30"],
-    "maxspeed:conditional": ["30 @ (22:00-06:00)", "120 @ (06:00-20:00); 100 @ (wet)", "20 mph @ (Mo-Fr 07:30-09:00,15:00-16:30)", "none @ (20:00-05:00)",
-                             "30 @ 10:00-14:00", "walk @ (Sa,Su)", "50 @ (weight>7.5)", "50 @ (06:00-20:00); fast @ (10:00-12:00)"],
+    "maxspeed:conditional": ["30 @ (22:00-06:00)", "120 @ (06:00-20:00); 100 @ (wet)",
+                             "20 mph @ (Mo-Fr 07:30-09:00,15:00-16:30)", "none @ (20:00-05:00)",
+                             "30 @ 10:00-14:00", "walk @ (Sa,Su)", "50 @ (weight>7.5)",
+                             "50 @ (06:00-20:00); fast @ (10:00-12:00)"],
     "maxspeed:forward:conditional": ["30 @ (22:00-06:00)", "70 @ (Mo-Fr)"],
     "maxspeed:motorcar:conditional": ["120 @ (20:00-06:00)", "60 @ (wet)"],
     "oneway:motor_vehicle:conditional": ["yes @ (06:00-10:00)", "no @ (Sa,Su)"],
     "oneway": ["yes", "no", "1", "true", "-1", "reverse", "alternating", "reversible", "yes;no", "0", "false"],
     "oneway:motorcar": ["no", "yes", "-1"],
     "oneway:motor_vehicle": ["yes", "no"],
-    "oneway:conditional": ["yes @ (06:00-18:00)", "-1 @ (Mo-Fr 06:00-10:00); yes @ (Mo-Fr 15:00-19:00)", "no @ (20:00-06:00)", "reversible @ (07:00-09:00)"],
+    "oneway:conditional": ["yes @ (06:00-18:00)", "-1 @ (Mo-Fr 06:00-10:00); yes @ (Mo-Fr 15:00-19:00)",
+                           "no @ (20:00-06:00)", "reversible @ (07:00-09:00)"],
     "junction": ["roundabout", "circular", "yes"],
-    "access": ["yes", "no", "private", "destination", "permissive", "agricultural", "agricultural;forestry", "delivery", "customers;no", "unknown", "permit", "Private"],
+    "access": ["yes", "no", "private", "destination", "permissive", "agricultural", "agricultural;forestry", "delivery",
+               "customers;no", "unknown", "permit", "Private"],
     "vehicle": ["no", "destination", "agricultural;destination", "yes"],
     "motor_vehicle": ["no", "private", "destination", "delivery", "yes", "residents", "designated"],
     "motorcar": ["yes", "no", "designated", "destination", "limited"],
     "hgv": ["no", "destination", "yes", "delivery"],
     "bicycle": ["yes", "no", "designated", "use_sidepath", "dismount"],
     "foot": ["yes", "no", "use_sidepath", "destination"],
-    "access:conditional": ["no @ (22:00-06:00)", "destination @ (Mo-Fr 06:00-09:00,16:00-19:00)", "no @ (22:00-06:00); destination @ (20:00-22:00)", "no @ (snow)",
+    "access:conditional": ["no @ (22:00-06:00)", "destination @ (Mo-Fr 06:00-09:00,16:00-19:00)",
+                           "no @ (22:00-06:00); destination @ (20:00-22:00)", "no @ (snow)",
                            "delivery @ (05:00-11:00); no @ (11:00-05:00)", "yes @ (24/7)", "no @ (PH)"],
-    "motor_vehicle:conditional": ["no @ (Mo-Sa 10:00-18:00)", "destination @ (19:00-07:00)", "yes @ (18:00-10:00)", "no @ 08:00-09:00"],
-    "opening_hours": ["24/7", "06:00-22:00", "Mo-Fr 08:00-18:00; PH off", "sunrise-sunset", "Mo,We 10:00-12:00,14:00-16:00", "00:00-24:00", "22:00-06:00", "Mo-Fr",
-                      "Mo-Sa 07:00-20:00; Su off", "Apr-Oct: 08:00-20:00", "Mo-Su,PH 08:00-20:00", "08:00+", "off", "Fr-Mo 20:00-26:00", "Mo-Fr 06:00-24:00; Sa 08:00-12:00"],
+    "motor_vehicle:conditional": ["no @ (Mo-Sa 10:00-18:00)", "destination @ (19:00-07:00)", "yes @ (18:00-10:00)",
+                                  "no @ 08:00-09:00"],
+    "opening_hours": ["24/7", "06:00-22:00", "Mo-Fr 08:00-18:00; PH off", "sunrise-sunset",
+                      "Mo,We 10:00-12:00,14:00-16:00", "00:00-24:00", "22:00-06:00", "Mo-Fr",
+                      "Mo-Sa 07:00-20:00; Su off", "Apr-Oct: 08:00-20:00", "Mo-Su,PH 08:00-20:00", "08:00+", "off",
+                      "Fr-Mo 20:00-26:00", "Mo-Fr 06:00-24:00; Sa 08:00-12:00"],
     "surface": ["asphalt", "gravel", "mud", "cobblestone", "unpaved", "paving_stones:30"],
     "tracktype": ["grade1", "grade3", "grade5"],
     "smoothness": ["good", "bad", "impassable", "very_horrible"],
@@ -285,8 +305,10 @@ WRITTEN: dict[str, list[str]] = {
 def odd_town(seed: int) -> Made:
     """Tags as people write them, understood and not."""
     draw = random.Random(seed)
-    kinds = [*CLASSES, *CLASSES, "motorway", "trunk", "primary_link", "track", "track", "footway", "path", "cycleway", "pedestrian", "steps", "road", "proposed"]
-    often = ["maxspeed", "maxspeed", "access", "oneway", "opening_hours", "motor_vehicle", "access:conditional", "maxspeed:conditional"]
+    kinds = [*CLASSES, *CLASSES, "motorway", "trunk", "primary_link", "track", "track", "footway", "path", "cycleway",
+             "pedestrian", "steps", "road", "proposed"]
+    often = ["maxspeed", "maxspeed", "access", "oneway", "opening_hours", "motor_vehicle", "access:conditional",
+             "maxspeed:conditional"]
 
     def tags() -> Tags:
         found = {"highway": draw.choice(kinds)}
@@ -297,12 +319,15 @@ def odd_town(seed: int) -> Made:
     made, streets = grid(f"odd {seed}", draw, 10, tags)
     restrict(draw, made, streets, 10)
     for street in draw.sample(streets, 12):
-        found = {"barrier": draw.choice(["bollard", "gate", "lift_gate", "swing_gate", "block", "cattle_grid", "cycle_barrier", "kerb", "log", "toll_booth", "yes"])}
-        for key in draw.sample(["access", "motor_vehicle", "vehicle", "bicycle", "foot", "opening_hours", "access:conditional"], draw.choice([0, 0, 1, 2])):
+        found = {"barrier": draw.choice(["bollard", "gate", "lift_gate", "swing_gate", "block", "cattle_grid",
+                                         "cycle_barrier", "kerb", "log", "toll_booth", "yes"])}
+        for key in draw.sample(["access", "motor_vehicle", "vehicle", "bicycle", "foot", "opening_hours",
+                                "access:conditional"], draw.choice([0, 0, 1, 2])):
             found[key] = draw.choice(WRITTEN[key])
         made.node_tags[draw.choice(street[3])] = found
     return made
 
 
-THEMES: dict[str, Callable[[int], Made]] = {"hours": hours_town, "turns": turns_town, "ferries": ferry_town, "edges": edge_town,
-                                            "mixed": mixed_town, "odd": odd_town}
+THEMES: dict[str, Callable[[int], Made]] = {
+    "hours": hours_town, "turns": turns_town, "ferries": ferry_town, "edges": edge_town, "mixed": mixed_town,
+    "odd": odd_town}

@@ -1,7 +1,8 @@
 """A plain search over a map's own nodes, by the conventions of docs/MAPS.md, to compare the importer's networks with.
 
-It shares no code with the importer: maps are read as XML by ElementTree, ways are walked node by node, and each drive is
-searched from its road on with all that matters about where it came from. Nothing here is quick; it is meant to be read.
+It shares no code with the importer: maps are read as XML by ElementTree, ways are walked node by node, and each drive
+is searched from its road on with all that matters about where it came from. Nothing here is quick; it is meant to be
+read.
 """
 
 from __future__ import annotations
@@ -67,7 +68,7 @@ def metres(one: tuple[float, float], other: tuple[float, float]) -> float:
 
 @dataclass
 class Segment:
-    """One way's part between two of its nodes. `sides` has the pieces of a day along it, and against it; None: barred."""
+    """One way's part between two of its nodes. `sides` has the pieces of a day along it and against it, or None."""
 
     way: int
     index: int
@@ -94,7 +95,7 @@ class Road:
 
 @dataclass(frozen=True)
 class Chain:
-    """Roads that may not be driven one after the other, `hours` long: a list of (from, to) seconds, or None for always."""
+    """Roads that may not be driven one after the other at these `hours`: a list of (from, to) seconds, or None."""
 
     roads: tuple[frozenset[int], ...]
     hours: tuple[tuple[int, int], ...] | None
@@ -158,7 +159,8 @@ class Builder:
                 self.blocked.add(node)
             elif any(piece[1] != OPEN for piece in pieces):
                 ends = any(piece[1] == ENDS for piece in pieces)
-                self.gates[node] = [(second, ENDS if ends and access == OPEN else access, 1.0) for second, access, _ in pieces]
+                self.gates[node] = [(second, ENDS if ends and access == OPEN else access, 1.0)
+                                    for second, access, _ in pieces]
                 self.forced.add(node)
 
     def _vertex(self, node: int) -> int:
@@ -180,7 +182,8 @@ class Builder:
         ferry = self.rules.is_ferry(tags)
         nodes = [node for k, node in enumerate(nodes) if k == 0 or node != nodes[k - 1]]
         here = [k for k in range(len(nodes) - 1) if nodes[k] in self.osm.places and nodes[k + 1] in self.osm.places]
-        self.way_ends[number] = ({nodes[k] for k in here if k - 1 not in here} | {nodes[k + 1] for k in here if k + 1 not in here})
+        begins, ends = {nodes[k] for k in here if k - 1 not in here}, {nodes[k + 1] for k in here if k + 1 not in here}
+        self.way_ends[number] = begins | ends
         lengths = {k: metres(self.osm.places[nodes[k]], self.osm.places[nodes[k + 1]]) for k in here}
         duration = self.rules.duration(tags) if ferry else None
         if ferry:
@@ -203,7 +206,9 @@ class Builder:
             access = self.rules.access(then) if self.rules.taken(then) and self.rules.goes(then, direction) else BARRED
             if then.get("opening_hours") == "closed":
                 access = BARRED
-            ratio = 1.0 if waits or access == BARRED else self.rules.speed(tags, direction) / self.rules.speed(then, direction)
+            ratio = 1.0
+            if not waits and access != BARRED:
+                ratio = self.rules.speed(tags, direction) / self.rules.speed(then, direction)
             pieces.append((second, access, ratio))
         return _merged(pieces) if any(piece[1] != BARRED for piece in pieces) else None
 
@@ -220,7 +225,8 @@ class Builder:
 
     def restricted(self, tags: Tags) -> list[tuple[str, tuple[Span, ...] | None]]:
         """The kinds of restriction that a relation says on this day, each with its hours, or None for all."""
-        said = [(kind, None if when is None else tuple(spans_today(when, self.weekday))) for kind, when in self.rules.restriction(tags)]
+        said = [(kind, None if when is None else tuple(spans_today(when, self.weekday)))
+                for kind, when in self.rules.restriction(tags)]
         return [(kind, hours) for kind, hours in said if hours != ()]
 
     def _is_end(self, vertex: int) -> bool:
@@ -312,7 +318,8 @@ class Builder:
 
     def _hours(self, tags: Tags) -> list[Piece]:
         """When a ferry without departures lets one board."""
-        closed = [(s, at_time(tags, s, self.weekday).get("opening_hours") == "closed") for s in changes(tags, self.weekday)]
+        closed = [(second, at_time(tags, second, self.weekday).get("opening_hours") == "closed")
+                  for second in changes(tags, self.weekday)]
         return [(second, BARRED if shut else OPEN, 1.0) for second, shut in closed]
 
 
@@ -344,7 +351,8 @@ def _through(pieces: list[Piece], gate: list[Piece], leaves: bool) -> list[Piece
 
 
 def whole_seconds(network: Network, ratio: float) -> list[int]:
-    """The whole seconds of all roads, each so many times as slow as usually: the nearest, but for what that does to a way."""
+    """The whole seconds of all roads, each so many times as slow as usually: the nearest, but for what that does to a
+    way."""
     starts = {road.parts[0]: number for number, road in enumerate(network.roads)}
     by_place = {(s.way, s.index): k for k, s in enumerate(network.segments)}
     follows: dict[int, int] = {}
@@ -368,7 +376,8 @@ def whole_seconds(network: Network, ratio: float) -> list[int]:
 
 
 def _rounded(exact: list[float], before: list[int]) -> int:
-    """The whole seconds of the last road of a way, so that no stretch that ends with it is much too long or too short."""
+    """The whole seconds of the last road of a way, so that no stretch that ends with it is much too long or too
+    short."""
     nearest = math.floor(exact[-1] + 0.5)
     off, seconds = nearest - exact[-1], exact[-1]
     for own, whole in zip(reversed(exact[:-1]), reversed(before)):
@@ -399,8 +408,10 @@ def _largest(parts: dict[int, set[int]], vertex_osm: list[int]) -> int:
 
 
 def restriction_of(members: list[tuple[str, int, str]]) -> tuple[set[int], list[int], list[int], set[int]] | None:
-    """The ways from which, the node or the ways over which, and the ways to which one may not turn; None where one lacks."""
-    of = {(role, what): [ref for w, ref, r in members if (r, w) == (role, what)] for role in ("from", "via", "to") for what in ("way", "node")}
+    """The ways from which, the node or the ways over which, and the ways to which one may not turn; None where one
+    lacks."""
+    of = {(role, what): [ref for w, ref, r in members if (r, w) == (role, what)]
+          for role in ("from", "via", "to") for what in ("way", "node")}
     froms, nodes, ways, tos = of["from", "way"], of["via", "node"], of["via", "way"], of["to", "way"]
     if not froms or not tos or bool(nodes) == bool(ways) or len(nodes) > 1:
         return None
@@ -475,7 +486,8 @@ State = tuple[int, int, int, frozenset[tuple[int, int]], int]  # vertex, road, p
 
 
 class Search:
-    """Earliest arrivals over a network. `whole` counts the whole seconds of roads, else what they take by themselves."""
+    """Earliest arrivals over a network. `whole` counts the whole seconds of roads, else what they take by
+    themselves."""
 
     def __init__(self, network: Network, whole: bool = True, turn_back: bool = False) -> None:
         self.network, self.whole, self.turn_back = network, whole, turn_back
@@ -587,16 +599,20 @@ class Search:
         if len(road.pieces) == 1 and not closed and road.boards is None:
             return now + self._takes(number, road.pieces[0][2])
         midnight = math.floor(now / DAY) * DAY
-        times = {piece[0] for piece in road.pieces + (road.entry or [])} | {second for span in closed for second in span}
+        times = {piece[0] for piece in road.pieces + (road.entry or [])}
+        times |= {second for span in closed for second in span}
         found = []
         for enter in [now, *(midnight + day * DAY + second for second in times for day in (0, 1))]:
             second = enter % DAY
-            if enter < now or any(a <= second < b for a, b in closed) or road.entry and _piece_at(road.entry, second)[1] == BARRED:
+            if enter < now or any(a <= second < b for a, b in closed):
+                continue
+            if road.entry and _piece_at(road.entry, second)[1] == BARRED:
                 continue
             if road.boards is not None:
                 goes = [d for d in road.boards if _piece_at(road.pieces, d)[1] in kinds]
                 if goes:
-                    leaves = min(midnight + d + k * DAY for k in range(4) for d in goes if midnight + d + k * DAY >= enter)
+                    days = (midnight + k * DAY for k in range(4))
+                    leaves = min(day + d for day in days for d in goes if day + d >= enter)
                     found.append(leaves + self._takes(number, 1.0))
                 continue
             _, access, ratio = _piece_at(road.pieces, second)

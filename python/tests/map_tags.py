@@ -22,7 +22,8 @@ def hours_of(text: str) -> list[list[Span]] | None:
     """The spans of each day of a week; None where the text isn't understood."""
     week: list[list[Span]] = [[] for _ in range(7)]
     for rule in filter(None, (part.strip() for part in text.lower().split(";"))):
-        found = re.fullmatch(r"((?:mo|tu|we|th|fr|sa|su|ph|sh)(?:[\s,-]*(?:mo|tu|we|th|fr|sa|su|ph|sh))*)?\s*(.*)", rule)
+        found = re.fullmatch(r"((?:mo|tu|we|th|fr|sa|su|ph|sh)(?:[\s,-]*(?:mo|tu|we|th|fr|sa|su|ph|sh))*)?\s*(.*)",
+                             rule)
         assert found
         days = set(range(7)) if found[1] is None else _days(found[1])
         spans = _spans(found[2].strip())
@@ -84,9 +85,10 @@ def changes(tags: Tags, weekday: int) -> list[int]:
     return sorted({0} | {second for second in seconds if second < DAY})
 
 
-def at_time(tags: Tags, second: int, weekday: int, hours: bool = True, used: Callable[[str, str], bool] | None = None) -> Tags:
-    """The tags as they hold at a second: conditional ones in their places, where they are `used`; opening_hours is open or
-    closed."""
+def at_time(tags: Tags, second: int, weekday: int, hours: bool = True,
+            used: Callable[[str, str], bool] | None = None) -> Tags:
+    """The tags as they hold at a second: conditional ones in their places, where they are `used`; opening_hours is open
+    or closed."""
 
     def holds(when: str) -> bool:
         return any(a <= second < b for a, b in spans_today(when, weekday))
@@ -160,7 +162,9 @@ class Rules:
             return False
         if any(own in tags and self.word(tags[own]) != BARRED for own in self.who["own"]):
             return True
-        return tags["highway"] in self.speeds["let_in_by_access"] and key == "access" and "private" not in tags["access"].lower()
+        if tags["highway"] not in self.speeds["let_in_by_access"] or key != "access":
+            return False
+        return "private" not in tags["access"].lower()
 
     def taken(self, tags: Tags) -> bool:
         """Whether a way is a road, by its tags as they hold at some second."""
@@ -183,10 +187,9 @@ class Rules:
             return direction == 0 or not (implied and self.who["one_way"])
         if tags[key] == "reversible":
             return False
-        if self.vehicle == "bicycle" and tags[key] in ("yes", "true", "1") and tags.get("cycleway", "").startswith("opposite"):
-            return True
         if tags[key] in ("yes", "true", "1"):
-            return direction == 0
+            against = self.vehicle == "bicycle" and tags.get("cycleway", "").startswith("opposite")
+            return direction == 0 or against
         return direction == 1 or tags[key] not in ("-1", "reverse")
 
     def limit(self, text: str) -> float | None:

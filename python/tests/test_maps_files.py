@@ -35,7 +35,8 @@ def net_of(path: Path) -> Net:
 
 def same(one: Net, other: Net) -> bool:
     """Whether two networks have the same tables, and the same numbers and names outside."""
-    tables = [(of.tail, of.head, of.profile, of.osm, of.made.names.texts, of.made.point_osm.tolist()) for of in (one, other)]
+    tables = [(of.tail, of.head, of.profile, of.osm, of.made.names.texts, of.made.point_osm.tolist())
+              for of in (one, other)]
     places = [(of.made.map.node_lon.tolist(), of.made.map.node_lat.tolist()) for of in (one, other)]
     return tables[0] == tables[1] and places[0] == pytest.approx(places[1], abs=1e-7)
 
@@ -71,7 +72,8 @@ def with_places(text: str) -> str:
 def turned(text: str) -> str:
     """Relations first, then ways, then nodes by falling number."""
     lines = text.split("\n")
-    nodes, ways, relations = ([line for line in lines if line.startswith(f"<{kind} ")] for kind in ("node", "way", "relation"))
+    kinds = ("node", "way", "relation")
+    nodes, ways, relations = ([line for line in lines if line.startswith(f"<{kind} ")] for kind in kinds)
     return "\n".join([*lines[:2], *relations, *ways, *reversed(nodes), *lines[-2:]])
 
 

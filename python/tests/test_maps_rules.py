@@ -27,7 +27,8 @@ def rule(who: Any = "car", with_private: Any = True, **tags: Any) -> Rule:
 
 
 def speeds(of: Rule) -> tuple[float | None, float | None]:
-    return tuple(None if side is None else round(side.kmh, 4) for side in (of.forth, of.back))  # type: ignore[return-value]
+    forth, back = (None if side is None else round(side.kmh, 4) for side in (of.forth, of.back))
+    return forth, back
 
 
 @pytest.mark.parametrize("tags, expected", [
@@ -40,7 +41,8 @@ def speeds(of: Rule) -> tuple[float | None, float | None]:
     (dict(highway="tertiary", junction="roundabout", oneway="-1"), (None, 40)),
     *((dict(highway="residential", oneway=value), (25, None)) for value in ("yes", "true", "1")),
     *((dict(highway="residential", oneway=value), (None, 25)) for value in ("-1", "reverse")),
-    *((dict(highway="residential", oneway=value), (25, 25)) for value in ("no", "false", "0", "alternating", "sometimes")),
+    *((dict(highway="residential", oneway=value), (25, 25))
+      for value in ("no", "false", "0", "alternating", "sometimes")),
     (dict(highway="residential", oneway="yes", oneway__motor_vehicle="no"), (25, 25)),
     (dict(highway="residential", oneway__motorcar="yes"), (25, None)),
     (dict(highway="residential", oneway="no", oneway__motor_vehicle="yes", oneway__motorcar="-1"), (None, 25)),
@@ -86,7 +88,8 @@ def test_directions_and_speeds(tags: dict[str, str], expected: tuple[float | Non
     (dict(access="private", vehicle="yes"), False), (dict(motor_vehicle="private", motorcar="yes"), False),
     # A list is as open as the most open of its words.
     (dict(access="agricultural;destination"), True), (dict(access="no;yes"), False), (dict(access="Destination"), True),
-    (dict(access="unknown"), False), (dict(foot="no", bicycle="no"), False), (dict(access="yes", bus="no", hgv="no"), False),
+    (dict(access="unknown"), False), (dict(foot="no", bicycle="no"), False),
+    (dict(access="yes", bus="no", hgv="no"), False),
 ])
 def test_access(tags: dict[str, str], ends: bool) -> None:
     found = rule(highway="residential", **tags)
@@ -104,11 +107,14 @@ def test_access(tags: dict[str, str], ends: bool) -> None:
     (dict(highway="busway"), "class: busway"), (dict(highway="construction"), "class: construction"),
     (dict(highway="residential", opening_hours="off"), "closed all day"),
     (dict(highway="residential", opening_hours="Sa,Su"), "closed all day"),
-    (dict(highway="residential", opening_hours="06:00-12:00", access__conditional="no @ (06:00-12:00)"), "closed all day"),
-    (dict(highway="footway"), "class: footway"), (dict(highway="track"), "class: track"), (dict(highway="proposed"), "class: proposed"),
+    (dict(highway="residential", opening_hours="06:00-12:00", access__conditional="no @ (06:00-12:00)"),
+     "closed all day"),
+    (dict(highway="footway"), "class: footway"), (dict(highway="track"), "class: track"),
+    (dict(highway="proposed"), "class: proposed"),
     (dict(highway="service", area="yes"), "areas"),
     (dict(highway="residential", oneway="reversible"), "reversible"),
-    *((dict(highway="residential", **{key: "yes"}), "abandoned, disused or impassable") for key in ("abandoned", "disused", "impassable")),
+    *((dict(highway="residential", **{key: "yes"}), "abandoned, disused or impassable")
+      for key in ("abandoned", "disused", "impassable")),
     (dict(highway="residential", smoothness="impassable"), "abandoned, disused or impassable"),
     (dict(route="ferry", foot="yes"), "ferries that name walkers or bicycles and no others"),
     (dict(route="ferry", bicycle="yes"), "ferries that name walkers or bicycles and no others"),
@@ -128,7 +134,8 @@ def test_left_out(tags: dict[str, str], why: str) -> None:
     (dict(highway="track", access="yes"), 10, False), (dict(highway="track", motorcar="yes"), 10, False),
     (dict(highway="track", access="destination"), 10, True), (dict(highway="track", motor_vehicle="private"), 10, True),
     (dict(highway="footway", motorcar="yes"), 5, False), (dict(highway="path", motor_vehicle="destination"), 5, True),
-    (dict(highway="pedestrian", vehicle="delivery"), 5, True), (dict(highway="cycleway", motor_vehicle="yes"), 5, False),
+    (dict(highway="pedestrian", vehicle="delivery"), 5, True),
+    (dict(highway="cycleway", motor_vehicle="yes"), 5, False),
     (dict(highway="track", access="yes", maxspeed="30"), 24, False),
 ])
 def test_classes_that_a_tag_opens(tags: dict[str, str], speed: float, ends: bool) -> None:
@@ -153,8 +160,10 @@ def test_nothing_that_anybody_goes_on() -> None:
     ("bicycle", dict(highway="residential"), (18, 18)), ("bicycle", dict(highway="cycleway", oneway="yes"), (18, None)),
     ("bicycle", dict(highway="residential", oneway="yes", oneway__bicycle="no"), (18, 18)),
     ("bicycle", dict(highway="residential", oneway="yes", cycleway="opposite_lane"), (18, 18)),
-    ("bicycle", dict(highway="residential", maxspeed="10"), (10, 10)), ("bicycle", dict(highway="footway", bicycle="yes"), (8, 8)),
-    ("bicycle", dict(highway="path"), (12, 12)), ("bicycle", dict(highway="primary", bicycle="yes", motorroad="yes"), (18, 18)),
+    ("bicycle", dict(highway="residential", maxspeed="10"), (10, 10)),
+    ("bicycle", dict(highway="footway", bicycle="yes"), (8, 8)),
+    ("bicycle", dict(highway="path"), (12, 12)),
+    ("bicycle", dict(highway="primary", bicycle="yes", motorroad="yes"), (18, 18)),
     ("foot", dict(highway="footway"), (5, 5)), ("foot", dict(highway="steps"), (2, 2)),
     ("foot", dict(highway="residential", oneway="yes", junction="roundabout"), (5, 5)),
     ("foot", dict(highway="residential", vehicle="no"), (5, 5)), ("foot", dict(route="ferry", foot="yes"), (5, 5)),
@@ -165,9 +174,12 @@ def test_other_vehicles(vehicle: str, tags: dict[str, str], expected: tuple[floa
 
 
 @pytest.mark.parametrize("vehicle, tags, why", [
-    ("truck", dict(highway="residential", hgv="no"), "barred: hgv=no"), ("bicycle", dict(highway="motorway"), "class: motorway"),
-    ("bicycle", dict(highway="primary", motorroad="yes"), "barred: motorroad=yes"), ("foot", dict(highway="motorway"), "class: motorway"),
-    ("foot", dict(highway="residential", foot="no"), "barred: foot=no"), ("bicycle", dict(highway="steps"), "class: steps"),
+    ("truck", dict(highway="residential", hgv="no"), "barred: hgv=no"),
+    ("bicycle", dict(highway="motorway"), "class: motorway"),
+    ("bicycle", dict(highway="primary", motorroad="yes"), "barred: motorroad=yes"),
+    ("foot", dict(highway="motorway"), "class: motorway"),
+    ("foot", dict(highway="residential", foot="no"), "barred: foot=no"),
+    ("bicycle", dict(highway="steps"), "class: steps"),
 ])
 def test_barred_to_other_vehicles(vehicle: str, tags: dict[str, str], why: str) -> None:
     assert rule(vehicle, True, **tags).out == why
@@ -193,12 +205,14 @@ NIGHT = closed_in(((0, 6 * H), (22 * H, DAY)))
 def test_hours(tags: dict[str, str], ends: bool, forth: Timing | None) -> None:
     found = rule(highway="residential", **tags)
     assert found.out is None and found.ends == ends and found.too is None
-    assert found.forth is not None and found.forth.timing == forth and found.back is not None and found.back.timing == forth
+    assert found.forth is not None and found.forth.timing == forth
+    assert found.back is not None and found.back.timing == forth
 
 
 @pytest.mark.parametrize("vehicle, tags, ends", [
     ("car", dict(highway="footway", motor_vehicle__conditional="yes @ (06:00-22:00)"), False),
-    ("car", dict(highway="pedestrian", motor_vehicle="no", motor_vehicle__conditional="delivery @ (06:00-22:00)"), True),
+    ("car", dict(highway="pedestrian", motor_vehicle="no", motor_vehicle__conditional="delivery @ (06:00-22:00)"),
+     True),
     ("car", dict(highway="track", access__conditional="yes @ (06:00-22:00)"), False),
     ("car", dict(highway="track", motorcar="yes", motorcar__conditional="no @ (22:00-06:00)"), False),
     ("car", dict(route="ferry", foot="yes", motor_vehicle__conditional="yes @ (06:00-22:00)"), False),
@@ -243,7 +257,8 @@ def test_limits_at_some_hours() -> None:
 def test_limits_at_some_hours_of_one_side_or_vehicle(tags: dict[str, str], forth: bool, back: bool) -> None:
     found = rule(highway="primary", **tags)
     twice = Timing(((0, 2.0), (6 * H, 1.0), (22 * H, 2.0)))
-    assert [side and side.timing for side in (found.forth, found.back)] == [twice if forth else None, twice if back else None]
+    assert found.forth is not None and found.forth.timing == (twice if forth else None)
+    assert found.back is not None and found.back.timing == (twice if back else None)
 
 
 def test_limits_of_a_ferry_are_the_same_all_day() -> None:
@@ -287,7 +302,8 @@ def test_ferries(tags: dict[str, str], seconds: int | None, departures: tuple[in
 @pytest.mark.parametrize("tags, note", [
     (dict(oneway="alternating"), "alternating, taken as open both ways without a wait"),
     (dict(oneway="sometimes"), "oneway not understood, taken as both ways: sometimes"),
-    (dict(maxspeed="fast"), "maxspeed not understood: fast"), (dict(maxspeed__forward="??"), "maxspeed not understood: ??"),
+    (dict(maxspeed="fast"), "maxspeed not understood: fast"),
+    (dict(maxspeed__forward="??"), "maxspeed not understood: ??"),
     (dict(maxspeed__conditional="30 @ wet"), "conditions not used: maxspeed"),
     (dict(maxspeed__conditional="fast @ (08:00-10:00)"), "conditions not used: maxspeed"),
     (dict(oneway__conditional="yes @ wet"), "conditions not used: oneway"),
@@ -314,14 +330,17 @@ def test_speeds_of_ones_own(tmp_path: Path) -> None:
     path = tmp_path / "speeds.toml"
     path.write_text("[car]\nshare = 0.5\n[car.classes]\nresidential = 33\nrace_track = 200\n", encoding="utf-8")
     found = read_speeds("car", path)
-    assert (found.share, found.classes["residential"], found.classes["race_track"], found.classes["primary"]) == (0.5, 33, 200, 65)
+    assert (found.share, found.classes["residential"], found.classes["race_track"],
+            found.classes["primary"]) == (0.5, 33, 200, 65)
     assert read_speeds("foot", path) == read_speeds("foot")
 
 
 @pytest.mark.parametrize("text, says", [
     ("[car\n", "isn't TOML"), ("[tram]\n", "[tram] is no vehicle"), ("[car]\nhorses = 90\n", "car.horses isn't known"),
-    ("[car]\nshare = \"much\"\n", "share is a number"), ("[car]\nshare = 0\n", "above 0"), ("[car.classes]\nprimary = -5\n", "above 0"),
-    ("[car.classes]\nprimary = 0\n", "above 0"), ("[car]\nclasses = 5\n", "table of speeds"), ("[car]\nlimits = \"none\"\n", "limits is"),
+    ("[car]\nshare = \"much\"\n", "share is a number"), ("[car]\nshare = 0\n", "above 0"),
+    ("[car.classes]\nprimary = -5\n", "above 0"),
+    ("[car.classes]\nprimary = 0\n", "above 0"), ("[car]\nclasses = 5\n", "table of speeds"),
+    ("[car]\nlimits = \"none\"\n", "limits is"),
     ("[car]\nlet_in_by_access = \"track\"\n", "list of classes"), ("[car.surface]\nmud = true\n", "table of speeds"),
 ])
 def test_speeds_that_are_none(tmp_path: Path, text: str, says: str) -> None:
