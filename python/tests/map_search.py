@@ -182,8 +182,8 @@ class Builder:
         ferry = self.rules.is_ferry(tags)
         nodes = [node for k, node in enumerate(nodes) if k == 0 or node != nodes[k - 1]]
         here = [k for k in range(len(nodes) - 1) if nodes[k] in self.osm.places and nodes[k + 1] in self.osm.places]
-        begins, ends = {nodes[k] for k in here if k - 1 not in here}, {nodes[k + 1] for k in here if k + 1 not in here}
-        self.way_ends[number] = begins | ends
+        self.way_ends[number] = {nodes[k] for k in here if k - 1 not in here}
+        self.way_ends[number] |= {nodes[k + 1] for k in here if k + 1 not in here}
         lengths = {k: metres(self.osm.places[nodes[k]], self.osm.places[nodes[k + 1]]) for k in here}
         duration = self.rules.duration(tags) if ferry else None
         if ferry:

@@ -47,7 +47,7 @@ def written(text: str, path: Path) -> Path:
     plain.write_text(text, encoding="utf-8")
     out = osmium.SimpleWriter(str(path))
 
-    class Copy(osmium.SimpleHandler):  # type: ignore[misc]
+    class Copy(osmium.SimpleHandler):
         def node(self, item: osmium.osm.Node) -> None:
             out.add_node(item)
 

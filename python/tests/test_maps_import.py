@@ -140,6 +140,9 @@ HISTORY = "this is a history or a file of changes"
     ("text.osm.bz2", "hello\n", NO_MAP),
     ("empty.osm.pbf", "", NO_MAP),
     ("cut.osm", '<?xml version="1.0"?><osm version="0.6"><node id="1" lat="1"', f"{NO_MAP}: XML"),
+    ("nowhere.osm", '<osm version="0.6"><node id="1" lat="x" lon="9"/><node id="2" lat="47" lon="9"/>'
+     '<way id="1"><nd ref="1"/><nd ref="2"/><tag k="highway" v="primary"/></way></osm>',
+     f"{NO_MAP}: wrong format for coordinate"),
     ("page.osm", "<html><body>busy</body></html>", NO_MAP),
     ("bare.osm", '<?xml version="1.0"?><osm version="0.6"></osm>', "no way in it is a road for cars"),
     ("history.osh", '<?xml version="1.0"?><osm version="0.6"></osm>', HISTORY),
@@ -262,7 +265,7 @@ def test_interrupted(small: Path, tmp_path: Path) -> None:
     slow = tmp_path / "catchup"
     slow.write_text(f"#!/bin/sh\n: > {tmp_path}/begun\nexec sleep 60\n", encoding="utf-8")
     slow.chmod(0o755)
-    words = [BIN / "catchup-import", "osm", small, tmp_path / "out", "--build"]
+    words: list[str | Path] = [BIN / "catchup-import", "osm", small, tmp_path / "out", "--build"]
     process = subprocess.Popen(words, stdout=subprocess.PIPE, stderr=subprocess.PIPE,
                                env={**os.environ, "CATCHUP": str(slow)}, start_new_session=True)
     assert interrupt(process, tmp_path / "begun") == (130, b"")
@@ -309,7 +312,7 @@ def test_the_real_map_is_a_geopackage(real: Path) -> None:
     """ogrinfo reads both layers, without a warning."""
     if shutil.which("ogrinfo") is None:
         pytest.skip("ogrinfo isn't installed (gdal-bin)")
-    words = ["ogrinfo", "-so", "-al", "-ro", real / "map.gpkg"]
+    words: list[str | Path] = ["ogrinfo", "-so", "-al", "-ro", real / "map.gpkg"]
     done = subprocess.run(words, capture_output=True, text=True, timeout=60)
     assert done.returncode == 0 and done.stderr == "", done
     for text in ("Layer name: nodes\nGeometry: Point\nFeature Count: 2281",
@@ -378,7 +381,7 @@ def test_every_restriction_of_the_real_map(real_map: Path) -> None:
 
     found: list[tuple[int, int, int]] = []
 
-    class Relations(osmium.SimpleHandler):  # type: ignore[misc]
+    class Relations(osmium.SimpleHandler):
         def relation(self, relation: osmium.osm.Relation) -> None:
             if relation.tags.get("type") == "restriction":
                 of = {member.role: member.ref for member in relation.members}
@@ -426,7 +429,7 @@ try:
 finally:
     print(sum(sum(resource.getrusage(who)[:2]) for who in (resource.RUSAGE_SELF, resource.RUSAGE_CHILDREN)))
 """
-    words = [sys.executable, "-c", code, "osm", real_map, tmp_path / "out", "--build"]
+    words: list[str | Path] = [sys.executable, "-c", code, "osm", real_map, tmp_path / "out", "--build"]
     done = subprocess.run(words, capture_output=True, text=True, timeout=60,
                           env={**os.environ, "PYTHONPATH": str(TOP / "python")})
     assert done.returncode == 0 and float(done.stdout.splitlines()[-1]) < 4, done

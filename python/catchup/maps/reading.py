@@ -271,7 +271,7 @@ def _apply(handler: osmium.SimpleHandler, path: Path) -> None:
         handler.apply_file(str(path))
     except Failure as fault:
         raise Failure(f"{path}: {fault}") from fault
-    except (RuntimeError, ValueError) as fault:
+    except (RuntimeError, ValueError, osmium.InvalidLocationError) as fault:
         raise Failure(f"{path}: this isn't a whole file of OpenStreetMap: {fault}") from fault
 
 
