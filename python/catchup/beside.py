@@ -10,11 +10,11 @@ Words = ParamSpec("Words")
 Found = TypeVar("Found")
 
 FEW: Final = 1_024
-"""Things that are gone through in the loop itself: it takes less than a few milliseconds."""
+"""Steps that are done in the loop itself: they take some milliseconds."""
 
 
-async def beside(count: int, work: Callable[Words, Found], *words: Words.args, **named: Words.kwargs) -> Found:
-    """What `work` answers. It goes through `count` things one by one; where these are many a thread does it."""
-    if count <= FEW:
+async def beside(steps: int, work: Callable[Words, Found], *words: Words.args, **named: Words.kwargs) -> Found:
+    """What `work` answers. It takes so many steps of some microseconds each; where these are many a thread does it."""
+    if steps <= FEW:
         return work(*words, **named)
     return await asyncio.to_thread(work, *words, **named)

@@ -23,6 +23,9 @@ MOST_ENTRIES = 1_048_576
 ENTRIES = 64
 """That are read in the time of one step."""
 
+STEPS = 8
+"""That it takes to look at the ends of a place."""
+
 TOGETHER = 32_768
 """Entries that are asked for together, before others get their turn: of a line, and of some short lines."""
 
@@ -47,10 +50,10 @@ async def table(driver: Driver, sources: Sequence[Snap], targets: Sequence[Snap]
     found = np.full((len(sources), len(targets)), np.nan)
     if not len(sources) or not len(targets):
         return found
-    columns, begins = await beside(len(sources) + len(targets), _ends, driver, sources, targets, depart)
+    columns, begins = await beside(STEPS * (len(sources) + len(targets)), _ends, driver, sources, targets, depart)
     for rows in _blocks([len(each) for each in begins], max(len(columns.at), len(columns.node))):
         found[rows] = await _block(driver, begins[rows], columns, depart, ask)
-    await beside(len(sources) + len(targets), _go_straight, driver, sources, targets, depart, found)
+    await beside(STEPS * (len(sources) + len(targets)), _go_straight, driver, sources, targets, depart, found)
     return found
 
 

@@ -12,6 +12,7 @@ from array import array
 from bisect import bisect_left, bisect_right
 from collections.abc import Iterable, Iterator
 from contextlib import closing
+from itertools import chain
 from pathlib import Path
 from typing import Final
 
@@ -58,8 +59,8 @@ def read_streets(path: Path, folder: Path) -> Streets:
         return Streets()
     try:
         with closing(sqlite3.connect(f"{map_path.absolute().as_uri()}?mode=ro&immutable=1", uri=True)) as base:
-            ends = [list(row) for row in base.execute("SELECT tail, head FROM roads ORDER BY road")]
-            if ends != ends_of(path)[1]:
+            ends = array("q", chain.from_iterable(base.execute("SELECT tail, head FROM roads ORDER BY road")))
+            if (ends[0::2], ends[1::2]) != ends_of(path)[1:]:
                 raise Failure(f"{map_path} isn't the map of {path}: import and build anew")
             return Streets(base.execute("SELECT road, osm_way FROM roads WHERE osm_way IS NOT NULL"), names_of(base))
     except (sqlite3.Error, TypeError, OverflowError) as problem:
@@ -67,8 +68,8 @@ def read_streets(path: Path, folder: Path) -> Streets:
 
 
 def names_of(base: sqlite3.Connection) -> Iterator[tuple[int, str | None, str | None]]:
-    """Each road's names and numbers, by rising road: those of its longest part, and those of all parts."""
-    return base.execute("SELECT road, name, ref FROM roads UNION SELECT road, name, ref FROM names ORDER BY road")
+    """Each road's names and numbers: those of its longest part, and those of all parts."""
+    return base.execute("SELECT road, name, ref FROM roads UNION ALL SELECT road, name, ref FROM names")
 
 
 def streets_of(options: Options) -> dict[Path, Streets]:

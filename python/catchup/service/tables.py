@@ -4,7 +4,10 @@ from __future__ import annotations
 
 import csv
 import importlib
+import io
 import os
+import re
+from array import array
 from pathlib import Path
 from typing import TYPE_CHECKING
 
@@ -24,38 +27,43 @@ NODES = ["node", "x", "y"]
 ROADS = ["arc", "tail", "head", "profile"]
 
 
-def read_table(path: Path, header: list[str]) -> list[list[int]]:
-    """The numbers of a table's rows, without each row's own number."""
-    with open(path, encoding="utf-8-sig", newline="") as file:
-        first, *rows = (row for row in csv.reader(file) if row)
-    if first != header or any(len(row) != len(header) for row in rows):
+def read_table(path: Path, header: list[str]) -> array[int]:
+    """The numbers of a table's rows, one row behind another."""
+    data = path.read_bytes()
+    first, _, rows = data.partition(b"\n")
+    plain = rb"(?:[0-9]{1,15}(?:,[0-9]{1,15}){%d}\n)+" % (len(header) - 1)
+    if first == ",".join(header).encode() and re.fullmatch(plain, rows):
+        return array("q", map(int, rows[:-1].replace(b"\n", b",").split(b",")))
+    # Written in another way, as by a spreadsheet.
+    [said, *others] = (row for row in csv.reader(io.StringIO(data.decode("utf-8-sig"), newline="")) if row)
+    if said != header or any(len(row) != len(header) for row in others):
         raise ValueError(path)
-    return [[number_of(word) for word in row[1:]] for row in rows]
+    return array("q", [number_of(word) for row in others for word in row])
 
 
 def draw_network(path: Path, folder: Path) -> bytes:
     """Places and roads of the tables in a folder, as JSON."""
     try:
-        places = read_table(folder / "nodes.csv", NODES)
-        ends = [row[:2] for row in read_table(folder / "roads.csv", ROADS)]
-        if (len(places), ends) != ends_of(path):
+        places, roads = read_table(folder / "nodes.csv", NODES), read_table(folder / "roads.csv", ROADS)
+        nodes, tails, heads = ends_of(path)
+        if len(places) != len(NODES) * nodes or (roads[1::4], roads[2::4]) != (tails, heads):
             raise ValueError(folder)
     except OSError as problem:
         raise Failure(f"{problem.filename or folder} can't be read: {problem.strerror}") from None
     except (ValueError, csv.Error, packed.NotPacked):
         raise Failure(f"nodes.csv and roads.csv of {folder} aren't tables of {path}") from None
-    return as_json({"nodes": places, "roads": ends})
+    return as_json({"nodes": list(zip(places[1::3], places[2::3])), "roads": list(zip(tails, heads))})
 
 
-def ends_of(path: Path) -> tuple[int, list[list[int]]]:
-    """How many nodes a packed file has, and the ends of its roads."""
+def ends_of(path: Path) -> tuple[int, array[int], array[int]]:
+    """How many nodes a packed file has, and the tails and the heads of its roads."""
     descriptor = os.open(path, os.O_RDONLY)
     try:
         header = packed.read_header(descriptor)
         numbers = packed.read_roads(descriptor, header)
     finally:
         os.close(descriptor)
-    return header.nodes, [[tail, head] for tail, head in zip(numbers[0::3], numbers[1::3])]
+    return header.nodes, array("q", numbers[0::3]), array("q", numbers[1::3])
 
 
 def draw_networks(options: Options) -> dict[Path, bytes]:
