@@ -68,13 +68,14 @@ def compare(town: Town, pairs: int, seed: int, within: float) -> None:
     assert town.ask(drives) == []
 
 
-def test_a_real_map_s_drives_are_the_search_s(liechtenstein: Town) -> None:
+@pytest.mark.parametrize("pairs", [60, pytest.param(500, marks=pytest.mark.long)])
+def test_a_real_map_s_drives_are_the_search_s(liechtenstein: Town, pairs: int) -> None:
     # A drive arrives at the nearest second, so half a second is the most.
-    compare(liechtenstein, 500, 1, 0.501)
+    compare(liechtenstein, pairs, pairs, 0.501)
 
 
 def test_a_made_map_s_drives_are_the_search_s(made: Town) -> None:
-    compare(made, 100, 2, 1.0)
+    compare(made, 40, 2, 1.0)
 
 
 async def arrival(town: Town, start: Snap, end: Snap, depart: int, ask: Ask) -> int | None:
@@ -91,7 +92,7 @@ def test_days_and_latest_departures_are_those_of_drives(made: Town) -> None:
     draw = random.Random(3)
 
     async def compare_days(ask: Ask) -> None:
-        for _ in range(12):
+        for _ in range(6):
             start, end = made.somewhere(draw), made.somewhere(draw)
             try:
                 found = await days.arrivals(made.places.driver, start, end, ask)

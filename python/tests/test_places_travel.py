@@ -72,7 +72,13 @@ def test_where_a_second_may_make_no_difference(made: list[list[Piece]], windows:
     travel = Travel(np.arange(len(made), dtype=np.int32), profiles_of(made))
     rests = np.zeros(DAY, dtype=bool)
     for pieces in made:
-        arrivals = np.array([arrive(pieces, second) for second in range(DAY + 1)])
+        arrivals = np.arange(DAY + 1)
+        for piece, end in zip(pieces, [piece.start for piece in pieces[1:]] + [DAY]):
+            if piece.kind == "travel":
+                arrivals[piece.start:end] += piece.value
+            else:
+                arrivals[piece.start:end] = piece.value
+        arrivals[DAY] = arrivals[0] + DAY
         rests |= arrivals[1:] == arrivals[:-1]
     for begin, wide in windows:
         assert travel.has_rest(begin, begin + wide) == bool(rests[np.arange(begin, begin + wide + 1) % DAY].any())
