@@ -176,7 +176,8 @@ def crow_flies(sources: Sequence[Snap], targets: Sequence[Snap], asked: AskedTab
 
 
 def fill(found: dict[str, Floats], straight: Floats, speed: float) -> NDArray[np.bool_]:
-    """Puts guesses where no way leads, and answers which entries these are: `straight` metres at some metres a second."""
+    """Puts guesses where no way leads, `straight` metres at some metres a second, and answers which entries these
+    are."""
     guessed = np.isnan(next(iter(found.values())))
     for name, entries in found.items():
         entries[guessed] = (straight / speed if name == "durations" else straight)[guessed]

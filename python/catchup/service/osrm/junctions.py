@@ -6,6 +6,7 @@ streets that meet at a junction are its arms, by rising direction in whole degre
 
 from __future__ import annotations
 
+from array import array
 from typing import Final
 
 import numpy as np
@@ -24,22 +25,24 @@ MOST_KEPT: Final = 65_536               # junctions whose text is kept
 class Junctions:
     """The junctions of a network of m roads.
 
-    tail, head: int32[m], the node where each road begins and ends. leaves, reaches: int16[m], the direction in which it
-    is driven there. leaves_by, reaches_by: int16[m], by which arm of the junction one leaves there, and by which one
-    comes.
+    head: int32[m], the node where each road ends. leaves, reaches: int16[m], the direction in which it is driven where
+    it begins, and where it ends. leaves_by, reaches_by: int16[m], by which arm of the junction one leaves there, and by
+    which one comes. They are looked up one by one, for which numpy's arrays are slow.
     """
 
     def __init__(self, ground: Ground) -> None:
         ends = ground.ends
-        self.tail, self.head = ends.tail, ends.head
-        self.leaves, self.reaches = directions_of(ground.streets)
+        leaves, reaches = directions_of(ground.streets)
         # Each end of a road is an arm of a junction: a number that tells the junction and the direction.
-        both = np.concatenate((ends.junction[ends.tail].astype(np.int64) * 360 + self.leaves,
-                               ends.junction[ends.head].astype(np.int64) * 360 + (self.reaches + 180) % 360))
+        both = np.concatenate((ends.junction[ends.tail].astype(np.int64) * 360 + leaves,
+                               ends.junction[ends.head].astype(np.int64) * 360 + (reaches + 180) % 360))
         arms, arm = np.unique(both, return_inverse=True)
         first = np.searchsorted(arms // 360, np.arange(int(ends.junction.max(initial=-1)) + 2))
         rank = (arm - first[both // 360]).astype(np.int16)
-        self.leaves_by, self.reaches_by = rank[:len(ends.tail)], rank[len(ends.tail):]
+        self.head = array("i", ends.head.astype(np.int32).tobytes())
+        self.leaves, self.reaches = (array("h", of.tobytes()) for of in (leaves, reaches))
+        self.leaves_by, self.reaches_by = (
+            array("h", of.tobytes()) for of in (rank[:len(ends.tail)], rank[len(ends.tail):]))
         self._junction, self._first, self._arms = ends.junction, first, (arms % 360).astype(np.int16)
         self._from = Grouped.by(ends.tail, len(ends.junction))
         self._streets = ground.streets
@@ -58,7 +61,7 @@ class Junctions:
 
     def text(self, road: int) -> str:
         """The members `entry`, `bearings` and `location` of the intersection at a road's end, as JSON."""
-        node = int(self.head[road])
+        node = self.head[road]
         found = self._texts.get(node)
         if found is None:
             if len(self._texts) >= MOST_KEPT:

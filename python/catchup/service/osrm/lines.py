@@ -94,7 +94,7 @@ class GeoJson(Form):
 
 def point(place: Place) -> str:
     """A place as JSON."""
-    return f"[{round(place[0], DECIMALS)},{round(place[1], DECIMALS)}]"
+    return "[%.6f,%.6f]" % (place[0], place[1])
 
 
 def escaped(text: str) -> str:

@@ -7,6 +7,7 @@ at a junction depends on the two roads alone, so it is kept.
 
 from __future__ import annotations
 
+import functools
 from collections.abc import Iterable, Mapping, Sequence
 from dataclasses import dataclass
 from typing import Final
@@ -83,9 +84,9 @@ class Turns:
     def _at_junction(self, before: Stretch, after: Stretch) -> Turn:
         """Decides what is told at a junction."""
         of = self._junctions
-        node, arrived, leaves = int(of.head[before.road]), int(of.reaches[before.road]), int(of.leaves[after.road])
-        came_by, goes_by = int(of.reaches_by[before.road]), int(of.leaves_by[after.road])
-        others = [road for road in of.roads_from(node) if of.leaves_by[road] not in (came_by, goes_by)]
+        node, arrived, leaves = of.head[before.road], of.reaches[before.road], of.leaves[after.road]
+        came_by, goes_by, leaves_by = of.reaches_by[before.road], of.leaves_by[after.road], of.leaves_by
+        others = [road for road in of.roads_from(node) if leaves_by[road] != came_by and leaves_by[road] != goes_by]
         angle = turned(arrived, leaves)
         kind, modifier = "turn", "uturn" if came_by == goes_by else modifier_of(angle)
         if after.is_ring:
@@ -96,7 +97,7 @@ class Turns:
             kind = "continue" if is_same(before, after) and after.name else "turn"
         else:
             rank, ranks = rank_of(after.kind), [rank_of(self._lines.kind(road)) for road in others]
-            rivals = {turned(arrived, int(of.leaves[road])): rank - other < MINOR
+            rivals = {turned(arrived, of.leaves[road]): rank - other < MINOR
                       for road, other in zip(others, ranks) if other - rank < MINOR}
             kind, modifier = kind_on_streets(before, after, angle, rivals)
             if kind == "turn" and self._ends(node, came_by, arrived):
@@ -197,6 +198,7 @@ def is_same(before: Stretch, after: Stretch) -> bool:
     return before.name == after.name and (bool(after.name) or before.ref == after.ref)
 
 
+@functools.cache
 def rank_of(kind: str) -> int:
     """How great a road is by its class, 0 being the greatest."""
     return RANKS.get(kind.removesuffix("_link"), LOWEST)
