@@ -657,7 +657,7 @@ def test_a_store_fails_at_once_where_names_cannot_be_told(program: Path, folder:
     """From one of its calls on, `statx` fails as no file system would: the store fails, and leaves nothing behind."""
     strace = shutil.which("strace")
     if strace is None:
-        pytest.skip("strace isn't installed")
+        pytest.skip("strace isn't installed (strace)")
     traced = [strace, "-f", "-o", "/dev/null", "-e", f"inject=statx:error={error}:when={call}"]
     before = sorted(os.listdir(folder))
     ended = subprocess.run([*traced, program, "order", *TABLES, "out"], cwd=folder, capture_output=True, timeout=20)

@@ -90,8 +90,8 @@ def test_refusals(tmp_path: Path) -> None:
     for words in (["--sizes", "5"], ["--sizes", "a,b"], ["--sizes", ""], ["--sizes", "262145"], ["--queries", "1"], ["more"]):
         check_refused(call("catchup-bench", *words), 2, "See: catchup-bench --help")
     (tmp_path / "file").write_text("")
-    ran = call("catchup-bench", "--sizes", "100", "--queries", "100", "--keep", tmp_path / "file")
-    assert ran.status == 1 and "Not a directory" in ran.error and ran.error.count("\n") == 1, ran
+    for folder, said in ((tmp_path / "file", "Not a directory"), (Path("/proc/none"), "No such file or directory")):
+        check_refused(call("catchup-bench", "--sizes", "100", "--keep", folder), 1, f"{folder}/100 can't be made: {said}")
 
 
 def test_a_closed_pipe_is_silent() -> None:

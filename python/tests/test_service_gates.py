@@ -228,10 +228,16 @@ def wait_for_port(pid: int) -> int:
     from serving import wait_for
 
     def port() -> int | None:
-        found = subprocess.run(["ss", "-tlnpH"], capture_output=True, text=True, check=True).stdout
-        for line in found.splitlines():
-            if f"pid={pid}," in line:
-                return int(line.split()[3].rpartition(":")[2])
+        try:
+            own = {os.readlink(place) for place in Path(f"/proc/{pid}/fd").iterdir()}
+        except FileNotFoundError:
+            # It has closed one meanwhile.
+            return None
+        for line in Path("/proc/net/tcp").read_text().splitlines()[1:]:
+            fields = line.split()
+            # Its state is that of one that listens, and its number one of the process' own.
+            if fields[3] == "0A" and f"socket:[{fields[9]}]" in own:
+                return int(fields[1].rpartition(":")[2], 16)
         return None
 
     found = wait_for(port)

@@ -46,6 +46,8 @@ def free_ports(*printed: str) -> dict[str, str]:
 
 
 def test_the_pages_commands_do_what_is_printed(program: Path, tmp_path: Path) -> None:
+    if shutil.which("curl") is None:
+        pytest.skip("curl isn't installed (curl)")
     (tmp_path / "bin").mkdir()
     commands_of = {name: TOP / "bin" / name for name in ("catchup-http", "catchup-import")}
     for name, path in {"catchup": program, **commands_of}.items():

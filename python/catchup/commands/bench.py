@@ -10,6 +10,7 @@ from typing import TYPE_CHECKING, NoReturn
 import click
 
 from catchup.commands._run import run
+from catchup.errors import Failure
 
 if TYPE_CHECKING:
     from catchup.bench.measure import Figures
@@ -33,6 +34,14 @@ def _sizes(context: click.Context, parameter: click.Parameter, text: str) -> lis
     return sizes
 
 
+def _make_folder(folder: Path) -> Path:
+    try:
+        folder.mkdir(parents=True, exist_ok=True)
+    except OSError as problem:
+        raise Failure(f"{folder} can't be made: {problem.strerror}") from None
+    return folder
+
+
 @click.command(epilog="Example: catchup-bench --sizes 5000,20000,73000,240000")
 @click.option("--sizes", callback=_sizes, default="5000,20000", show_default=True, help="About how many nodes, as 5000,20000.")
 @click.option("--queries", type=click.IntRange(100), default=8000, show_default=True, help="Random queries of each network.")
@@ -49,13 +58,12 @@ def command(sizes: list[int], queries: int, seed: int, keep: Path | None) -> Non
 
     with ExitStack() as stack:
         room = Path(stack.enter_context(tempfile.TemporaryDirectory(prefix="catchup-bench-")))
+        folders = [_make_folder((keep or room) / str(size)) for size in sizes]
         dijkstra = compile_dijkstra(room)
         if dijkstra is None:
             click.echo("no C compiler (cc) is installed, so there is no Dijkstra to compare with", err=True)
         click.echo("  ".join(f"{name:>10}" for name in _COLUMNS))
-        for size in sizes:
-            folder = (keep or room) / str(size)
-            folder.mkdir(parents=True, exist_ok=True)
+        for size, folder in zip(sizes, folders):
             click.echo(_row(measure(size, seed, queries, folder, dijkstra)))
 
 
