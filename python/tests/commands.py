@@ -58,6 +58,10 @@ def call(
             runpy.run_path(str(BIN / name), run_name="__main__")
         except SystemExit as end:
             status = end.code
+            if isinstance(status, str):
+                # So Python does with it.
+                print(status, file=sys.stderr)
+                status = 1
         sys.stdout.flush()
         sys.stderr.flush()
         output, error = (os.pread(file.fileno(), os.fstat(file.fileno()).st_size, 0).decode() for file in files[1:])

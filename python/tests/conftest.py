@@ -13,13 +13,14 @@ from pathlib import Path
 
 # Hypothesis keeps tables of characters in a folder; it must not be one of the checkout.
 os.environ.setdefault("HYPOTHESIS_STORAGE_DIRECTORY", os.path.join(tempfile.gettempdir(), "catchup-hypothesis"))
-sys.dont_write_bytecode = True
+# What Python makes of the modules stays out of the checkout: bin/check names a folder for it.
+sys.dont_write_bytecode = sys.pycache_prefix is None
 # A shell that runs the tests in the background has interrupts ignored, and whatever a test starts would ignore them too.
 if signal.getsignal(signal.SIGINT) is signal.SIG_IGN:
     signal.signal(signal.SIGINT, signal.default_int_handler)
 
 import pytest  # noqa: E402
-from reporting import pytest_make_collect_report, pytest_terminal_summary  # noqa: E402, F401
+from reporting import pytest_make_collect_report, pytest_runtest_makereport, pytest_terminal_summary  # noqa: E402, F401
 from scripts import let_through, make_clone, set_writable  # noqa: E402
 from stub_checkout import Checkout  # noqa: E402
 
@@ -108,6 +109,8 @@ def clone(tmp_path_factory: pytest.TempPathFactory) -> Path:
 
     It has some thousand files, so there is one: tests that take it are marked by `xdist_group("clone")`.
     """
+    if shutil.which("git") is None:
+        pytest.skip("git isn't installed (git)")
     return make_clone(tmp_path_factory.mktemp("clean") / "clone")
 
 

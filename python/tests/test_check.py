@@ -13,13 +13,23 @@ TESTS = TOP / "python/tests"
 CONFTEST = f"""
 import sys
 sys.path.insert(0, {str(TESTS)!r})
-from reporting import pytest_make_collect_report, pytest_terminal_summary
+from reporting import pytest_make_collect_report, pytest_runtest_makereport, pytest_terminal_summary
 """
 PASSES = "def test_passes(): pass\n"
 FAILS = "def test_fails(): assert False\n"
 BREAKS = "import pytest\n\n@pytest.fixture\ndef thing(): raise OSError\n\ndef test_breaks(thing): pass\n"
 SKIPS = "import pytest\n\ndef test_skips(): pytest.skip('there is no moon')\n"
 MISSES = "import nosuchmodule\n\ndef test_never(): pass\n"
+# Fail for what isn't installed: of the list, so that they are skipped, and of no list.
+LACKS = """
+import importlib.util, shutil
+
+importlib.util.find_spec = shutil.which = lambda name: None
+
+def test_module(): assert not "x: the Python module numpy isn't installed"
+def test_tool(): raise FileNotFoundError(2, "No such file or directory", "git")
+def test_other(): raise FileNotFoundError(2, "No such file or directory", "moon")
+"""
 WRONG = "import catchup.nosuchmodule\n"
 
 # Tells every package but wrk as installed; what apt-get is asked is kept.
@@ -69,15 +79,11 @@ def machine(tmp_path: Path) -> Machine:
 @pytest.mark.parametrize(
     ("texts", "status", "last"),
     [
-        ([PASSES], 0, "1 passed, 0 failed, 0 skipped"),
-        ([PASSES, FAILS], 1, "1 passed, 1 failed, 0 skipped"),
-        ([PASSES, BREAKS], 1, "1 passed, 1 failed, 0 skipped"),
-        ([PASSES, SKIPS, MISSES], 0, "1 passed, 0 failed, 2 skipped"),
-        ([PASSES, WRONG], 1, "0 passed, 1 failed, 0 skipped"),
-        (["syntax error"], 1, "0 passed, 1 failed, 0 skipped"),
+        ([PASSES, FAILS, BREAKS], 1, "1 passed, 2 failed, 0 skipped"),
+        ([PASSES, WRONG, "syntax error"], 1, "0 passed, 2 failed, 0 skipped"),
         ([], 1, "0 passed, 1 failed, 0 skipped"),
     ],
-    ids=["passes", "fails", "a fixture breaks", "skips", "our own module isn't there", "no Python", "no tests"],
+    ids=["a test and a fixture fail", "our own module isn't there, and no Python", "no tests"],
 )
 def test_counts(machine: Machine, texts: list[str], status: int, last: str) -> None:
     ran = machine.check(*texts)
@@ -85,18 +91,30 @@ def test_counts(machine: Machine, texts: list[str], status: int, last: str) -> N
 
 
 def test_names_what_is_skipped(machine: Machine) -> None:
-    out = machine.check(SKIPS, MISSES).out
-    assert "test_0.py::test_skips: there is no moon\n" in out
-    assert "test_1.py: the Python module nosuchmodule isn't installed\n" in out
+    ran = machine.check(PASSES, SKIPS, MISSES)
+    assert (ran.status, ran.out.splitlines()[-1]) == (0, "1 passed, 0 failed, 2 skipped")
+    assert "test_1.py::test_skips: there is no moon\n" in ran.out
+    assert "test_2.py: the Python module nosuchmodule isn't installed\n" in ran.out
 
 
-def test_says_what_is_missing(machine: Machine) -> None:
-    ran = machine.check(PASSES)
+def test_skips_what_fails_for_something_that_is_not_installed(machine: Machine) -> None:
+    ran = machine.check(LACKS)
+    assert (ran.status, ran.out.splitlines()[-1]) == (1, "0 passed, 1 failed, 2 skipped")
+    assert "test_0.py::test_module: the Python module numpy isn't installed (python3-numpy)\n" in ran.out
+    assert "test_0.py::test_tool: git isn't installed (git)\n" in ran.out
+
+
+def test_says_what_is_missing_and_leaves_nothing_behind(machine: Machine) -> None:
+    before = sorted(os.listdir(machine.room))
+    ran = machine.check(PASSES, TMPDIR=str(machine.room))
     wanted = (
         "check: what needs one of these is skipped, as they aren't installed: wrk (a service under load)."
         " As root bin/check installs them\n"
     )
     assert ran.err == wanted and machine.asked() == []
+    assert (ran.status, ran.out.splitlines()[-1]) == (0, "1 passed, 0 failed, 0 skipped")
+    assert sorted(os.listdir(machine.room)) == before
+    assert sorted(os.listdir(machine.room / "tests")) == ["conftest.py", "test_0.py"]
 
 
 def test_installs_what_is_missing(machine: Machine) -> None:
@@ -125,11 +143,3 @@ def test_without_pytest(machine: Machine) -> None:
     ran = machine.check(PASSES, PYTHONPATH=str(machine.room))
     assert (ran.status, ran.out) == (1, "0 passed, 1 failed, 0 skipped\n")
     assert "no test can run: /usr/bin/python3 isn't Python 3.11 with pytest (python3-pytest)\n" in ran.err
-
-
-def test_leaves_nothing_behind(machine: Machine) -> None:
-    before = sorted(os.listdir(machine.room))
-    ran = machine.check(PASSES, TMPDIR=str(machine.room))
-    assert ran.status == 0
-    assert sorted(os.listdir(machine.room)) == before
-    assert sorted(os.listdir(machine.room / "tests")) == ["conftest.py", "test_0.py"]

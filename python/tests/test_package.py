@@ -8,7 +8,7 @@ from importlib import import_module
 from pathlib import Path
 
 import pytest
-from commands import BIN, run
+from commands import BIN, call, check_refused, run
 
 PROJECT = tomllib.loads((BIN.parent / "python" / "pyproject.toml").read_text())["project"]
 SCRIPTS: dict[str, str] = PROJECT["scripts"]
@@ -31,10 +31,16 @@ def test_each_script_of_bin_calls_the_function_of_the_project() -> None:
 
 @pytest.mark.parametrize("name", sorted(SCRIPTS))
 def test_each_command_tells_its_words_with_an_example(name: str) -> None:
-    ran = run(name, "--help")
+    ran = call(name, "--help")
     assert ran.status == 0 and ran.error == "" and ran.output.startswith(f"Usage: {name} ")
     words = " ".join(ran.output.split())
     assert re.search(rf"Example: [^:]*\b{re.escape(name)} ", words)
+
+
+def test_without_click(tmp_path: Path) -> None:
+    (tmp_path / "click.py").write_text("raise ModuleNotFoundError(\"No module named 'click'\", name='click')\n")
+    ran = run("table-csv", "--help", env={"PYTHONPATH": str(tmp_path)})
+    check_refused(ran, 1, "table-csv: the Python module click isn't installed: 'apt-get install python3-click' does it")
 
 
 def test_modules_are_small() -> None:

@@ -3,3 +3,15 @@
 What takes long to load, or may not be installed, is imported where a command begins its work: so its help is there at
 once, and what is missing is told in one line.
 """
+
+import os
+import sys
+
+try:
+    import click  # noqa: F401
+except ModuleNotFoundError:
+    # Each command needs it to say so much as its help, and what a module isn't installed for is told by it.
+    sys.exit(
+        f"{os.path.basename(sys.argv[0])}: the Python module click isn't installed: "
+        "'apt-get install python3-click' does it on Debian and Ubuntu"
+    )
