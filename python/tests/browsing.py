@@ -50,7 +50,7 @@ class Browser:
         options.set_capability("goog:loggingPrefs", {"browser": "ALL"})
         self.driver = webdriver.Chrome(options=options, service=Driver("/usr/bin/chromedriver"))
         self.driver.set_page_load_timeout(60)
-        self.run = self.driver.execute_script
+        self.run: Callable[..., Any] = self.driver.execute_script
 
     def open(self, service: Service, address: str = "", size: tuple[int, int] = LAPTOP, *, dark: bool = False,
              is_drawn: bool = True) -> None:
@@ -67,7 +67,8 @@ class Browser:
     def resize(self, size: tuple[int, int]) -> None:
         """Shows the page at another size; a narrow one is a phone's, with touch."""
         is_phone = size[0] < 720
-        self.command("Emulation.setDeviceMetricsOverride", width=size[0], height=size[1], deviceScaleFactor=1, mobile=is_phone)
+        self.command("Emulation.setDeviceMetricsOverride", width=size[0], height=size[1], deviceScaleFactor=1,
+                     mobile=is_phone)
         self.command("Emulation.setTouchEmulationEnabled", enabled=is_phone)
 
     def command(self, name: str, **words: Any) -> Any:
@@ -123,13 +124,14 @@ class Browser:
 
     def problems(self) -> list[str]:
         """The errors and warnings in the console."""
-        return [f"{line['level']} {line['message']}" for line in self.driver.get_log("browser") if line["level"] != "INFO"]
+        lines = self.driver.get_log("browser")
+        return [f"{line['level']} {line['message']}" for line in lines if line["level"] != "INFO"]
 
     def elsewhere(self) -> list[str]:
         """What was asked of other origins."""
-        found: list[str] = self.run("return performance.getEntries().map(each => each.name)"
-                                    ".filter(name => /^[a-z]+:/.test(name) && !name.startsWith(location.origin) && !name.startsWith('data:'))")
-        return found
+        found: list[str] = self.run("return performance.getEntries().map(each => each.name).filter(name =>"
+                                    "/^[a-z]+:/.test(name) && !name.startsWith(location.origin))")
+        return [name for name in found if not name.startswith("data:")]
 
     def is_wider(self) -> bool:
         """Whether the page is wider than the screen."""

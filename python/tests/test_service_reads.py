@@ -241,7 +241,8 @@ def test_what_a_service_says_of_itself(service: Service, town: Path) -> None:
     assert (len(network["nodes"]), len(network["roads"]), network["version"]) == (159, 550, digest_of(town))
     page = service.client.get("/")
     assert page.headers["content-type"] == "text/html; charset=utf-8"
-    assert all(link.startswith(("/page/", "#", "data:")) for link in re.findall(r"(?:src|href)\s*=\s*\"([^\"]*)\"", page.text))
+    links = re.findall(r"(?:src|href)\s*=\s*\"([^\"]*)\"", page.text)
+    assert links and all(link.startswith(("/page/", "#", "data:")) for link in links)
     assert service.ask("/docs")[0] == 404
     described = service.get("/openapi.json")
     assert {"/route", "/day", "/best", "/reach", "/table", "/latest", "/network", "/edits", "/edits/{name}", "/health",

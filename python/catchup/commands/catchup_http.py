@@ -44,9 +44,11 @@ class Digits(click.ParamType):
 @click.option("--origin", "origins", multiple=True, metavar="ORIGIN", help="Another page's origin that may read and write.")
 @click.option("--token", type=click.Path(path_type=Path), metavar="FILE", help="A file with the token that writes need.")
 @click.option("--zone", metavar="ZONE", help="The time zone of the roads, as Europe/Zurich; this machine's by default.")
-@click.option("--tiles", metavar="URL", help="A base map for the page, as https://tiles.example.org/{z}/{x}/{y}.png; none by default.")
-@click.option("--attribution", metavar="TEXT", help="Whose base map that is; OpenStreetMap contributors' where nothing is said.")
-@click.option("--leaflet", type=click.Path(path_type=Path), metavar="DIR", help="A folder with Leaflet, where the system has none.")
+@click.option("--tiles", metavar="URL",
+              help="A base map for the page, as https://tiles.example.org/{z}/{x}/{y}.png; none by default.")
+@click.option("--attribution", metavar="TEXT", help="Whose base map that is; OpenStreetMap's where nothing is said.")
+@click.option("--leaflet", type=click.Path(path_type=Path), metavar="DIR",
+              help="A folder with Leaflet, where the system has none.")
 @click.option("--log", metavar="redis://HOST:PORT/0/NAME", help="A stream between replicas.")
 @click.option("--access-log/--no-access-log", default=False, help="A line on standard error for each answer; none by default.")
 @click.option("--docs", is_flag=True, help="Shows the paths at /docs, by scripts from elsewhere.")

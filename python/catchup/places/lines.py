@@ -85,8 +85,8 @@ class Lines:
 
     @property
     def names(self) -> tuple[Ints, list[tuple[str, str]]]:
-        """Of each road the name and the reference number of most of it, int64[m]: a number into a list of them, -1 where it
-        has none."""
+        """Of each road the name and the reference number of most of it, int64[m]: a number into a list of them, -1
+        where it has none."""
         return self._text, self._names.texts
 
     def kind(self, road: int) -> str:

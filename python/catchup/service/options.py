@@ -155,6 +155,7 @@ def check_page(options: Options) -> None:
     """Refuses options of the page that lead nowhere."""
     if options.tiles is not None and not (TILES.fullmatch(options.tiles) and all(
             word in options.tiles for word in ("{z}", "{x}", "{y}"))):
-        raise Failure(f"--tiles {options.tiles!r} is no address of tiles: write it as https://tiles.example.org/{{z}}/{{x}}/{{y}}.png")
+        raise Failure(f"--tiles {options.tiles!r} is no address of tiles: "
+                      "write it as https://tiles.example.org/{z}/{x}/{y}.png")
     if options.leaflet is not None and not (options.leaflet / "leaflet.js").is_file():
         raise Failure(f"--leaflet {options.leaflet} has no leaflet.js")

@@ -44,6 +44,7 @@ def world_number(word: str) -> int:
 
 
 HERE: Final[dict[str, Any]] = {"x": world_number, "y": world_number}
+TIMES: Final[dict[str, Any]] = {"via": via_of, "depart": second_of, "arrive": second_of}
 REACH: Final[dict[str, Any]] = {"from": stop_of, "depart": second_of, "within": within_of, "bands": bands_of}
 
 
@@ -60,8 +61,9 @@ async def map_told(worker: Worker, network: Network) -> dict[str, Any]:
     """What the page has to know of a network before it draws any of it."""
     drawn = await drawn_of(worker, network)
     sheet = drawn.sheet
-    return {"name": drawn.name, "is_plane": not sheet.has_map, "box": sheet.box, "streets": len(sheet), "mean": sheet.mean,
-            "roads": len(sheet.of_road), "nodes": len(sheet.nodes), "levels": [level.zoom for level in drawn.levels], "zoom": ZOOM}
+    return {"name": drawn.name, "is_plane": not sheet.has_map, "box": sheet.box, "zoom": ZOOM, "mean": sheet.mean,
+            "streets": len(sheet), "roads": len(sheet.of_road), "nodes": len(sheet.nodes),
+            "levels": [level.zoom for level in drawn.levels]}
 
 
 async def roads(request: Request) -> Response:
@@ -95,7 +97,8 @@ async def street(request: Request) -> Response:
     of = await drawn.traffic(version)
     ways = [way_told(of, roads, is_forward) for is_forward in (True, False) if (roads := [
         road for road in sheet.roads(number) if bool(sheet.is_forward[road]) == is_forward])]
-    told = {"street": number, "name": drawn.search.name_of(number), "line": sheet.line(number), "ways": ways}
+    told: dict[str, Any] = {
+        "street": number, "name": drawn.search.name_of(number), "line": sheet.line(number), "ways": ways}
     if drawn.places is not None:
         lead = int(sheet.lead[number])
         told |= {"class": drawn.places.lines.kind(lead), "metres": round(float(drawn.places.lines.metres[lead]), 1)}
@@ -103,11 +106,23 @@ async def street(request: Request) -> Response:
 
 
 def way_told(of: Traffic, roads: list[int], is_forward: bool) -> dict[str, Any]:
-    """The roads of one direction: their day, and the edits that make it again."""
-    pieces, free = of.pieces(roads[0]), float(of.free[of.profile[roads[0]]])
-    restore = [{"road": road, "profile": int(of.profile[road])} if of.is_shared(road) else {"road": road, "pieces": of.pieces(road)}
-               for road in roads]
-    return {"roads": roads, "is_forward": is_forward, "pieces": pieces, "free": free if free < DAY else None, "restore": restore}
+    """The roads of one direction: their day, and the profile and the day of each, by which an edit is undone."""
+    profiles = [int(of.profile[road]) for road in roads]
+    free = float(of.free[profiles[0]])
+    before = [{"road": road, "profile": profile, "pieces": of.pieces(profile)}
+              for road, profile in zip(roads, profiles)]
+    return {"roads": roads, "is_forward": is_forward, "pieces": of.pieces(profiles[0]),
+            "free": free if free < DAY else None, "before": before}
+
+
+async def profile(request: Request) -> Response:
+    """The day of a profile."""
+    asked, _, network, drawn = await asked_of(request, {"number": number_of})
+    version = network.current
+    of = await drawn.traffic(version)
+    if asked["number"] >= len(of.free):
+        raise Refusal(404, "there is no such profile")
+    return answer({"pieces": of.pieces(asked["number"])}, version.name)
 
 
 async def search(request: Request) -> Response:
@@ -136,7 +151,7 @@ async def near(request: Request) -> Response:
 
 async def route(request: Request) -> Response:
     """As /route, as the page draws it."""
-    asked, worker, network, drawn = await asked_of(request, ENDS, {"via": via_of, "depart": second_of, "arrive": second_of})
+    asked, worker, network, drawn = await asked_of(request, ENDS, TIMES)
     version = network.current
     of = await drawn.traffic(version)
     if drawn.places is None:
@@ -158,8 +173,9 @@ async def times_of(version: Version, drawn: Drawn, asked: dict[str, Any]) -> Any
     from catchup.places.reach import node_times
 
     found = placed(version)
+    snap = snap_of(found.places, asked["from"], "from")
     with version.held():
-        return await node_times(found.places.driver, snap_of(found.places, asked["from"], "from"), asked["depart"], found.slow)
+        return await node_times(found.places.driver, snap, asked["depart"], found.slow)
 
 
 async def reach(request: Request) -> Response:
@@ -169,6 +185,9 @@ async def reach(request: Request) -> Response:
     of = await drawn.traffic(version)
     times = await times_of(version, drawn, {**asked, "depart": depart})
     found = street_bands(drawn, of, times, depart, asked["within"], max(asked["bands"], 1))
+    if drawn.places is not None:
+        # Where one begins one is at once.
+        found[snap_of(drawn.places, asked["from"], "from").street] = 0
     return Response(found.tobytes(), media_type=BYTES, headers={"Catchup-Version": version.name, **FRESH})
 
 
@@ -186,4 +205,4 @@ async def ground(request: Request) -> Response:
 
 
 ANSWERS: Final = {"roads": roads, "traffic": traffic, "street": street, "search": search, "near": near, "route": route,
-                  "reach": reach, "ground": ground}
+                  "reach": reach, "ground": ground, "profile": profile}

@@ -8,7 +8,7 @@ from typing import TYPE_CHECKING, Any
 
 import numpy as np
 
-from catchup.service.page.sheet import world_of
+from catchup.service.page.sheet import Floats, world_of
 from catchup.service.route import Trip, by_arrival, by_departure
 from catchup.service.stops import snap_of
 from catchup.service.words import DAY
@@ -40,7 +40,7 @@ def trip_told(trip: Trip, drawn: Drawn, traffic: Traffic) -> dict[str, Any]:
             "travel": last.arrive - first.depart, "places": places, "legs": legs}
 
 
-def placed(point: tuple[float, float]) -> dict[str, int]:
+def placed(point: tuple[float, float]) -> dict[str, Any]:
     """A longitude and a latitude, in the world."""
     x, y = world_of(np.array(point))
     return {"x": int(x), "y": int(y)}
@@ -60,7 +60,8 @@ def leg_told(drive: Drive, drawn: Drawn, traffic: Traffic) -> dict[str, Any]:
             "line": np.column_stack((x, y)).ravel().tolist()}
 
 
-def taken(roads: list[int], seconds: list[int], share: Any, depart: int, arrive: int, traffic: Traffic) -> dict[str, Any]:
+def taken(roads: list[int], seconds: list[int], share: Floats, depart: int, arrive: int,
+          traffic: Traffic) -> dict[str, Any]:
     """When each road of a leg is entered, its free seconds, and how long one waits on it."""
     free = np.round(traffic.free[traffic.profile[roads]] * share, 1).tolist() if roads else []
     return {"depart": depart, "arrive": arrive, "roads": roads, "seconds": seconds, "free": free,
@@ -74,7 +75,8 @@ def plain_told(body: bytes, drawn: Drawn, traffic: Traffic) -> dict[str, Any]:
         return found
     sheet = drawn.sheet
     stops = [found["legs"][0]["from"], *[leg["to"] for leg in found["legs"]]]
-    found["places"] = [{"x": x, "y": y, "name": f"Node {node}"} for node, (x, y) in zip(stops, sheet.nodes[stops].tolist())]
+    found["places"] = [{"x": x, "y": y, "name": f"Node {node}"}
+                       for node, (x, y) in zip(stops, sheet.nodes[stops].tolist())]
     legs = []
     for leg in found["legs"]:
         roads, depart = leg["roads"], leg["depart"]

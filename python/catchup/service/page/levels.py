@@ -1,4 +1,4 @@
-"""Streets in levels: each has the streets of some zooms, cut into tiles, with the points that can be told apart there."""
+"""Streets in levels: each has the streets of some zooms, cut into tiles, with the points that are told apart there."""
 
 from __future__ import annotations
 
@@ -85,8 +85,8 @@ def segments_of(sheet: Sheet) -> Bools:
 
 
 def told_apart(sheet: Sheet, zoom: int) -> tuple[Bools, Bools]:
-    """Which points and which streets a zoom has: points more than half a pixel apart, and as many of the first streets as
-    there is room for."""
+    """Which points and which streets a zoom has: points more than half a pixel apart, and as many of the first streets
+    as there is room for."""
     shift = ZOOM - zoom - 1
     cell = (sheet.y.astype(np.int64) >> shift << 32) + (sheet.x >> shift)
     first, last = sheet.first[:-1], sheet.first[1:] - 1
@@ -132,5 +132,5 @@ def cut(sheet: Sheet, zoom: int, is_kept: Bools, there: Bools) -> Level:
     place[points[1:] - 1] = to[which[np.append(piece[1:], len(key)) - 1]] if len(key) else 0
     keys, first = np.unique(key[piece], return_index=True)
     of = street[at[which[piece]]]
-    return Level(zoom, keys, np.append(first, len(piece)), of.astype(np.uint32), size.astype(np.uint16), sheet.rank[of], points,
-                 np.column_stack((sheet.x[place], sheet.y[place])))
+    return Level(zoom, keys, np.append(first, len(piece)), of.astype(np.uint32), size.astype(np.uint16), sheet.rank[of],
+                 points, np.column_stack((sheet.x[place], sheet.y[place])))

@@ -1,4 +1,4 @@
-"""What the page needs of a served network: its sheet, levels, names and traffic. It is made once it is first asked for."""
+"""What the page needs of a served network: its sheet, levels, names and traffic, made once they are asked for."""
 
 from __future__ import annotations
 
@@ -38,7 +38,7 @@ class Drawn:
         """A word that differs from that of another network, so that a browser keeps its tiles."""
         found = hashlib.blake2b(digest_size=6)
         for values in (self.sheet.x, self.sheet.y, self.sheet.first, self.sheet.rank):
-            found.update(np.ascontiguousarray(values))
+            found.update(np.ascontiguousarray(values).tobytes())
         return found.hexdigest()
 
     def level(self, zoom: int) -> Level:

@@ -79,6 +79,6 @@ async def answered(request: Request) -> Response:
     return found
 
 
-for name in ("traffic", "street", "search", "near", "route", "reach", "ground"):
+for name in ("traffic", "street", "search", "near", "route", "reach", "ground", "profile"):
     router.add_api_route(PREFIX + name, answered)
 router.add_api_route(PREFIX + "roads/{zoom}/{column}/{row}", answered)

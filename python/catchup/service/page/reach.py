@@ -29,7 +29,7 @@ async def plain_times(version: Version, node: int, depart: int) -> Floats:
 
 
 def street_bands(drawn: Drawn, traffic: Traffic, times: Floats, depart: int, within: int, count: int) -> Bytes:
-    """The band of each street, uint8[s]: that in which its middle is reached, UNREACHED where it isn't within the time."""
+    """The band of each street, uint8[s]: that in which its middle is reached, UNREACHED where it isn't in time."""
     sheet = drawn.sheet
     takes, _ = traffic.at(depart)
     entered = times[sheet.tail] - depart
@@ -40,7 +40,7 @@ def street_bands(drawn: Drawn, traffic: Traffic, times: Floats, depart: int, wit
 
 
 async def grounds(found: Placed, snap: Snap, depart: int, within: int, count: int) -> list[dict[str, Any]]:
-    """The ground of each band, the longest first: its seconds, and its polygons, each of rings of x and y in the world."""
+    """The ground of each band, the longest first: its seconds, and its polygons, of rings of x and y in the world."""
     from catchup.places.bands import bands
     from catchup.places.reach import reached
 

@@ -25,7 +25,7 @@ _APART: Final = ZOOM - 13
 
 @dataclass(frozen=True, slots=True)
 class Hit:
-    """A place that was found: the word by which routes take it, what it is called, what else is said of it, and where."""
+    """A place that was found: the word by which routes take it, its name, what else is said of it, and where it is."""
 
     place: str
     name: str
@@ -41,7 +41,8 @@ class Hit:
 def plain(text: str) -> str:
     """A text as it is compared: without marks and capital letters."""
     found = unicodedata.normalize("NFKD", text.casefold())
-    return "".join(each for each in found if not unicodedata.combining(each)).replace("strasse", "str").replace("str.", "str")
+    found = "".join(each for each in found if not unicodedata.combining(each))
+    return found.replace("strasse", "str").replace("str.", "str")
 
 
 class Search:
@@ -59,7 +60,8 @@ class Search:
             self._plain = [f"{plain(name)}\n{plain(ref)}" for name, ref in texts]
 
     def find(self, words: str, near: tuple[int, int]) -> list[Hit]:
-        """The places that are meant by some words, those that begin so first, and then those near a place of the world."""
+        """The places that are meant by some words: those that begin so first, of these the nearest to a place of the
+        world."""
         number = self._numbered(words)
         return number if number else self._named(words, near)[:MOST]
 
@@ -137,7 +139,8 @@ class Search:
         """One street of each name in each part of the map: the middle one of them."""
         sheet = self._sheet
         x, y = sheet.x[sheet.first[streets]] >> _APART + 9, sheet.y[sheet.first[streets]] >> _APART + 9
-        _, first, group = np.unique(np.column_stack((self._text[streets], x, y)), axis=0, return_index=True, return_inverse=True)
+        rows = np.column_stack((self._text[streets], x, y))
+        _, first, group = np.unique(rows, axis=0, return_index=True, return_inverse=True)
         found: list[int] = []
         for number in range(len(first)):
             of = streets[group.ravel() == number]

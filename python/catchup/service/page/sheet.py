@@ -8,7 +8,7 @@ from __future__ import annotations
 
 import json
 from dataclasses import dataclass, field
-from typing import TYPE_CHECKING, Final
+from typing import TYPE_CHECKING, Any, Final
 
 import numpy as np
 from numpy.typing import NDArray
@@ -72,8 +72,9 @@ class Sheet:
         found: list[int] = self._roads[self._begin[street]:self._begin[street + 1]].tolist()
         return found
 
-    def by_street(self, join: np.ufunc, values: Bytes) -> Bytes:
-        """What the roads of each street have together, uint8[s], from a value of each road."""
+    def by_street(self, join: Any, values: Bytes) -> Bytes:
+        """What the roads of each street have together, uint8[s], from a value of each road; `join` is numpy's, as
+        np.maximum."""
         if not len(self):
             return np.empty(0, dtype=np.uint8)
         return np.asarray(join.reduceat(values[self._roads], self._begin[:-1]), dtype=np.uint8)

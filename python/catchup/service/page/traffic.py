@@ -10,7 +10,7 @@ from catchup.clock import DAY
 from catchup.tables import CLOSED, UNTIL
 
 if TYPE_CHECKING:
-    from catchup.service.page.sheet import Bytes, Floats, Ints, Sheet, Shorts
+    from catchup.service.page.sheet import Bytes, Floats, Sheet, Shorts
     from catchup.tables import Profiles
 
 LIMITS: Final = (1.1, 1.3, 1.6, 2.0, 3.0)
@@ -39,11 +39,9 @@ class Traffic:
         least[is_closed] = np.inf
         self.free: Floats = np.minimum.reduceat(least, first[:-1])
         """float64[p], the least seconds that each profile takes; infinite where nobody may drive."""
-        self.count: Ints = np.bincount(profile, minlength=len(self.free))
-        """int64[p], how many roads have each profile."""
 
     def at(self, second: int) -> tuple[Floats, Floats]:
-        """The seconds that each profile takes at a second, infinite where it is closed, and how long one waits of them."""
+        """The seconds that each profile takes at a second, infinite where it is closed; how many of them one waits."""
         of = self.profiles
         piece = np.searchsorted(self._key, np.arange(len(self.free), dtype=np.int64) * DAY + second, side="right") - 1
         is_until = of.kind[piece] == UNTIL
@@ -52,8 +50,8 @@ class Traffic:
         return takes, np.where(is_until, self._end[piece] - second, 0).astype(np.float64)
 
     def streets(self, sheet: Sheet, second: int) -> Bytes:
-        """What the page draws of each street, uint8[s]: how slow its slowest road is, 0 to 5, with FORWARD and BACKWARD for
-        the directions in which it may be driven at that second, SHUT where there is none."""
+        """What the page draws of each street, uint8[s]: how slow its slowest road is, 0 to 5, with FORWARD and BACKWARD
+        for the directions in which it may be driven at that second, SHUT where there is none."""
         takes, wait = self.at(second)
         is_shut = ~np.isfinite(takes) | (wait >= LONG_WAIT)
         with np.errstate(invalid="ignore"):
@@ -64,17 +62,13 @@ class Traffic:
         found, ways = sheet.by_street(np.maximum, slow[self.profile]), sheet.by_street(np.bitwise_or, bits)
         return np.asarray(found | np.where(ways == 0, np.uint8(SHUT), ways), dtype=np.uint8)
 
-    def pieces(self, road: int) -> list[dict[str, Any]]:
-        """The pieces of a road's day."""
-        of, profile = self.profiles, int(self.profile[road])
+    def pieces(self, profile: int) -> list[dict[str, Any]]:
+        """The pieces of a profile's day."""
+        of = self.profiles
         span = slice(int(of.first[profile]), int(of.first[profile + 1]))
         names = {int(UNTIL): "until", int(CLOSED): "closed"}
         return [{"from": start, "kind": names.get(kind, "travel"), "value": value} for start, kind, value in zip(
             of.start[span].tolist(), of.kind[span].tolist(), of.value[span].tolist())]
-
-    def is_shared(self, road: int) -> bool:
-        """Whether other roads have a road's profile."""
-        return int(self.count[self.profile[road]]) > 1
 
     def waits(self, roads: list[int], seconds: list[int]) -> list[int]:
         """How long one waits on each of some roads that is entered at its second."""

@@ -16,6 +16,7 @@ import { MODES, onChange, state } from "./state.js";
 import { Traffic } from "./traffic.js";
 
 const LEVELS = 15;
+const TRAFFIC = Array.from({ length: 6 }, (_, level) => ({ colour: slow(level), width: 1.2 }));
 
 export class Page {
   constructor(setting, notice) {
@@ -56,7 +57,7 @@ export class Page {
     const ways = data.map(byte => byte & (FORWARD | BACKWARD | SHUT)), { roads } = this.chart;
     const isSame = roads.ways && ways.every((way, street) => way === roads.ways[street]);
     roads.ways = ways;
-    if (state.mode === "traffic") this.paint(data.map(byte => byte & LEVELS), Array.from({ length: 6 }, (_, level) => ({ colour: slow(level), width: 1.2 })));
+    if (state.mode === "traffic") this.paint(data.map(byte => byte & LEVELS), TRAFFIC);
     else if (!isSame) roads.restyle();
   }
 
@@ -75,7 +76,8 @@ export class Page {
     const { name } = await ask("/page/street", { street }).catch(() => ({ name: "" }));
     if (!name || this.pointed !== street) return;
     const box = at("map").getBoundingClientRect();
-    Object.assign(at("hover").style, { left: `${Math.min(spot.x + 12, box.width - 170)}px`, top: `${Math.max(spot.y - 30, 4)}px` });
+    const left = Math.min(spot.x + 12, box.width - 170), top = Math.max(spot.y - 30, 4);
+    Object.assign(at("hover").style, { left: `${left}px`, top: `${top}px` });
     at("hover").textContent = name;
     at("hover").hidden = false;
   }

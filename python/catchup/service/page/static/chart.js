@@ -17,7 +17,7 @@ export class Chart {
     const [west, north, east, south] = found.box;
     this.bounds = L.latLngBounds(latLng(west, south), latLng(east, north));
     this.map = L.map(element, {
-      zoomControl: false, attributionControl: false, preferCanvas: true, renderer: L.canvas({ padding: 0.3 }), worldCopyJump: false,
+      zoomControl: false, attributionControl: false, preferCanvas: true, renderer: L.canvas({ padding: 0.3 }),
       zoomSnap: 0.5, wheelPxPerZoomLevel: 90, minZoom: 1, maxZoom: ZOOM, maxBoundsViscosity: 0.6,
     });
     this.addControls(setting);
@@ -27,7 +27,8 @@ export class Chart {
     this.map.setMaxZoom(Math.min(Math.max(deepest, found.is_plane ? 3 : 18), ZOOM));
     this.map.setMinZoom(Math.max(Math.floor(this.map.getBoundsZoom(this.bounds)) - 2, 1));
     if (setting.tiles) {
-      L.tileLayer(setting.tiles, { className: "base", maxZoom: ZOOM, maxNativeZoom: 19, attribution: setting.attribution ?? OSM }).addTo(this.map);
+      const attribution = setting.attribution ?? OSM;
+      L.tileLayer(setting.tiles, { className: "base", maxZoom: ZOOM, maxNativeZoom: 19, attribution }).addTo(this.map);
     }
     // The roads lie under what is drawn over them.
     this.map.createPane("roads").style.zIndex = 350;
@@ -68,7 +69,8 @@ export class Chart {
   // The view of an address, as 12/47.1/9.5; the whole network where there is none.
   show(view) {
     const [zoom, lat, lon] = (view ?? "").split("/").map(Number);
-    if ([zoom, lat, lon].every(Number.isFinite) && view && this.bounds.pad(2).contains([lat, lon])) this.map.setView([lat, lon], zoom, { animate: false });
+    const isView = view && [zoom, lat, lon].every(Number.isFinite) && this.bounds.pad(2).contains([lat, lon]);
+    if (isView) this.map.setView([lat, lon], zoom, { animate: false });
     else this.fit({ animate: false });
   }
 
@@ -78,7 +80,11 @@ export class Chart {
   }
 
   listen() {
-    this.map.on("moveend", () => setView(this.viewNow()));
+    this.map.on("moveend", () => {
+      if (this.isResizing) return;
+      this.kept = { center: this.map.getCenter(), zoom: this.map.getZoom() };
+      setView(this.viewNow());
+    });
     // Whoever moves the map keeps the view.
     this.map.on("dragstart", () => { this.fitted = null; });
     this.map.getContainer().addEventListener("wheel", () => { this.fitted = null; }, { passive: true });
@@ -89,10 +95,16 @@ export class Chart {
     onTheme(() => this.roads.restyle());
     // What didn't come while the service was gone.
     onReachable(isThere => { if (isThere) this.roads.redraw(); });
-    new ResizeObserver(() => {
-      this.map.invalidateSize({ pan: false });
-      if (this.fitted) this.fit({ animate: false }, this.fitted);
-    }).observe(this.map.getContainer());
+    new ResizeObserver(() => this.resize()).observe(this.map.getContainer());
+  }
+
+  // Another size shows the same: what was fitted, or the same middle.
+  resize() {
+    this.isResizing = true;
+    this.map.invalidateSize({ pan: false });
+    if (this.kept) this.map.setView(this.kept.center, this.kept.zoom, { animate: false });
+    this.isResizing = false;
+    if (this.fitted) this.fit({ animate: false }, this.fitted);
   }
 
   // The street at a place of the map; -1 where there is none.

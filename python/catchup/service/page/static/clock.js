@@ -7,7 +7,8 @@ const two = number => String(number).padStart(2, "0");
 // 08:05, or 08:05:30 where there are seconds; behind midnight with the day.
 export function clock(second) {
   const day = Math.floor(second / DAY), rest = second - day * DAY;
-  const time = `${two(Math.floor(rest / 3600))}:${two(Math.floor(rest / 60) % 60)}${rest % 60 ? ":" + two(Math.floor(rest % 60)) : ""}`;
+  const seconds = rest % 60 ? ":" + two(Math.floor(rest % 60)) : "";
+  const time = `${two(Math.floor(rest / 3600))}:${two(Math.floor(rest / 60) % 60)}${seconds}`;
   return time + (day === 1 ? " the next day" : day > 1 ? ` ${day} days later` : day === -1 ? " the day before" : "");
 }
 

@@ -7,7 +7,8 @@ export function arrivals(pieces) {
   const found = new Float64Array(DAY);
   pieces.forEach((piece, index) => {
     const end = index + 1 < pieces.length ? pieces[index + 1].from : DAY;
-    for (let second = piece.from; second < end; second++) found[second] = piece.kind === "until" ? piece.value : second + piece.value;
+    const isUntil = piece.kind === "until";
+    for (let second = piece.from; second < end; second++) found[second] = isUntil ? piece.value : second + piece.value;
   });
   return found;
 }
@@ -27,8 +28,8 @@ function departureFor(arrives, second) {
   return low;
 }
 
-// The curve of the days of a drive's legs: its travel times, the least and the greatest, rush hours, and where another route
-// takes over.
+// The curve of the days of a drive's legs: its travel times, the least and the greatest, rush hours, and where another
+// route takes over.
 export function curveOf(days) {
   let so = null;
   const changes = new Set();
@@ -46,11 +47,12 @@ export function curveOf(days) {
     if (travels[second] < travels[least]) least = second;
     if (travels[second] > travels[most]) most = second;
   }
-  return { travels, least, most, changes: [...changes].sort((a, b) => a - b), rush: rushOf(travels, travels[least], travels[most]) };
+  const rush = rushOf(travels, travels[least], travels[most]);
+  return { travels, least, most, changes: [...changes].sort((a, b) => a - b), rush };
 }
 
-// Stretches of more than half of the way from the least to the greatest travel time, where that is a tenth more than the least.
-// Breaks of some minutes are passed over.
+// Stretches of more than half of the way from the least to the greatest travel time, where that is a tenth more than
+// the least. Breaks of some minutes are passed over.
 function rushOf(travels, least, most) {
   const limit = (least + most) / 2, found = [];
   if (most <= least * 1.1) return found;

@@ -7,7 +7,7 @@ import { colours, onTheme } from "./palette.js";
 import { ask, newest } from "./service.js";
 import { change, isWhole, onChange, state } from "./state.js";
 
-const MARGIN = { left: 68, right: 16, top: 10, bottom: 30 };
+const MARGIN = { left: 76, right: 16, top: 10, bottom: 30 };
 const FONT = "12px system-ui, 'DejaVu Sans', sans-serif";
 
 export class Day {
@@ -69,7 +69,8 @@ export class Day {
       ? `Shortest ${span(travels[least])} at ${minute(least)}, longest ${span(travels[most])} at ${minute(most)}.`
       : `The drive takes ${span(travels[least])} all day.`;
     const times = [...new Set(changes.map(minute))];
-    const others = times.length ? ` Another route takes over at ${times.slice(0, 4).join(", ")}${times.length > 4 ? " …" : ""}` : "";
+    const first = times.slice(0, 4).join(", ") + (times.length > 4 ? " …" : "");
+    const others = times.length ? ` Another route takes over at ${first}.` : "";
     at("day-said").textContent = both + others;
     this.canvas.setAttribute("aria-label", `Travel time by departure. ${both}${others}`);
   }
@@ -86,7 +87,8 @@ export class Day {
     pen.setTransform(ratio, 0, 0, ratio, 0, 0);
     pen.font = FONT;
     const right = box.width - MARGIN.right, bottom = box.height - MARGIN.bottom;
-    const view = { pen, right, bottom, width: box.width, x: second => MARGIN.left + second / DAY * (right - MARGIN.left) };
+    const x = second => MARGIN.left + second / DAY * (right - MARGIN.left);
+    const view = { pen, right, bottom, width: box.width, x };
     this.drawAxis(view);
     if (!this.curve) return;
     this.scale(view);
@@ -123,7 +125,9 @@ export class Day {
 
   drawRush({ pen, x, bottom }) {
     pen.fillStyle = colours().rush;
-    for (const [from, to] of this.curve.rush) pen.fillRect(x(from), MARGIN.top, Math.max(x(to) - x(from), 1), bottom - MARGIN.top);
+    for (const [from, to] of this.curve.rush) {
+      pen.fillRect(x(from), MARGIN.top, Math.max(x(to) - x(from), 1), bottom - MARGIN.top);
+    }
   }
 
   drawTimes({ pen, y, base, right }) {
@@ -179,7 +183,8 @@ export class Day {
 
   drawMark({ pen, x, y, bottom, right }) {
     if (this.depart === null) return;
-    const second = Math.min(Math.max(Math.round(this.depart), 0), DAY - 1), travel = this.curve.travels[second], at = x(second);
+    const second = Math.min(Math.max(Math.round(this.depart), 0), DAY - 1), at = x(second);
+    const travel = this.curve.travels[second];
     pen.strokeStyle = pen.fillStyle = colours().mark;
     pen.beginPath();
     pen.moveTo(at, MARGIN.top);
@@ -207,7 +212,10 @@ export class Day {
       const part = Math.min(Math.max((event.clientX - box.left - MARGIN.left) / wide, 0), 1);
       change({ by: "depart", time: Math.min(Math.round(part * 1440) * 60, DAY - 60) });
     };
-    this.canvas.addEventListener("pointerdown", event => { this.canvas.setPointerCapture(event.pointerId); pick(event); });
+    this.canvas.addEventListener("pointerdown", event => {
+      this.canvas.setPointerCapture(event.pointerId);
+      pick(event);
+    });
     this.canvas.addEventListener("pointermove", event => { if (event.buttons) pick(event); });
     this.canvas.addEventListener("keydown", event => {
       const step = { ArrowLeft: -300, ArrowRight: 300, PageUp: 3600, PageDown: -3600 }[event.key];

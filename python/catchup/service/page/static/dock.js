@@ -44,7 +44,8 @@ export class Dock {
 
   // What the route says beside the time.
   say(found) {
-    at("said").textContent = !found ? "" : state.by === "depart" ? `→ ${clock(found.arrive)}` : `leave at ${clock(found.depart)}`;
+    const said = found && (state.by === "depart" ? `→ ${clock(found.arrive)}` : `leave at ${clock(found.depart)}`);
+    at("said").textContent = said ?? "";
   }
 }
 

@@ -27,5 +27,6 @@ export function legend(element, rows) {
 
 // What is wrong, with what to do.
 export function wrong(problem) {
-  return make("div", { className: "bad-box", role: "alert" }, problem.message, problem.hint ? make("small", {}, problem.hint) : null);
+  const hint = problem.hint ? make("small", {}, problem.hint) : null;
+  return make("div", { className: "bad-box", role: "alert" }, problem.message, hint);
 }

@@ -1,6 +1,6 @@
-// A drive as the service tells it, in the parts that the page shows: stretches by how slow they are, and streets by name.
+// A drive as the service tells it, in the parts that the page shows: stretches by how slow they are, streets by name.
 
-const SMOOTH = 20;              // free seconds of the shortest stretch: of two seconds for one nobody says that they are slow
+const SMOOTH = 20;              // free seconds of the shortest stretch: two seconds for one aren't slow
 const LIMITS = [1.1, 1.3, 1.6, 2, 3];
 const SLACK = 3;
 const LEAST_WAIT = 20;          // seconds of a wait that is told
@@ -38,23 +38,27 @@ export function streets(leg) {
     const name = leg.names[i] || "Unnamed road";
     let last = found.at(-1);
     if (last?.name !== name) {
-      last = { name, entered: leg.seconds[i], metres: 0, waits: [], free: 0, taken: 0, from: leg.points[i], to: 0, roads: 0 };
+      last = { name, entered: leg.seconds[i], metres: 0, waits: [], free: 0, taken: 0, from: leg.points[i], to: 0 };
       found.push(last);
     }
     last.metres += leg.metres[i] ?? 0;
     last.free += leg.free[i];
     last.taken += taken[i];
     last.to = leg.points[i + 1];
-    last.roads++;
-    if (leg.waits[i] >= LEAST_WAIT) last.waits.push({ at: leg.seconds[i], until: leg.seconds[i] + leg.waits[i], road: i });
+    const wait = leg.waits[i], entered = leg.seconds[i];
+    if (wait >= LEAST_WAIT) last.waits.push({ at: entered, until: entered + wait, road: i });
   });
   return found.map(street => ({ ...street, level: levelOf(street.taken, street.free) }));
 }
 
+function sumOf(numbers) {
+  return numbers.reduce((one, other) => one + other, 0);
+}
+
 export function metresOf(found) {
-  return found.legs.reduce((sum, leg) => sum + leg.metres.reduce((one, other) => one + other, 0), 0);
+  return sumOf(found.legs.flatMap(leg => leg.metres));
 }
 
 export function waitOf(found) {
-  return found.legs.reduce((sum, leg) => sum + leg.waits.filter(wait => wait >= LEAST_WAIT).reduce((one, other) => one + other, 0), 0);
+  return sumOf(found.legs.flatMap(leg => leg.waits).filter(wait => wait >= LEAST_WAIT));
 }

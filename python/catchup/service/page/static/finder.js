@@ -84,8 +84,9 @@ export class Finder {
   }
 
   show() {
-    const rows = this.found.map((place, row) => make("li", {
-      id: `${this.id}-${row}`, role: "option", "aria-selected": "false", "data-at": row }, place.name, place.more ? make("small", {}, place.more) : null));
+    const rows = this.found.map(({ name, more }, row) => make("li", {
+      id: `${this.id}-${row}`, role: "option", "aria-selected": "false", "data-at": row,
+    }, name, more ? make("small", {}, more) : null));
     if (!rows.length) rows.push(make("li", { className: "none", role: "status" }, "Nothing has this name or number."));
     this.list.replaceChildren(...rows);
     this.list.hidden = false;

@@ -3,11 +3,12 @@
 import { DAY } from "./clock.js";
 import { arrivals } from "./curve.js";
 
-// The pieces of a road that nobody enters, or that takes `factor` times as long, from one second of the day to another; over
-// midnight where the other is earlier. Who comes while it is closed waits until it is open; who would be there no later for
-// waiting waits too, so nobody who comes later is there sooner.
+// The pieces of a road that nobody enters, or that takes `factor` times as long, from one second of the day to another;
+// over midnight where the other is earlier. Who comes while it is closed waits until it is open; who would be there no
+// later for waiting waits too, so nobody who comes later is there sooner.
 export function changed(pieces, { factor, from, to }) {
-  const day = arrivals(pieces), isInside = second => (from < to ? second >= from && second < to : second >= from || second < to);
+  const day = arrivals(pieces);
+  const isInside = second => (from < to ? second >= from && second < to : second >= from || second < to);
   const wanted = day.map((arrive, second) => {
     if (!isInside(second)) return arrive;
     return factor === null ? Infinity : second + Math.round((arrive - second) * factor);
@@ -26,9 +27,11 @@ export function changed(pieces, { factor, from, to }) {
 export function piecesOf(found) {
   const pieces = [];
   for (let at = 0; at < DAY;) {
-    const isUntil = at + 1 < DAY && found[at + 1] === found[at], begin = at, value = isUntil ? found[at] : found[at] - at;
-    pieces.push({ from: begin, kind: isUntil ? "until" : "travel", value });
-    for (at++; at < DAY && (isUntil ? found[at] === value : found[at] - at === value && found[at + 1] !== found[at]); at++);
+    const isUntil = at + 1 < DAY && found[at + 1] === found[at], value = isUntil ? found[at] : found[at] - at;
+    pieces.push({ from: at, kind: isUntil ? "until" : "travel", value });
+    const goesOn = second => (isUntil ? found[second] === value
+      : found[second] - second === value && found[second + 1] !== found[second]);
+    for (at++; at < DAY && goesOn(at);) at++;
   }
   return pieces;
 }

@@ -22,6 +22,7 @@ function listen() {
 }
 
 function empty(title, ...lines) {
+  document.body.dataset.state = "empty";
   fill(at("empty"), make("h2", {}, title), lines.map(line => make("p", {}, line)));
   at("empty").hidden = false;
 }
@@ -38,15 +39,18 @@ async function start(notice) {
   try {
     setting = await ask("/page/setting");
   } catch (problem) {
-    empty(problem.status ? "The service has no answer" : "The service can't be reached", problem.status ? `${problem.message} ${problem.hint}` : "Trying again …");
+    if (problem.status) empty("The service has no answer", `${problem.message} ${problem.hint}`);
+    else empty("The service can't be reached", "Trying again …");
     setTimeout(() => start(notice), AGAIN);
     return;
   }
   showProfiles(setting);
   if (!window.L) {
-    empty("The map is missing", "Leaflet isn't installed beside the service: ", make("code", {}, "apt-get install libjs-leaflet"));
+    empty("The map is missing", "Leaflet isn't installed beside the service:",
+      make("code", {}, "apt-get install libjs-leaflet"));
   } else if (!setting.map) {
-    empty("There is no map", "The service knows no places of this network. Start it with the folder of its tables, or of the map's import:",
+    empty("There is no map",
+      "The service knows no places of this network. Start it with the folder of its tables, or of the map's import:",
       make("code", {}, "catchup-http --tables DIR FILE"));
   } else if (!setting.map.roads) {
     empty("The network has no roads", "There is nothing to drive on yet.");
@@ -54,6 +58,7 @@ async function start(notice) {
     // What needs Leaflet is loaded where that is there.
     const { Page } = await import("./app.js");
     at("empty").hidden = true;
+    document.body.dataset.state = "";
     window.catchup = Object.assign(new Page(setting, notice), { state, change });
   }
 }

@@ -11,7 +11,7 @@ export class Notice {
     onReachable(isThere => (isThere ? this.back() : this.gone()));
   }
 
-  // Says a line of a kind (good, bad, warn); of one name there is one. It stays for some seconds, or until it is taken away.
+  // Says a line of a kind (good, bad, warn); of one name there is one. It stays for some seconds, or until it is taken.
   say(name, text, kind = "", stays = false) {
     this.take(name);
     const line = make("p", { className: kind }, text);

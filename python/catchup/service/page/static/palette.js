@@ -5,10 +5,14 @@ const BANDS = ["#f6d02f", "#9ccb3b", "#3fae74", "#22898c", "#33638d", "#50327c"]
 export const SLOW_WORDS = ["free", "10 % slower", "30 %", "60 %", "twice", "3 times"];
 
 const THEMES = {
-  light: { road: "#a9b4c0", main: "#8f9cab", faint: "#d6dce2", ground: "#eceff2", shut: "#7c1d1d", arrow: "#3c4854", ink: "#18212b",
-    soft: "#566372", line: "#d3dae2", route: "#1d62c4", casing: "#ffffff", curve: "#18212b", rush: "#f6dfc4", mark: "#d4145a" },
-  dark: { road: "#55616e", main: "#73818f", faint: "#333c46", ground: "#10151a", shut: "#ff8a80", arrow: "#c9d3dd", ink: "#e8edf2",
-    soft: "#a3b0be", line: "#38434f", route: "#6da7f2", casing: "#0c1116", curve: "#e8edf2", rush: "#4a3920", mark: "#ff5c93" },
+  light: {
+    road: "#a9b4c0", main: "#8f9cab", faint: "#d6dce2", shut: "#7c1d1d", arrow: "#3c4854", soft: "#566372",
+    line: "#d3dae2", route: "#1d62c4", casing: "#ffffff", curve: "#18212b", rush: "#f6dfc4", mark: "#d4145a",
+  },
+  dark: {
+    road: "#55616e", main: "#73818f", faint: "#333c46", shut: "#ff8a80", arrow: "#c9d3dd", soft: "#a3b0be",
+    line: "#38434f", route: "#6da7f2", casing: "#0c1116", curve: "#e8edf2", rush: "#4a3920", mark: "#ff5c93",
+  },
 };
 
 const watchers = new Set();
@@ -44,5 +48,6 @@ export function along(level) {
 
 // The colour of each of some bands.
 export function bandColours(count) {
-  return Array.from({ length: count }, (_, band) => BANDS[Math.round(band * (BANDS.length - 1) / Math.max(count - 1, 1))]);
+  const step = (BANDS.length - 1) / Math.max(count - 1, 1);
+  return Array.from({ length: count }, (_, band) => BANDS[Math.round(band * step)]);
 }

@@ -53,7 +53,7 @@ export class Places {
     return worldOf(this.chart.map.getCenter());
   }
 
-  // Fields and markers as the places are. Fields are kept where their number is the same, so that nobody loses what he types.
+  // Fields and markers as the places are. Fields are kept where their number is the same, with what somebody types.
   show() {
     const shown = state.mode === "route" ? state.places : state.places.slice(0, 1);
     const list = at(state.mode === "reach" ? "start" : "places");
@@ -77,9 +77,13 @@ export class Places {
   field(index, kind) {
     const finder = new Finder(SAID[kind], () => this.middle(), place => set(index, place));
     finder.onLeave = () => finder.set(nameOf(state.places[index]));
-    const letter = make("span", { "aria-hidden": "true" }), isVia = kind === "via";
-    const remove = make("button", { title: isVia ? "Take this stop out" : "Clear this place", "aria-label": isVia ? "Take this stop out" : "Clear this place" }, "×");
-    remove.onclick = () => (isVia ? change({ places: state.places.filter((_, other) => other !== index) }) : set(index, null));
+    const letter = make("span", { "aria-hidden": "true" });
+    const title = kind === "via" ? "Take this stop out" : "Clear this place";
+    const remove = make("button", { title, "aria-label": title }, "×");
+    remove.onclick = () => {
+      if (kind === "via") change({ places: state.places.filter((_, other) => other !== index) });
+      else set(index, null);
+    };
     return { finder, letter, row: make("li", { className: "place" }, letter, finder.input, remove, finder.list) };
   }
 
@@ -101,16 +105,20 @@ export class Places {
   }
 
   marker(index, spot, kind, letter, key) {
-    const icon = L.divIcon({ className: `pin ${kind}`, html: letter, iconSize: [26, 26] });
-    const marker = L.marker(spot, { icon, draggable: true, keyboard: true, title: TITLES[kind], alt: TITLES[kind], autoPan: true }).addTo(this.chart.map);
+    const icon = L.divIcon({ className: `pin ${kind}`, html: letter, iconSize: [26, 26] }), title = TITLES[kind];
+    const marker = L.marker(spot, { icon, draggable: true, title, alt: title, autoPan: true }).addTo(this.chart.map);
     marker.key = key;
-    marker.on("dragend", () => this.take(index, marker.getLatLng()));
+    marker.on("dragend", () => {
+      this.droppedAt = performance.now();
+      this.take(index, marker.getLatLng());
+    });
     return marker;
   }
 
   // The place of a click: the next that is missing, or the one that is chosen in a small list.
   click(spot, event) {
-    if (state.mode === "traffic") return;
+    // A marker that was dropped beside the pointer makes a click of the map.
+    if (state.mode === "traffic" || performance.now() - (this.droppedAt ?? -Infinity) < 300) return;
     if (state.mode === "reach") { this.take(0, spot); return; }
     const missing = state.places.indexOf(null);
     if (missing >= 0 && event.type === "click") this.take(missing, spot);
@@ -149,7 +157,8 @@ export class Places {
         if (!found) throw new Problem(400, `There is no place ${place.word} on this network.`);
         const isNamed = !/^-?[0-9.]+,-?[0-9.]+$/.test(place.word);
         const near = isNamed ? found : await ask("/page/near", { x: found.x, y: found.y });
-        change({ places: state.places.map(each => (each === place ? { ...place, name: near.name, x: found.x, y: found.y } : each)) });
+        const known = { ...place, name: near.name, x: found.x, y: found.y };
+        change({ places: state.places.map(each => (each === place ? known : each)) });
       } catch (problem) {
         if (problem.status) {
           this.notice.problem(problem);

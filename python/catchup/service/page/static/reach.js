@@ -36,8 +36,11 @@ export class Reach {
 
   refresh() {
     if (state.mode !== "reach") { this.clear(); return; }
-    if (!CHOICES.includes(state.within / 60)) at("within").prepend(make("option", { value: String(state.within) }, span(state.within)));
-    at("within").value = String(state.within);
+    const value = String(state.within);
+    if (![...at("within").options].some(option => option.value === value)) {
+      at("within").prepend(make("option", { value }, span(state.within)));
+    }
+    at("within").value = value;
     this.tellBands();
     if (!state.places[0]) {
       this.clear();
@@ -59,7 +62,8 @@ export class Reach {
   // The same colours all day: what they say depends on nothing but the time that was chosen.
   tellBands() {
     const limit = part => span(state.within * part / COUNT);
-    legend(at("bands"), [...bandColours(COUNT).map((colour, band) => [colour, `to ${limit(band + 1)}`]), [colours().faint, "not within"]]);
+    const rows = bandColours(COUNT).map((colour, band) => [colour, `to ${limit(band + 1)}`]);
+    legend(at("bands"), [...rows, [colours().faint, "not within"]]);
   }
 
   async askOnce(words, isLast) {
@@ -69,15 +73,16 @@ export class Reach {
       this.bands = data.map(band => (band === UNREACHED ? COUNT : band));
       this.show();
       const count = data.reduce((sum, band) => sum + (band !== UNREACHED), 0);
-      const part = Math.round(100 * count / Math.max(data.length, 1));
-      fill(at("reach-said"), `Who leaves at ${clock(state.time)} reaches ${part} % of the streets within ${span(state.within)}.`);
+      const part = `${Math.round(100 * count / Math.max(data.length, 1))} % of the streets`;
+      fill(at("reach-said"), `Who leaves at ${clock(state.time)} reaches ${part} within ${span(state.within)}.`);
     } catch (problem) {
       if (isLast() && problem.status) fill(at("reach-said"), wrong(problem));
     }
   }
 
   show() {
-    this.paint(this.bands, [...bandColours(COUNT).map(colour => ({ colour, width: 1.05 })), { colour: colours().faint }]);
+    const styles = bandColours(COUNT).map(colour => ({ colour, width: 1.05 }));
+    this.paint(this.bands, [...styles, { colour: colours().faint }]);
   }
 
   async askGroundOnce(words, isLast) {
@@ -98,7 +103,9 @@ export class Reach {
       for (let i = 0; i < ring.length; i += 2) found.push(latLng(ring[i], ring[i + 1]));
       return found;
     }));
-    L.polygon(rings, { renderer: this.renderer, pane: "ground", stroke: false, fillColor: colour, fillOpacity: 1, smoothFactor: 0.6,
-      interactive: false }).addTo(this.layer);
+    L.polygon(rings, {
+      renderer: this.renderer, pane: "ground", stroke: false, fillColor: colour, fillOpacity: 1, smoothFactor: 0.6,
+      interactive: false,
+    }).addTo(this.layer);
   }
 }

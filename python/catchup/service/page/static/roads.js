@@ -35,7 +35,7 @@ export function isDrawing() {
 }
 
 export const Roads = L.GridLayer.extend({
-  options: { tileSize: SIDE, updateWhenZooming: false, keepBuffer: 1, updateInterval: 120, pane: "overlayPane", className: "roads" },
+  options: { tileSize: SIDE, updateWhenZooming: false, keepBuffer: 1, updateInterval: 120, className: "roads" },
 
   initialize(map, options) {
     L.setOptions(this, options);
@@ -65,8 +65,8 @@ export const Roads = L.GridLayer.extend({
     for (const { el: canvas } of Object.values(this._tiles ?? {})) {
       if (!canvas.data) continue;
       canvas.round = (canvas.round ?? 0) + 1;
-      const round = canvas.round;
-      enqueue({ steps: this.steps(canvas, canvas.width / SIDE, () => {}), isOver: () => canvas.isGone || canvas.round !== round });
+      const round = canvas.round, isOver = () => canvas.isGone || canvas.round !== round;
+      enqueue({ steps: this.steps(canvas, canvas.width / SIDE, () => {}), isOver });
     }
   },
 
@@ -79,8 +79,8 @@ export const Roads = L.GridLayer.extend({
     const spare = document.createElement("canvas"), { coords } = canvas;
     spare.width = spare.height = canvas.width;
     const pen = spare.getContext("2d"), scale = ratio / 2 ** (ZOOM - coords.z);
-    const view = { pen, scale, ratio, x: coords.x * SIDE * ratio, y: coords.y * SIDE * ratio, near: this.near(coords.z) };
-    const margin = 12 * ratio;
+    const side = SIDE * ratio, margin = 12 * ratio;
+    const view = { pen, scale, ratio, x: coords.x * side, y: coords.y * side, near: this.near(coords.z) };
     for (const tile of canvas.data) {
       const pieces = tile.inside((view.x - margin) / scale, (view.y - margin) / scale,
         (view.x + canvas.width + margin) / scale, (view.y + canvas.height + margin) / scale);
@@ -150,7 +150,7 @@ export const Roads = L.GridLayer.extend({
     const { pen, ratio } = view;
     pen.setLineDash([]);
     pen.strokeStyle = colours().arrow;
-    pen.lineWidth = 1.5 * ratio;
+    pen.lineWidth = 1.8 * ratio;
     pen.lineCap = pen.lineJoin = "round";
     pen.beginPath();
     for (const i of pieces) {
@@ -170,7 +170,7 @@ function trace(tile, i, { pen, scale, x, y }) {
 }
 
 function arrowsOf(tile, i, { pen, scale, ratio, x, y }, sense) {
-  const { places } = tile, size = 4 * ratio, every = 90 * ratio;
+  const { places } = tile, size = 5.5 * ratio, every = 90 * ratio;
   let behind = every / 2;
   for (let at = 2 * tile.first[i]; at < 2 * tile.first[i + 1] - 2; at += 2) {
     const ax = places[at] * scale - x, ay = places[at + 1] * scale - y;

@@ -64,14 +64,17 @@ export class Route {
   draw() {
     this.layer.clearLayers();
     if (!this.found) return;
-    const line = (spots, colour, weight, more) => L.polyline(spots, { color: colour, weight, interactive: false, lineCap: "round",
-      lineJoin: "round", opacity: 1, ...more }).addTo(this.layer);
+    const line = (spots, color, weight, more) => L.polyline(spots, {
+      color, weight, interactive: false, lineCap: "round", lineJoin: "round", opacity: 1, ...more,
+    }).addTo(this.layer);
     for (const leg of this.found.legs) line(places(leg.line), colours().casing, 9);
     for (const leg of this.found.legs) {
       for (const { level, from, to } of stretches(leg)) line(places(leg.line, from, to), along(level), 5.5);
     }
     this.drawFeet(line);
-    for (const leg of this.found.legs) for (const street of streets(leg)) for (const wait of street.waits) this.drawWait(leg, wait);
+    for (const leg of this.found.legs) {
+      for (const wait of streets(leg).flatMap(street => street.waits)) this.drawWait(leg, wait);
+    }
   }
 
   // Dotted, from a place to where it meets the road.
@@ -104,8 +107,9 @@ export class Route {
     at("downloads").hidden = at("slowness").hidden = !this.found;
     if (problem) return fill(at("answer"), wrong(problem));
     if (!found) {
-      return fill(at("answer"), isWhole() ? null : make("p", { className: "soft" },
-        state.places.some(Boolean) ? "Choose where the route ends." : "Click on the map where the route begins, and then where it ends."));
+      const next = state.places.some(Boolean) ? "Choose where the route ends."
+        : "Click on the map where the route begins, and then where it ends.";
+      return fill(at("answer"), isWhole() ? null : make("p", { className: "soft" }, next));
     }
     if (!this.found) return fill(at("answer"), wrong({ message: this.refusal(found.answer) }));
     this.tellFound(found);
@@ -113,11 +117,12 @@ export class Route {
   }
 
   refusal(answer) {
-    return answer === "too late" ? `Even who leaves at midnight isn't there by ${clock(state.time)}.` : "No way leads there.";
+    return answer === "too late" ? `Even who leaves at midnight isn't there by ${clock(state.time)}.`
+      : "No way leads there.";
   }
 
   tellFound(found) {
-    const metres = metresOf(found), wait = waitOf(found), roads = found.legs.reduce((sum, leg) => sum + leg.roads.length, 0);
+    const metres = metresOf(found), wait = waitOf(found), roads = found.legs.flatMap(leg => leg.roads).length;
     const far = metres ? distance(metres) : `${roads} road${roads === 1 ? "" : "s"}`;
     fill(at("answer"),
       make("p", { className: "big" }, span(found.travel)),
@@ -127,8 +132,9 @@ export class Route {
     const levels = new Set(found.legs.flatMap(leg => stretches(leg).map(part => part.level)));
     at("slowness").hidden = levels.size < 2;
     legend(at("slowness"), [...levels].sort().map(level => [along(level), level ? SLOW_WORDS[level] : "free flow"]));
-    const rows = found.legs.flatMap((leg, index) => [...this.stop(found, index), ...streets(leg).map(street => this.row(leg, street))]);
-    fill(at("streets"), rows, this.stop(found, found.legs.length));
+    const rows = found.legs.map((leg, index) => [
+      this.stop(found, index), ...streets(leg).map(street => this.row(leg, street))]);
+    fill(at("streets"), rows.flat(), this.stop(found, found.legs.length));
   }
 
   tellDownloads() {
@@ -139,7 +145,8 @@ export class Route {
   stop(found, index) {
     const second = index < found.legs.length ? found.legs[index].depart : found.arrive, place = found.places[index];
     const said = state.places[index]?.name ?? place.name;
-    return [make("li", { className: "stop" }, make("time", { title: clock(second) }, minute(second).slice(0, 5)), make("span", { className: "name" }, said || "Here"), "")];
+    return make("li", { className: "stop" }, make("time", { title: clock(second) }, minute(second).slice(0, 5)),
+      make("span", { className: "name" }, said || "Here"));
   }
 
   row(leg, street) {
@@ -147,19 +154,22 @@ export class Route {
       make("time", { title: clock(street.entered) }, minute(street.entered).slice(0, 5)),
       make("span", { className: "name slow", style: { borderLeftColor: along(street.level) } }, street.name),
       make("span", { className: "metres" }, street.metres ? distance(street.metres) : span(street.taken)),
-      ...street.waits.map(wait => make("span", { className: "wait" }, `⏸ waits ${span(wait.until - wait.at)}, until ${clock(wait.until)}`)),
+      ...street.waits.map(wait => make("span", { className: "wait" },
+        `waits ${span(wait.until - wait.at)}, until ${clock(wait.until)}`)),
     ];
     const row = make("li", { tabIndex: 0, title: "Show it on the map" }, told);
-    const show = () => this.chart.map.fitBounds(L.latLngBounds(places(leg.line, street.from, street.to)), { padding: [60, 60], maxZoom: 17 });
+    const spots = places(leg.line, street.from, street.to);
+    const show = () => this.chart.map.fitBounds(L.latLngBounds(spots), { padding: [60, 60], maxZoom: 17 });
     row.onclick = show;
     row.onkeydown = event => { if (event.key === "Enter") show(); };
-    row.onmouseenter = () => this.highlight(places(leg.line, street.from, street.to));
+    row.onmouseenter = () => this.highlight(spots);
     row.onmouseleave = () => this.lit?.remove();
     return row;
   }
 
   highlight(spots) {
     this.lit?.remove();
-    this.lit = L.polyline(spots, { color: colours().mark, weight: 8, opacity: 0.7, interactive: false }).addTo(this.chart.map);
+    const look = { color: colours().mark, weight: 8, opacity: 0.7, interactive: false };
+    this.lit = L.polyline(spots, look).addTo(this.chart.map);
   }
 }

@@ -35,7 +35,7 @@ export function setProfile(name) {
 }
 
 export function address(path, words = {}) {
-  const all = Object.entries({ ...words, profile }).filter(([, value]) => value !== null && value !== undefined && value !== "");
+  const all = Object.entries({ ...words, profile }).filter(([, value]) => (value ?? "") !== "");
   return path + (all.length ? "?" + new URLSearchParams(all) : "");
 }
 
@@ -63,8 +63,8 @@ export async function bytes(path, words, options) {
   return { data: new Uint8Array(await found.arrayBuffer()), version: found.headers.get("catchup-version") };
 }
 
-// Asks one question at a time: of those that come meanwhile the last one alone is asked. The call learns by a function whether
-// its question is still the last one.
+// Asks one question at a time: of those that come meanwhile the last one alone is asked. The call learns by a function
+// whether its question is still the last one.
 export function newest(call) {
   let busy = false, wanted = null;
   return async question => {

@@ -6,7 +6,7 @@ import { ZOOM } from "./world.js";
 export const SIDE = 512;
 const MOST_KEPT = 400;
 
-// A tile's pieces of streets: piece i has the places first[i] to first[i + 1] of `places`, x and y by turns, and a box of four.
+// A tile's pieces of streets: piece i has the places first[i] to first[i + 1] of `places`, x and y by turns, and a box.
 class Tile {
   constructor(buffer) {
     const [points, pieces] = new Uint32Array(buffer, 0, 2), at = 8 + 8 * points;

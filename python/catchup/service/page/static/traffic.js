@@ -18,13 +18,38 @@ function windOf(line) {
   return WINDS[Math.round(Math.atan2(u - x, y - v) / (Math.PI / 4) + 8) % 8];
 }
 
+function field(name, id, checked = false, label = null) {
+  return make("input", { type: "radio", name, id, checked, "aria-label": label });
+}
+
+function good(text) {
+  return make("p", { className: "good-box", role: "status" }, text);
+}
+
+function choice(...inside) {
+  return make("label", { className: "choice" }, ...inside);
+}
+
+// The edits that make roads what they were: they get their profiles back where these are still the same, so that others
+// may have their own ones, and else the pieces that they had.
+async function restored(before) {
+  const numbers = [...new Set(before.map(each => each.profile))], days = new Map();
+  await Promise.all(numbers.map(async number => {
+    const { pieces } = await ask("/page/profile", { number }).catch(() => ({ pieces: null }));
+    days.set(number, JSON.stringify(pieces));
+  }));
+  return before.map(({ road, profile, pieces }) => (
+    days.get(profile) === JSON.stringify(pieces) ? { road, profile } : { road, pieces }));
+}
+
 export class Traffic {
   constructor(chart, setting) {
     this.chart = chart;
     this.needsToken = setting.token;
     this.made = [];
     this.street = null;
-    legend(at("delays"), [...SLOW_WORDS.map((word, level) => [slow(level), word]), [colours().shut, "closed", "dashed"]]);
+    const rows = SLOW_WORDS.map((word, level) => [slow(level), word]);
+    legend(at("delays"), [...rows, [colours().shut, "closed", "dashed"]]);
     onChange(names => { if (names.includes("mode") || names.includes("profile")) this.choose(null); });
     this.choose(null);
     this.showMade();
@@ -47,7 +72,8 @@ export class Traffic {
       fill(at("road"), make("p", { className: "soft" }, "Click on a road to close it or to slow it down."));
       return;
     }
-    this.lit = L.polyline(places(street.line.flat()), { color: colours().mark, weight: 8, opacity: 0.6, interactive: false }).addTo(this.chart.map);
+    const look = { color: colours().mark, weight: 8, opacity: 0.6, interactive: false };
+    this.lit = L.polyline(places(street.line.flat()), look).addTo(this.chart.map);
     this.showForm();
   }
 
@@ -55,7 +81,8 @@ export class Traffic {
 
   showForm() {
     const { street } = this, name = street.name || "Unnamed road";
-    const more = [street.class?.replace(/_/g, " "), street.metres ? distance(street.metres) : null].filter(Boolean).join(", ");
+    const far = street.metres ? distance(street.metres) : null;
+    const more = [street.class?.replace(/_/g, " "), far].filter(Boolean).join(", ");
     const form = make("fieldset", {},
       make("legend", {}, name), more ? make("p", { className: "soft" }, more) : null,
       street.ways.map((way, index) => this.way(way, index)),
@@ -71,37 +98,43 @@ export class Traffic {
   way(way, index) {
     const wind = windOf(way.is_forward ? this.street.line : [...this.street.line].reverse());
     const taken = takes(way.pieces, state.time);
-    const said = taken === null ? "closed" : taken > (way.free ?? taken) ? `${span(taken)} at ${minute(state.time)}, ${span(way.free)} when free` : span(taken);
-    return make("label", { className: "choice" }, make("input", { type: "checkbox", id: `way-${index}`, checked: true }),
+    const slower = taken > (way.free ?? taken) ? ` at ${minute(state.time)}, ${span(way.free)} when free` : "";
+    const said = taken === null ? "closed" : span(taken) + slower;
+    return choice(make("input", { type: "checkbox", id: `way-${index}`, checked: true }),
       `${way.is_forward || this.street.ways.length > 1 ? "to the" : "one way, to the"} ${wind}: ${said}`);
   }
 
   actions() {
     return [
-      make("label", { className: "choice" }, make("input", { type: "radio", name: "what", id: "close", checked: true }), "Close it"),
-      make("label", { className: "choice" }, make("input", { type: "radio", name: "what", id: "slow" }), "Slow it down to ",
-        make("input", { type: "number", id: "factor", min: "1", max: "50", step: "0.5", value: "3", "aria-label": "times as long" }), " times as long"),
+      choice(field("what", "close", true), "Close it"),
+      choice(field("what", "slow"), "Slow it: ", make("input", {
+        type: "number", id: "factor", min: "1", max: "50", step: "0.5", value: "3", "aria-label": "times as long",
+      }), " times as long"),
     ];
   }
 
   hours() {
-    const hour = Math.floor(state.time / 3600), field = (id, second, label) => make("input", { id, size: 5, value: minute(second), "aria-label": label });
+    const hour = Math.floor(state.time / 3600);
+    const time = (id, second, label) => make("input", { id, size: 5, value: minute(second), "aria-label": label });
     return [
-      make("label", { className: "choice" }, make("input", { type: "radio", name: "when", id: "all-day", checked: true }), "All day"),
-      make("div", { className: "choice" }, make("input", { type: "radio", name: "when", id: "some-hours", "aria-label": "Some hours" }),
-        "From ", field("since", hour * 3600, "From"), " to ", field("until", (hour + 2) % 24 * 3600, "To")),
+      choice(field("when", "all-day", true), "All day"),
+      make("div", { className: "choice" }, field("when", "some-hours", false, "Some hours"),
+        "From ", time("since", hour * 3600, "From"), " to ", time("until", (hour + 2) % 24 * 3600, "To")),
     ];
   }
 
   token() {
-    return make("label", { className: "choice" }, "Token ", make("input", { type: "password", id: "token", autocomplete: "off",
-      value: sessionStorage.getItem(TOKEN) ?? "", oninput: event => sessionStorage.setItem(TOKEN, event.target.value) }));
+    const input = make("input", {
+      type: "password", id: "token", autocomplete: "off", value: sessionStorage.getItem(TOKEN) ?? "" });
+    input.oninput = () => sessionStorage.setItem(TOKEN, input.value);
+    return choice("Token ", input);
   }
 
   nameButton() {
     at("apply").textContent = at("close").checked ? "Close the road" : "Slow the road down";
-    if (document.activeElement === at("since") || document.activeElement === at("until")) at("some-hours").checked = true;
-    if (document.activeElement === at("factor")) at("slow").checked = true;
+    const active = document.activeElement?.id;
+    if (active === "since" || active === "until") at("some-hours").checked = true;
+    if (active === "factor") at("slow").checked = true;
   }
 
   // What is asked for, or a word that says what is wrong with it.
@@ -118,7 +151,8 @@ export class Traffic {
     const edits = open.flatMap(way => way.roads.map(road => (isAllDay && isClosed ? { road, closed: true }
       : { road, pieces: changed(way.pieces, { factor, from, to }) })));
     const when = isAllDay ? "all day" : `from ${minute(from)} to ${minute(to)}`;
-    return { edits, restore: open.flatMap(way => way.restore), said: `${isClosed ? "closed" : `${factor} times as long`} ${when}` };
+    const said = `${isClosed ? "closed" : `${factor} times as long`} ${when}`;
+    return { edits, before: open.flatMap(way => way.before), said };
   }
 
   async apply() {
@@ -132,9 +166,9 @@ export class Traffic {
     const name = this.street.name || `Road ${this.street.ways[0].roads[0]}`;
     const version = await this.send(wanted.edits, at("told"), at("apply"));
     if (!version) return;
-    this.made.unshift({ name, said: wanted.said, restore: wanted.restore, version });
+    this.made.unshift({ name, said: wanted.said, before: wanted.before, version });
     this.choose(null);
-    fill(at("road"), make("p", { className: "good-box", role: "status" }, `${name}: ${wanted.said}. Confirmed as version ${version}.`),
+    fill(at("road"), good(`${name}: ${wanted.said}. Confirmed as version ${version}.`),
       make("p", { className: "soft" }, "Click on a road to close it or to slow it down."));
     this.showMade();
   }
@@ -169,16 +203,17 @@ export class Traffic {
     fill(at("edits"), make("h2", {}, "Changed from here"), make("ul", {}, this.made.map(each => {
       const undo = make("button", { "aria-label": `Undo: ${each.name} ${each.said}` }, "Undo");
       undo.onclick = () => this.undo(each, told, undo);
-      return make("li", {}, make("span", {}, each.name, make("small", {}, `${each.said}, version ${each.version}`)), undo);
+      const said = make("small", {}, `${each.said}, version ${each.version}`);
+      return make("li", {}, make("span", {}, each.name, said), undo);
     })), told);
   }
 
   async undo(each, told, button) {
-    const version = await this.send(each.restore, told, button);
+    const version = await this.send(await restored(each.before), told, button);
     if (!version) return;
     this.made = this.made.filter(other => other !== each);
     this.choose(null);
-    fill(at("road"), make("p", { className: "good-box", role: "status" }, `${each.name} is as it was. Confirmed as version ${version}.`));
+    fill(at("road"), good(`${each.name} is as it was. Confirmed as version ${version}.`));
     this.showMade();
   }
 

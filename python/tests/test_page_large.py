@@ -1,0 +1,78 @@
+"""The service's page over large networks: how soon it is there, and how smoothly it moves."""
+
+from __future__ import annotations
+
+from collections.abc import Iterator
+from pathlib import Path
+
+import pytest
+from browsing import IS_DRAWN, LAPTOP, Browser, wait_for
+from serving import Service
+
+from catchup.bench.networks import make_network
+from catchup.order import metis_order
+from catchup.program import run_program
+from catchup.tables import write_network, write_order
+
+pytestmark = [pytest.mark.long, pytest.mark.xdist_group("page")]
+# On a machine that does nothing else it is 50; others may take the processor for some frames here.
+LONGEST_FRAME = 50
+FEW = 0.05
+TABLES = ("nodes.csv", "roads.csv", "profiles.csv")
+# Moves the map by some pixels with each frame, and answers how many milliseconds lay between frames.
+PAN = """
+const [zoom, done] = [arguments[0], arguments[arguments.length - 1]], { map } = catchup.chart, frames = [];
+map.setView(map.getCenter(), zoom, { animate: false });
+const step = (last, left) => requestAnimationFrame(now => {
+  if (last) frames.push(now - last);
+  if (!left) { done(frames); return; }
+  map.panBy([left % 60 < 30 ? 14 : -14, left % 40 < 20 ? 8 : -8], { animate: false });
+  step(now, left - 1);
+});
+setTimeout(() => step(0, 180), 400);
+"""
+
+
+@pytest.fixture(scope="module")
+def browser(tmp_path_factory: pytest.TempPathFactory) -> Iterator[Browser]:
+    found = Browser(tmp_path_factory.mktemp("browser"))
+    yield found
+    found.close()
+
+
+def build(folder: Path, size: int) -> Path:
+    """The packed file of a network of some junctions, with its tables beside it."""
+    folder.mkdir()
+    network = make_network(size)
+    write_network(folder, network)
+    write_order(folder / "order.csv", metis_order(len(network.nodes), network.roads.tail, network.roads.head))
+    ran = run_program(["build", *(folder / name for name in TABLES), folder / "order.csv", folder / "map.cu"])
+    assert ran.status == 0, ran
+    return folder / "map.cu"
+
+
+def test_fifty_thousand_roads_are_there_soon(browser: Browser, program: Path, tmp_path: Path) -> None:
+    path = build(tmp_path / "network", 22_000)
+    with Service(path, "--tables", path.parent) as service:
+        assert service.get("/page/setting")["map"]["roads"] > 50_000
+        browser.open(service, is_drawn=False)
+        browser.run(f"const look = () => {{ const isDrawn = (() => {{ {IS_DRAWN} }})();"
+                    "if (isDrawn) window.drawnAfter = performance.now(); else requestAnimationFrame(look); }; look()")
+        took = wait_for(lambda: browser.run("return window.drawnAfter ?? 0"))
+        print(f"first view after {took:.0f} ms")
+        assert 0 < took < 10_000
+        assert browser.problems() == []
+
+
+def test_a_quarter_of_a_million_roads_moves_smoothly(browser: Browser, program: Path, tmp_path: Path) -> None:
+    path = build(tmp_path / "network", 105_000)
+    with Service(path, "--tables", path.parent) as service:
+        assert service.get("/page/setting")["map"]["roads"] > 250_000
+        browser.open(service, "#mode=traffic&depart=08:00", LAPTOP)
+        whole = browser.run("return catchup.chart.map.getZoom()")
+        for zoom in (whole, whole + 2, whole + 4):
+            frames = browser.driver.execute_async_script(PAN, zoom)
+            slow = [frame for frame in frames if frame > LONGEST_FRAME]
+            print(f"zoom {zoom}: the longest of {len(frames)} frames took {max(frames):.0f} ms, {len(slow)} too long")
+            assert len(slow) <= FEW * len(frames), frames
+        assert browser.problems() == []
