@@ -12,6 +12,7 @@ from serving import Service
 from catchup.bench.networks import make_network
 from catchup.order import metis_order
 from catchup.program import run_program
+from catchup.service.page.sheet import degrees_of
 from catchup.tables import write_network, write_order
 
 pytestmark = [pytest.mark.long, pytest.mark.xdist_group("page")]
@@ -21,8 +22,8 @@ FEW = 0.05
 TABLES = ("nodes.csv", "roads.csv", "profiles.csv")
 # Moves the map by some pixels with each frame, and answers how many milliseconds lay between frames.
 PAN = """
-const [zoom, done] = [arguments[0], arguments[arguments.length - 1]], { map } = catchup.chart, frames = [];
-map.setView(map.getCenter(), zoom, { animate: false });
+const [zoom, lon, lat, done] = arguments, { map } = catchup.chart, frames = [];
+map.setView([lat, lon], zoom, { animate: false });
 const step = (last, left) => requestAnimationFrame(now => {
   if (last) frames.push(now - last);
   if (!left) { done(frames); return; }
@@ -65,13 +66,15 @@ def test_fifty_thousand_roads_are_there_soon(browser: Browser, program: Path, tm
 
 
 def test_a_quarter_of_a_million_roads_moves_smoothly(browser: Browser, program: Path, tmp_path: Path) -> None:
-    path = build(tmp_path / "network", 105_000)
+    path = build(tmp_path / "network", 106_000)
     with Service(path, "--tables", path.parent) as service:
         assert service.get("/page/setting")["map"]["roads"] > 250_000
         browser.open(service, "#mode=traffic&depart=08:00", LAPTOP)
-        whole = browser.run("return catchup.chart.map.getZoom()")
+        # Around a junction of a town.
+        [found] = service.get("/page/search?q=node:0")["places"]
+        whole, town = browser.run("return catchup.chart.map.getZoom()"), degrees_of(found["x"], found["y"])
         for zoom in (whole, whole + 2, whole + 4):
-            frames = browser.driver.execute_async_script(PAN, zoom)
+            frames = browser.driver.execute_async_script(PAN, zoom, *town)
             slow = [frame for frame in frames if frame > LONGEST_FRAME]
             print(f"zoom {zoom}: the longest of {len(frames)} frames took {max(frames):.0f} ms, {len(slow)} too long")
             assert len(slow) <= FEW * len(frames), frames

@@ -12,7 +12,7 @@ import { Reach } from "./reach.js";
 import { BACKWARD, FORWARD, isDrawing, SHUT } from "./roads.js";
 import { Route } from "./route.js";
 import { ask, bytes, newest } from "./service.js";
-import { MODES, onChange, state } from "./state.js";
+import { MODES, onChange, state, writeNow } from "./state.js";
 import { Traffic } from "./traffic.js";
 
 const LEVELS = 15;
@@ -38,7 +38,10 @@ export class Page {
       if (names.includes("mode")) this.showMode();
       if (names.includes("time") || names.includes("mode")) this.askRoads(state.time);
       if (names.includes("view") && state.view && state.view !== this.chart.viewNow()) this.chart.show(state.view);
-      if (names.includes("profile")) location.reload();
+      if (names.includes("profile")) {
+        writeNow();
+        location.reload();
+      }
     });
     onTheme(() => { if (state.mode === "reach") this.reach.refresh(); });
     this.askRoads(state.time);

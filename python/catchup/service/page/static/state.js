@@ -49,7 +49,8 @@ function write() {
   pending ??= setTimeout(writeNow, PAUSE);
 }
 
-function writeNow() {
+export function writeNow() {
+  clearTimeout(pending);
   pending = null;
   // These need no escape behind a #, and read better.
   const plain = value => encodeURIComponent(value).replace(/%(3A|2C|3B|2F)/g, decodeURIComponent);
