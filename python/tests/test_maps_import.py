@@ -143,6 +143,8 @@ HISTORY = "this is a history or a file of changes"
     ("nowhere.osm", '<osm version="0.6"><node id="1" lat="x" lon="9"/><node id="2" lat="47" lon="9"/>'
      '<way id="1"><nd ref="1"/><nd ref="2"/><tag k="highway" v="primary"/></way></osm>',
      f"{NO_MAP}: wrong format for coordinate"),
+    ("part.osm", '<osm version="0.6"><node id="1" lat="47" lon="9"/><remark> runtime error: Timed out\n</remark></osm>',
+     "this isn't all that was asked for, as its server says: runtime error: Timed out"),
     ("page.osm", "<html><body>busy</body></html>", NO_MAP),
     ("bare.osm", '<?xml version="1.0"?><osm version="0.6"></osm>', "no way in it is a road for cars"),
     ("history.osh", '<?xml version="1.0"?><osm version="0.6"></osm>', HISTORY),

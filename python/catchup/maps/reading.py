@@ -4,6 +4,7 @@ Twice, so that the file's order is of no matter, and nodes of buildings and fore
 """
 from __future__ import annotations
 
+import re
 from array import array
 from dataclasses import dataclass, field
 from pathlib import Path
@@ -26,6 +27,8 @@ from catchup.maps.vehicles import Vehicle
 
 _FIXED = 1e-7
 _NOWHERE = 2_147_483_647
+REMARK = 2_000
+"""A remark stands within so many bytes of a file's end."""
 
 
 @dataclass(frozen=True)
@@ -289,6 +292,17 @@ def check_file(path: Path) -> None:
     if several or header.has_multiple_object_versions:
         raise Failure(f"{path}: this is a history or a file of changes; make a map of it by 'osmium time-filter' or "
                       "'osmium apply-changes'")
+    _check_remark(path)
+
+
+def _check_remark(path: Path) -> None:
+    """Failure where the server that made a file in XML says at its end that it broke off."""
+    with path.open("rb") as file:
+        file.seek(max(0, path.stat().st_size - REMARK))
+        found = re.search(rb"<remark>\s*(runtime error[^<]*)", file.read())
+    if found:
+        text = " ".join(found[1].decode("utf-8", "replace").split())
+        raise Failure(f"{path}: this isn't all that was asked for, as its server says: {text}")
 
 
 def read_ways(path: Path, wanted: Wanted, counts: Counts) -> RawMap:
