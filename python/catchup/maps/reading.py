@@ -91,7 +91,8 @@ class Wanted:
 class _Ways(osmium.SimpleHandler):
     """Ways and restrictions."""
 
-    def __init__(self, wanted: Wanted, counts: Counts) -> None:
+    def __init__(self, wanted: Wanted, counts: Counts, has_places: bool) -> None:
+        """`has_places` says that ways have the places of their nodes; else the first one that has them does."""
         super().__init__()
         self.wanted, self.counts = wanted, counts
         self.relevant = relevant_tags(wanted.vehicle)
@@ -101,7 +102,7 @@ class _Ways(osmium.SimpleHandler):
         self.versions: dict[int, int] = {}
         self.ids, self.rule_of, self.name_of = array("q"), array("i"), array("i")
         self.first, self.refs = array("q", [0]), array("q")
-        self.placed, self.has_places = array("q"), False
+        self.placed, self.has_places = array("q"), has_places
         self.left_out: dict[int, list[int]] = {}
         self.restrictions: list[Restriction] = []
         self.relations: set[int] = set()
@@ -133,8 +134,8 @@ class _Ways(osmium.SimpleHandler):
         nodes = way.nodes
         self.refs.extend([node.ref for node in nodes])
         self.first.append(len(self.refs))
-        self.has_places |= len(nodes) > 0 and (nodes[0].location.valid() or nodes[-1].location.valid())
-        if self.has_places:
+        if self.has_places or len(nodes) and nodes[0].x != _NOWHERE:
+            self.has_places = True
             for node in nodes:
                 self.placed.extend((node.ref, node.x, node.y))
 
@@ -278,6 +279,10 @@ def _apply(handler: osmium.SimpleHandler, path: Path) -> None:
         raise Failure(f"{path}: this isn't a whole file of OpenStreetMap: {fault}") from fault
 
 
+def _header(path: Path) -> Any:
+    return osmium.io.Reader(str(path), osmium.osm.osm_entity_bits.NOTHING).header()
+
+
 def check_file(path: Path) -> None:
     """Failure where there is no file, or one of a history or of changes."""
     if not path.exists():
@@ -286,7 +291,7 @@ def check_file(path: Path) -> None:
         raise Failure(f"{path}: this isn't a file")
     try:
         several = osmium.io.File(str(path)).has_multiple_object_versions
-        header = osmium.io.Reader(str(path), osmium.osm.osm_entity_bits.NOTHING).header()
+        header = _header(path)
     except RuntimeError as fault:
         raise Failure(f"{path}: this isn't a whole file of OpenStreetMap: {fault}") from fault
     if several or header.has_multiple_object_versions:
@@ -307,7 +312,9 @@ def _check_remark(path: Path) -> None:
 
 def read_ways(path: Path, wanted: Wanted, counts: Counts) -> RawMap:
     """The ways that the vehicle may use and the turn restrictions on it."""
-    handler = _Ways(wanted, counts)
+    header = _header(path)
+    features = [header.get(f"pbf_optional_feature_{number}") for number in range(9)]
+    handler = _Ways(wanted, counts, "LocationsOnWays" in features)
     _apply(handler, path)
     for number, ways in handler.left_out.items():
         counts.add_all(f"left out: {handler.rules[number].out}", ways)
