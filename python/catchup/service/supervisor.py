@@ -374,6 +374,8 @@ def start(options: Options) -> None:
     Setting.figures = Figures()
     listener = listen(options)
     logging.raiseExceptions = False
+    # Else uvicorn follows each message, as if all were to be logged.
+    logging.getLogger("uvicorn.error").setLevel(logging.WARNING)
     Setting.folder = make_folder()
     main = os.getpid()
     try:
