@@ -3,7 +3,7 @@
 from __future__ import annotations
 
 import random
-from collections.abc import Iterator
+from collections.abc import Iterator, Sequence
 from pathlib import Path
 
 import numpy as np
@@ -195,3 +195,35 @@ def test_legs_go_on_from_one_another(made: Town) -> None:
                 assert await arrival(made, leg.start, leg.end, leg.depart - day, ask) == leg.arrive - day
 
     made.ask(compare_legs)
+
+
+def test_seconds_that_the_program_says_are_taken(made: Town) -> None:
+    """Where the program answers `v` lines a drive has its seconds, and is the same as without."""
+    draw = random.Random(9)
+    travel = made.places.ground.travel
+    told = made.places.over(travel, "v")
+
+    async def compare_lines(ask: Ask) -> None:
+        async def ask_for_seconds(lines: Sequence[str]) -> list[str]:
+            assert all(line.startswith("v,") for line in lines)
+            replies = await ask(["q" + line[1:] for line in lines])
+            return [with_seconds(line, reply) for line, reply in zip(lines, replies)]
+
+        def with_seconds(line: str, reply: str) -> str:
+            head, _, arcs = reply.partition(" arcs=")
+            if not head.startswith("arrive="):
+                return reply
+            roads = list(map(int, arcs.split()))
+            seconds, _ = travel.entered(roads, int(line.split(",")[3]))
+            return f"{head} drive=" + " ".join(f"{road},{second}" for road, second in zip(roads, seconds))
+
+        for _ in range(30):
+            stops = [made.somewhere(draw) for _ in range(3)]
+            depart = draw.choice([draw.randrange(DAY), DAY - 30])
+            try:
+                wanted = await made.places.drives(stops, depart, ask)
+            except NoRoute:
+                continue
+            assert await told.drives(stops, depart, ask_for_seconds) == wanted
+
+    made.ask(compare_lines)
