@@ -7,10 +7,11 @@ import shutil
 import time
 from collections.abc import Iterator
 from pathlib import Path
+from typing import Any
 
 import pytest
 from browsing import LAPTOP, PHONE, Browser, wait_for
-from commands import run
+from commands import call
 from conftest import EXAMPLES
 from serving import Service, ask_program
 
@@ -31,7 +32,7 @@ def browser(tmp_path_factory: pytest.TempPathFactory) -> Iterator[Browser]:
 def folder(program: Path, tmp_path_factory: pytest.TempPathFactory) -> Path:
     """The folder of the village's map."""
     found = tmp_path_factory.mktemp("village") / "map"
-    ran = run("catchup-import", "osm", VILLAGE, found, "--build", "--rush", "--spare", "8")
+    ran = call("catchup-import", "osm", VILLAGE, found, "--build", "--rush", "--spare", "8")
     assert ran.status == 0, ran
     return found
 
@@ -241,6 +242,40 @@ def test_a_refused_edit_says_why(browser: Browser, folder: Path, tmp_path: Path)
         browser.click("apply")
         browser.wait_text("road", "Confirmed as version")
         browser.picture("token")
+
+
+CHANGED = """
+const [pieces, what, done] = arguments;
+import('/page/file/hours.js').then(({ changed }) => done(changed(pieces, what)), problem => done(String(problem)));
+"""
+
+
+@pytest.mark.parametrize(("factor", "since", "until"), [
+    (None, 7 * 3600, 9 * 3600), (3, 7 * 3600, 9 * 3600), (2.5, 22 * 3600, 3600), (None, 23 * 3600, 60), (4, 0, 0)])
+def test_a_road_of_some_hours_keeps_its_order(browser: Browser, village: Service, factor: float | None, since: int,
+                                              until: int) -> None:
+    if not str(browser.driver.current_url).startswith(f"http://127.0.0.1:{village.port}/"):
+        browser.open(village)
+    pieces = [{"from": 0, "kind": "travel", "value": 60}, {"from": 25_000, "kind": "travel", "value": 200},
+              {"from": 32_000, "kind": "until", "value": 32_200}, {"from": 32_140, "kind": "travel", "value": 60}]
+    day, wanted = arrivals(pieces), []
+    for second, arrive in enumerate(day):
+        is_inside = since <= second < until if since < until else second >= since or second < until
+        later = float("inf") if factor is None else second + int((arrive - second) * factor + 0.5)
+        wanted.append(later if is_inside else arrive)
+    least = min(arrive + 86_400 for arrive in wanted)
+    for second in range(86_399, -1, -1):
+        least = wanted[second] = min(least, wanted[second])
+    found = browser.driver.execute_async_script(CHANGED, pieces, {"factor": factor, "from": since, "to": until})
+    assert arrivals(found) == wanted
+    assert all(one <= other for one, other in zip(wanted, wanted[1:])) and wanted[-1] <= wanted[0] + 86_400
+
+
+def arrivals(pieces: list[dict[str, Any]]) -> list[float]:
+    """The arrival at each second of the day."""
+    ends = [piece["from"] for piece in pieces[1:]] + [86_400]
+    return [piece["value"] if piece["kind"] == "until" else second + piece["value"]
+            for piece, end in zip(pieces, ends) for second in range(piece["from"], end)]
 
 
 def test_a_phone(browser: Browser, village: Service) -> None:

@@ -19,6 +19,8 @@ if TYPE_CHECKING:
     from catchup.service.versions import Version
 
 UNREACHED: Final = 255
+MOST_ROADS: Final = 30_000
+"""Reached roads around which a ground is drawn: of more the roads alone are shown."""
 
 
 async def plain_times(version: Version, node: int, depart: int) -> Floats:
@@ -47,7 +49,7 @@ async def grounds(found: Placed, snap: Snap, depart: int, within: int, count: in
     places, version = found.places, found.version
     with version.held():
         of = await reached(places.driver, places.ground.streets, snap, depart, depart + within, found.slow)
-    if not len(of.road):
+    if not 0 < len(of.road) <= MOST_ROADS:
         return []
     limits = [within * part // count for part in range(1, count + 1)]
     shapes = await asyncio.to_thread(bands, places.lines, [of.within(depart + limit) for limit in limits])
