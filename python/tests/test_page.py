@@ -2,6 +2,7 @@
 
 from __future__ import annotations
 
+import json
 import re
 import shutil
 import time
@@ -139,6 +140,10 @@ def test_the_address_keeps_all(browser: Browser, village: Service) -> None:
     browser.open(village, address)
     assert browser.wait_text("said", shown) == shown
     assert browser.wait("return location.hash", lambda found: found == address) and len(places_of(browser)) == 3
+    # The curve over a stop is that of both legs behind one another.
+    browser.wait("const { curve, depart } = catchup.day, { found } = catchup.route;"
+                 "return curve && found && curve.travels[depart] === found.arrive - found.depart")
+    browser.picture("stops")
     # Changed in the open tab.
     browser.run("location.hash = '#mode=reach&depart=06:00&within=300&from=' + catchup.state.places[0].word")
     browser.wait_text("reach-said", "06:00")
@@ -184,6 +189,10 @@ def test_reach_has_one_scale_a_day(browser: Browser, village: Service) -> None:
     at_night = browser.wait_text("reach-said", "03:00")
     assert browser.text("bands") == legend
     assert int(re.findall(r"(\d+) %", at_night)[0]) >= int(re.findall(r"(\d+) %", said)[0])
+    for name in ("dark", "light"):
+        browser.click("theme")
+        browser.wait(f"return document.documentElement.dataset.theme === '{name}' && !catchup.isDrawing()")
+        browser.picture(f"reach-{name}")
     start = browser.run("return catchup.state.places[0].word")
     found = village.client.get(f"/page/reach?from={start}&depart=03:00&within=300&bands=6").content
     assert browser.run("return [...catchup.reach.bands]") == [6 if band == 255 else band for band in found]
@@ -242,6 +251,22 @@ def test_a_refused_edit_says_why(browser: Browser, folder: Path, tmp_path: Path)
         browser.click("apply")
         browser.wait_text("road", "Confirmed as version")
         browser.picture("token")
+
+
+def test_waits_are_marked(browser: Browser, village: Service) -> None:
+    shut = [{"from": 0, "kind": "travel", "value": 32}, {"from": 25_200, "kind": "until", "value": 32_432},
+            {"from": 32_400, "kind": "travel", "value": 32}]
+    before = village.get("/page/street?road=0")["ways"][0]["before"][0]
+    for pieces in (shut, before["pieces"]):
+        body = json.dumps({"edits": [{"road": 0, "pieces": pieces}]}).encode()
+        assert village.ask("/edits", "POST", body, Content_Type="application/json")[0] == 200
+        if pieces is shut:
+            browser.open(village, "#from=0&to=9&depart=08:30")
+            browser.wait_text("streets", "waits 30 min, until 09:00")
+            browser.wait_text("answer", "of which 30 min of waiting")
+            browser.picture("waits")
+    browser.wait("return !document.getElementById('streets').innerText.includes('waits')")
+    is_sound(browser)
 
 
 CHANGED = """

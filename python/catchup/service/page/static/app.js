@@ -16,7 +16,11 @@ import { MODES, onChange, state, writeNow } from "./state.js";
 import { Traffic } from "./traffic.js";
 
 const LEVELS = 15;
-const TRAFFIC = Array.from({ length: 6 }, (_, level) => ({ colour: slow(level), width: 1.2 }));
+const SLOWEST = 5;
+
+function trafficStyles() {
+  return Array.from({ length: SLOWEST + 1 }, (_, level) => ({ colour: slow(level), width: 1.2 }));
+}
 
 export class Page {
   constructor(setting, notice) {
@@ -43,7 +47,11 @@ export class Page {
         location.reload();
       }
     });
-    onTheme(() => { if (state.mode === "reach") this.reach.refresh(); });
+    onTheme(() => {
+      if (state.mode === "reach") this.reach.refresh();
+      if (state.mode === "traffic") this.askRoads(state.time);
+      this.traffic.tellDelays();
+    });
     this.askRoads(state.time);
   }
 
@@ -60,7 +68,7 @@ export class Page {
     const ways = data.map(byte => byte & (FORWARD | BACKWARD | SHUT)), { roads } = this.chart;
     const isSame = roads.ways && ways.every((way, street) => way === roads.ways[street]);
     roads.ways = ways;
-    if (state.mode === "traffic") this.paint(data.map(byte => byte & LEVELS), TRAFFIC);
+    if (state.mode === "traffic") this.paint(data.map(byte => byte & LEVELS), trafficStyles());
     else if (!isSame) roads.restyle();
   }
 

@@ -1,7 +1,13 @@
 // Colours, light and dark.
 
-const SLOW = ["#4c9f64", "#9cba3c", "#e9bd2a", "#ee8326", "#d43a2c", "#8e1b46"];
-const BANDS = ["#f6d02f", "#9ccb3b", "#3fae74", "#22898c", "#33638d", "#50327c"];
+const SLOW = {
+  light: ["#4c9f64", "#9cba3c", "#e9bd2a", "#ee8326", "#d43a2c", "#8e1b46"],
+  dark: ["#4c9f64", "#9cba3c", "#e9bd2a", "#ee8326", "#e5483a", "#c65aa6"],
+};
+const BANDS = {
+  light: ["#f6d02f", "#9ccb3b", "#3fae74", "#22898c", "#33638d", "#50327c"],
+  dark: ["#f6d02f", "#9ccb3b", "#3fae74", "#22a0a6", "#4a8ad0", "#9a78e0"],
+};
 export const SLOW_WORDS = ["free", "10 % slower", "30 %", "60 %", "twice", "3 times"];
 
 const THEMES = {
@@ -38,16 +44,16 @@ export function toggleTheme() {
 
 // Of traffic: from free to slow.
 export function slow(level) {
-  return SLOW[level];
+  return SLOW[theme()][level];
 }
 
 // Of a route's line: what is free has the line's own colour.
 export function along(level) {
-  return level === 0 ? colours().route : SLOW[Math.max(level, 2)];
+  return level === 0 ? colours().route : slow(Math.max(level, 2));
 }
 
 // The colour of each of some bands.
 export function bandColours(count) {
-  const step = (BANDS.length - 1) / Math.max(count - 1, 1);
-  return Array.from({ length: count }, (_, band) => BANDS[Math.round(band * step)]);
+  const all = BANDS[theme()], step = (all.length - 1) / Math.max(count - 1, 1);
+  return Array.from({ length: count }, (_, band) => all[Math.round(band * step)]);
 }

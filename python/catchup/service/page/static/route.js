@@ -25,7 +25,7 @@ export class Route {
     onChange(names => {
       if (["places", "time", "by", "mode", "profile"].some(name => names.includes(name))) this.refresh();
     });
-    onTheme(() => this.draw());
+    onTheme(() => { if (this.found) this.take(this.found); });
     this.refresh();
   }
 

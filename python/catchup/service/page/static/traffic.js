@@ -48,11 +48,15 @@ export class Traffic {
     this.needsToken = setting.token;
     this.made = [];
     this.street = null;
-    const rows = SLOW_WORDS.map((word, level) => [slow(level), word]);
-    legend(at("delays"), [...rows, [colours().shut, "closed", "dashed"]]);
+    this.tellDelays();
     onChange(names => { if (names.includes("mode") || names.includes("profile")) this.choose(null); });
     this.choose(null);
     this.showMade();
+  }
+
+  tellDelays() {
+    const rows = SLOW_WORDS.map((word, level) => [slow(level), word]);
+    legend(at("delays"), [...rows, [colours().shut, "closed", "dashed"]]);
   }
 
   async click(spot) {
