@@ -2,13 +2,15 @@
 
 from __future__ import annotations
 
+import http.server
 import json
 import re
 import shutil
+import threading
 import time
 from collections.abc import Iterator
 from pathlib import Path
-from typing import Any
+from typing import Any, ClassVar
 
 import pytest
 from browsing import LAPTOP, PHONE, Browser, wait_for
@@ -350,6 +352,47 @@ def test_a_network_without_a_map(browser: Browser, plane: Service, town: Path) -
     plane.edit("s,0,0,travel,600")
     browser.wait_text("notice", "The network has changed")
     is_sound(browser)
+
+
+class Tiles(http.server.BaseHTTPRequestHandler):
+    """Grey tiles of a base map."""
+
+    asked: ClassVar[list[str]] = []
+
+    def do_GET(self) -> None:
+        self.asked.append(self.path)
+        self.send_response(200)
+        self.send_header("Content-Type", "image/svg+xml")
+        self.end_headers()
+        self.wfile.write(b'<svg xmlns="http://www.w3.org/2000/svg" width="256" height="256"><rect width="256" height="256" '
+                         b'fill="#cdd5d0" stroke="#9aa"/></svg>')
+
+    def log_message(self, *_: object) -> None:
+        pass
+
+
+def test_several_networks_over_a_base_map(browser: Browser, folder: Path, tmp_path: Path) -> None:
+    for name in ("car", "truck"):
+        (tmp_path / f"{name}.cu").write_bytes((folder / "map.cu").read_bytes())
+    tiles = http.server.ThreadingHTTPServer(("127.0.0.1", 0), Tiles)
+    threading.Thread(target=tiles.serve_forever, daemon=True).start()
+    address = f"http://127.0.0.1:{tiles.server_address[1]}"
+    words = [f"{name}={tmp_path / name}.cu" for name in ("car", "truck")]
+    words += [word for name in ("car", "truck") for word in ("--tables", f"{name}={folder}")]
+    with Service(*words, "--tiles", address + "/{z}/{x}/{y}.png", "--attribution", "Grey tiles") as service:
+        browser.open(service, "#from=0&to=9&depart=08:00")
+        browser.wait_text("answer", "→")
+        browser.wait("return document.querySelectorAll('img.leaflet-tile-loaded').length > 0")
+        browser.picture("base-map")
+        assert "Grey tiles" in browser.run("return document.querySelector('.leaflet-control-attribution').innerText")
+        assert all(name.startswith(address) for name in browser.elsewhere()) and Tiles.asked
+        browser.set_value("profile", "truck")
+        browser.wait("return location.hash.includes('profile=truck') && window.catchup?.route.found")
+        assert browser.run("return document.getElementById('profile').value") == "truck"
+        assert "profile=truck" in browser.run("return document.getElementById('gpx').href")
+        assert browser.problems() == [] and not browser.is_wider()
+    tiles.shutdown()
+    tiles.server_close()
 
 
 def test_there_is_no_map(browser: Browser, town: Path) -> None:

@@ -16,7 +16,7 @@ function letterOf(index, places) {
   return index === 0 ? "A" : index === places.length - 1 ? "B" : String(index);
 }
 
-const SAID = { first: "From: street, number or a click on the map", last: "To", via: "Stop" };
+const SAID = { first: "From: street or number", last: "To", via: "Stop" };
 const TITLES = { first: "Where the route begins", last: "Where the route ends", via: "A stop on the way" };
 
 // What a field shows of a place.

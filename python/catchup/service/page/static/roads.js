@@ -8,6 +8,7 @@ const { L } = window;
 const BUDGET = 7;           // milliseconds of drawing between two frames
 const CHUNK = 1200;         // points that are drawn before the time is looked at
 export const FORWARD = 16, BACKWARD = 32, SHUT = 64;
+const OVERLAP = 1;          // pixels by which tiles overlap, since a scaled map has seams between them
 const WIDTH = [3.6, 3.1, 2.6, 2.2, 1.7, 1.4, 1.1, 1.1];
 
 const queue = [];
@@ -45,19 +46,24 @@ export const Roads = L.GridLayer.extend({
     this.classes = null;    // of each street a number into `styles`; null draws all alike
     this.styles = [];
     this.isFaint = false;
-    this.onDrawn = () => {};
+    this.on("tileunload", event => { event.tile.isGone = true; });
   },
 
   createTile(coords, done) {
     const canvas = L.DomUtil.create("canvas", "leaflet-tile");
-    const ratio = Math.min(window.devicePixelRatio || 1, 2);
-    canvas.width = canvas.height = SIDE * ratio;
+    canvas.ratio = Math.min(window.devicePixelRatio || 1, 2);
+    canvas.width = canvas.height = Math.ceil((SIDE + OVERLAP) * canvas.ratio);
     canvas.coords = coords;
     this.data.all(coords).then(tiles => {
       canvas.data = tiles;
-      enqueue({ steps: this.steps(canvas, ratio, done), isOver: () => canvas.isGone });
+      enqueue({ steps: this.steps(canvas, done), isOver: () => canvas.isGone });
     }, problem => done(problem, canvas));
     return canvas;
+  },
+
+  _initTile(canvas) {
+    L.GridLayer.prototype._initTile.call(this, canvas);
+    canvas.style.width = canvas.style.height = `${canvas.width / canvas.ratio}px`;
   },
 
   // Draws all tiles anew that are there, as after other colours.
@@ -66,7 +72,7 @@ export const Roads = L.GridLayer.extend({
       if (!canvas.data) continue;
       canvas.round = (canvas.round ?? 0) + 1;
       const round = canvas.round, isOver = () => canvas.isGone || canvas.round !== round;
-      enqueue({ steps: this.steps(canvas, canvas.width / SIDE, () => {}), isOver });
+      enqueue({ steps: this.steps(canvas, () => {}), isOver });
     }
   },
 
@@ -75,8 +81,8 @@ export const Roads = L.GridLayer.extend({
     return this.mean / 2 ** (ZOOM - zoom);
   },
 
-  * steps(canvas, ratio, done) {
-    const spare = document.createElement("canvas"), { coords } = canvas;
+  * steps(canvas, done) {
+    const spare = document.createElement("canvas"), { coords, ratio } = canvas;
     spare.width = spare.height = canvas.width;
     const pen = spare.getContext("2d"), scale = ratio / 2 ** (ZOOM - coords.z);
     const side = SIDE * ratio, margin = 12 * ratio;
@@ -93,7 +99,6 @@ export const Roads = L.GridLayer.extend({
     spare.width = 0;
     canvas.isDrawn = true;
     done(null, canvas);
-    this.onDrawn();
   },
 
   // The pieces of a tile that are drawn alike, of each kind.
