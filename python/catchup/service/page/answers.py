@@ -2,6 +2,7 @@
 
 from __future__ import annotations
 
+import asyncio
 from typing import Any, Final
 
 from fastapi import Request
@@ -130,7 +131,8 @@ async def search(request: Request) -> Response:
     asked, _, network, drawn = await asked_of(request, {"q": text_of}, HERE)
     west, north, east, south = drawn.sheet.box
     near = asked.get("x", (west + east) // 2), asked.get("y", (north + south) // 2)
-    return answer({"places": [hit.told() for hit in drawn.search.find(asked["q"], near)]}, network.current.name)
+    hits = await asyncio.to_thread(drawn.search.find, asked["q"], near)
+    return answer({"places": [hit.told() for hit in hits]}, network.current.name)
 
 
 async def near(request: Request) -> Response:

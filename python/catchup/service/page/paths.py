@@ -53,9 +53,12 @@ async def setting(request: Request) -> Response:
         "profiles": [each.name for each in worker.networks if each.name is not None], "now": options.now(),
         "token": options.token is not None, "tiles": options.tiles, "attribution": options.attribution, "map": None}
     if network.ground is not None or network in worker.drawn:
-        # Only what is drawn needs numpy.
-        from catchup.service.page.answers import map_told
-
+        try:
+            # Only what is drawn needs numpy.
+            from catchup.service.page.answers import map_told
+        except ModuleNotFoundError as problem:
+            hint = f"apt-get install python3-{problem.name}"
+            raise Refusal(404, f"the page needs {problem.name}", hint=hint) from None
         told["map"] = await map_told(worker, network)
     return answer(told, network.current.name)
 

@@ -17,6 +17,8 @@ if TYPE_CHECKING:
 
 MOST: Final = 12
 """Places that an answer has."""
+MOST_NAMES: Final = 64
+"""Names that are looked for among the streets."""
 _PLACE: Final = re.compile(r"\s*(-?\d{1,3}(?:\.\d+)?)\s*[,; ]\s*(-?\d{1,3}(?:\.\d+)?)\s*")
 _NUMBER: Final = re.compile(r"\s*(node:|osm:|road:|)\s*(-?\d{1,18})\s*")
 _APART: Final = ZOOM - 13
@@ -63,7 +65,7 @@ class Search:
         """The places that are meant by some words: those that begin so first, of these the nearest to a place of the
         world."""
         number = self._numbered(words)
-        return number if number else self._named(words, near)[:MOST]
+        return number or self._named(words, near)
 
     def _numbered(self, words: str) -> list[Hit]:
         """The node, road or coordinates that words are."""
@@ -123,17 +125,18 @@ class Search:
         if len(wanted) < 2 or not self._texts:
             return []
         at = [number for number, text in enumerate(self._plain) if wanted in text]
-        at.sort(key=lambda number: (not self._plain[number].startswith(wanted), self._plain[number].find(wanted)))
-        streets = np.flatnonzero(np.isin(self._text, at[:64]))
-        hits = [(at.index(int(self._text[street])), street) for street in self._apart(streets)]
-        return [hit for _, _, hit in sorted(
-            ((self._order(rank, at), self._far(street, near), self._at_street(street)) for rank, street in hits),
-            key=lambda each: each[:2])]
+        at.sort(key=lambda number: self._order(number, wanted))
+        streets = np.flatnonzero(np.isin(self._text, at[:MOST_NAMES]))
+        rows = sorted((self._order(int(self._text[street]), wanted), self._far(street, near), street)
+                      for street in self._apart(streets))
+        return [self._at_street(street) for _, _, street in rows[:MOST]]
 
-    def _order(self, rank: int, at: list[int]) -> int:
-        """Names that begin alike are in one class: of these the nearest are first."""
-        first = self._plain[at[rank]].find("\n")
-        return 0 if first >= 0 and rank == 0 else rank
+    def _order(self, text: int, wanted: str) -> int:
+        """Names that are what is wanted come first, then those that begin so, then others."""
+        name, _, ref = self._plain[text].partition("\n")
+        if wanted in (name, ref):
+            return 0
+        return 1 if name.startswith(wanted) or ref.startswith(wanted) else 2
 
     def _apart(self, streets: Ints) -> list[int]:
         """One street of each name in each part of the map: the middle one of them."""
