@@ -25,6 +25,7 @@ function trafficStyles() {
 export class Page {
   constructor(setting, notice) {
     this.notice = notice;
+    this.profile = state.profile;
     this.chart = new Chart(at("map"), setting);
     this.askRoads = newest((time, isLast) => this.askRoadsOnce(time, isLast));
     this.dock = new Dock();
@@ -42,7 +43,7 @@ export class Page {
       if (names.includes("mode")) this.showMode();
       if (names.includes("time") || names.includes("mode")) this.askRoads(state.time);
       if (names.includes("view") && state.view && state.view !== this.chart.viewNow()) this.chart.show(state.view);
-      if (names.includes("profile")) {
+      if (state.profile !== this.profile) {
         writeNow();
         location.reload();
       }
