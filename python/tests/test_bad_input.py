@@ -81,26 +81,23 @@ def try_badly(
     return ran
 
 
-def is_python(command: str) -> bool:
-    return (TOP / "bin" / command).read_bytes().startswith(b"#!/usr/bin/python3")
-
-
 @pytest.mark.parametrize("bad", ["missing", "folder", *BAD])
 @pytest.mark.parametrize(("words", "input"), PLACES)
 def test_a_file(room: Path, words: str, input: str, bad: str) -> None:
-    """Each place with one bad file by a process of its own, and with the others here, since to start takes the longest."""
+    """Each place with one bad file by a process of its own, and with the others here, since to start takes the longest:
+    likewise below."""
     try_badly(room, words.replace("BAD", f"bad/{bad}").split(), input=input, here=bad != "garbage")
 
 
 @pytest.mark.parametrize(("words", "bad"), BAD_REPLIES)
 def test_a_reply(room: Path, words: str, bad: str) -> None:
-    try_badly(room, words.split(), input=BAD[bad].decode("latin-1"))
+    try_badly(room, words.split(), input=BAD[bad].decode("latin-1"), here=bad != "garbage")
 
 
 @pytest.mark.parametrize("words", [[], ["a", "b", "c", "d", "e", "f", "g"], ["--none", "such"]], ids=["none", "many", "unknown"])
 @pytest.mark.parametrize("command", FOR_ALL)
 def test_arguments(room: Path, command: str, words: list[str]) -> None:
-    try_badly(room, [command, *words], statuses=(2,) if is_python(command) else (1,))
+    try_badly(room, [command, *words], statuses=(2,), here=words != [])
 
 
 @pytest.mark.parametrize(
@@ -116,8 +113,11 @@ def test_arguments_of_our_own(room: Path, words: str) -> None:
 
 @pytest.mark.parametrize("command", FOR_ALL + OWN)
 def test_help(room: Path, command: str) -> None:
-    status, out, err = run([TOP / "bin" / command, "--help"], folder=room)
-    assert (status, err) == (0, "") and out.lower().startswith(f"usage: {command}")
+    if command in OWN:
+        ran = run([TOP / "bin" / command, "--help"], folder=room)
+    else:
+        ran = Run(*call(command, "--help", cwd=room))
+    assert (ran.status, ran.err) == (0, "") and ran.out.lower().startswith(f"usage: {command}")
 
 
 def test_no_program(room: Path) -> None:

@@ -25,6 +25,8 @@ from map_search import DAY, Builder, Network, Search, metres, read_xml
 
 from catchup.program import Child
 
+# What they share takes long to make.
+ON_A_REAL_MAP = pytest.mark.xdist_group("real map and its search")
 LIECHTENSTEIN = "liechtenstein-2013-08-03.osm.pbf"
 DAYS = ["mo", "tu", "we", "th", "fr", "sa", "su"]
 
@@ -126,10 +128,12 @@ def to_xml(source: Path, xml: Path) -> None:
     subprocess.run(["/usr/bin/python3", "-c", script, str(source), str(xml)], check=True)
 
 
+@ON_A_REAL_MAP
 def test_the_junctions_of_a_real_map_are_those_of_the_search(real: Both) -> None:
     assert set(real.rows) == {osm for osm, vertices in real.network.starts.items() if vertices}
 
 
+@ON_A_REAL_MAP
 def test_drives_over_a_real_map(real: Both) -> None:
     compared, wrong = differing(real, random_drives(real, 6, 5, [0, 30000, 86399]))
     assert compared > 12_000
@@ -137,12 +141,14 @@ def test_drives_over_a_real_map(real: Both) -> None:
 
 
 @pytest.mark.long
+@ON_A_REAL_MAP
 def test_a_thousand_drives_and_more_over_a_real_map(real: Both) -> None:
     compared, wrong = differing(real, random_drives(real, 60, 6, [0, 30000, 86399]))
     assert compared > 100_000
     assert wrong == []
 
 
+@ON_A_REAL_MAP
 def test_drives_of_one_road_and_of_two(real: Both) -> None:
     drives = random.Random(7).sample([(osm, 30000) for osm in real.junctions()], 100)
     compared, wrong = differing(real, drives, most=2)
@@ -151,6 +157,7 @@ def test_drives_of_one_road_and_of_two(real: Both) -> None:
 
 
 @pytest.mark.long
+@ON_A_REAL_MAP
 def test_all_drives_of_one_road_and_of_two(real: Both) -> None:
     compared, wrong = differing(real, [(osm, 30000) for osm in real.junctions()], most=2)
     assert compared > 12_000
@@ -158,6 +165,7 @@ def test_all_drives_of_one_road_and_of_two(real: Both) -> None:
 
 
 @pytest.mark.long
+@ON_A_REAL_MAP
 def test_each_restriction_of_a_real_map_from_each_approach(real: Both) -> None:
     assert real.network.chains
     tails = [real.network.roads[road].tail for chain in real.network.chains for roads in chain.roads for road in roads]

@@ -3,10 +3,10 @@ from __future__ import annotations
 
 import os
 import re
+import resource
 import shutil
 import sqlite3
 import subprocess
-import sys
 from pathlib import Path
 from typing import Any
 
@@ -26,6 +26,8 @@ from catchup.program import Child, run_program
 
 TOP = Path(__file__).resolve().parents[2]
 REAL = "liechtenstein-2013-08-03.osm.pbf"
+# What they share takes long to make.
+ON_A_REAL_MAP = pytest.mark.xdist_group("real map")
 FILES = ["map.gpkg", "nodes.csv", "order.csv", "profiles.csv", "report.txt", "roads.csv"]
 
 
@@ -42,8 +44,10 @@ def real_map() -> Path:
 def real(real_map: Path, program: Path, tmp_path_factory: pytest.TempPathFactory) -> Path:
     """What is made of the real map. Tests don't write it."""
     folder = tmp_path_factory.mktemp("real") / "li"
+    before = processor_seconds()
     ran = run("catchup-import", "osm", real_map, folder, "--build")
     assert ran.status == 0 and ran.error == "", ran
+    (folder.parent / "seconds").write_text(str(processor_seconds() - before), encoding="utf-8")
     (folder.parent / "said").write_text(ran.output, encoding="utf-8")
     return folder
 
@@ -62,6 +66,11 @@ def small(tmp_path: Path) -> Path:
 def imported(*words: str | Path, **how: Any) -> Ran:
     """Runs catchup-import osm in this process, as `call` does."""
     return call("catchup-import", "osm", *words, **how)
+
+
+def processor_seconds() -> float:
+    """Seconds of a processor that children which have ended have taken."""
+    return sum(resource.getrusage(resource.RUSAGE_CHILDREN)[:2])
 
 
 def left(folder: Path) -> list[str]:
@@ -285,7 +294,7 @@ def test_progress_on_a_terminal_alone(small: Path, tmp_path: Path, program: Path
         pytest.skip("the command script isn't installed (bsdutils), which makes a terminal")
     words = f"{BIN / 'catchup-import'} osm {small} {tmp_path / 'out'} > {tmp_path / 'said'}"
     done = subprocess.run([script, "-qec", words, "/dev/null"], capture_output=True, text=True, timeout=60,
-                          stdin=subprocess.DEVNULL)
+                          stdin=subprocess.DEVNULL, env={**os.environ, "TERM": "xterm"})
     assert done.returncode == 0 and "\x1b[" in done.stdout
     assert (tmp_path / "said").read_text(encoding="utf-8").startswith("small.osm: ")
 
@@ -299,6 +308,7 @@ def test_help() -> None:
 # ---- a real map ----
 
 
+@ON_A_REAL_MAP
 def test_the_real_map(real: Path) -> None:
     """Its report, as it was looked through by hand: 97 % of the kilometres are one part."""
     said = (real.parent / "said").read_text(encoding="utf-8")
@@ -310,6 +320,7 @@ def test_the_real_map(real: Path) -> None:
         assert text in said
 
 
+@ON_A_REAL_MAP
 def test_the_real_map_is_a_geopackage(real: Path) -> None:
     """ogrinfo reads both layers, without a warning."""
     if shutil.which("ogrinfo") is None:
@@ -326,6 +337,7 @@ def test_the_real_map_is_a_geopackage(real: Path) -> None:
     assert "LINESTRING (9.5" in done.stdout
 
 
+@ON_A_REAL_MAP
 def test_the_real_maps_file_and_tables_agree(real: Path) -> None:
     found, network = MapFile.open(real / "map.gpkg"), tables.read_network(real)
     assert (found.road_tail == network.roads.tail).all() and (found.road_head == network.roads.head).all()
@@ -344,6 +356,7 @@ def test_the_real_maps_file_and_tables_agree(real: Path) -> None:
     assert np.abs(lengths - found.road_metres).max() < 0.02
 
 
+@ON_A_REAL_MAP
 def test_the_real_maps_seconds_are_shared_out(real: Path) -> None:
     """All roads of a class together: within 0.2 % of their metres at its speed."""
     found = MapFile.open(real / "map.gpkg")
@@ -354,6 +367,7 @@ def test_the_real_maps_seconds_are_shared_out(real: Path) -> None:
     assert plain == residential.sum() and seconds == pytest.approx(metres * 3.6 / 25, rel=0.03)
 
 
+@ON_A_REAL_MAP
 def test_one_street_is_closed_alone(real: Path) -> None:
     """A spare profile closes a road half-way on a route: the route changes, and no other road is closed."""
     found, profiles = MapFile.open(real / "map.gpkg"), tables.read_profiles(real / "profiles.csv")
@@ -421,20 +435,10 @@ def test_the_real_map_with_rush_hours(real_map: Path, tmp_path: Path, program: P
     assert arrivals[0] > 1.2 * arrivals[1]
 
 
-def test_quick_enough(real_map: Path, tmp_path: Path, program: Path) -> None:
+@ON_A_REAL_MAP
+def test_quick_enough(real: Path) -> None:
     """Order and packed file with it, in four seconds of one processor."""
-    code = """
-import resource
-from catchup.commands import catchup_import
-try:
-    catchup_import.main()
-finally:
-    print(sum(sum(resource.getrusage(who)[:2]) for who in (resource.RUSAGE_SELF, resource.RUSAGE_CHILDREN)))
-"""
-    words: list[str | Path] = [sys.executable, "-c", code, "osm", real_map, tmp_path / "out", "--build"]
-    done = subprocess.run(words, capture_output=True, text=True, timeout=60,
-                          env={**os.environ, "PYTHONPATH": str(TOP / "python")})
-    assert done.returncode == 0 and float(done.stdout.splitlines()[-1]) < 4, done
+    assert float((real.parent / "seconds").read_text(encoding="utf-8")) < 4
 
 
 def test_listed() -> None:

@@ -26,7 +26,8 @@ ROADS = "arc,tail,head,profile\n0,0,2,0\n1,2,0,0\n2,0,2,1\n3,2,3,0\n4,4,4,0\n5,0
 LOOPS = "arc,tail,head,profile\n0,4,4,0\n"
 RANKS_ONE_LATER = """
 sed 's/ *$//' "$1" >"$SEEN"
-awk 'NR == 1 { n = $1 } NR > 1 { print (NR - 1) % n }' "$1" >"$1.iperm"
+read -r nodes _ <"$1"
+{ seq "$((nodes - 1))"; echo 0; } >"$1.iperm"
 """
 
 

@@ -103,7 +103,7 @@ def test_one_line_written_over_on_a_terminal(program: Path, tmp_path: Path) -> N
     percents = [int(one) for one in re.findall(r"settling shortcuts, (\d+) %, \d+ s left", shown)]
     assert len(percents) > 2 and percents == sorted(percents) and percents[-1] <= 100
     env["CATCHUP_PROGRESS"] = "0"
-    assert on_terminal(program, ["build", *names, "dissect", str(tmp_path / "grid.cu")], env)[0] == ""
+    assert on_terminal(program, words("order", tmp_path), env) == ("", "ordered 159\n")
 
 
 def test_a_refused_table_is_told_as_ever(program: Path, tmp_path: Path) -> None:

@@ -72,8 +72,9 @@ def test_a_file_that_is_put_in_place_is_served(file: Path) -> None:
 def test_a_file_that_is_refused_is_not_served(file: Path, rush_hour: Path, tmp_path: Path) -> None:
     good, before = file.read_bytes(), digest_of(file)
     other = build(rush_hour, tmp_path / "rush.cu", "identity").read_bytes()
-    for data, said in ((b"CATCHUPH", "file: short"), (good[:-1] + b"\0", "file: digest"), (other, "another network")):
-        with Service(file, workers=2) as service:
+    cases = ((b"CATCHUPH", "file: short"), (good[:-1] + b"\0", "file: digest"), (other, "another network"))
+    with Service(file, workers=2) as service:
+        for data, said in cases:
             put(file, data)
             told = wait_for(lambda: service.get("/health"), lambda told: "refused" in told)
             assert told["status"] == "ok" and told["version"] == before and said in told["refused"]
@@ -85,8 +86,9 @@ def test_a_file_that_is_refused_is_not_served(file: Path, rush_hour: Path, tmp_p
             assert wait_for(lambda: service.get("/health").get("refused", ""), lambda said: not said) == ""
             put(file, good)
             assert wait_for(lambda: service.get("/health")["version"], lambda found: found == before) == before
-            status, _, errors = service.end()
-            assert status == 0 and errors.count("\n") == 1 and said in errors, errors
+        status, _, errors = service.end()
+        assert status == 0 and errors.count("\n") == len(cases), errors
+        assert all(said in line for (_, said), line in zip(cases, errors.splitlines())), errors
 
 
 def edited_bytes(good: bytes, path: Path) -> bytes:

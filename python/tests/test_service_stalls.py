@@ -181,10 +181,10 @@ def later(service: Service, name: str) -> tuple[float, float]:
     the try in which they are nearest: other work on the machine may add to one, and not to each."""
     found: list[tuple[float, float]] = []
     while len(found) < TRIES and not (found and found[-1][1] < found[-1][0] + MOST_SECONDS / 5):
-        quiet = max(late(service, 0.3, anew=anew) for anew in (False, True))
+        quiet = max(late(service, 0.15, anew=anew) for anew in (False, True))
         with Harm(service, name):
             time.sleep(0.2)
-            found.append((quiet, max(late(service, 0.5, anew=anew) for anew in (False, True))))
+            found.append((quiet, max(late(service, 0.3, anew=anew) for anew in (False, True))))
         time.sleep(0.1)
     return min(found, key=lambda pair: pair[1] - pair[0])
 
