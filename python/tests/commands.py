@@ -16,6 +16,9 @@ from pathlib import Path
 from typing import NamedTuple
 from unittest import mock
 
+# No command runs without it: where it isn't installed, the tests that import this are skipped.
+import click  # noqa: F401
+
 BIN = Path(__file__).resolve().parents[2] / "bin"
 
 
