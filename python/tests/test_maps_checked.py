@@ -176,6 +176,7 @@ def test_each_restriction_of_a_real_map_from_each_approach(real: Both) -> None:
     assert wrong == []
 
 
+@ON_A_REAL_MAP
 def test_metres_and_seconds_of_roads(real: Both) -> None:
     by_line: dict[tuple[int, ...], list[float]] = defaultdict(list)
     for road in real.network.roads:
@@ -193,6 +194,7 @@ def test_the_haversine_formula_on_a_quarter_of_the_ball() -> None:
     assert metres((0.0, 0.0), (90.0, 0.0)) == pytest.approx(math.pi / 2 * 6371008.8)
 
 
+@ON_A_REAL_MAP
 def test_ogrinfo_reads_both_layers(real: Both) -> None:
     for layer, kind in (("nodes", "Point"), ("roads", "Line String")):
         run = subprocess.run(["ogrinfo", "-so", str(real.folder / "map.gpkg"), layer], capture_output=True, text=True, check=False)
