@@ -230,10 +230,11 @@ def blank_list(built: Checkout) -> None:
 def test_stops_where_sources_cannot_be_summed(built: Checkout, spoil: Callable[[Checkout], None], said: str) -> None:
     spoil(built)
     said = "catchup: " + said.replace("TOP", str(built.top)) + "\n"
-    before = sorted(os.listdir(built.out))
+    before = set(os.listdir(built.out))
     assert built.call("catchup", nobody=True) == (1, "", said)
     assert built.builds() == 1
-    assert sorted(os.listdir(built.out)) == before
+    # The word of an earlier start goes, where the user may take it away.
+    assert set(os.listdir(built.out)) in (before, before - {"seen.crates"})
 
 
 @pytest.mark.parametrize("target", ["top", "top/bin", "top/bin/catchup"])

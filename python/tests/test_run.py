@@ -9,6 +9,8 @@ import sys
 import time
 from pathlib import Path
 
+# Each test runs a command that is made of it.
+import click  # noqa: F401
 import pytest
 
 PYTHON = Path(__file__).resolve().parents[1]
