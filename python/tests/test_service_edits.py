@@ -2,6 +2,7 @@
 
 from __future__ import annotations
 
+import contextlib
 import itertools
 import json
 import os
@@ -352,13 +353,13 @@ def test_a_full_disk_keeps_the_version_before(file: Path, tmp_path: Path) -> Non
     room = tmp_path / "small"
     room.mkdir()
     size = file.stat().st_size
-    if subprocess.run(["mount", "-t", "tmpfs", "-o", f"size={size + size // 2}", "none", room],
+    if subprocess.run(["mount", "-t", "tmpfs", "-o", f"size={size + size // 2 + 16_384}", "none", room],
                       capture_output=True).returncode:
         pytest.skip("a file system of a few bytes can't be mounted here")
     try:
         path = room / "town.cu"
         path.write_bytes(file.read_bytes())
-        with Service(path) as service:
+        with Service(path, TMPDIR=str(room)) as service:
             status, told = service.ask("/edits", "POST", LINE.encode())
             assert status == 503 and "no space left" in told["error"].lower()
             assert service.client.post("/edits", content=LINE).headers["Retry-After"]
@@ -366,10 +367,29 @@ def test_a_full_disk_keeps_the_version_before(file: Path, tmp_path: Path) -> Non
             assert status == 503 and "no space left" in told["error"].lower()
             assert service.get("/route?from=5&to=151&depart=0")["version"] == digest_of(file)
             assert left_in(room) == []
+            check_without_any_room(service, room)
             assert service.end()[0] == 0
         assert path.read_bytes() == file.read_bytes()
     finally:
         subprocess.run(["umount", room], check=False)
+
+
+def check_without_any_room(service: Service, room: Path) -> None:
+    """Not a byte can be written, and the workers are new."""
+    full = os.open(room / "full", os.O_WRONLY | os.O_CREAT)
+    with contextlib.suppress(OSError):
+        while True:
+            os.write(full, bytes(4096))
+    os.close(full)
+    [worker] = service.workers()
+    os.kill(worker, signal.SIGKILL)
+    assert wait_for(service.workers, lambda found: found not in ([], [worker]))
+    with service.client_of() as client:
+        for path in ("/route?from=5&to=151&depart=0", "/edits", "/metrics", "/health", "/network", "/openapi.json"):
+            assert client.get(path).status_code == (404 if path == "/network" else 200)
+        [first, *_] = client.get("/edits").json()["jobs"]
+        assert client.get(f"/edits/{first['job']}").json()["state"] == "ended"
+        assert client.post("/edits", content=LINE).status_code == 503
 
 
 def test_a_limit_of_file_sizes_keeps_the_version_before(file: Path) -> None:

@@ -50,8 +50,9 @@ def checked(reply: bytes) -> bytes:
 def answer(told: dict[str, Any], version: str, *, status: int = 200, headers: dict[str, str] | None = None,
            raw: tuple[str, bytes] | None = None) -> Response:
     """An answer with its version behind all else. `raw` is a member whose value is JSON already."""
-    body = as_json({**told, "version": version})
-    if raw is not None:
+    if raw is None:
+        body = as_json({**told, "version": version})
+    else:
         last = as_json({"version": version})[1:]
         body = b'%b%b"%b":%b,%b' % (as_json(told)[:-1], b"," * bool(told), raw[0].encode(), raw[1], last)
     return Response(body, status, {"Catchup-Version": version, **(headers or {})}, media_type=KIND)

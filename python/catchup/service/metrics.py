@@ -11,7 +11,7 @@ import re
 from bisect import bisect_left
 from collections.abc import Iterable, Iterator
 from http import HTTPStatus
-from typing import Final
+from typing import Any, Final
 
 from prometheus_client import CollectorRegistry, generate_latest
 from prometheus_client.core import CounterMetricFamily, GaugeMetricFamily, HistogramMetricFamily, Metric
@@ -43,11 +43,12 @@ class Figures:
     """The numbers of all workers, in memory that forked processes share."""
 
     def __init__(self) -> None:
-        self.cells = memoryview(mmap.mmap(-1, 8 * NUMBERS * SLOTS)).cast("d")
+        # A view of floats, of which the type knows nothing.
+        self.cells: Any = memoryview(mmap.mmap(-1, 8 * NUMBERS * SLOTS)).cast("d")
 
-    def part(self, slot: int) -> memoryview[float]:
-        """A worker's numbers."""
-        part: memoryview[float] = self.cells[slot * NUMBERS:(slot + 1) * NUMBERS]
+    def part(self, slot: int) -> Any:
+        """A worker's numbers, as a view."""
+        part = self.cells[slot * NUMBERS:(slot + 1) * NUMBERS]
         part[IS_USED] = 1
         return part
 

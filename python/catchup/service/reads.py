@@ -341,7 +341,7 @@ async def make_table(version: Version, asked: dict[str, Any], request: Request) 
 
         return await over_places.table(version, asked)
     asked = as_nodes(asked, LISTS)
-    places = ",".join(map(str, asked["to"])).encode()
+    places = repr(asked["to"])[1:-1].replace(" ", "").encode()
     rows: list[bytes] = []
     with version.held():
         for source in asked["from"]:
