@@ -2,6 +2,7 @@
 
 from __future__ import annotations
 
+import asyncio
 import contextlib
 import itertools
 import json
@@ -198,6 +199,34 @@ def test_the_last_thousand_jobs_are_kept(tmp_path: Path) -> None:
         jobs.end(jobs.add(str(number)), DONE)
     found = jobs.all()
     assert [len(found), found[0].id, jobs.find("5")] == [1000, "1019", None]
+
+
+def test_a_note_waits_until_others_let_it_be_written(tmp_path: Path) -> None:
+    """On a busy machine the jobs are locked for long, and a client waits for what became of its edit."""
+    import sqlite3
+    from types import SimpleNamespace
+
+    from catchup.service.editor import Editor
+    from catchup.service.jobs import DONE
+
+    class Busy(sqlite3.OperationalError):
+        sqlite_errorname = "SQLITE_BUSY"
+
+    async def note() -> str:
+        editor = Editor(SimpleNamespace(path=tmp_path / "town.cu"), "")  # type: ignore[arg-type]
+        job, end, problems = editor.jobs.add("1"), editor.jobs.end, [Busy("locked"), Busy("locked")]
+
+        def end_at_last(*words: object) -> None:
+            if problems:
+                raise problems.pop()
+            end(*words)  # type: ignore[arg-type]
+
+        editor.jobs.end = end_at_last  # type: ignore[assignment, method-assign]
+        await editor.note(job, DONE, {})
+        found = editor.jobs.find("1")
+        return "" if found is None else found.state
+
+    assert asyncio.run(note()) == DONE
 
 
 # ---- edits in JSON ----

@@ -26,6 +26,8 @@ def service(town: Path) -> Iterator[Service]:
 
 
 BAD_BYTES = [
+    (b"GET /edits\r\n", "400 the request's head isn't whole"),
+    (b"GET /edits HTTP/1.1\r\n" + H, "400 the request's head isn't whole"),
     (b"GET /edits\r\n\r\n", "400 the first line is no request"),
     (b"GET  /edits HTTP/1.1\r\n\r\n", "400 the first line is no request"),
     (b"get /edits HTTP/1.1\r\n\r\n", "400 the first line is no request"),

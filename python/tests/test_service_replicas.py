@@ -192,6 +192,9 @@ def test_replicas_have_the_same_bytes_whatever_is_killed(room: Path, town: Path)
         assert wait_for(lambda: digest_of(paths[0]) == digest_of(paths[1]), bool)
         assert '["a,3,1", "a,4,1"]' in lines(paths[1])
         with client_of(ports[1]) as client:
+            job = client.post("/edits?wait=0", content="a,5,1").headers["Location"]
+            assert client.delete(job).status_code == 409
+            assert wait_for(lambda: client.get(job).json()["state"], lambda state: state == "done") == "done"
             refused = client.post("/edits", content="s,0,0,travel,1\nq,0,0,0")
             assert (refused.status_code, refused.json()["refused"]) == (400, [{"line": 2, "word": "line"}])
             assert client.get("/health").json()["log"] == "ok"

@@ -30,6 +30,7 @@ from catchup.service.versions import Network, identity_of
 
 LOCK_PAUSE: Final = 0.01                # between two tries to take the folder's lock
 CANCEL_PAUSE: Final = 0.2               # between two looks whether another worker was asked to end a job
+NOTE_TRIES: Final = 6                   # to write what became of a job, each of them for ten seconds
 PIECE: Final = 65_536
 REFUSED_WORD: Final = b"refused: "
 WORDS: Final = {9: "no memory", 13: "the edited file would have more than 2^32 bytes"}
@@ -158,11 +159,17 @@ class Editor:
             await asyncio.to_thread(work.spool.close)
 
     async def note(self, job: Job, state: str, told: dict[str, object]) -> None:
-        """Notes what became of a job; where that can't be written, the edit is what it is all the same."""
-        try:
-            await asyncio.to_thread(self.jobs.end, job, state, told)
-        except sqlite3.Error as problem:
-            tell(f"{self.jobs.path} can't be written: {problem}")
+        """Notes what became of a job; where that can't be written, the edit is what it is all the same. Others may
+        keep the jobs to themselves for long on a busy machine, and somebody may wait for the note."""
+        for _ in range(NOTE_TRIES):
+            try:
+                await asyncio.to_thread(self.jobs.end, job, state, told)
+                return
+            except sqlite3.Error as problem:
+                said = str(problem)
+                if getattr(problem, "sqlite_errorname", "") != "SQLITE_BUSY":
+                    break
+        tell(f"{self.jobs.path} can't be written: {said}")
 
     async def watch(self, work: Work) -> None:
         """Looks whether another worker was asked to end a job."""

@@ -181,6 +181,8 @@ async def delete_edit(request: Request) -> Response:
     editor, job = await find_job(worker, request.path_params["name"])
     if job.is_over:
         raise Refusal(409, f"the edit is {job.state}")
+    if worker.log is not None and editor is worker.log.editor:
+        raise Refusal(409, "the edit is in the stream", hint="each replica makes it: another edit undoes it")
     if job.id in editor.works:
         editor.works[job.id].cancel(cancelled())
     else:

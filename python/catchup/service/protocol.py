@@ -331,6 +331,8 @@ class Connection(HttpToolsProtocol):  # type: ignore[misc]
         elif end >= 0:
             head, self.at, self.looked, self.blank = self.held[self.at:end + 4], end + 4, 0, 0
             self.take_head(head)
+        elif self.has_ended and size:
+            self.refuse(400, "the request's head isn't whole")
         elif self.has_ended:
             self.transport.close()
         else:

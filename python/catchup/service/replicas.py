@@ -66,9 +66,9 @@ class Log:
         self.digests = self.name + ":digests"
         self.network = network
         self.editor = editor
-        self.leader = (folder or network.path.parent) / "leader"
-        self.trouble = (folder or network.path.parent) / "diverged"
-        self.is_reached = True
+        # What all workers know: who takes the entries, what is wrong with the file, and that the server is off.
+        room = folder or network.path.parent
+        self.leader, self.trouble, self.off = room / "leader", room / "diverged", room / "unreached"
         self.said = ""                  # what was told last
         self.position = FIRST           # the last entry that the file has
         self.digest = ""                # the file's digest at that entry
@@ -94,7 +94,16 @@ class Log:
         said = self.diverged()
         if said is not None:
             return {"status": "diverged", "error": said}
-        return {"log": "ok" if self.is_reached else "unreachable"}
+        return {"log": "unreachable" if self.off.exists() else "ok"}
+
+    def note_reached(self, is_reached: bool) -> None:
+        """Tells the other workers whether the server answers; where nothing can be written they learn it by
+        themselves."""
+        with contextlib.suppress(OSError):
+            if is_reached:
+                self.off.unlink(missing_ok=True)
+            else:
+                self.off.touch()
 
     async def make(self, editor: Editor, work: Work) -> Made:
         """Puts an edit into the stream, and waits until this replica has made it."""
@@ -102,10 +111,6 @@ class Log:
         try:
             await self.add(work)
             return await self.outcome(work)
-        except Refusal as refusal:
-            if refusal.status == 503 and not work.cancelled.is_set():
-                await editor.note(work.job, ENDED, {"error": refusal.error})
-            raise
         finally:
             del editor.works[work.job.id]
             await asyncio.to_thread(work.spool.close)
@@ -118,18 +123,26 @@ class Log:
             async with asyncio.timeout(LOG_SECONDS):
                 await self.redis.xadd(self.name, fields)
         except (RedisError, OSError, TimeoutError) as problem:
-            self.is_reached = False
-            raise Refusal(503, f"the stream can't be reached: {said_of(problem)}",
-                          hint="reads go on; edit again later") from None
+            self.note_reached(False)
+            refusal = Refusal(503, f"the stream can't be reached: {said_of(problem)}",
+                              hint="reads go on; edit again later")
+            await self.editor.note(work.job, ENDED, {"error": refusal.error})
+            raise refusal from None
 
     async def outcome(self, work: Work) -> Made:
-        """What became of an entry here."""
+        """What became of an entry here. Where it can't be made now, nobody is kept waiting for it."""
+        loop = asyncio.get_running_loop()
+        last = loop.time() + LOG_SECONDS
         while True:
             job = await asyncio.to_thread(self.editor.jobs.find, work.job.id)
             if job is not None and job.is_over:
                 break
             if work.cancelled.is_set():
                 raise Refusal(503, "the edit is in the stream, and is made once the service is there again")
+            if (said := self.diverged()) is not None:
+                raise Refusal(503, f"the edit is in the stream, and isn't made here: {said}")
+            if loop.time() > last and self.off.exists():
+                raise Refusal(503, "the edit is in the stream, and is made once that can be reached again")
             await asyncio.sleep(LOOK_SECONDS)
         await self.network.load()
         told: dict[str, Any] = job.told
@@ -145,8 +158,7 @@ class Log:
 
     async def run(self) -> None:
         """Takes the entries in their order, for as long as this worker is the one to do so."""
-        self.leader.touch()
-        lock = os.open(self.leader, os.O_RDWR | os.O_CLOEXEC)
+        lock = os.open(self.leader, os.O_RDWR | os.O_CREAT | os.O_CLOEXEC, 0o600)
         try:
             while not try_lock(lock):
                 await asyncio.sleep(AGAIN_SECONDS)
@@ -160,21 +172,23 @@ class Log:
         try:
             await self.find_place()
             entries = await self.redis.xread({self.name: self.position}, count=16, block=BLOCK_MILLISECONDS)
-            self.is_reached = True
+            self.note_reached(True)
             for entry, fields in (entries[0][1] if entries else []):
                 await self.make_entry(entry.decode(), fields)
             self.trouble.unlink(missing_ok=True)
             self.said = ""
         except Diverged as diverged:
             self.tell_once(f"this replica has diverged: {diverged}")
-            self.trouble.write_text(str(diverged))
+            with contextlib.suppress(OSError):
+                self.trouble.write_text(str(diverged))
             self.digest = ""
             await asyncio.sleep(AGAIN_SECONDS)
         except TimeoutError:
             pass
         except (RedisError, OSError, sqlite3.Error, Refusal, packed.NotPacked) as problem:
-            self.is_reached = not isinstance(problem, RedisError)
-            said = "an entry of the stream can't be made yet" if self.is_reached else "the stream can't be reached"
+            is_off = isinstance(problem, RedisError)
+            self.note_reached(not is_off)
+            said = "the stream can't be reached" if is_off else "an entry of the stream can't be made yet"
             self.tell_once(f"{said}: {said_of(problem)}")
             self.digest = ""
             await asyncio.sleep(AGAIN_SECONDS)
