@@ -3,6 +3,7 @@ one."""
 
 from __future__ import annotations
 
+import json
 import os
 import random
 import re
@@ -10,6 +11,7 @@ import signal
 import subprocess
 import threading
 import time
+from concurrent.futures import ThreadPoolExecutor
 from pathlib import Path
 
 import httpx
@@ -37,10 +39,10 @@ def version_of(service: Service) -> str:
         return str(client.get("/health").json()["version"])
 
 
-def status_of(service: Service) -> int:
-    """The status of a route, asked on a connection of its own."""
+def status_of(service: Service, path: str = ROUTE) -> int:
+    """The status of a request, made on a connection of its own."""
     with client_of(service.port) as client:
-        return client.get(ROUTE).status_code
+        return client.get(path).status_code
 
 
 def put(path: Path, data: bytes) -> None:
@@ -159,6 +161,34 @@ def test_a_child_that_hangs_is_replaced(file: Path) -> None:
         assert status == 503 and told["error"] == "the program took too long" and time.monotonic() - began < 15
         assert wait_for(lambda: service.ask(ROUTE)[0], lambda status: status == 200) == 200
         assert not is_there(quick)
+
+
+def test_what_hangs_holds_up_no_end(file: Path) -> None:
+    """Who waits for a child that hangs is told before the service ends; a worker that hangs is ended."""
+    with Service(file) as service, ThreadPoolExecutor(2) as pool:
+        for child in service.children():
+            os.kill(child, signal.SIGSTOP)
+        asked = [pool.submit(status_of, service, path) for path in (ROUTE, "/day?from=5&to=151")]
+        time.sleep(0.3)
+        began = time.monotonic()
+        assert service.end()[0] == 0
+        assert [each.result() for each in asked] == [503, 503]
+        # Ten seconds, and what a busy machine adds.
+        assert time.monotonic() - began < 10 + 5
+    with Service(file, workers=2) as service:
+        os.kill(service.workers()[0], signal.SIGSTOP)
+        began = time.monotonic()
+        assert service.end()[0] == 0 and time.monotonic() - began < 10 + 5
+
+
+def test_two_services_over_one_file_take_turns(file: Path) -> None:
+    with Service(file) as one, Service(file) as other, ThreadPoolExecutor(6) as pool:
+        found = list(pool.map(lambda number: (one, other)[number % 2].once(line_of(number)), range(100, 112)))
+        assert {status for status, _ in found} == {200}
+        entries = [json.loads(line) for line in file.with_name("town.cu.journal").read_text().splitlines()]
+        assert len(entries) == 12 and all(a["after"] == b["before"] for a, b in zip(entries, entries[1:]))
+        wanted = digest_of(file)
+        assert wait_for(lambda: {version_of(each) for each in (one, other)}, lambda found: found == {wanted}) == {wanted}
 
 
 def test_health_says_that_a_child_hangs(file: Path) -> None:

@@ -36,5 +36,5 @@ PROBE_SECONDS: Final = 4.0              # for a child to answer /health
 WATCH_SECONDS: Final = 0.2              # between two looks at a file's place
 CANCEL_SECONDS: Final = 10.0            # for which whoever ends a job waits; it is gone in less than one, mostly
 DRAIN_SECONDS: Final = 8.0              # for an edit in work when the service ends
-LAST_SECONDS: Final = 9.0               # until a worker that ends is gone
+LAST_SECONDS: Final = 8.7               # until a worker that ends is gone
 LOG_SECONDS: Final = 8.0                # for the stream's server to take an entry

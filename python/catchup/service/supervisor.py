@@ -46,6 +46,7 @@ SWITCH_SECONDS: Final = 0.001           # after which a thread that works lets t
 DRAIN_PAUSE: Final = 0.02
 GRACE_SECONDS: Final = 0.5              # for requests that are on their way as the service ends
 START_PAUSE: Final = 0.1
+END_SECONDS: Final = 0.3                # for a worker to go away behind its last second
 ASK_SECONDS: Final = 0.5                # after which workers are asked again to end: one that has just begun missed it
 LEFT_TO_THE_ARBITER: Final = (
     signal.SIGINT, signal.SIGHUP, signal.SIGQUIT, signal.SIGUSR1, signal.SIGUSR2, signal.SIGWINCH)
@@ -107,7 +108,7 @@ class DrainingServer(Server):  # type: ignore[misc]
         return Connection(self.worker.crowd, address, self.config, self.server_state)
 
     async def shutdown(self, sockets: list[socket.socket] | None = None) -> None:
-        """Takes no more connections, answers what is in work, and ends edits that aren't ready in time."""
+        """Takes no more connections, answers what is in work, and ends what isn't ready in time."""
         worker, began = self.worker, asyncio.get_running_loop().time()
         worker.is_ending = worker.crowd.is_ending = True
         for each in self.acceptors:
@@ -117,6 +118,8 @@ class DrainingServer(Server):  # type: ignore[misc]
         worker.crowd.end()
         await self.wait(self.is_busy, began + DRAIN_SECONDS)
         worker.end_edits()
+        # Whoever still waits for a child learns that it gets no answer.
+        worker.end_children()
         await self.wait(self.is_busy, began + LAST_SECONDS)
         worker.crowd.abort()
         await worker.end()
@@ -202,7 +205,7 @@ if HAS_GUNICORN:
             self.LISTENERS: list[Any] = []
             began = asked = time.monotonic()
             self.kill_workers(signal.SIGTERM)
-            while self.WORKERS and time.monotonic() < began + LAST_SECONDS + START_PAUSE:
+            while self.WORKERS and time.monotonic() < began + LAST_SECONDS + END_SECONDS:
                 time.sleep(DRAIN_PAUSE)
                 if time.monotonic() > asked + ASK_SECONDS:
                     asked = time.monotonic()

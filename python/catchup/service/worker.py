@@ -114,6 +114,10 @@ class Worker:
         await asyncio.gather(*self.tasks, return_exceptions=True)
         if self.log is not None:
             await self.log.close()
+        self.end_children()
+
+    def end_children(self) -> None:
+        """Ends the children, whatever they were asked."""
         for network in self.networks:
             network.end()
 
