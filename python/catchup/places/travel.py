@@ -46,6 +46,10 @@ class Travel:
         """Of the table of profiles in a folder; Failure, or TableError, where it can't be read."""
         return cls(profile, read_profiles(folder / PROFILES_FILE))
 
+    def prepare(self) -> None:
+        """Makes now what is made where it is first asked for."""
+        _ = self._keys, self._rests
+
     def arrive(self, road: int, second: int) -> int:
         """When one leaves a road who enters it at a second. It may not be closed."""
         starts, kinds, values = self._of_road(road)

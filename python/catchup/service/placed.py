@@ -44,7 +44,9 @@ def placed(version: Version) -> Placed:
 def placed_of(version: Version) -> Placed:
     """The places of a version whose children have started, with the times of its file."""
     assert version.ground is not None
-    places = version.ground.over(travel_of(version.descriptor), "v" if version.has_seconds else "q")
+    travel = travel_of(version.descriptor)
+    travel.prepare()
+    places = version.ground.over(travel, "v" if version.has_seconds else "q")
     return Placed(version, places, ask_of(lambda: version.quick), ask_of(lambda: version.slow))
 
 
