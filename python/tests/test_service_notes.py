@@ -58,14 +58,16 @@ def test_what_workers_count_is_told_together() -> None:
     figures.leave(3)
     again = Metrics(figures, 3)
     again.told("/route", 200, 0.003)
+    again.told("/page/file/page.js", 200, 0.0)
     text = again.text([("car", "0a1b2c3d4e5f")], {"done": 4}).decode()
     for line in ('catchup_requests_total{path="/route",status="200"} 7.0',
                  'catchup_requests_total{path="/edits/ID",status="404"} 3.0',
                  'catchup_requests_total{path="/table/v1",status="400"} 3.0',
                  'catchup_requests_total{path="other",status="404"} 3.0',
-                 'catchup_request_seconds_bucket{le="0.002"} 9.0', 'catchup_request_seconds_bucket{le="0.005"} 13.0',
-                 'catchup_request_seconds_bucket{le="30.0"} 13.0', 'catchup_request_seconds_bucket{le="+Inf"} 16.0',
-                 "catchup_request_seconds_count 16.0", "catchup_children 4.0", 'catchup_jobs{state="done"} 4.0',
+                 'catchup_requests_total{path="/page",status="200"} 1.0',
+                 'catchup_request_seconds_bucket{le="0.002"} 10.0', 'catchup_request_seconds_bucket{le="0.005"} 14.0',
+                 'catchup_request_seconds_bucket{le="30.0"} 14.0', 'catchup_request_seconds_bucket{le="+Inf"} 17.0',
+                 "catchup_request_seconds_count 17.0", "catchup_children 4.0", 'catchup_jobs{state="done"} 4.0',
                  'catchup_version_info{profile="car",version="0a1b2c3d4e5f"} 1.0'):
         assert line in text.splitlines(), text
-    assert text.count("catchup_requests_total{") == 4 and len(PATHS) == len(set(PATHS))
+    assert text.count("catchup_requests_total{") == 5 and len(PATHS) == len(set(PATHS))

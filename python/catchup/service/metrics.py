@@ -22,9 +22,9 @@ from catchup.service.accepting import SLOTS
 OTHER: Final = "other"                  # paths that aren't known count together
 PATHS: Final = (
     "/", "/route", "/day", "/best", "/reach", "/table", "/latest", "/network", "/edits", "/edits/ID", "/edit",
-    "/health", "/metrics", "/openapi.json", "/docs", "/nearest/v1", "/route/v1", "/table/v1", OTHER)
+    "/health", "/metrics", "/openapi.json", "/docs", "/page", "/nearest/v1", "/route/v1", "/table/v1", OTHER)
 PATH_AT: Final = {path: at for at, path in enumerate(PATHS)}
-OF_MANY: Final = re.compile(r"/edits/|(/(?:nearest|route|table)/v1)/")
+OF_MANY: Final = re.compile(r"/edits/|(/page|/(?:nearest|route|table)/v1)/")
 STATUSES: Final = tuple(int(status) for status in HTTPStatus)
 STATUS_AT: Final = {status: at for at, status in enumerate(STATUSES)}
 BOUNDS: Final = (0.001, 0.002, 0.005, 0.01, 0.02, 0.05, 0.1, 0.2, 0.5, 1, 2, 5, 10, 30)
