@@ -12,7 +12,7 @@ from typing import Final
 
 from catchup.service.process import try_lock
 
-PREFIX: Final = "catchup-http-"
+PREFIX: Final = "catchup-service-"
 TOLD: Final = "told"
 
 
