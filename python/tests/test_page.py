@@ -405,6 +405,17 @@ def test_there_is_no_map(browser: Browser, town: Path) -> None:
         browser.picture("no-map")
 
 
+def test_leaflet_is_missing(browser: Browser, village: Service) -> None:
+    browser.command("Network.enable")
+    browser.command("Network.setBlockedURLs", urls=["*/leaflet.js"])
+    try:
+        browser.open(village, is_drawn=False)
+        assert "libjs-leaflet" in browser.wait_text("empty", "Leaflet isn't installed")
+    finally:
+        browser.command("Network.setBlockedURLs", urls=[])
+        browser.command("Network.disable")
+
+
 def test_the_service_is_gone_and_comes_back(browser: Browser, folder: Path, tmp_path: Path) -> None:
     path = tmp_path / "map.cu"
     path.write_bytes((folder / "map.cu").read_bytes())

@@ -106,7 +106,10 @@ export class Page {
   }
 
   // Another version is served: all is asked anew.
-  changed(version) {
+  async changed(version) {
+    const { map } = await ask("/page/setting").catch(() => ({ map: this.chart.found }));
+    // Other roads have other numbers.
+    if (map?.name !== this.chart.found.name) { location.reload(); return; }
     this.notice.say("version", `The network has changed: version ${version}.`, "good");
     this.askRoads(state.time);
     this.route.refresh(true);

@@ -38,7 +38,11 @@ export function colours() {
 export function toggleTheme() {
   const name = theme() === "dark" ? "light" : "dark";
   document.documentElement.dataset.theme = name;
-  localStorage.setItem("catchup-theme", name);
+  try {
+    localStorage.setItem("catchup-theme", name);
+  } catch (problem) {
+    // It holds until the page is closed.
+  }
   for (const call of watchers) call();
 }
 
