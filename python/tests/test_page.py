@@ -13,7 +13,7 @@ from pathlib import Path
 from typing import Any, ClassVar
 
 import pytest
-from browsing import LAPTOP, PHONE, Browser, wait_for
+from browsing import LAPTOP, PHONE, SPOT, Browser, wait_for
 from commands import call
 from conftest import EXAMPLES
 from serving import Service, ask_program
@@ -161,6 +161,9 @@ def test_places_are_found_by_names_and_numbers_and_dragged(browser: Browser, vil
     from selenium.webdriver.common.keys import Keys
 
     browser.open(village, "#depart=07:00")
+    lane = village.get("/page/search?q=Gartenweg")["places"][0]
+    browser.mouse("mouseMoved", *browser.run(SPOT, *degrees_of(lane["x"], lane["y"])))
+    browser.wait_text("hover", "Gartenweg")
     start, end = browser.driver.find_elements("css selector", ".place input")
     start.send_keys("berg")
     browser.wait("return document.querySelector('.found:not([hidden]) li')?.innerText.includes('Bergweg')")
