@@ -376,6 +376,7 @@ class Tiles(http.server.BaseHTTPRequestHandler):
         pass
 
 
+@pytest.mark.long
 def test_several_networks_over_a_base_map(browser: Browser, folder: Path, tmp_path: Path) -> None:
     for name in ("car", "truck"):
         (tmp_path / f"{name}.cu").write_bytes((folder / "map.cu").read_bytes())

@@ -12,6 +12,7 @@ const OVERLAP = 1;          // pixels by which tiles overlap, since a scaled map
 const WIDTH = [3.6, 3.1, 2.6, 2.2, 1.7, 1.4, 1.1, 1.1];
 
 const queue = [];
+const scratch = document.createElement("canvas").getContext("2d");
 let isRunning = false;
 
 function work() {
@@ -21,7 +22,15 @@ function work() {
     if (job.isOver?.() || job.steps.next().done) queue.shift();
   }
   isRunning = queue.length > 0;
-  if (isRunning) requestAnimationFrame(work);
+  if (!isRunning) return;
+  flush(queue[0].canvas);
+  requestAnimationFrame(work);
+}
+
+// Browsers note what is drawn, and draw it once the canvas is looked at: here at each pause, so that it is never much at
+// once.
+function flush({ spare }) {
+  if (spare?.width) scratch.drawImage(spare, 0, 0, 1, 1, 0, 0, 1, 1);
 }
 
 function enqueue(job) {
@@ -56,7 +65,7 @@ export const Roads = L.GridLayer.extend({
     canvas.coords = coords;
     this.data.all(coords).then(tiles => {
       canvas.data = tiles;
-      enqueue({ steps: this.steps(canvas, done), isOver: () => canvas.isGone });
+      enqueue({ canvas, steps: this.steps(canvas, done), isOver: () => canvas.isGone });
     }, problem => done(problem, canvas));
     return canvas;
   },
@@ -72,7 +81,7 @@ export const Roads = L.GridLayer.extend({
       if (!canvas.data) continue;
       canvas.round = (canvas.round ?? 0) + 1;
       const round = canvas.round, isOver = () => canvas.isGone || canvas.round !== round;
-      enqueue({ steps: this.steps(canvas, () => {}), isOver });
+      enqueue({ canvas, steps: this.steps(canvas, () => {}), isOver });
     }
   },
 
@@ -83,6 +92,7 @@ export const Roads = L.GridLayer.extend({
 
   * steps(canvas, done) {
     const spare = document.createElement("canvas"), { coords, ratio } = canvas;
+    canvas.spare = spare;
     spare.width = spare.height = canvas.width;
     const pen = spare.getContext("2d"), scale = ratio / 2 ** (ZOOM - coords.z);
     const side = SIDE * ratio, margin = 12 * ratio;
