@@ -1,6 +1,6 @@
 // Which version the service has: it tells by server-sent events; where it doesn't it is asked.
 
-import { address, ask, isReachable, setReachable } from "./service.js";
+import { address, ask, isReachable, setReachable, setVersion } from "./service.js";
 
 const PAUSE = 2000;
 
@@ -28,6 +28,7 @@ export class Follower {
     if (version === this.version) return;
     const isFirst = this.version === null;
     this.version = version;
+    setVersion(version);
     if (!isFirst) this.onVersion(version);
   }
 

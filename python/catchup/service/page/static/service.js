@@ -39,10 +39,29 @@ export function address(path, words = {}) {
   return path + (all.length ? "?" + new URLSearchParams(all) : "");
 }
 
+// The version that the service told last. Its workers follow one another within a second, so an answer may be of the one
+// before: it is asked for again.
+const OF_VERSION = /^\/(day|page\/(traffic|route|reach|ground|street|profile))$/;
+const TRIES = 8, PAUSE = 250;
+let version = null;
+
+export function setVersion(name) {
+  version = name;
+}
+
+async function fetchLast(path, words, options) {
+  for (let left = TRIES; ; left--) {
+    const found = await fetch(address(path, words), options);
+    const isLast = !version || !OF_VERSION.test(path) || found.headers.get("catchup-version") === version;
+    if (isLast || !found.ok || !left) return found;
+    await new Promise(resolve => { setTimeout(resolve, PAUSE); });
+  }
+}
+
 async function reply(path, words, options) {
   let found;
   try {
-    found = await fetch(address(path, words), options);
+    found = await fetchLast(path, words, options);
   } catch (problem) {
     if (problem.name === "AbortError") throw problem;
     setReachable(false);
