@@ -369,8 +369,8 @@ class Tiles(http.server.BaseHTTPRequestHandler):
         self.send_response(200)
         self.send_header("Content-Type", "image/svg+xml")
         self.end_headers()
-        self.wfile.write(b'<svg xmlns="http://www.w3.org/2000/svg" width="256" height="256"><rect width="256" height="256" '
-                         b'fill="#cdd5d0" stroke="#9aa"/></svg>')
+        self.wfile.write(b'<svg xmlns="http://www.w3.org/2000/svg" width="256" height="256">'
+                         b'<rect width="256" height="256" fill="#cdd5d0" stroke="#9aa"/></svg>')
 
     def log_message(self, *_: object) -> None:
         pass

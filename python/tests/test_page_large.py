@@ -91,7 +91,7 @@ def test_a_quarter_of_a_million_roads_moves_smoothly(browser: Browser, program: 
         whole, town = browser.run("return catchup.chart.map.getZoom()"), degrees_of(found["x"], found["y"])
         for zoom in (whole, whole + 2, whole + 4):
             frames, work = pan(browser, zoom, town)
-            print(f"zoom {zoom}: the longest of {len(frames)} frames took {max(frames):.0f} ms, each {work:.1f} of work")
+            print(f"zoom {zoom}: {len(frames)} frames, the longest of {max(frames):.0f} ms, each {work:.1f} of work")
             assert work < MOST_WORK
             browser.run("catchup.chart.roads.remove()")
             empty, _ = pan(browser, zoom, town)

@@ -27,8 +27,8 @@ function work() {
   requestAnimationFrame(work);
 }
 
-// Browsers note what is drawn, and draw it once the canvas is looked at: here at each pause, so that it is never much at
-// once.
+// Browsers note what is drawn, and draw it once the canvas is looked at: here at each pause, so that it is never much
+// at once.
 function flush({ spare }) {
   if (spare?.width) scratch.drawImage(spare, 0, 0, 1, 1, 0, 0, 1, 1);
 }

@@ -39,8 +39,8 @@ export function address(path, words = {}) {
   return path + (all.length ? "?" + new URLSearchParams(all) : "");
 }
 
-// The version that the service told last. Its workers follow one another within a second, so an answer may be of the one
-// before: it is asked for again.
+// The version that the service told last. Its workers follow one another within a second, so an answer may be of the
+// one before: it is asked for again.
 const OF_VERSION = /^\/(day|page\/(traffic|route|reach|ground|street|profile))$/;
 const TRIES = 8, PAUSE = 250;
 let version = null;
