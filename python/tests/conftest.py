@@ -48,6 +48,8 @@ def pytest_addoption(parser: pytest.Parser) -> None:
 
 
 def pytest_collection_modifyitems(config: pytest.Config, items: list[pytest.Item]) -> None:
+    # At the end no process is to wait for what takes long.
+    items.sort(key=lambda item: item.get_closest_marker("first") is None)
     if config.getoption("--long"):
         return
     for item in items:

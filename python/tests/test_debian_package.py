@@ -22,7 +22,7 @@ OWN = {"check", "check-release", "count-definitions", "package", "release"}
 COMMANDS = sorted(place.name for place in (TOP / "bin").iterdir() if place.is_file() and place.name not in OWN)
 RUSH_HOUR = "built 3 3 3 416\narrive=160 arcs=0 1\narrive=29050 arcs=2\n"
 
-pytestmark = pytest.mark.xdist_group("clone")
+pytestmark = [pytest.mark.first, pytest.mark.xdist_group("clone")]
 
 
 def newest_version() -> str:

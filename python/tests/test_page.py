@@ -21,7 +21,7 @@ from serving import Service, ask_program
 from catchup.service.page.sheet import degrees_of
 
 VILLAGE = EXAMPLES / "village" / "village.osm"
-pytestmark = pytest.mark.xdist_group("page")
+pytestmark = [pytest.mark.first, pytest.mark.xdist_group("page")]
 
 
 @pytest.fixture(scope="module")

@@ -445,6 +445,7 @@ def end_round(file: Path, writer: Writer, service: subprocess.Popen[bytes]) -> i
     return writer.number + 1000
 
 
+@pytest.mark.first
 def test_no_confirmed_edit_is_lost_by_a_kill(file: Path, capsys: pytest.CaptureFixture[str]) -> None:
     began = time.monotonic()
     confirmed, starts = endure(file, 20)

@@ -14,6 +14,7 @@ from scripts import TOP, run
 FOR_MYPY = {"PYTHONPYCACHEPREFIX": ""}
 
 
+@pytest.mark.first
 def test_mypy_finds_nothing() -> None:
     if importlib.util.find_spec("mypy") is None:
         pytest.skip("mypy isn't installed (mypy)")
