@@ -15,7 +15,7 @@ from typing import Any, ClassVar
 import pytest
 from browsing import LAPTOP, PHONE, SPOT, Browser, wait_for
 from commands import call
-from conftest import EXAMPLES
+from conftest import EXAMPLES, build
 from serving import Service, ask_program
 
 from catchup.service.page.sheet import degrees_of
@@ -439,3 +439,14 @@ def test_a_place_that_isnt_there(browser: Browser, village: Service) -> None:
     browser.open(village, "#from=0&to=999&depart=08:00")
     browser.wait_text("notice", "There is no place 999")
     assert places_of(browser)[1] == ""
+
+
+def test_a_place_that_no_way_leads_to(browser: Browser, rush_hour: Path, tmp_path: Path) -> None:
+    """Nor is one that is reached in time where it is too late for that all day."""
+    with Service(build(rush_hour, tmp_path / "map.cu"), "--tables", rush_hour) as service:
+        browser.open(service, "#from=2&to=0&depart=08:00")
+        assert browser.wait_text("answer", "No way leads there.") == "No way leads there."
+        assert browser.text("streets") == "" and places_of(browser) == ["Node 2", "Node 0"]
+        browser.open(service, "#from=0&to=2&arrive=00:01")
+        browser.wait_text("answer", "Even who leaves at midnight isn't there by 00:01.")
+        is_sound(browser)
