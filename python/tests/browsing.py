@@ -38,7 +38,8 @@ def wait_for(find: Callable[[], Found], wanted: Callable[[Found], bool] = bool) 
 class Browser:
     """A browser with one window, or more. Pictures go to the folder of CATCHUP_PICTURES where that is set."""
 
-    def __init__(self, room: Path) -> None:
+    def __init__(self, room: Path, size: tuple[int, int] = LAPTOP) -> None:
+        self.size = size
         webdriver = pytest.importorskip("selenium.webdriver", reason="python3-selenium isn't installed")
         if shutil.which("chromium") is None or shutil.which("chromedriver") is None:
             pytest.skip("chromium and chromedriver aren't installed")
@@ -52,10 +53,11 @@ class Browser:
         self.driver.set_page_load_timeout(60)
         self.run: Callable[..., Any] = self.driver.execute_script
 
-    def open(self, service: Service, address: str = "", size: tuple[int, int] = LAPTOP, *, dark: bool = False,
+    def open(self, service: Service, address: str = "", size: tuple[int, int] | None = None, *, dark: bool = False,
              is_drawn: bool = True) -> None:
-        """Opens the page of a service, at some size; waits until its roads are drawn."""
-        self.resize(size)
+        """Opens the page of a service, at some size, the browser's own where none is said; waits until its roads are
+        drawn."""
+        self.resize(size or self.size)
         self.command("Emulation.setEmulatedMedia", features=[
             {"name": "prefers-color-scheme", "value": "dark" if dark else "light"}])
         self.driver.get("about:blank")

@@ -24,9 +24,10 @@ VILLAGE = EXAMPLES / "village" / "village.osm"
 pytestmark = [pytest.mark.first, pytest.mark.xdist_group("page")]
 
 
-@pytest.fixture(scope="module")
-def browser(tmp_path_factory: pytest.TempPathFactory) -> Iterator[Browser]:
-    found = Browser(tmp_path_factory.mktemp("browser"))
+@pytest.fixture(scope="module", params=[
+    pytest.param(LAPTOP, id="laptop"), pytest.param(PHONE, id="phone", marks=pytest.mark.long)])
+def browser(request: pytest.FixtureRequest, tmp_path_factory: pytest.TempPathFactory) -> Iterator[Browser]:
+    found = Browser(tmp_path_factory.mktemp("browser"), request.param)
     yield found
     found.close()
 
@@ -46,7 +47,7 @@ def village(folder: Path) -> Iterator[Service]:
         yield service
 
 
-@pytest.fixture(scope="module")
+@pytest.fixture
 def plane(town: Path, tmp_path_factory: pytest.TempPathFactory) -> Iterator[Service]:
     path = tmp_path_factory.mktemp("plane") / "town.cu"
     shutil.copy(town, path)
