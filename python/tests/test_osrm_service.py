@@ -232,6 +232,8 @@ def test_other_methods_and_hosts(service: Service) -> None:
 def test_too_many_places_for_an_address(service: Service) -> None:
     """An address of 10,000 places is longer than any that is read."""
     for path in (f"/route/v1/car/{';'.join([A] * 10_000)}", f"/table/v1/car/{';'.join([A] * 1_000)}"):
+        # The request before on this connection is one whose answer has no body.
+        assert service.client.head("/health").status_code == 200
         reply = service.client.get(path)
         assert (reply.status_code, reply.json()["code"]) == (400, "TooBig")
     assert service.client.get("/route?" + "a" * 20_000).status_code == 414

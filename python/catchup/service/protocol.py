@@ -321,9 +321,11 @@ class Connection(HttpToolsProtocol):  # type: ignore[misc]
         """Begins the next request where its head is there."""
         if self.is_busy or self.is_closing or self.transport.is_closing():
             return
+        self.is_head = False
         if not self.skip_blank():
             self.refuse(400, "the first line is no request")
             return
+        self.is_head = self.held.startswith(b"HEAD ", self.at)
         end = self.held.find(HEAD_END, max(self.at, self.looked - 3))
         size = (len(self.held) if end < 0 else end) - self.at
         if size > LONGEST_HEAD:
@@ -365,7 +367,6 @@ class Connection(HttpToolsProtocol):  # type: ignore[misc]
     def take_head(self, head: bytes) -> None:
         """Hands a whole head to the parser, which calls back."""
         first = head[:head.find(b"\r\n")]
-        self.is_head = first.startswith(b"HEAD ")
         if not FIRST_LINE.fullmatch(first):
             self.refuse_first(first)
         elif BAD_ENDS.search(head[:-4]):
