@@ -26,25 +26,39 @@ def words(command: str, folder: Path) -> list[str]:
         "verify": ["verify", packed],
         "migrate": ["migrate", packed, str(folder / "out.cu")],
         "edit": ["edit", packed, str(folder / "edits.txt"), str(folder / "edited.cu")],
+        "wait": ["wait", *tables[:2], str(folder / "measured.csv"), "dissect"],
+        "measure": ["measure", str(folder / "measured.csv"), str(folder / "profiles.csv")],
     }[command]
 
 
 STAGES = {
-    "build": ["reading files", "settling shortcuts", "packing", "storing"],
-    "serve": ["reading files", "settling shortcuts", "packing"],
+    "build": ["reading files", "finding shortcuts", "settling shortcuts", "packing", "storing"],
+    "serve": ["reading files", "finding shortcuts", "settling shortcuts", "packing"],
     "order": ["reading files", "making an order", "storing"],
     "ask": ["reading files", "checking the packed file"],
-    "verify": ["reading files", "checking the packed file", "settling shortcuts"],
+    "verify": ["reading files", "checking the packed file", "settling shortcuts", "comparing"],
     "migrate": ["reading files", "checking the packed file", "storing"],
-    "edit": ["reading files", "checking the packed file", "making edits", "storing"],
+    "edit": ["reading files", "checking the packed file", "making edits", "packing", "storing"],
+    "wait": [
+        "reading files",
+        "converting measured times",
+        "making an order",
+        "finding shortcuts",
+        "settling shortcuts",
+        "packing",
+    ],
+    "measure": ["reading files", "converting measured times", "packing", "storing"],
 }
 
 
 @pytest.fixture
 def folder(program: Path, tmp_path: Path) -> Path:
-    """A folder with a packed file of the town and a text of two edits."""
+    """A folder with a packed file of the town, a text of two edits and measured profiles."""
     subprocess.run([program, *words("build", tmp_path)], check=True, capture_output=True)
     (tmp_path / "edits.txt").write_text("s,0,0,travel,70\na,1,0\n")
+    numbers = sorted({int(row.split(",")[0]) for row in (TOWN / "profiles.csv").read_text().splitlines()[1:]})
+    rows = [f"{number},{second},line,{60 + number}" for number in numbers for second in (0, 28800)]
+    (tmp_path / "measured.csv").write_text("\n".join(["profile,second,mode,travel", *rows, ""]))
     return tmp_path
 
 
@@ -102,6 +116,11 @@ def test_one_line_written_over_on_a_terminal(program: Path, tmp_path: Path) -> N
     assert shown.endswith("\r\x1b[K"), "the line is taken away before the last line is said"
     percents = [int(one) for one in re.findall(r"settling shortcuts, (\d+) %, \d+ s left", shown)]
     assert len(percents) > 2 and percents == sorted(percents) and percents[-1] <= 100
+    for stage in ("reading files", "making an order", "settling shortcuts", "packing"):
+        lines = re.findall(rf"\rcatchup: {stage}, ([^\x1b]*)", shown)
+        assert lines[0] == "0 %", "no seconds are left of what hasn't begun"
+        assert all(re.fullmatch(r"\d+ %(, \d+ s left)?", line) for line in lines)
+    assert "\rcatchup: storing\x1b[K" in shown
     env["CATCHUP_PROGRESS"] = "0"
     assert on_terminal(program, words("order", tmp_path), env) == ("", "ordered 159\n")
 

@@ -1,6 +1,6 @@
 -- Tables read with profiles in pieces that stand for measured ones: the network is the converted one, and what follows from its roads alone
 -- follows from those of the measured one.
-use Rattle.std.proofs.Common.{◌≡◌, ◌∙◌, ℕ, zero, suc, List, [], ◌∷◌, length, map, refl, sym, ap, subst, inl, inr}
+use Rattle.std.proofs.Common.{◌≡◌, ◌≢◌, ◌∙◌, ℕ, zero, suc, List, [], ◌∷◌, length, map, refl, sym, ap, subst, inl, inr}
 use Rattle.std.specs.Prelude.{Result, Ok, Err, not, slice_get}
 use Rattle.std.specs.List.{filter, list_any, range_with_len}
 use Rattle.std.proofs.lemmas.List.{length-map}
@@ -10,27 +10,28 @@ use Rattle.cu_model.specs.declared.roads.RoadArc.{RoadArc}
 use Rattle.cu_model.specs.Networks.{NetworkValue}
 use Rattle.cu_model.specs.Orders.{OrderValue}
 use Rattle.cu_order.specs.declared.refusals.OrderRefusal.{OrderRefusal}
-use Rattle.cu_profile.specs.declared.refusals.ProfileRefusal.{ProfileRefusal}
-use Rattle.cu_profile.specs.ProfileTexts.{profiles_of_text}
-use Rattle.cu_roads.specs.NetworkTexts.{NetworkRead, arcs_of_text, joined, network_of, places_of_text, with_places, with_profiles}
+use Rattle.cu_roads.specs.NetworkTexts.{NetworkRead, arcs_of_text, joined, network_with, places_of_text, with_given}
 use Rattle.cu_roads.specs.declared.places.Place.{Place}
 use Rattle.cu_roads.specs.declared.refusals.RoadRefusal.{RoadRefusal}
+use Rattle.cu_roads.specs.declared.refusals.RoadRefusal.TheVariants as road
 use Rattle.cu_session.specs.Waiting.{roads_of}
 use Rattle.cu_session.proofs.RoadsAlone.{edges_same, many_same}
 use Rattle.cu_wait.specs.declared.points.Point.{Point}
+use Rattle.cu_wait.specs.MeasuredTexts.{measured_of_text}
 use Rattle.cu_wait.specs.Converted.{AreConverted, IsConverted, StandForSome}
 use Rattle.cu_wait.specs.Networks.{Measured}
 use Rattle.cu_io.specs.Shelves.{ShelfState}
 use Rattle.cu_interval.specs.Hierarchies.{HierarchyValue, IsBuilt}
 use Rattle.cu_cli.specs.declared.preparing.OrderGiven.{OrderGiven}
-use Rattle.cu_cli.specs.declared.preparing.Prepared.{Prepared}
+use Rattle.cu_cli.specs.declared.measuring.PreparedWaiting.{PreparedWaiting}
 use Rattle.cu_cli.specs.declared.preparing.TableTexts.{TableTexts}
 use Rattle.cu_cli.specs.declared.stops.Stop.{Stop}
 use Rattle.cu_cli.specs.declared.stops.Stop.TheVariants as stop
 use Rattle.cu_cli.specs.Preparing.{AreLoaded, HasFewEdges, IsOrderGiven, IsOrderOf, IsOrderRefused, StopsNetwork, StopsOrder}
 use Rattle.cu_cli.specs.PreparingWaiting.{RawRead, StopsRoads, StopsTexts, joined_raw, raw_network_of, roads_read, with_places_raw}
-use Rattle.cu_cli.specs.Steps.Loading.{IsGivenBy, IsReadFrom, StopsReading, named_by, order_kind, order_texts}
-use Rattle.cu_cli.specs.Steps.Measuring.{HasBuiltMeasured, HasPreparedMeasured, IsConvertedText, IsReadMeasured, StopsReadingMeasured}
+use Rattle.cu_cli.specs.Steps.Loading.{IsGivenBy, order_kind, order_texts}
+use Rattle.cu_cli.specs.Steps.Measuring.{HasBuiltMeasured, HasPreparedMeasured, IsReadMeasured, StopsReadingMeasured}
+use Rattle.cu_cli.specs.Steps.Outcomes.{IsRefusal, stop_of_network}
 use Rattle.cu_cli.specs.Words.{OrderAsked, Identity, Dissected, Named, TablesAsked, table_files}
 use Rattle.cu_cli.proofs.OrderKinds.{order_asked_is, order_stops_asked}
 
@@ -47,7 +48,7 @@ each_stands : (measured : List (List Point)) (profiles : List (List Piece)) → 
 each_stands [] [] all number = tt
 each_stands [] (pieces ∷ profiles) all number = absurd all
 each_stands (points ∷ measured) [] all number = absurd all
-each_stands (points ∷ measured) (pieces ∷ profiles) all zero = all.0.0
+each_stands (points ∷ measured) (pieces ∷ profiles) all zero = all.0
 each_stands (points ∷ measured) (pieces ∷ profiles) all (suc number) = each_stands measured profiles all.1 number
 
 -- one reading gives the converted network of the other, or the same refusal
@@ -64,19 +65,12 @@ module _ (measured : List (List Point)) (profiles : List (List Piece)) (all : Ar
     refl,
   )
 
-  profiles_convert : (places : List Place) (roads : List ℕ) (named : Result (List (List Piece)) ProfileRefusal) → named ≡ Ok profiles
-      → Converts (with_profiles places roads named) (joined_raw places measured (arcs_of_text (length places) (length measured) roads))
-  profiles_convert places roads named is =
-      rw is (rw (as_many measured profiles all) (joined_converts places (arcs_of_text (length places) (length measured) roads)))
+  places_convert : (places : Result (List Place) RoadRefusal) (roads : List ℕ) → Converts (with_given places roads profiles) (with_places_raw places roads measured)
+  places_convert (Err refusal) roads = refl
+  places_convert (Ok places) roads = rw (as_many measured profiles all) (joined_converts places (arcs_of_text (length places) (length measured) roads))
 
-  places_convert : (places : Result (List Place) RoadRefusal) (roads table : List ℕ) → profiles_of_text table ≡ Ok profiles
-      → Converts (with_places places roads table) (with_places_raw places roads measured)
-  places_convert (Err refusal) roads table is = refl
-  places_convert (Ok places) roads table is = profiles_convert places roads (profiles_of_text table) is
-
-  pub texts_convert : (nodes roads table : List ℕ) → profiles_of_text table ≡ Ok profiles → Converts (network_of nodes roads table) (raw_network_of nodes roads measured)
-  unfolding network_of
-  texts_convert nodes roads table is = places_convert (places_of_text nodes) roads table is
+  pub texts_convert : (nodes roads : List ℕ) → Converts (network_with nodes roads profiles) (raw_network_of nodes roads measured)
+  texts_convert nodes roads = places_convert (places_of_text nodes) roads
 
 -- so a network is read where the converted one is
 pub converts_ok : (named : Result NetworkRead RoadRefusal) (raws : Result RawRead RoadRefusal) (read : NetworkRead) → Converts named raws → named ≡ Ok read
@@ -99,6 +93,20 @@ pub network_stops_raw : (named : Result NetworkRead RoadRefusal) (raws : Result 
 network_stops_raw named raws (stop.Network refusal) converts stops = converts_err named raws refusal converts stops
 network_stops_raw named raws stop.NoMemory converts stops = tt
 network_stops_raw named raws _ converts stops = absurd stops
+
+-- the stop of refused tables, which comes before the script; want of memory has its own
+pub stops_tables : {Read : Type 0} (named : Result Read RoadRefusal) (refusal : RoadRefusal) → (refusal ≢ road.NoMemory → named ≡ Err refusal)
+    → StopsNetwork named (stop_of_network refusal) × IsRefusal (stop_of_network refusal)
+stops_tables named (road.Header file) h = (h (λ e. cc e), tt)
+stops_tables named (road.Fields file row) h = (h (λ e. cc e), tt)
+stops_tables named (road.Number file row) h = (h (λ e. cc e), tt)
+stops_tables named (road.TooManyNodes row) h = (h (λ e. cc e), tt)
+stops_tables named (road.TooManyArcs row) h = (h (λ e. cc e), tt)
+stops_tables named (road.Sequence file row) h = (h (λ e. cc e), tt)
+stops_tables named (road.NodeRange row) h = (h (λ e. cc e), tt)
+stops_tables named (road.ProfileRange row) h = (h (λ e. cc e), tt)
+stops_tables named (road.Profiles why) h = (h (λ e. cc e), tt)
+stops_tables named road.NoMemory h = (tt, tt)
 
 -- the dissection of a network follows from its nodes and roads
 dissected_same : (g other : NetworkValue) → other.arcs ≡ g.arcs → (places : List Place) (fuel : ℕ) (part : List ℕ)
@@ -155,17 +163,32 @@ roads_stop_later asked named raws read given why converts is stops =
     let (raw, raw_is, c, places) = converts_ok named raws read converts is in
     inr (raw, raw_is, order_stops_raw read raw c places asked given why stops)
 
+-- the network that is read has these measured profiles
+joined_profiles : (places : List Place) (measured : List (List Point)) (arcs : Result (List RoadArc) RoadRefusal) (read : RawRead) → joined_raw places measured arcs ≡ Ok read
+    → read.network.profiles ≡ map Measured measured
+joined_profiles places measured (Err refusal) read is = absurd (cc is)
+joined_profiles places measured (Ok arcs) read is =
+    let made : RawRead = record { network = record { nodes = length places; arcs = arcs; profiles = map Measured measured }; places = places } in
+    let same : made ≡ read = cc is in
+    sym (ap (λ (r : RawRead). r.network.profiles) same)
+
+raw_profiles : (places : Result (List Place) RoadRefusal) (roads : List ℕ) (measured : List (List Point)) (read : RawRead) → with_places_raw places roads measured ≡ Ok read
+    → read.network.profiles ≡ map Measured measured
+raw_profiles (Err refusal) roads measured read is = absurd (cc is)
+raw_profiles (Ok places) roads measured read is = joined_profiles places measured (arcs_of_text (length places) (length measured) roads) read is
+
 -- what is read of texts that are loaded is prepared by them
-pub prepared_measured : (a : ShelfState) (tables : TablesAsked) (asked : OrderAsked) (texts : TableTexts) (by : OrderGiven) (prepared : Prepared) → IsGivenBy asked by
-    → AreLoaded a (table_files tables asked) (texts.nodes.items ∷ texts.roads.items ∷ texts.profiles.items ∷ order_texts by) → IsReadMeasured texts by prepared
-    → HasPreparedMeasured a tables asked prepared
-prepared_measured a tables asked texts by prepared h loaded (measured, raw, points, named, c, is, few) = (
+pub prepared_measured : (a : ShelfState) (tables : TablesAsked) (asked : OrderAsked) (texts : TableTexts) (by : OrderGiven) (ready : PreparedWaiting) → IsGivenBy asked by
+    → AreLoaded a (table_files tables asked) (texts.nodes.items ∷ texts.roads.items ∷ texts.profiles.items ∷ order_texts by) → IsReadMeasured texts by ready
+    → HasPreparedMeasured a tables asked ready
+prepared_measured a tables asked texts by ready h loaded (raw, points, named, c, is, few) = (
   raw,
   c,
+  raw_profiles (places_of_text texts.nodes.items) texts.roads.items ready.measured.items raw named,
   (
     order_texts by,
-    (texts.nodes.items, texts.roads.items, texts.profiles.items, measured, loaded, points, named),
-    order_asked_is asked by (roads_read raw) prepared.order h is,
+    (texts.nodes.items, texts.roads.items, texts.profiles.items, ready.measured.items, loaded, points, named),
+    order_asked_is asked by (roads_read raw) ready.prepared.order h is,
     few,
   ),
 )
@@ -178,44 +201,48 @@ texts_stop_asked asked by nodes roads text why h (inr (measured, points, inl sto
 texts_stop_asked asked by nodes roads text why h (inr (measured, points, inr (raw, named, stops))) =
     inr (measured, points, inr (raw, named, order_stops_asked asked by (roads_read raw) why h stops))
 
--- the network of equal texts
-raw_of_same : {nodes others roads ways : List ℕ} (measured : List (List Point)) (raw : RawRead) → nodes ≡ others → roads ≡ ways → raw_network_of nodes roads measured ≡ Ok raw
-    → raw_network_of others ways measured ≡ Ok raw
-raw_of_same measured raw nodes roads is = rw (nodes, roads) at is
+module _ (texts : TableTexts) (measured : List (List Point)) (profiles : List (List Piece)) (points : measured_of_text texts.profiles.items ≡ Ok measured)
+    (all : AreConverted measured profiles) (by : OrderGiven) where
+  -- the nodes and roads were read with the converted profiles, and the order that is given
+  pub read_measured_is : (ready : PreparedWaiting) (read : NetworkRead) → ready.measured.items ≡ measured → ready.prepared.network ≡ read.network
+      → network_with texts.nodes.items texts.roads.items profiles ≡ Ok read → IsOrderOf (order_kind by) read (order_texts by) ready.prepared.order
+      → HasFewEdges read.network ready.prepared.order → IsReadMeasured texts by ready
+  read_measured_is ready read measured_is network named is few =
+      let raws = raw_network_of texts.nodes.items texts.roads.items measured in
+      let converts = texts_convert measured profiles all texts.nodes.items texts.roads.items in
+      let (raw, raw_is, c, same) = converts_ok (network_with texts.nodes.items texts.roads.items profiles) raws read converts named in (
+        raw,
+        points ∙ ap Ok (sym measured_is),
+        subst (λ (m : List (List Point)). raw_network_of texts.nodes.items texts.roads.items m ≡ Ok raw) (sym measured_is) raw_is,
+        subst (λ (n : NetworkValue). IsConverted raw.network n) (sym network) c,
+        order_raw read raw c same (order_kind by) (order_texts by) ready.prepared.order is,
+        few_raw read raw c same ready.prepared.order few,
+      )
 
--- the texts with the table of converted profiles in the place of the measured ones were read
-pub read_measured_is : (texts converted : TableTexts) (by : OrderGiven) (prepared : Prepared) → converted.nodes.items ≡ texts.nodes.items → converted.roads.items ≡ texts.roads.items
-    → IsConvertedText texts.profiles.items converted.profiles.items → IsReadFrom converted by prepared → IsReadMeasured texts by prepared
-read_measured_is texts converted by prepared nodes roads (measured, profiles, points, all, table) (places, named, is, few) =
-    let read : NetworkRead = record { network = prepared.network; places = places } in
-    let converts = texts_convert measured profiles all converted.nodes.items converted.roads.items converted.profiles.items table in
-    let (raw, raw_is, c, same) = converts_ok (named_by converted) (raw_network_of converted.nodes.items converted.roads.items measured) read converts named in (
-      measured,
-      raw,
-      points,
-      raw_of_same measured raw nodes roads raw_is,
-      c,
-      order_raw read raw c same (order_kind by) (order_texts by) prepared.order is,
-      few_raw read raw c same prepared.order few,
-    )
+  -- or their reading stopped the run
+  pub network_stops : (why : Stop) → StopsNetwork (network_with texts.nodes.items texts.roads.items profiles) why → StopsReadingMeasured texts by why
+  network_stops why stops =
+      inr (
+        measured,
+        points,
+        roads_stop (order_kind by) (network_with texts.nodes.items texts.roads.items profiles)
+            (raw_network_of texts.nodes.items texts.roads.items measured) (order_texts by) why (texts_convert measured profiles all texts.nodes.items texts.roads.items) stops,
+      )
 
--- or their reading stopped the run
-pub reading_measured_stops : (texts converted : TableTexts) (by : OrderGiven) (why : Stop) → converted.nodes.items ≡ texts.nodes.items → converted.roads.items ≡ texts.roads.items
-    → IsConvertedText texts.profiles.items converted.profiles.items → StopsReading converted by why → StopsReadingMeasured texts by why
-reading_measured_stops texts converted by why nodes roads (measured, profiles, points, all, table) stops =
-    let converts = texts_convert measured profiles all converted.nodes.items converted.roads.items converted.profiles.items table in
-    let stopped = by_either converts stops in
-    inr (measured, points, rw (nodes, roads) at stopped)
-  where
-    raws : Result RawRead RoadRefusal
-    raws = raw_network_of converted.nodes.items converted.roads.items measured
-
-    by_either : Converts (named_by converted) raws → StopsReading converted by why → StopsRoads (order_kind by) raws (order_texts by) why
-    by_either converts (inl first) = roads_stop (order_kind by) (named_by converted) raws (order_texts by) why converts first
-    by_either converts (inr (read, named, later)) = roads_stop_later (order_kind by) (named_by converted) raws read (order_texts by) why converts named later
+  -- or behind it the order
+  pub order_stops : (why : Stop) (read : NetworkRead) → network_with texts.nodes.items texts.roads.items profiles ≡ Ok read
+      → StopsOrder (order_kind by) read (order_texts by) why → StopsReadingMeasured texts by why
+  order_stops why read named stops =
+      inr (
+        measured,
+        points,
+        roads_stop_later (order_kind by) (network_with texts.nodes.items texts.roads.items profiles)
+            (raw_network_of texts.nodes.items texts.roads.items measured) read (order_texts by) why (texts_convert measured profiles all texts.nodes.items texts.roads.items)
+            named stops,
+      )
 
 -- the hierarchy of prepared tables was built
-pub has_built_measured : {a : ShelfState} (tables : TablesAsked) (asked : OrderAsked) {h : HierarchyValue} (prepared : Prepared) → HasPreparedMeasured a tables asked prepared → IsBuilt h
-    → h.network ≡ prepared.network → h.order ≡ prepared.order → HasBuiltMeasured a tables asked h
-has_built_measured tables asked prepared (read, c, prepares) built network order =
-    record { built = built; read = read; converted = rw network c; prepares = rw order prepares }
+pub has_built_measured : {a : ShelfState} (tables : TablesAsked) (asked : OrderAsked) {h : HierarchyValue} (ready : PreparedWaiting) → HasPreparedMeasured a tables asked ready → IsBuilt h
+    → h.network ≡ ready.prepared.network → h.order ≡ ready.prepared.order → HasBuiltMeasured a tables asked ready.measured.items h
+has_built_measured tables asked ready (read, c, measured, prepares) built network order =
+    record { built = built; read = read; converted = rw network c; measured = measured; prepares = rw order prepares }

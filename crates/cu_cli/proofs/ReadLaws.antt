@@ -1,6 +1,6 @@
 -- What was read of the source where work stopped.
-use Rattle.std.proofs.Common.{◌≡◌, ◌∙◌, ◌∷◌, [], ℕ, List, refl, sym, subst, inl, inr, false, true}
-use Rattle.std.specs.Prelude.{Option, Some, None, IfSome, Result}
+use Rattle.std.proofs.Common.{◌≡◌, ◌∙◌, ◌∷◌, [], ℕ, List, refl, sym, subst, inl, inr, true}
+use Rattle.std.specs.Prelude.{Option, Some, None, Result}
 use Rattle.cu_io.specs.Shelves.{ShelfState}
 use Rattle.cu_io.specs.Sinks.{SinkState}
 use Rattle.cu_io.specs.Sources.{SourceState}
@@ -18,7 +18,7 @@ use Rattle.cu_cli.specs.declared.stops.Stop.{Stop}
 use Rattle.cu_cli.specs.declared.stops.Stop.TheVariants as stop
 use Rattle.cu_cli.specs.Endings.{Ending, EndsPacking, ending_of}
 use Rattle.cu_cli.specs.Opening.{StopsChecks, StopsOpening}
-use Rattle.cu_cli.specs.Preparing.{StopsLoad, StopsLoading, StopsNetwork, StopsOrder, StopsPreparing, StopsTables}
+use Rattle.cu_cli.specs.Preparing.{StopsLoad, StopsLoading, StopsNetwork, StopsOrder, StopsPreparing}
 use Rattle.cu_cli.specs.PreparingWaiting.{StopsRoads, StopsTexts, StopsWaiting, RawRead, raw_network_of, roads_read}
 use Rattle.cu_cli.specs.Commands.Measure.{StopsMeasured}
 use Rattle.cu_cli.specs.Runs.{IsReadToEnd, Reads, ReadsScript}

@@ -5,14 +5,17 @@ use Rattle.std.proofs.lemmas.List.{append-nil}
 use Rattle.cu_io.specs.Shelves.{ShelfState}
 use Rattle.cu_io.specs.Sinks.{SinkState}
 use Rattle.cu_io.specs.Sources.{SourceState}
-use Rattle.cu_io.specs.Transfers.{Appends}
+use Rattle.cu_io.specs.Transfers.{Appends, Takes}
 use Rattle.cu_io.proofs.Appending.{appends_nothing, appends_more}
 use Rattle.cu_io.proofs.Taking.{takes_nothing}
 use Rattle.cu_interval.specs.Hierarchies.{HierarchyValue, IsBuilt}
 use Rattle.cu_session.specs.declared.stops.SessionStop.{SessionStop}
 use Rattle.cu_session.specs.declared.stops.SessionStop.TheVariants as session
 use Rattle.cu_session.specs.Held.{IsHeldOutput}
-use Rattle.cu_session.specs.Sessions.{EndsSession, IsFlushed, Leaves, session_status}
+use Rattle.cu_session.specs.Sessions.{AnswersBy, EndsSession, EndsWaiting, IsFlushed, Leaves, session_status}
+use Rattle.cu_session.specs.Waiting.{IsWaitingOutput}
+use Rattle.cu_wait.specs.Networks.{RawNetwork}
+use Rattle.cu_model.specs.Orders.{OrderValue}
 use Rattle.cu_cli.specs.declared.preparing.Prepared.{Prepared}
 use Rattle.cu_cli.specs.declared.stops.Stop.{Stop}
 use Rattle.cu_cli.specs.declared.stops.Stop.TheVariants as stop
@@ -132,20 +135,35 @@ counts_script a b (Some session.Sink) k = k
 counts_script a b (Some session.NoMemory) k = k
 counts_script a b (Some session.TakeLimit) k = k
 
--- a script was answered by a hierarchy
+-- a script was answered
+pub replied : (a b : ShelfState) (s t : SourceState) (k now : SinkState) (end : Option SessionStop) (Output : List (List ℕ) → List ℕ → Type 0)
+    (Ends : ShelfState → ShelfState → Ending → Type 0) (taken output : List ℕ) → OnlyLoads None a b → Takes s.left t.left taken → Appends k.written now.written output
+    → AnswersBy Output end taken output → Leaves true (session_status end) s t k now
+    → Ends a b (record { stop = ending_of end; taken = taken; output = output; stored = [] }) → Did true (ending_of end) Ends (world_of a s k) (world_of b t now)
+replied a b s t k now end Output Ends taken output loads takes appends answers leaves ends = record {
+  work = record { stop = ending_of end; taken = taken; output = output; stored = [] };
+  stop = refl;
+  ended = ends;
+  reads = reads_script end Output s t k now taken output answers leaves;
+  moves = (takes, appends);
+  stores = loads.held;
+  leaves = subst (λ (status : ℕ). Leaves true status s t k now) (status_same end) leaves;
+  faults = counts_script a b end loads.faults;
+}
+
+-- by a hierarchy
 pub answered : (a b : ShelfState) (s t : SourceState) (k now : SinkState) (end : Option SessionStop) (h : HierarchyValue) (Ends : ShelfState → ShelfState → Ending → Type 0)
     → OnlyLoads None a b → (done : EndsSession h end s t k now)
     → Ends a b (record { stop = ending_of end; taken = done.taken; output = done.output; stored = [] }) → Did true (ending_of end) Ends (world_of a s k) (world_of b t now)
-answered a b s t k now end h Ends loads done ends = record {
-  work = record { stop = ending_of end; taken = done.taken; output = done.output; stored = [] };
-  stop = refl;
-  ended = ends;
-  reads = reads_script end (IsHeldOutput h) s t k now done.taken done.output done.held done.leaves;
-  moves = (done.takes, done.appends);
-  stores = loads.held;
-  leaves = subst (λ (status : ℕ). Leaves true status s t k now) (status_same end) done.leaves;
-  faults = counts_script a b end loads.faults;
-}
+answered a b s t k now end h Ends loads done ends =
+    replied a b s t k now end (IsHeldOutput h) Ends done.taken done.output loads done.takes done.appends done.held done.leaves ends
+
+-- over a network with measured profiles
+pub waited : (a b : ShelfState) (s t : SourceState) (k now : SinkState) (end : Option SessionStop) (g : RawNetwork) (order : OrderValue)
+    (Ends : ShelfState → ShelfState → Ending → Type 0) → OnlyLoads None a b → (done : EndsWaiting g order end s t k now)
+    → Ends a b (record { stop = ending_of end; taken = done.taken; output = done.output; stored = [] }) → Did true (ending_of end) Ends (world_of a s k) (world_of b t now)
+waited a b s t k now end g order Ends loads done ends =
+    replied a b s t k now end (IsWaitingOutput g order) Ends done.taken done.output loads done.takes done.appends done.answered done.leaves ends
 
 -- all was done
 pub finished : (a b : ShelfState) (s t : SourceState) (k now : SinkState) (words : List (List ℕ)) → Works (meaning_of words) None (world_of a s k) (world_of b t now)

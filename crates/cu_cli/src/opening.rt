@@ -12,7 +12,7 @@ ghost use Rattle.cu_cli.specs.Words.{editing_files, hierarchy_file};
 use crate::preparing::load_file;
 use crate::stops::{Role, Stop};
 use cu_io::Shelf;
-use cu_pack::{PackRefusal, PackedView, migrate};
+use cu_pack::{PackRefusal, PackedView, migrate_telling};
 use cu_progress::{Progress, Stage, begin};
 use std::alloc::Global;
 
@@ -39,8 +39,7 @@ pub fn open_file<H: Shelf, P: Progress>(
 {
     begin(progress, Stage::Reading);
     let bytes = load_file(alloc, Role::Hierarchy, name, shelf)?;
-    begin(progress, Stage::Opening);
-    checked_file(alloc, bytes)
+    checked_file(alloc, bytes, progress)
 }
 
 /// The packed file, in version 2, of the hierarchy whose packed file the bytes of a file are, in either version, and the
@@ -60,27 +59,31 @@ pub fn open_edited<H: Shelf, P: Progress>(
     ensures before { IfErr result IsBeforeScript }
     ensures loads { OnlyLoads (stop_of result) (H.state shelf.old) (H.state shelf.new) }
 {
-    begin(progress, Stage::Reading);
+    progress.tell(Stage::Reading, 0, 2);
     let hierarchy = load_file(alloc, Role::Hierarchy, hierarchy, shelf)?;
+    progress.tell(Stage::Reading, 1, 2);
     let edits = load_file(alloc, Role::Edits, edits, shelf)?;
-    begin(progress, Stage::Opening);
-    let hierarchy = checked_file(alloc, hierarchy)?;
+    let hierarchy = checked_file(alloc, hierarchy, progress)?;
     Ok(EditedFile { hierarchy, edits })
 }
 
 // The packed file, in version 2, of the hierarchy whose packed file these bytes are, in either version; or the first check
 // that they fail.
-fn checked_file(alloc: Global, bytes: Vec<u8>) -> Result<Vec<u8>, Stop>
+fn checked_file<P: Progress>(
+    alloc: Global,
+    bytes: Vec<u8>,
+    progress: &mut P,
+) -> Result<Vec<u8>, Stop>
     ensures spelled { IfOk result
         (λ file. (h : HierarchyValue) × IsFileOf bytes.items h × Spells file.items h) }
     ensures refused { IfErr result (StopsChecks bytes.items) }
     ensures before { IfErr result IsRefusal }
 {
-    let Some(refusal) = first_failed(alloc, &bytes) else {
+    let Some(refusal) = first_failed(alloc, &bytes, progress) else {
         return Ok(bytes);
     };
     if names_version_1(refusal) {
-        return Ok(migrate(alloc, &bytes)?);
+        return Ok(migrate_telling(alloc, &bytes, progress)?);
     }
     Err(Stop::from(refusal))
 }
@@ -96,8 +99,8 @@ fn names_version_1(refusal: PackRefusal) -> bool
 }
 
 // The first check of version 2 that bytes fail.
-fn first_failed(alloc: Global, bytes: &[u8]) -> Option<PackRefusal>
+fn first_failed<P: Progress>(alloc: Global, bytes: &[u8], progress: &mut P) -> Option<PackRefusal>
     ensures { FailsFirst bytes.now result }
 {
-    PackedView::open(alloc, bytes).err()
+    PackedView::open_telling(alloc, bytes, progress).err()
 }

@@ -9,7 +9,7 @@ ghost use Rattle.cu_dissect.specs.Dissection.{dissected};
 ghost use Rattle.cu_model.specs.Networks.{IsNetwork};
 ghost use Rattle.cu_model.specs.Orders.{IsOrder};
 ghost use Rattle.cu_model.specs.declared.limits.TheConstants.{MAX_NODES};
-ghost use Rattle.cu_cli.specs.Preparing.{AreLoaded, IsLoaded, IsOrderGiven, StopsLoad, StopsLoading, StopsNetwork, StopsPreparing};
+ghost use Rattle.cu_cli.specs.Preparing.{AreLoaded, HasFewEdges, IsLoaded, IsOrderGiven, IsOrderOf, StopsLoad, StopsLoading, StopsNetwork, StopsOrder, StopsPreparing};
 ghost use Rattle.cu_cli.specs.Steps.Asks.{order_asked, tables_asked};
 ghost use Rattle.cu_cli.specs.Steps.Loading.{HasPrepared, IsGivenBy, IsReadFrom, OnlyLoads, RefusesOrder, StopsReading, named_by, order_kind, order_texts, table_texts};
 ghost use Rattle.cu_cli.specs.Steps.Outcomes.{IsBeforeScript, IsRefusal, stop_of};
@@ -19,11 +19,11 @@ use crate::stops::{Role, Stop};
 use crate::words::{OrderWord, TableNames};
 use cu_chordal::{Chordal, close};
 use cu_customize::customize_telling;
-use cu_dissect::dissect;
+use cu_dissect::dissect_telling;
 use cu_io::{LoadFailed, Shelf};
 use cu_model::{Network, NoMemory, Order, Roads};
 use cu_order::{OrderRefusal, read_order};
-use cu_pack::pack;
+use cu_pack::pack_telling;
 use cu_progress::{Progress, Stage, begin};
 use cu_roads::{Places, read_network};
 use std::alloc::Global;
@@ -55,6 +55,9 @@ pub struct Prepared {
     pub graph: Chordal,
 }
 
+/// In how many steps tables are read, as they are told: they are loaded, and then their texts are read.
+pub const STEPS: u64 = 2;
+
 /// Loads the tables and the order, reads them, and closes the graph.
 pub fn prepare<H: Shelf, P: Progress>(
     alloc: Global,
@@ -72,10 +75,10 @@ pub fn prepare<H: Shelf, P: Progress>(
     ensures before { IfErr result IsBeforeScript }
     ensures loads { OnlyLoads (stop_of result) (H.state shelf.old) (H.state shelf.new) }
 {
-    begin(progress, Stage::Reading);
+    progress.tell(Stage::Reading, 0, STEPS);
     let texts = load_tables(alloc, tables, shelf)?;
     let given = load_order(alloc, order, shelf)?;
-    read_prepared(alloc, &texts, &given)
+    read_prepared(alloc, &texts, &given, progress)
 }
 
 /// Loads the tables of a network, in the order of their words.
@@ -161,10 +164,11 @@ pub fn read_tables(alloc: Global, texts: &TableTexts) -> Result<(Network, Places
 }
 
 /// The network of the tables, its order, and the graph closed under it.
-pub fn read_prepared(
+pub fn read_prepared<P: Progress>(
     alloc: Global,
     texts: &TableTexts,
     given: &OrderGiven,
+    progress: &mut P,
 ) -> Result<Prepared, Stop>
     ensures ok { IfOk result (IsReadFrom texts.now given.now) }
     ensures closed { IfOk result
@@ -172,8 +176,32 @@ pub fn read_prepared(
     ensures err { IfErr result (StopsReading texts.now given.now) }
     ensures before { IfErr result IsRefusal }
 {
+    progress.tell(Stage::Reading, 1, STEPS);
     let (network, places) = read_tables(alloc, texts)?;
-    let order = make_order(alloc, given, &network, &places)?;
+    close_read(alloc, network, &places, given, progress)
+}
+
+/// A network that was read with the places of its nodes, the order that is given, and the graph closed under it.
+pub fn close_read<P: Progress>(
+    alloc: Global,
+    network: Network,
+    places: &Places,
+    given: &OrderGiven,
+    progress: &mut P,
+) -> Result<Prepared, Stop>
+    requires places { length places.now ≡ network.nodes }
+    ensures network { IfOk result (λ prepared. prepared.network ≡ network) }
+    ensures order { IfOk result (λ prepared. IsOrderOf (order_kind given.now)
+        (record { network = network; places = places.now }) (order_texts given.now) prepared.order) }
+    ensures few { IfOk result (λ prepared. HasFewEdges network prepared.order) }
+    ensures closed { IfOk result
+        (λ prepared. IsClosureOf prepared.network prepared.order prepared.graph) }
+    ensures err { IfErr result (StopsOrder (order_kind given.now)
+        (record { network = network; places = places.now }) (order_texts given.now)) }
+    ensures before { IfErr result IsRefusal }
+{
+    let order = make_order(alloc, given, &network, places, progress)?;
+    begin(progress, Stage::Closing);
     let graph = close(alloc, &network, &order)?;
     Ok(Prepared {
         network,
@@ -200,16 +228,16 @@ pub fn pack_prepared<P: Progress>(
         prepared.graph,
         progress,
     )?;
-    begin(progress, Stage::Packing);
-    pack(alloc, &hierarchy)
+    pack_telling(alloc, &hierarchy, progress)
 }
 
 // The order that is given.
-fn make_order(
+fn make_order<P: Progress>(
     alloc: Global,
     given: &OrderGiven,
     network: &Network,
     places: &Places,
+    progress: &mut P,
 ) -> Result<Order, OrderRefusal>
     requires { length places.now ≡ network.now.nodes }
     ensures given { IfOk result (IsOrderGiven (order_kind given.now)
@@ -221,7 +249,7 @@ fn make_order(
 {
     match given {
         OrderGiven::Identity => own_ranks(alloc, network.nodes()),
-        OrderGiven::Dissected => dissected_order(alloc, network, places),
+        OrderGiven::Dissected => dissected_order(alloc, network, places, progress),
         OrderGiven::Text(text) => read_order(alloc, text, network.nodes()),
     }
 }
@@ -239,7 +267,12 @@ fn own_ranks(alloc: Global, nodes: u32) -> Result<Order, OrderRefusal>
 }
 
 // The order of the dissection.
-fn dissected_order(alloc: Global, network: &Network, places: &Places) -> Result<Order, OrderRefusal>
+fn dissected_order<P: Progress>(
+    alloc: Global,
+    network: &Network,
+    places: &Places,
+    progress: &mut P,
+) -> Result<Order, OrderRefusal>
     requires { length places.now ≡ network.now.nodes }
     ensures given { IfOk result
         (λ order. order.node_at ≡ (dissected network.now places.now).order) }
@@ -247,6 +280,6 @@ fn dissected_order(alloc: Global, network: &Network, places: &Places) -> Result<
     ensures sound { IfOk result IsOrder }
     ensures refused { IfErr result (λ refusal. refusal ≡ OrderRefusal.NoMemory) }
 {
-    let (order, _splits) = dissect(alloc, network, places)?;
+    let (order, _splits) = dissect_telling(alloc, network, places, progress)?;
     Ok(order)
 }

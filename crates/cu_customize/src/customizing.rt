@@ -16,7 +16,7 @@ use crate::triangles::{Triangle, Triangles};
 use cu_chordal::Chordal;
 use cu_interval::{Dir, EdgeArcs, Hierarchy, Shortcut, WayList, leg_of};
 use cu_model::{Network, NoMemory, Order, Roads};
-use cu_progress::{Counter, Progress, Silent, Stage};
+use cu_progress::{Progress, Silent, Stage, Telling};
 use cu_runs::{DayFunction, LayeredFunctions, PackedRun, Windows, staying};
 use std::alloc::Global;
 
@@ -171,7 +171,7 @@ fn build_lists<P: Progress>(
         functions: Vec::with_capacity(alloc, lists)?,
         lists: Vec::with_capacity(alloc, lists)?,
     };
-    let mut counter = Counter::begin(progress, Stage::Customizing, count_work(parts.graph));
+    let mut telling = Telling::begin(progress, Stage::Customizing, count_work(parts.graph));
     for rank in 0..parts.graph.ranks() {
         settle_rank(
             alloc,
@@ -181,7 +181,7 @@ fn build_lists<P: Progress>(
             &mut gatherer,
             &mut building,
         )?;
-        counter.add(progress, triangles.settled());
+        telling.add(triangles.settled());
     }
     Ok(building)
 }

@@ -1,5 +1,4 @@
 mod ClientLaws
-mod HeldAnswers
 pub mod NetworkRuns
 mod ReplyLaws
 mod Simulation

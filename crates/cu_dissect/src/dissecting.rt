@@ -13,6 +13,7 @@ ghost use Rattle.cu_dissect.specs.Steps.Parts.{Adds, AreClear, AreParts, IsMap, 
 use crate::splits::Split;
 use crate::splitting::{Map, neighbours_of, split};
 use cu_model::{Network, NoMemory, Order, Roads};
+use cu_progress::{Progress, Silent, Stage, Telling};
 use cu_roads::Places;
 use std::alloc::Global;
 
@@ -60,8 +61,14 @@ impl Dissection {
         Ok(split)
     }
 
-    // Adds the order and the splits of a part.
-    fn add_part(&mut self, alloc: Global, map: &Map<'_>, part: &[u32]) -> Result<(), NoMemory>
+    // Adds the order and the splits of a part, and tells how many nodes it has.
+    fn add_part<P: Progress>(
+        &mut self,
+        alloc: Global,
+        map: &Map<'_>,
+        part: &[u32],
+        telling: &mut Telling<'_, P>,
+    ) -> Result<(), NoMemory>
         requires part { IsPart map.now.network.now.nodes part.now }
         requires map { IsMap map.now }
         requires long { length self.old.marks.items ≡ map.now.network.now.nodes }
@@ -73,12 +80,14 @@ impl Dissection {
     {
         if part.len() <= UNSPLIT {
             self.order.extend_from_slice(part)?;
+            telling.add(part.len() as u64);
             return Ok(());
         }
         let split = self.split_part(alloc, map, part)?;
-        self.add_part(alloc, map, &split.left)?;
-        self.add_part(alloc, map, &split.right)?;
+        self.add_part(alloc, map, &split.left, telling)?;
+        self.add_part(alloc, map, &split.right, telling)?;
         self.order.extend_from_slice(&split.separator)?;
+        telling.add(split.separator.len() as u64);
         Ok(())
     }
 }
@@ -120,13 +129,41 @@ pub fn dissect(
         (λ made. (graph : ChordalValue) → IsClosureOf network.now made.0 graph
         → All (IsUnrelated graph made.0) made.1.items) }
 {
-    let dissection = dissection_of(alloc, network, places)?;
+    dissect_telling(alloc, network, places, &mut Silent)
+}
+
+/// [`dissect`], which tells how many nodes are ordered.
+pub fn dissect_telling<P: Progress>(
+    alloc: Global,
+    network: &Network,
+    places: &Places,
+    progress: &mut P,
+) -> Result<(Order, Vec<Split>), NoMemory>
+    requires places { length places.now ≡ network.now.nodes }
+    ensures order { IfOk result
+        (λ made. made.0.node_at ≡ (dissected network.now places.now).order) }
+    ensures splits { IfOk result
+        (λ made. made.1.items ≡ (dissected network.now places.now).splits) }
+    ensures count { IfOk result (λ made. length made.0.node_at ≡ network.now.nodes) }
+    ensures sound { IfOk result (λ made. IsOrder made.0) }
+    ensures apart { IfOk result (λ made. All (IsApart network.now) made.1.items) }
+    ensures unrelated { IfOk result
+        (λ made. (graph : ChordalValue) → IsClosureOf network.now made.0 graph
+        → All (IsUnrelated graph made.0) made.1.items) }
+{
+    let mut telling = Telling::begin(progress, Stage::Ordering, u64::from(network.nodes()));
+    let dissection = dissection_of(alloc, network, places, &mut telling)?;
     let order = Order::of(alloc, dissection.order)?;
     Ok((order, dissection.splits))
 }
 
 // The order and the splits of a whole network.
-fn dissection_of(alloc: Global, network: &Network, places: &Places) -> Result<Dissection, NoMemory>
+fn dissection_of<P: Progress>(
+    alloc: Global,
+    network: &Network,
+    places: &Places,
+    telling: &mut Telling<'_, P>,
+) -> Result<Dissection, NoMemory>
     requires places { length places.now ≡ network.now.nodes }
     ensures order { IfOk result
         (λ made. made.order.items ≡ (dissected network.now places.now).order) }
@@ -145,6 +182,6 @@ fn dissection_of(alloc: Global, network: &Network, places: &Places) -> Result<Di
         splits: Vec::new(alloc),
         marks: vec![in alloc; false; nodes as usize]?,
     };
-    dissection.add_part(alloc, &map, &counted(alloc, nodes)?)?;
+    dissection.add_part(alloc, &map, &counted(alloc, nodes)?, telling)?;
     Ok(dissection)
 }

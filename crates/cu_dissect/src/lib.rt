@@ -14,5 +14,5 @@ mod halving;
 mod splits;
 mod splitting;
 
-pub use dissecting::dissect;
+pub use dissecting::{dissect, dissect_telling};
 pub use splits::Split;

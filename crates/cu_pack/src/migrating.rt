@@ -16,6 +16,7 @@ use crate::sealing::seal;
 use crate::sections::put_header;
 use crate::ways_in_file::WaysInFile;
 use cu_model::NoMemory;
+use cu_progress::{Progress, Silent};
 use std::alloc::Global;
 
 /// The packed file, of version 2, of the hierarchy whose packed file of version 1 these bytes are. Takes the memory of
@@ -28,7 +29,20 @@ pub fn migrate(alloc: Global, bytes: &[u8]) -> Result<Vec<u8>, PackRefusal>
         (λ file. (h : HierarchyValue) × SpellsIn 1 bytes.now h × Spells file.items h) }
     ensures refused { IfErr result (λ refusal. IsRefusedIn 1 bytes.now refusal) }
 {
-    let sections = check_file(alloc, bytes, 1)?;
+    migrate_telling(alloc, bytes, &mut Silent)
+}
+
+/// [`migrate`], which tells how far the checks are.
+pub fn migrate_telling<P: Progress>(
+    alloc: Global,
+    bytes: &[u8],
+    progress: &mut P,
+) -> Result<Vec<u8>, PackRefusal>
+    ensures migrated { IfOk result
+        (λ file. (h : HierarchyValue) × SpellsIn 1 bytes.now h × Spells file.items h) }
+    ensures refused { IfErr result (λ refusal. IsRefusedIn 1 bytes.now refusal) }
+{
+    let sections = check_file(alloc, bytes, 1, progress)?;
     let Ok(file) = file_with_bounds(alloc, &sections) else {
         return Err(PackRefusal::NoMemory);
     };

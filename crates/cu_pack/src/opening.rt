@@ -18,7 +18,11 @@ use crate::cutting::Sections;
 use crate::refusals::PackRefusal;
 use crate::view::PackedView;
 use cu_interval::Shortcut;
+use cu_progress::{Progress, Silent, Stage};
 use std::alloc::Global;
+
+// In how many steps a file is checked, as they are told.
+const STEPS: u64 = 4;
 
 impl<'a> PackedView<'a> {
     /// The hierarchy whose packed file these bytes are. They are borrowed, and none is copied.
@@ -29,7 +33,19 @@ impl<'a> PackedView<'a> {
         ensures spells { IfOk result (λ view. Spells bytes.now view) }
         ensures refused { IfErr result (λ refusal. IsRefused bytes.now refusal) }
     {
-        let sections = check_file(alloc, bytes, 2)?;
+        PackedView::open_telling(alloc, bytes, &mut Silent)
+    }
+
+    /// [`PackedView::open`], which tells that the digest passes, and then the graph, and then the ways.
+    pub fn open_telling<P: Progress>(
+        alloc: Global,
+        bytes: &'a [u8],
+        progress: &mut P,
+    ) -> Result<PackedView<'a>, PackRefusal>
+        ensures spells { IfOk result (λ view. Spells bytes.now view) }
+        ensures refused { IfErr result (λ refusal. IsRefused bytes.now refusal) }
+    {
+        let sections = check_file(alloc, bytes, 2, progress)?;
         check_bounds(alloc, &sections)?;
         Ok(PackedView::of(sections))
     }
@@ -37,20 +53,25 @@ impl<'a> PackedView<'a> {
 
 /// The sections of a file of this version whose header, roads, graph and ways pass; or the first of these checks that
 /// fails.
-pub fn check_file<'a>(
+pub fn check_file<'a, P: Progress>(
     alloc: Global,
     bytes: &'a [u8],
     version: u32,
+    progress: &mut P,
 ) -> Result<Sections<'a>, PackRefusal>
     requires version { IsVersion version }
     ensures ok { IfOk result
         (λ sections. PassesIn version bytes.now × (sections ≡ bytes.now)) }
     ensures err { IfErr result (IsRefusedIn version bytes.now) }
 {
+    progress.tell(Stage::Opening, 0, STEPS);
     let sections = check_header(bytes, version)?;
+    progress.tell(Stage::Opening, 1, STEPS);
     check_roads(&sections)?;
     check_graph(alloc, &sections)?;
+    progress.tell(Stage::Opening, 2, STEPS);
     check_ways(alloc, &sections)?;
+    progress.tell(Stage::Opening, 3, STEPS);
     Ok(sections)
 }
 

@@ -93,15 +93,20 @@ impl<'a, R: Eprint + Clock> Shown<'a, R> {
                 Duration::ZERO
             }
         };
-        let _ = if of > 1 {
+        self.write_line(stage, done, of, gone);
+    }
+
+    // Writes how much of a stage is done, and in how many seconds the rest will be where some of it is.
+    fn write_line(&self, stage: Stage, done: u64, of: u64, gone: Duration) {
+        let name = stage.name();
+        let _ = if of <= 1 {
+            eprint!(self.rt; "\rcatchup: {name}\x1b[K")
+        } else if done == 0 {
+            eprint!(self.rt; "\rcatchup: {name}, 0 %\x1b[K")
+        } else {
             let percent = percent_of(done, of);
             let left = seconds_left(gone.as_secs(), done, of);
-            eprint!(self.rt;
-                "\rcatchup: {}, {percent} %, {left} s left\x1b[K",
-                stage.name()
-            )
-        } else {
-            eprint!(self.rt; "\rcatchup: {}\x1b[K", stage.name())
+            eprint!(self.rt; "\rcatchup: {name}, {percent} %, {left} s left\x1b[K")
         };
     }
 }
@@ -130,6 +135,7 @@ impl Stage {
             Stage::Opening => "checking the packed file",
             Stage::Ordering => "making an order",
             Stage::Measuring => "converting measured times",
+            Stage::Closing => "finding shortcuts",
             Stage::Customizing => "settling shortcuts",
             Stage::Editing => "making edits",
             Stage::Comparing => "comparing",
@@ -148,9 +154,8 @@ fn percent_of(done: u64, of: u64) -> u64
 }
 
 // How many seconds are left, where so many seconds were needed for what is done.
-fn seconds_left(gone: u64, done: u64, of: u64) -> u64 {
-    if done == 0 {
-        return 0;
-    }
+fn seconds_left(gone: u64, done: u64, of: u64) -> u64
+    requires { 0 < done }
+{
     gone.saturating_mul(of.saturating_sub(done)) / done
 }

@@ -11,6 +11,8 @@ pub enum Stage {
     Ordering,
     /// Measured profiles are turned into pieces.
     Measuring,
+    /// The shortcuts of a graph are found, without their ways.
+    Closing,
     /// The shortcuts of a hierarchy are settled.
     Customizing,
     /// A file of edits is made.

@@ -1,9 +1,8 @@
 -- The walk of a relaxation that arrives, by its list.
-use Rattle.std.proofs.Common.{◌≡◌, ◌≢◌, ◌<◌, ◌%◌, ◌∙◌, ◌⊎◌, ℕ, List, [], ◌∷◌, Option, Some, true, false, ltb, sym, ap, arith, inl, inr, length}
+use Rattle.std.proofs.Common.{◌≡◌, ◌≢◌, ◌<◌, ◌%◌, ◌∙◌, ℕ, List, [], ◌∷◌, Option, Some, false, ltb, sym, ap, arith, inl, inr, length}
 use Rattle.std.proofs.lemmas.Bool.{cases_lt}
 use Rattle.std.specs.Prelude.{slice_get}
 use Rattle.cu_model.specs.Days.{day}
-use Rattle.cu_model.specs.Roads.{drive}
 use Rattle.cu_chordal.specs.declared.graph.Ends.{Ends}
 use Rattle.cu_interval.specs.declared.ways.Dir.{Dir}
 use Rattle.cu_interval.specs.declared.ways.Entry.{Entry}

@@ -5,7 +5,6 @@ pub mod Keeping
 pub mod RoadByRoad
 pub mod OnWalk
 pub mod Arriving
-pub mod Blanks
 pub mod RoadDrives
 pub mod Entries
 pub mod Middles
@@ -16,3 +15,4 @@ pub mod Answering
 pub mod Tops
 pub mod Unpacks
 pub mod DownLaws
+pub mod Entering

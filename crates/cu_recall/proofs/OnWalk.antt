@@ -1,11 +1,11 @@
 -- A walk under way: what was written and what is left are the walk of its list.
-use Rattle.std.proofs.Common.{◌≡◌, ◌≢◌, ◌≤◌, ◌<◌, ◌+◌, ◌%◌, ◌∙◌, ℕ, List, [], ◌∷◌, ◌++◌, None, Some, refl, sym, ap, subst, arith, length, min, append_assoc, length-append}
+use Rattle.std.proofs.Common.{◌≡◌, ◌≤◌, ◌+◌, ◌%◌, ◌∙◌, ℕ, List, [], ◌∷◌, ◌++◌, None, Some, refl, sym, ap, subst, arith, length, append_assoc, length-append}
 use Rattle.std.specs.Prelude.{slice_get}
 use Rattle.std.proofs.lemmas.List.{append-nil, length_push}
 use Rattle.cu_model.specs.Days.{day}
 use Rattle.cu_model.specs.Roads.{drive}
 use Rattle.cu_interval.specs.declared.shortcuts.Leg.{Leg}
-use Rattle.cu_interval.specs.Hierarchies.{HierarchyValue, IsHierarchy, list_from}
+use Rattle.cu_interval.specs.Hierarchies.{HierarchyValue, IsHierarchy}
 use Rattle.cu_interval.specs.Unpacking.{unpacked_walk}
 use Rattle.cu_interval.proofs.Unpacked.{unpacked-low}
 use Rattle.cu_interval.proofs.Walks.{low_some}

@@ -1,16 +1,16 @@
 -- Walks that are written road by road: parting the list that is next, and going on behind a road.
-use Rattle.std.proofs.Common.{◌≡◌, ◌≢◌, ◌≤◌, ◌<◌, ◌+◌, ◌*◌, ◌/◌, ◌%◌, ◌^◌, ◌∙◌, ◌↔◌, ℕ, List, [], ◌∷◌, ◌++◌, Option, Some, None, refl, sym, ap, subst, arith, length, min, append_assoc}
-use Rattle.std.specs.Prelude.{IfSome, IsSome, slice_get, slice_set}
+use Rattle.std.proofs.Common.{◌≡◌, ◌≤◌, ◌<◌, ◌+◌, ◌*◌, ◌/◌, ◌%◌, ◌∙◌, ◌↔◌, ℕ, List, [], ◌∷◌, ◌++◌, Option, Some, None, refl, sym, ap, subst, arith, length, min, append_assoc}
+use Rattle.std.specs.Prelude.{IfSome, IsSome, slice_set}
 use Rattle.std.proofs.lemmas.Nat.{div-add-mod'}
-use Rattle.cu_model.specs.declared.limits.TheConstants.{MAX_UNTIL}
 use Rattle.cu_model.specs.Days.{day}
 use Rattle.cu_model.specs.Roads.{drive}
 use Rattle.cu_model.proofs.ListLaws.{get_here, get_other}
-use Rattle.cu_model.proofs.RoadLaws.{drive-append}
+use Rattle.cu_model.proofs.RoadLaws.{arc_value-near, drive-append, leads_within}
 use Rattle.cu_interval.specs.declared.shortcuts.Leg.{Leg}
 use Rattle.cu_interval.specs.declared.ways.Way.TheVariants as way
-use Rattle.cu_interval.specs.Hierarchies.{HierarchyValue, IsHierarchy, list_from, way_from}
+use Rattle.cu_interval.specs.Hierarchies.{HierarchyValue, IsHierarchy, way_from}
 use Rattle.cu_interval.specs.Unpacking.{followed, unpacked, unpacked_walk, unpacked_way}
+use Rattle.cu_interval.proofs.Days.{leads-days}
 use Rattle.cu_interval.proofs.Fuel.{unpacked-via}
 use Rattle.cu_interval.proofs.Lookups.{middles_fall, well_formed}
 use Rattle.cu_unpack.specs.Steps.Legs.{walk_on}
@@ -24,10 +24,10 @@ use Rattle.cu_recall.specs.declared.spans.Row.{Row}
 use Rattle.cu_recall.specs.declared.walking.Glance.{Glance}
 use Rattle.cu_recall.specs.declared.walking.NextRoad.{NextRoad}
 use Rattle.cu_recall.specs.declared.walking.WalkSpot.{WalkSpot}
-use Rattle.cu_recall.specs.Spans.{AreHalvesAt, HasMoment, HoldsMet, HoldsParts, IsListFrom, Knows, WalkTakes, low_of_list, met_of}
+use Rattle.cu_recall.specs.Spans.{HasMoment, HoldsMet, HoldsParts, IsListFrom, Knows, WalkTakes, low_of_list, met_of}
 use Rattle.cu_recall.specs.Windows.{HoldsDriven}
 use Rattle.cu_recall.specs.Steps.Looks.{IsAsked, IsMetAt}
-use Rattle.cu_recall.specs.Steps.Walks.{AreWaiting, FindsRoad, HoldsGlance, HoldsTravel, IsAt, IsNext, IsSomewhere, Waits, next_asked}
+use Rattle.cu_recall.specs.Steps.Walks.{AreWaiting, DrivesRoad, FindsRoad, HoldsGlance, HoldsTravel, IsAt, IsNext, IsSomewhere, Waits, next_asked}
 use Rattle.cu_recall.proofs.Answering.{takes_near}
 use Rattle.cu_recall.proofs.DayWalks.{drive_days, walk_days}
 use Rattle.cu_recall.proofs.ListEnds.{list_apart, list_inside, list_low}
@@ -128,6 +128,26 @@ module _ (h : HierarchyValue) (f : IsHierarchy h) where
           (let one = on.1 in omega (arith, near, one, early)),
           omega (arith, many, room),
         )
+
+    -- which takes as long on any day
+    pub road_drives : (leg : Leg) (legs : List Leg) (found : NextRoad) → WentDown h leg legs spot.second waiting spot → met.parts ≡ part.Road found.road
+        → HoldsTravel h spot.next.list spot.second found.travel → DrivesRoad h spot.second found
+    road_drives leg legs found went same travel =
+        let u = went.next.from in
+        let v = went.next.to in
+        let t = spot.second in
+        let here = went.place.list in
+        let (roads, takes) = travel u v here in
+        let taken = says (next_asked spot) met (part.Road found.road) u v is_met same here t is_met.1 is_met.2 in
+        let leads = well_formed h f u v t (way.Road found.road) taken in
+        let there = leads_within h.network found.road leads.0 leads.1 leads.2 in
+        let walk : unpacked_walk h u v t ≡ found.road ∷ [] = ap (unpacked_way h.network (unpacked h (min u v)) u v t) taken in
+        let arrives : drive h.network (found.road ∷ []) t ≡ t + found.travel = sym (ap (λ (w : List ℕ). drive h.network w t) walk) ∙ takes.2 in
+        let near = arc_value-near h.network f.network found.road there t in
+        record {
+          near = omega (arith, near, arrives);
+          arrives = λ k. leads-days h.network h.order f.network found.road u v k t leads ∙ ap (λ (n : ℕ). k * day + n) arrives;
+        }
 
     module _ (first second : ℕ) (same : met.parts ≡ part.Halves first second) where
       -- the halves of the leg that is next are lists

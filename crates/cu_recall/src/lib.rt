@@ -3,8 +3,8 @@
 //!
 //! [`Recall`] relaxes the shortcuts of a packed file as `Relaxer` of `cu_interval` says. Its answers are those of an
 //! unpacking, and in a built hierarchy those over all low walks, whatever its [`Room`] holds of earlier relaxations, as long
-//! as that is so of the hierarchy (`Fits` in `specs/Rooms.antt`). It writes the walk of one that arrives, by what the room holds.
-//! It takes no memory, and gives its room back.
+//! as that is so of the hierarchy (`Fits` in `specs/Rooms.antt`). It writes the walk of one that arrives, by what the room
+//! holds, each road as a form of `cu_drive` says. It takes no memory, and gives its room back.
 //!
 //! A [`Row`] has, for one list, up to four [`Span`]s, over each of which the list's walk takes as long over as many roads,
 //! and an entry that was [`Met`]. Each is a fact of the hierarchy alone (`Knows` in `specs/Spans.antt`), so no query
@@ -24,7 +24,7 @@
 //! its middles until each part is known or a road, while others wait (`pending`); `walking` parts it until each part is a road,
 //! which it writes. What only private functions cite is in `specs/Steps`.
 //!
-//! It stands on `cu_model`, `cu_io`, `cu_chordal`, `cu_interval`, `cu_unpack` and `cu_pack`.
+//! It stands on `cu_model`, `cu_io`, `cu_drive`, `cu_chordal`, `cu_interval`, `cu_unpack` and `cu_pack`.
 #![tactic(auto)]
 
 mod downs;

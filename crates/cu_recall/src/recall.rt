@@ -8,8 +8,8 @@ ghost use Rattle.cu_interval.specs.Calls.{Adds, IfAt};
 ghost use Rattle.cu_interval.specs.Hierarchies.{IsHierarchy, IsHierarchyOf, graph_of, list_number};
 ghost use Rattle.cu_interval.specs.LeastBounds.{far, least_bound};
 ghost use Rattle.cu_interval.specs.Unpacking.{relaxed, unpacked_walk};
-ghost use Rattle.cu_unpack.specs.Answers.{IsArriving, IsLowWhereBuilt, walk_over};
-ghost use Rattle.cu_unpack.specs.Texts.{walk_text};
+ghost use Rattle.cu_drive.specs.RoadTexts.{driven_text};
+ghost use Rattle.cu_unpack.specs.Answers.{IsLowWhereBuilt};
 ghost use Rattle.cu_recall.specs.Rooms.{Fits};
 ghost use Rattle.cu_recall.specs.Spans.{IsListFrom};
 ghost use Rattle.cu_recall.specs.Windows.{HoldsDriven};
@@ -21,12 +21,14 @@ use crate::pending::Asked;
 use crate::room::{Room, make_rows};
 use crate::spans::Driven;
 use crate::unpacking::unpack;
-use crate::walking::write_walk;
+use crate::walking::{WalkStart, write_walk};
 use cu_chordal::Chordal;
-use cu_interval::{BoundedWays, Dir, Relaxed, Relaxer, Shortcut, Ways};
+use cu_drive::WalkForm;
+use cu_interval::{BoundedWays, Call, Dir, Relaxed, Relaxer, Shortcut, Ways};
 use cu_io::{Sink, SinkFailed};
 use cu_model::{DAY, Roads};
 use cu_pack::PackedView;
+use cu_unpack::Walker;
 use std::marker::Model;
 
 /// Relaxes the shortcuts of a packed file, with room of its own for what it learns of their lists. Contracts see the
@@ -67,32 +69,6 @@ impl<'a> Recall<'a> {
     {
         self.room
     }
-
-    /// Writes the roads of the walk of a relaxation that arrives, in plain decimal, a blank before each, but not before the
-    /// first where that is the first of all. The edge's number is below the number of edges. Takes no memory.
-    ///
-    /// Refused only where a write is: the sink's count of faults rose, and some first bytes were written.
-    pub fn walk<K: Sink>(
-        &mut self,
-        edge: u32,
-        dir: Dir,
-        at: u64,
-        first: bool,
-        sink: &mut K,
-    ) -> Result<(), SinkFailed>
-        requires edge { edge < length self.old.edges }
-        requires answers { IsArriving self.old edge dir at }
-        ensures wrote { Wrote (K.state sink.old) (K.state sink.new) result
-            (walk_text first (walk_over self.old edge dir at)) }
-        ensures sound { IsHierarchy self.old }
-        ensures stays { self.new ≡ self.old }
-    {
-        let view = self.view;
-        let graph = self.graph;
-        let room = &mut self.room;
-        let asked = asked_of(edge, dir, at);
-        walk_in(view, graph, room, asked, first, sink)
-    }
 }
 
 impl<'a> Relaxer for Recall<'a> {
@@ -122,6 +98,26 @@ impl<'a> Relaxer for Recall<'a> {
         ensures most { result ≤ far }
     {
         self.view.least(edge, dir)
+    }
+}
+
+impl<'a> Walker for Recall<'a> {
+    fn write_walk<P: WalkForm, K: Sink>(
+        &mut self,
+        call: Call,
+        first: bool,
+        form: &P,
+        sink: &mut K,
+    ) -> Result<(), SinkFailed> {
+        let view = self.view;
+        let graph = self.graph;
+        let room = &mut self.room;
+        let asked = asked_of(call.edge, call.dir, call.second);
+        let start = WalkStart {
+            asked,
+            at: call.second,
+        };
+        walk_in(view, graph, room, start, first, form, sink)
     }
 }
 
@@ -159,33 +155,30 @@ pub fn relax_over(
 }
 
 // Writes the walk of a list, in the room's places.
-fn walk_in<K: Sink>(
+fn walk_in<P: WalkForm, K: Sink>(
     view: &PackedView<'_>,
     graph: &Chordal,
     room: &mut Room,
-    asked: Asked,
+    start: WalkStart,
     first: bool,
+    form: &P,
     sink: &mut K,
 ) -> Result<(), SinkFailed>
     requires graph { graph.now ≡ graph_of view.now }
-    requires short { IsShortWalk view.now asked }
+    requires short { IsShortWalk view.now start.asked }
+    requires at { start.at % day ≡ start.asked.second }
+    requires time { start.at < 2 ^ 61 }
     requires fits { Fits view.now room.old }
     requires sound { IsHierarchy view.now }
-    ensures wrote { (u v : ℕ) → IsListFrom view.now asked.list u v
+    ensures wrote { (u v : ℕ) → IsListFrom view.now start.asked.list u v
         → Wrote (K.state sink.old) (K.state sink.new) result
-        (walk_text first (unpacked_walk view.now u v asked.second)) }
+        (driven_text (P.text form.now) view.now.network first
+        (unpacked_walk view.now u v start.asked.second) start.at) }
     ensures fits { Fits view.now room.new }
 {
     make_rows(&mut room.rows, room.lists);
-    write_walk(
-        view,
-        graph,
-        &mut room.rows,
-        &mut room.waiting,
-        asked,
-        first,
-        sink,
-    )
+    let (rows, waiting) = (&mut room.rows, &mut room.waiting);
+    write_walk(view, graph, rows, waiting, start, first, form, sink)
 }
 
 /// The list of an edge in a direction, asked at the second of the day of an absolute second.

@@ -1,15 +1,16 @@
 //! Writing the walk of a list: it is parted at its middles until its next road is found, which is written, and so on.
 
-ghost use Rattle.std.specs.Prelude.{◌≡◌, ◌≤◌, ◌<◌, ◌+◌, ◌*◌, ℕ, List, length};
+ghost use Rattle.std.specs.Prelude.{◌≡◌, ◌≤◌, ◌<◌, ◌+◌, ◌*◌, ◌%◌, ◌^◌, ℕ, List, length};
+ghost use Rattle.cu_model.specs.Days.{day};
 ghost use Rattle.cu_io.specs.Sinks.{Wrote};
 ghost use Rattle.cu_interval.specs.declared.shortcuts.Leg.{Leg};
 ghost use Rattle.cu_interval.specs.Hierarchies.{HierarchyValue, IsHierarchy, graph_of};
 ghost use Rattle.cu_interval.specs.Unpacking.{unpacked_walk};
-ghost use Rattle.cu_unpack.specs.Texts.{road_text, walk_text};
+ghost use Rattle.cu_drive.specs.RoadTexts.{driven_text};
 ghost use Rattle.cu_recall.specs.declared.spans.Parts.TheVariants as part;
 ghost use Rattle.cu_recall.specs.Spans.{IsListFrom, Knows, low_of_list};
 ghost use Rattle.cu_recall.specs.Steps.Looks.{IsAsked, IsMetAt};
-ghost use Rattle.cu_recall.specs.Steps.Walks.{FindsRoad, HoldsGlance, HoldsTravel, IsAt, IsNext, IsShortWalk, IsSomewhere, Resumes, Waits, next_asked};
+ghost use Rattle.cu_recall.specs.Steps.Walks.{DrivesRoad, FindsRoad, HoldsGlance, HoldsTravel, IsAt, IsNext, IsShortWalk, IsSomewhere, Resumes, Waits, next_asked};
 
 use crate::kept::Kept;
 use crate::looking::{drive_met, known, met_at};
@@ -17,10 +18,10 @@ use crate::pending::Asked;
 use crate::spans::{Met, Parts, Row};
 use crate::unpacking::later;
 use cu_chordal::Chordal;
-use cu_io::{Sink, SinkFailed, put_all};
+use cu_drive::WalkForm;
+use cu_io::{Sink, SinkFailed};
 use cu_model::Roads;
 use cu_pack::PackedView;
-use itoa::write_digits;
 
 /// A list, with the entry that its row met last, and a list below it with what its row met. When a list is parted the rows of both
 /// halves are read, and the row of the second half's own first half, so that the processor fetches all three at once.
@@ -30,6 +31,13 @@ pub struct Glance {
     pub met: Kept,
     pub below: u32,
     pub below_met: Kept,
+}
+
+/// Where a walk begins: its list, asked at the second of the day of an absolute second.
+#[derive(Clone, Copy)]
+pub struct WalkStart {
+    pub asked: Asked,
+    pub at: u64,
 }
 
 /// Where a walk stands: the list that is next, the second of the day at which it is asked, and how many wait behind it.
@@ -58,34 +66,40 @@ impl Glance {
     };
 }
 
-/// Writes the roads of the walk of a list, a blank before each, but not before the first where that is the first of all. It has
-/// fewer roads than there are nodes.
-pub fn write_walk<K: Sink>(
+/// Writes the roads of the walk of a list, each as the form says of it and of the absolute second at which it is entered. The walk
+/// has fewer roads than there are nodes.
+pub fn write_walk<P: WalkForm, K: Sink>(
     view: &PackedView<'_>,
     graph: &Chordal,
     rows: &mut [Row],
     waiting: &mut [Glance],
-    asked: Asked,
+    start: WalkStart,
     first: bool,
+    form: &P,
     sink: &mut K,
 ) -> Result<(), SinkFailed>
     requires graph { graph.now ≡ graph_of view.now }
-    requires short { IsShortWalk view.now asked }
+    requires short { IsShortWalk view.now start.asked }
+    requires at { start.at % day ≡ start.asked.second }
+    requires time { start.at < 2 ^ 61 }
     requires size { length rows.old ≡ 2 * length view.now.edges }
     requires room { length waiting.old ≡ view.now.network.nodes }
     requires knows { Knows view.now rows.old }
     requires sound { IsHierarchy view.now }
-    ensures wrote { (u v : ℕ) → IsListFrom view.now asked.list u v
+    ensures wrote { (u v : ℕ) → IsListFrom view.now start.asked.list u v
         → Wrote (K.state sink.old) (K.state sink.new) result
-        (walk_text first (unpacked_walk view.now u v asked.second)) }
+        (driven_text (P.text form.now) view.now.network first
+        (unpacked_walk view.now u v start.asked.second) start.at) }
     ensures knows { Knows view.now rows.new }
 {
-    let mut spot = begin(rows, asked);
+    let mut spot = begin(rows, start.asked);
     let mut first = first;
+    let mut entered = start.at;
     'roads: for _number in 1..view.nodes() {
         let found = next_road(view, graph, rows, waiting, spot);
-        put_road(sink, found.road, first)?;
+        form.put(found.road, entered, first, sink)?;
         first = false;
+        entered += found.travel;
         let second = later(spot.second, found.travel);
         let Some(next) = resume(waiting, found.waiting, second) else {
             return Ok(());
@@ -184,6 +198,7 @@ fn next_road(
     requires sound { IsHierarchy view.now }
     ensures finds { (leg : Leg) (legs : List Leg) → IsAt view.now waiting.old spot leg legs
         → FindsRoad view.now leg legs spot.second waiting.new result }
+    ensures drives { DrivesRoad view.now spot.second result }
     ensures knows { Knows view.now rows.new }
 {
     let mut spot = spot;
@@ -279,16 +294,4 @@ fn resume(waiting: &[Glance], count: usize, second: u32) -> Option<WalkSpot>
         second,
         waiting: count - 1,
     })
-}
-
-// Writes a road, with a blank before it but where it is the first of all.
-fn put_road<K: Sink>(sink: &mut K, road: u32, first: bool) -> Result<(), SinkFailed>
-    ensures wrote { Wrote (K.state sink.old) (K.state sink.new) result (road_text first road) }
-{
-    let mut text = [b' '; 20];
-    let start = write_digits(u64::from(road), &mut text, 20);
-    if first {
-        return put_all(sink, &text[start..]);
-    }
-    put_all(sink, &text[start - 1..])
 }

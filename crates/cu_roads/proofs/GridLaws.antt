@@ -19,7 +19,7 @@ use Rattle.cu_roads.specs.declared.places.Place.{Place}
 use Rattle.cu_roads.specs.declared.grids.TheConstants.{DISTANCE, MAX_SIDE, PROFILES}
 use Rattle.cu_roads.specs.Draws.{after, drawn, stepped}
 use Rattle.cu_roads.specs.Grids.{RoadEnds, drawn_day, drawn_days, drawn_roads, ends_of_node, ends_to, grid_ends, grid_network, grid_place, grid_places, next_row_ends, right_ends}
-use Rattle.cu_roads.specs.NetworkTexts.{network_of}
+use Rattle.cu_roads.specs.NetworkTexts.{NetworkRead, network_of}
 use Rattle.cu_roads.specs.Steps.TableRows.{IsBetween}
 use Rattle.cu_roads.specs.Written.{ThreeTexts, arc_table, node_table, written_network}
 use Rattle.cu_roads.proofs.DrawSteps.{drawn_below}
@@ -73,7 +73,7 @@ module _ (width height : ℕ) where
       All-map IsPlace (grid_place width) (range_with_len 0 (width * height))
       (λ i d h. place_within (get_or (range_with_len 0 (width * height)) i d) wide few_wide few_high (range_below (width * height) i d h))
 
-  length-places : length (grid_places width height) ≡ width * height
+  pub length-places : length (grid_places width height) ≡ width * height
   unfolding grid_places
   length-places = length-map-range_with_len (grid_place width) 0 (width * height)
 
@@ -171,7 +171,7 @@ days_pieces count state =
     let long = length-range_with_len 0 count in
     omega (arith, sum, long)
 
-grid_sound : (start width height : ℕ) → 1 ≤ width → width ≤ MAX_SIDE → height ≤ MAX_SIDE → IsNetwork (grid_network start width height).network
+pub grid_sound : (start width height : ℕ) → 1 ≤ width → width ≤ MAX_SIDE → height ≤ MAX_SIDE → IsNetwork (grid_network start width height).network
 unfolding grid_network
 grid_sound start width height wide few_wide few_high =
     let ends = grid_ends width height in
@@ -225,3 +225,10 @@ ends_by_rows width height x y h =
     let row : (y + 1) * width ≡ y * width + 1 * width = add-mul y 1 width in
     let below : node + width ≡ (y + 1) * width + x = omega (arith, row) in
     rw (mod-mul-add y width x h, div-mul-add y width x h, right, below) refl
+
+-- the parts of a grid that is drawn are its network
+pub grid_parts : (start width height : ℕ) (arcs : List RoadArc) (profiles : List (List Piece)) (places : List Place)
+    → arcs ≡ drawn_roads (grid_ends width height) (after (2 * PROFILES) start) → profiles ≡ drawn_days PROFILES start → places ≡ grid_places width height
+    → ◌≡◌ {A = NetworkRead} (record { network = record { nodes = width * height; arcs = arcs; profiles = profiles }; places = places }) (grid_network start width height)
+unfolding grid_network
+grid_parts start width height arcs profiles places arcs_are profiles_are places_are = rw (arcs_are, profiles_are, places_are) refl

@@ -103,6 +103,15 @@ abbrev pub with_places : Result (List Place) RoadRefusal → List ℕ → List �
 with_places (Err refusal) roads profiles = Err refusal
 with_places (Ok places) roads profiles = with_profiles places roads (profiles_of_text profiles)
 
+-- the roads are read where the places are there, with profiles that are there already
+abbrev pub with_given : Result (List Place) RoadRefusal → List ℕ → List (List Piece) → Result NetworkRead RoadRefusal
+with_given (Err refusal) roads profiles = Err refusal
+with_given (Ok places) roads profiles = joined places profiles (arcs_of_text (length places) (length profiles) roads)
+
+-- the network that two texts give with these profiles, or the first check that fails: of the nodes, then of the roads
+abbrev pub network_with : List ℕ → List ℕ → List (List Piece) → Result NetworkRead RoadRefusal
+network_with nodes roads profiles = with_given (places_of_text nodes) roads profiles
+
 -- the network that three texts give, or the first check that fails: of the nodes, then of the profiles, then of the roads
 unfoldable pub network_of : List ℕ → List ℕ → List ℕ → Result NetworkRead RoadRefusal
 network_of nodes roads profiles = with_places (places_of_text nodes) roads profiles

@@ -10,9 +10,9 @@ ghost use Rattle.cu_roads.specs.Steps.DrawnRoads.{AddsRoads};
 ghost use Rattle.cu_roads.specs.Written.{written_network};
 
 use crate::draws::Draws;
-use crate::places::Place;
+use crate::places::{Place, Places};
 use crate::writer::{write_places, write_roads};
-use cu_model::{NoMemory, Piece, Profile, RoadArc, Rule};
+use cu_model::{Network, NoMemory, Piece, Profile, RoadArc, Rule};
 use cu_profile::write_profiles;
 use std::alloc::Global;
 use std::marker::Model;
@@ -91,6 +91,32 @@ pub fn grid(
     };
     *draws = drawn;
     Ok(texts)
+}
+
+/// The network of a grid as [`grid`] draws it, and the places of its nodes, without any text.
+pub fn draw_grid(
+    alloc: Global,
+    draws: &mut Draws,
+    width: u32,
+    height: u32,
+) -> Result<(Network, Places), NoMemory>
+    requires width { IsSide width }
+    requires height { IsSide height }
+    ensures network { IfOk result (λ drawn. record { network = drawn.0; places = drawn.1 }
+        ≡ grid_network draws.old width height) }
+    ensures places { IfOk result (λ drawn. length drawn.1 ≡ drawn.0.nodes) }
+    ensures behind { OnOk result (draws.new ≡ behind_grid draws.old width height) }
+    ensures unchanged { OnErr result (draws.new ≡ draws.old) }
+{
+    let mut drawn = *draws;
+    let profiles = draw_days(alloc, &mut drawn)?;
+    let roads = draw_roads(alloc, &mut drawn, width, height)?;
+    let places = places_of(alloc, width, height)?;
+    *draws = drawn;
+    Ok((
+        Network::of(width * height, roads, profiles),
+        Places { places },
+    ))
 }
 
 /// How many roads a grid has, 1 to 512 nodes wide and 1 to 512 high: two between neighbours in a row or in a column.

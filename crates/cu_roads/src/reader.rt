@@ -5,7 +5,7 @@ ghost use Rattle.cu_model.specs.Networks.{IsNetwork};
 ghost use Rattle.cu_model.specs.Profiles.{IsProfile};
 ghost use Rattle.cu_tables.specs.Checks.{Gives};
 ghost use Rattle.cu_profile.specs.ProfileTexts.{profiles_of_text};
-ghost use Rattle.cu_roads.specs.NetworkTexts.{network_of};
+ghost use Rattle.cu_roads.specs.NetworkTexts.{network_of, network_with};
 ghost use Rattle.cu_roads.specs.Steps.TableRows.{IsRefusedForProfiles};
 ghost use Rattle.cu_roads.specs.declared.refusals.RoadRefusal.TheVariants as refusal;
 
@@ -42,6 +42,29 @@ pub fn read_network(
     let node_count = places.len() as u32;
     let arcs = read_arcs(alloc, roads, node_count, profiles.len() as u32)?;
     Ok((Network::of(node_count, arcs, profiles), Places { places }))
+}
+
+/// Reads the nodes and the roads of a network whose profiles, at most 1,048,576, are there already: [`read_network`] without a
+/// text of profiles. The network has them afterwards; they are dropped where a table is refused.
+pub fn read_roads(
+    alloc: Global,
+    nodes: &[u8],
+    roads: &[u8],
+    profiles: Vec<Profile>,
+) -> Result<(Network, Places), RoadRefusal>
+    requires valid { All IsProfile profiles.items }
+    requires few { length profiles.items ≤ MAX_PROFILES }
+    ensures network { Gives refusal.NoMemory (λ read. record { network = read.0; places = read.1 })
+        (network_with nodes.now roads.now profiles.items) result }
+    ensures places { IfOk result (λ read. length read.1 ≡ read.0.nodes) }
+    ensures sound { IfOk result (λ read. IsNetwork read.0) }
+    ensures memory { result ≢ Err (refusal.Profiles ProfileRefusal.NoMemory) }
+{
+    let places = read_places(alloc, nodes)?;
+    let node_count = places.len() as u32;
+    let arcs = read_arcs(alloc, roads, node_count, profiles.len() as u32)?;
+    let network = Network::of(node_count, arcs, profiles);
+    Ok((network, Places { places }))
 }
 
 // The profiles, where want of memory is the network's own refusal.

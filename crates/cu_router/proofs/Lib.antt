@@ -7,3 +7,4 @@ mod RouteLaws
 mod ArrivalLaws
 mod DepartureLaws
 mod TableLaws
+pub mod HeldAnswers

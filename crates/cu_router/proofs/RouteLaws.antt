@@ -1,76 +1,53 @@
--- What a query's sweeps find is the answer to the query.
-use Rattle.std.proofs.Common.{◌≡◌, ◌∙◌, ℕ, List, [], ◌∷◌, ◌++◌, Option, Some, true, false, refl, sym, ap, inl, inr, decimal}
+-- What a query's sweeps find is the swept reply to the query, however an arrival and its walk are said.
+use Rattle.std.proofs.Common.{◌≡◌, ◌∙◌, ℕ, List, Option, Some, None, refl, sym, ap, subst}
 use Rattle.std.specs.Prelude.{slice_get}
-use Rattle.std.specs.List.{flat_map, join_by}
 use Rattle.cu_model.specs.declared.queries.Query.{Query}
-use Rattle.cu_model.specs.Answers as answers
-use Rattle.cu_model.specs.Answers.{arrive_text}
 use Rattle.cu_interval.specs.declared.relaxing.Call.{Call}
-use Rattle.cu_interval.specs.Hierarchies.{HierarchyValue, IsBuilt, IsHierarchy}
+use Rattle.cu_interval.specs.Hierarchies.{HierarchyValue, IsHierarchy}
 use Rattle.cu_sweep.specs.declared.finding.Found.{Found}
 use Rattle.cu_sweep.specs.declared.finding.Found.TheVariants.{Arrive, NoWalk, Long}
-use Rattle.cu_sweep.specs.Answers.{IsLeastWhereBuilt, IsReal}
-use Rattle.cu_sweep.specs.Desks.{DeskValue, HoldsFound, roads_of}
+use Rattle.cu_sweep.specs.Desks.{AreArriving, AreChained, DeskValue, HoldsFound, roads_of}
 use Rattle.cu_sweep.specs.Labels.{Label, down_label}
 use Rattle.cu_sweep.specs.Sweeps.{found}
-use Rattle.cu_unpack.specs.Texts.{road_text, walk_text}
-use Rattle.cu_router.specs.Answers.{IsHeldAnswer, IsRealReply}
-use Rattle.cu_router.specs.Swept.{found_text, label_roads, swept_reply}
+use Rattle.cu_sweep.proofs.RealLabels.{down_label-leads}
+use Rattle.cu_router.specs.Swept.{found_text, label_roads, swept_as, swept_between, swept_of}
 
-blanks : (roads : List ℕ) → flat_map (road_text false) roads ≡ flat_map (λ (road : ℕ). (32 ∷ []) ++ decimal road) roads
-blanks [] = refl
-blanks (road ∷ roads) = ap (λ (t : List ℕ). (32 ∷ decimal road) ++ t) (blanks roads)
+module _ (says : ℕ → List ℕ → List ℕ) (h : HierarchyValue) where
+  -- the swept reply by what was found
+  pub found_is : (from to second : ℕ) (is : Found) → is ≡ found h from to second → found_text says h is (down_label h from second to) ≡ swept_between says h from to second
+  found_is from to second is same = ap (λ (f : Found). found_text says h f (down_label h from second to)) same
 
--- the roads of a walk are written with single blanks between them
-pub roads_joined : (roads : List ℕ) → walk_text true roads ≡ join_by decimal (32 ∷ []) roads
-roads_joined [] = refl
-roads_joined (road ∷ roads) = ap (λ (t : List ℕ). decimal road ++ t) (blanks roads)
+  -- where a walk was found it tells the roads of the desk's calls
+  pub arrive_is : (from to second arrival : ℕ) (desk : DeskValue) → Arrive arrival ≡ found h from to second → HoldsFound h from to second (Arrive arrival) desk
+      → says arrival (roads_of h desk.calls) ≡ swept_between says h from to second
+  arrive_is from to second arrival desk same (label, there, calls, arriving, unturned) =
+      ap (λ (cs : List Call). says arrival (roads_of h cs)) calls ∙ sym (ap (λ (l : Option Label). says arrival (label_roads h l)) there)
+      ∙ found_is from to second (Arrive arrival) same
 
-module _ (h : HierarchyValue) (sound : IsHierarchy h) (query : Query) (from to : ℕ) (start : slice_get h.order.rank_of query.from ≡ Some from)
-    (stop : slice_get h.order.rank_of query.to ≡ Some to) where
-  -- the nodes of the query stand at these ranks
-  from_placed : slice_get h.order.node_at from ≡ Some query.from
-  from_placed = sound.order.placed query.from from start
+  -- that between the ranks of its nodes is the one of a query
+  pub swept_is : (query : Query) (from to : ℕ) → slice_get h.order.rank_of query.from ≡ Some from → slice_get h.order.rank_of query.to ≡ Some to
+      → swept_between says h from to query.second ≡ swept_as says h query
+  swept_is query from to start stop = sym (rw (start, stop) refl)
 
-  to_placed : slice_get h.order.node_at to ≡ Some query.to
-  to_placed = sound.order.placed query.to to stop
+-- where a walk was found the calls arrive, and are chained
+pub found_chained : (h : HierarchyValue) → IsHierarchy h → (from to second arrival : ℕ) (desk : DeskValue) → HoldsFound h from to second (Arrive arrival) desk
+    → AreArriving h desk.calls × AreChained h second desk.calls
+found_chained h sound from to second arrival desk (label, there, calls, arriving, unturned) = (
+  subst (AreArriving h) (sym calls) arriving,
+  subst (AreChained h second) (sym calls) (down_label-leads h sound from second to label there).2,
+)
 
-  -- the swept reply to the query
-  pub reply_is : (is : Found) → is ≡ found h from to query.second → swept_reply h query ≡ found_text h is (down_label h from query.second to)
-  reply_is is same = rw (start, stop) (ap (λ (f : Found). found_text h f (down_label h from query.second to)) (sym same))
+-- replies are the same where each arrival is said in the same way
+module _ (says other : ℕ → List ℕ → List ℕ) (same : (arrival : ℕ) (walk : List ℕ) → says arrival walk ≡ other arrival walk) (h : HierarchyValue) where
+  found_alike : (is : Found) (label : Option Label) → found_text says h is label ≡ found_text other h is label
+  found_alike (Arrive arrival) label = same arrival (label_roads h label)
+  found_alike NoWalk label = refl
+  found_alike (Long edge dir second) label = refl
 
-  -- where a walk was found the reply tells its roads
-  pub arrive_is : (arrival : ℕ) (desk : DeskValue) → HoldsFound h from to query.second (Arrive arrival) desk
-      → found_text h (Arrive arrival) (down_label h from query.second to) ≡ arrive_text arrival (roads_of h desk.calls)
-  arrive_is arrival desk (label, there, calls, arriving, unturned) =
-      ap (λ (l : Option Label). arrive_text arrival (label_roads h l)) there ∙ ap (λ (cs : List Call). arrive_text arrival (roads_of h cs)) (sym calls)
+  of_alike : (from to : Option ℕ) (second : ℕ) → swept_of says h from to second ≡ swept_of other h from to second
+  of_alike None to second = refl
+  of_alike (Some from) None second = refl
+  of_alike (Some from) (Some to) second = found_alike (found h from to second) (down_label h from second to)
 
-  -- the reply where a walk was found
-  pub arrive_reply : (arrival : ℕ) (desk : DeskValue) → Arrive arrival ≡ found h from to query.second → HoldsFound h from to query.second (Arrive arrival) desk
-      → swept_reply h query ≡ arrive_text arrival (roads_of h desk.calls)
-  arrive_reply arrival desk same holds = reply_is (Arrive arrival) same ∙ arrive_is arrival desk holds
-
-  real_reply : (is : Found) (desk : DeskValue) → is ≡ found h from to query.second → HoldsFound h from to query.second is desk
-      → IsReal h from to query.second desk.calls is → IsRealReply h.network query (swept_reply h query)
-  real_reply (Arrive arrival) desk same holds real =
-      let (walk, drives) = real query.from query.to from_placed to_placed in
-      inl (arrival, roads_of h desk.calls, arrive_reply arrival desk same holds, walk, drives)
-  real_reply NoWalk desk same holds real = inr (inl (reply_is NoWalk same))
-  real_reply (Long edge dir second) desk same holds real = inr (inr (edge, dir, second, reply_is (Long edge dir second) same))
-
-  least_reply : (is : Found) (desk : DeskValue) → is ≡ found h from to query.second → HoldsFound h from to query.second is desk → IsLeastWhereBuilt h from to query.second is
-      → IsReal h from to query.second desk.calls is → IsBuilt h → answers.IsAnswer h.network query (swept_reply h query)
-  least_reply (Arrive arrival) desk same holds least real built =
-      let (walk, drives) = real query.from query.to from_placed to_placed in
-      inl (arrival, roads_of h desk.calls, arrive_reply arrival desk same holds, record { least = least built query.from query.to from_placed to_placed; joined = walk; driven = drives })
-  least_reply NoWalk desk same holds least real built = inr (reply_is NoWalk same, least built query.from query.to from_placed to_placed)
-  least_reply (Long edge dir second) desk same holds least real built = absurd (least built query.from query.to from_placed to_placed)
-
-  -- the reply is the answer of the hierarchy
-  pub answered : (is : Found) (desk : DeskValue) → is ≡ found h from to query.second → HoldsFound h from to query.second is desk → IsLeastWhereBuilt h from to query.second is
-      → IsReal h from to query.second desk.calls is → IsHeldAnswer h query (swept_reply h query)
-  answered is desk same holds least real = record {
-    swept = refl;
-    real = real_reply is desk same holds real;
-    least = least_reply is desk same holds least real;
-  }
+  pub swept_alike : (query : Query) → swept_as says h query ≡ swept_as other h query
+  swept_alike query = of_alike (slice_get h.order.rank_of query.from) (slice_get h.order.rank_of query.to) query.second

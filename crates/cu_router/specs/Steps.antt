@@ -3,3 +3,4 @@ pub mod Holding
 pub mod Rebuilt
 pub mod Rooms
 pub mod Departing
+pub mod Asking

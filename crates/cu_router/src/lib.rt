@@ -31,7 +31,7 @@ mod learned_days;
 mod query_room;
 mod reaches;
 mod router;
-mod walks;
+mod sweeps;
 mod working;
 mod writing;
 

@@ -4,24 +4,24 @@ ghost use Rattle.std.specs.Prelude.{◌≡◌, ◌≤◌, ◌<◌, ℕ, All, Lis
 ghost use Rattle.cu_io.specs.Sinks.{Wrote};
 ghost use Rattle.cu_model.specs.declared.limits.TheConstants.{DAY};
 ghost use Rattle.cu_interval.specs.Hierarchies.{IsHierarchy};
-ghost use Rattle.cu_reach.specs.Departures.{HoldsDeparture, IsDeparture, IsLatestWhereBuilt, IsRealDeparture, latest_by};
+ghost use Rattle.cu_reach.specs.Departures.{HoldsDeparture, IsDeparture, latest_by};
 ghost use Rattle.cu_reach.specs.ReachTexts.{reach_reply, table_reply, table_rows};
 ghost use Rattle.cu_recall.specs.Rooms.{Fits};
 ghost use Rattle.cu_router.specs.Reaches.{IsHeldLatestReply};
 ghost use Rattle.cu_router.specs.Steps.Departing.{departure_text};
 
 use crate::held_file::HeldFile;
-use crate::query_room::{QueryRoom, put_found};
-use crate::walks::Walks;
+use crate::query_room::QueryRoom;
+use crate::sweeps::put_found;
+use cu_drive::NumberAlone;
 use cu_interval::Ways;
 use cu_io::{Sink, SinkFailed, put_all};
-use cu_model::Query;
 use cu_reach::{
     Departure, LatestAsked, ReachAsked, ReachDesk, Reached, TableAsked, latest, put_damage,
     put_row, put_word_and_long, reach,
 };
 use cu_recall::{Recall, SweepRecall};
-use cu_sweep::{Found, SweepDesk};
+use cu_sweep::{Found, Question, SweepDesk};
 
 // The ranks of the nodes between which a departure is asked.
 #[derive(Clone, Copy)]
@@ -142,13 +142,12 @@ impl QueryRoom {
         let to = view.rank(asked.to);
         let tree = held.tree();
         let graph = held.graph();
-        let desk = &mut self.desk;
+        let desk = &mut self.sweeps.desk;
         let mut recall = Recall::new(&view, graph, room);
         let departure = latest(tree, graph, desk, &mut recall, from, to, asked.by);
-        let mut walks = Walks::of(recall);
         let ranks = Ranks { from, to };
-        let outcome = put_departure(departure, desk, &mut walks, ranks, asked, sink);
-        self.room = Some(walks.into_room());
+        let outcome = put_departure(departure, desk, &mut recall, ranks, asked, sink);
+        self.room = Some(recall.into_room());
         outcome
     }
 }
@@ -190,34 +189,30 @@ fn put_rows<K: Sink>(
 fn put_departure<K: Sink>(
     departure: Departure,
     desk: &mut SweepDesk,
-    walks: &mut Walks<'_>,
+    recall: &mut Recall<'_>,
     ranks: Ranks,
     asked: LatestAsked,
     sink: &mut K,
 ) -> Result<(), SinkFailed>
-    requires departs { IsDeparture walks.old ranks.from ranks.to asked.by departure }
-    requires latest { IsLatestWhereBuilt walks.old ranks.from ranks.to asked.by departure }
-    requires holds { HoldsDeparture walks.old ranks.from ranks.to departure desk.old }
-    requires real { IsRealDeparture walks.old ranks.from ranks.to desk.old.calls departure }
-    requires sound { IsHierarchy walks.old }
-    requires start { slice_get walks.old.order.rank_of asked.from ≡ Some ranks.from }
-    requires stop { slice_get walks.old.order.rank_of asked.to ≡ Some ranks.to }
+    requires departs { IsDeparture recall.old ranks.from ranks.to asked.by departure }
+    requires holds { HoldsDeparture recall.old ranks.from ranks.to departure desk.old }
+    requires sound { IsHierarchy recall.old }
+    requires start { slice_get recall.old.order.rank_of asked.from ≡ Some ranks.from }
+    requires stop { slice_get recall.old.order.rank_of asked.to ≡ Some ranks.to }
     ensures wrote { Wrote (K.state sink.old) (K.state sink.new) result
-        (departure_text walks.old asked departure) }
+        (departure_text recall.old asked departure) }
     ensures desk { desk.new.nodes ≡ desk.old.nodes }
-    ensures stays { walks.new ≡ walks.old }
+    ensures stays { recall.new ≡ recall.old }
 {
     match departure {
         Departure::Depart { second, arrive } => {
             put_word_and_long(sink, b"depart=", second)?;
             put_all(sink, b" ")?;
-            let query = Query {
-                from: asked.from,
-                to: asked.to,
-                second: second as u32,
-            };
+            let Ranks { from, to } = ranks;
+            let second = second as u32;
+            let question = Question { from, to, second };
             let found = Found::Arrive(arrive);
-            put_found(found, desk, walks, ranks.from, ranks.to, query, sink)
+            put_found(found, desk, recall, question, &NumberAlone, sink)
         }
         Departure::TooLate => put_all(sink, b"too late"),
         Departure::NoWalk => put_all(sink, b"unreachable"),

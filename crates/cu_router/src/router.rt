@@ -11,11 +11,11 @@ ghost use Rattle.cu_pack.specs.Checks.{Spells};
 ghost use Rattle.cu_reach.specs.Departures.{latest_by};
 ghost use Rattle.cu_reach.specs.ReachTexts.{reach_reply, table_reply};
 ghost use Rattle.cu_recall.specs.Rooms.{Fits};
-ghost use Rattle.cu_router.specs.Answers.{FindsArrival, IsHeldAnswer};
+ghost use Rattle.cu_router.specs.Answers.{FindsArrival, IsHeldAnswer, IsHeldDrive, IsHeldWaits};
 ghost use Rattle.cu_router.specs.Days.{IsHeldDay};
 ghost use Rattle.cu_router.specs.Edited.{IsEdited};
 ghost use Rattle.cu_router.specs.Reaches.{IsHeldLatestReply};
-ghost use Rattle.cu_router.specs.Swept.{swept_reply};
+ghost use Rattle.cu_router.specs.Swept.{swept_drive, swept_reply, swept_waits};
 ghost use Rattle.cu_router.specs.Working.{FitsBusy, edges_left};
 
 use crate::busy::Busy;
@@ -31,6 +31,7 @@ use cu_io::{Sink, SinkFailed};
 use cu_model::{Edit, NoMemory, Query, Roads};
 use cu_pack::PackedView;
 use cu_reach::{LatestAsked, ReachAsked, ReachDesk, TableAsked};
+use cu_wait::MeasuredProfile;
 use std::alloc::Global;
 use std::marker::Model;
 
@@ -119,6 +120,38 @@ impl Router {
         ensures stays { self.new ≡ self.old }
     {
         self.queries.put_answer(&self.held, query, sink)
+    }
+
+    /// The same with the drive of the walk: each of its roads with the absolute second at which it is entered. Takes no memory.
+    pub fn put_drive<K: Sink>(&mut self, query: Query, sink: &mut K) -> Result<(), SinkFailed>
+        requires from { query.from < self.old.network.nodes }
+        requires to { query.to < self.old.network.nodes }
+        requires second { query.second < DAY }
+        ensures answer { IsHeldDrive self.old query (swept_drive self.old query) }
+        ensures wrote { Wrote (K.state sink.old) (K.state sink.new) result
+            (swept_drive self.old query) }
+        ensures stays { self.new ≡ self.old }
+    {
+        self.queries.put_drive(&self.held, query, sink)
+    }
+
+    /// The same where profiles are measured, of which these are kept: behind each road the second at which one comes to it, and
+    /// that at which one leaves who waits as little as serves. Takes no memory.
+    pub fn put_waits<K: Sink>(
+        &mut self,
+        kept: &[Option<MeasuredProfile>],
+        query: Query,
+        sink: &mut K,
+    ) -> Result<(), SinkFailed>
+        requires from { query.from < self.old.network.nodes }
+        requires to { query.to < self.old.network.nodes }
+        requires second { query.second < DAY }
+        ensures answer { IsHeldWaits kept.now self.old query (swept_waits kept.now self.old query) }
+        ensures wrote { Wrote (K.state sink.old) (K.state sink.new) result
+            (swept_waits kept.now self.old query) }
+        ensures stays { self.new ≡ self.old }
+    {
+        self.queries.put_waits(&self.held, kept, query, sink)
     }
 
     /// The least arrival of a query between nodes below the number of nodes, leaving at a second of the day, in a built

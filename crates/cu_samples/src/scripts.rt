@@ -14,7 +14,7 @@ pub struct Script {
 }
 
 /// Scripts whose replies were worked out by hand.
-pub const SCRIPTS: [Script; 11] = [
+pub const SCRIPTS: [Script; 14] = [
     Script {
         file: &BUILT,
         lines: "q,0,2,0\nq,0,2,28739\nq,0,2,28740\nq,0,2,35851\nq,1,1,5\nq,2,0,0\r\nq,3,0,0\nq,0,2,86400\n\nx",
@@ -37,6 +37,25 @@ pub const SCRIPTS: [Script; 11] = [
         file: &FORGED,
         lines: "q,2,3,0\na,8,0\nq,2,3,0\nq,2,1,0\n",
         replies: "damaged 5 up 0\ndone 1\narrive=10 arcs=8\narrive=20 arcs=6 0\n",
+    },
+    // The drives of queries: the second at which each road is entered, from the query's on, past midnight as well; and lines that are
+    // refused, each by the first check that it fails.
+    Script {
+        file: &BUILT,
+        lines: "v,0,2,0\nv,0,2,28800\nv,0,2,86399\nv,0,2,35851\nv,1,1,5\nv,2,0,0\r\nv,00,02,00\nv,3,0,0\nv,0,3,86400\nv,0,2,86400\nv,0,2\nv,0,2,0,0\nv,0,x,0\nV,0,2,0\nvv,0,2,0\nv",
+        replies: "arrive=160 drive=0,0 1,60\narrive=29050 drive=2,28800\narrive=86559 drive=0,86399 1,86459\narrive=36100 drive=0,35851 1,35911\narrive=5 drive=\nunreachable\narrive=160 drive=0,0 1,60\nrefused: node\nrefused: node\nrefused: second\nrefused: line\nrefused: line\nrefused: line\nrefused: line\nrefused: line\nrefused: line\n",
+    },
+    // The same between edits, by which a road is entered later.
+    Script {
+        file: &BUILT,
+        lines: "s,0,0,travel,140\nv,0,2,0\nq,0,2,0\ns,0,0,travel,200\nv,0,2,0\nv,0,1,86399\n",
+        replies: "done 2\narrive=240 drive=0,0 1,140\narrive=240 arcs=0 1\ndone 2\narrive=250 drive=2,0\narrive=86599 drive=0,86399\n",
+    },
+    // Over forged ways.
+    Script {
+        file: &FORGED,
+        lines: "v,2,3,0\na,8,0\nv,2,3,0\nv,2,1,7\n",
+        replies: "damaged 5 up 0\ndone 1\narrive=10 drive=8,0\narrive=27 drive=6,7 0,17\n",
     },
     // Whole days: over the morning's rush, without a road, and where no road leads back; and lines that are refused.
     Script {

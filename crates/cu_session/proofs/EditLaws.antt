@@ -11,7 +11,7 @@ use Rattle.cu_session.specs.Refusals.{edit_check_words}
 
 -- the reply to an edit that was made
 module _ (old new : HierarchyValue) (edit : Edit) (count : ℕ) (made : IsEdited old edit new count) where
-  counted : IsHeldDone old edit (codes "done " ++ decimal count) new
+  pub counted : IsHeldDone old edit (codes "done " ++ decimal count) new
   counted = record {
     count = count;
     touches = record { edges = old.edges; listed = made.sound.edges; touched = made.touched; rising = made.numbers.rising; exact = made.numbers.exact; counted = made.count };

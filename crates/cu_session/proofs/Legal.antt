@@ -31,13 +31,13 @@ may_lack false reply P Q so is = so is
 may_lack true reply P Q so (inl is) = inl (so is)
 may_lack true reply P Q so (inr none) = inr none
 
-legal_reply_to : (h after : HierarchyValue) (asked : Asked) (reply : List ℕ) → IsBuilt h → IsHeldReplyTo h asked reply after → IsReplyTo h.network h.order asked reply after.network
+pub legal_reply_to : (h after : HierarchyValue) (asked : Asked) (reply : List ℕ) → IsBuilt h → IsHeldReplyTo h asked reply after → IsReplyTo h.network h.order asked reply after.network
 legal_reply_to h after (Asks question) reply built (answer, same) = (may_lack question.may_lack reply _ _ (λ both. both.1 built) answer, same_network h after same)
 legal_reply_to h after (AsksEdit edit) reply built (inl done) = inl (done.count, done.touches, done.said, done.resettled.network)
 legal_reply_to h after (AsksEdit edit) reply built (inr (none, same)) = inr (none, same_network h after same)
 legal_reply_to h after (Fails words) reply built (is, same) = (is, same_network h after same)
 
-built_behind : (h after : HierarchyValue) (asked : Asked) (reply : List ℕ) → IsBuilt h → IsHeldReplyTo h asked reply after → IsBuiltUnder h.order after
+pub built_behind : (h after : HierarchyValue) (asked : Asked) (reply : List ℕ) → IsBuilt h → IsHeldReplyTo h asked reply after → IsBuiltUnder h.order after
 built_behind h after (Asks question) reply built (answer, same) = stays_built h after built same
 built_behind h after (AsksEdit edit) reply built (inl done) = (done.built built, done.resettled.order)
 built_behind h after (AsksEdit edit) reply built (inr (none, same)) = stays_built h after built same

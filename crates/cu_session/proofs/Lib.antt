@@ -5,4 +5,6 @@ mod EditingLaws
 mod EditLaws
 mod QuestionLaws
 pub mod RoadsAlone
+mod DriveLines
+mod KeptReplies
 pub mod WaitingReplies

@@ -8,7 +8,7 @@ use Rattle.cu_model.specs.declared.queries.Query.{Query}
 use Rattle.cu_model.specs.declared.queries.QueryRefusal.{QueryRefusal}
 use Rattle.cu_model.specs.Networks.{NetworkValue}
 use Rattle.cu_interval.specs.Hierarchies.{HierarchyValue}
-use Rattle.cu_router.specs.Answers.{IsHeldAnswer}
+use Rattle.cu_router.specs.Answers.{IsHeldAnswer, IsHeldDrive}
 use Rattle.cu_router.specs.Days.{IsHeldDay}
 use Rattle.cu_day.specs.declared.lines.DayAsked.{DayAsked}
 use Rattle.cu_day.specs.declared.lines.DayRefusal.{DayRefusal}
@@ -25,12 +25,17 @@ use Rattle.cu_reach.proofs.RangeLaws.{IsReachWithin, IsTableWithin}
 use Rattle.cu_reach.proofs.SayingLaws.{says_latest}
 use Rattle.cu_router.specs.Reaches.{IsHeldLatestReply}
 use Rattle.cu_session.specs.Held.{IsHeldAnswerTo, IsHeldReplyTo}
-use Rattle.cu_session.specs.Questions.{MayLack, asked_by_day, asked_by_latest, asked_by_query, asked_by_reach, asked_by_table, day_question, query_question}
+use Rattle.cu_session.specs.Questions.{MayLack, asked_by_day, asked_by_drive, asked_by_latest, asked_by_query, asked_by_reach, asked_by_table, day_question, query_question}
 
 -- the answer of the held hierarchy is the reply to a query
 pub query_answered : (h : HierarchyValue) (query : Query) (reply : List ℕ) (asked : Result Query QueryRefusal) → asked ≡ Ok query → IsHeldAnswer h query reply
     → IsHeldReplyTo h (asked_by_query asked) reply h
 query_answered h query reply asked is answer = rw is ((answer, λ built. (answer.least built, (h, refl, refl, built, answer.swept))), refl)
+
+-- its drive is the reply to a question for that
+pub drive_answered : (h : HierarchyValue) (query : Query) (reply : List ℕ) (asked : Result Query QueryRefusal) → asked ≡ Ok query → IsHeldDrive h query reply
+    → IsHeldReplyTo h (asked_by_drive asked) reply h
+drive_answered h query reply asked is answer = rw is ((answer, λ built. (answer.least built, (h, refl, refl, built, answer.swept))), refl)
 
 -- the text of the least arrivals is right over the network
 text_right : (g : NetworkValue) (u v : ℕ) (function : Option (List Run)) (reply : List ℕ) → IsLeastDayFunction g u v function → IsTextOf function reply → IsDayAnswer g u v reply

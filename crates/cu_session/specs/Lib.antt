@@ -2,9 +2,11 @@ pub mod Refusals
 pub mod Scripts
 pub mod WaitingDays
 pub mod WaitingReaches
+pub mod WaitingSwept
 pub mod Questions
 pub mod Replies
 pub mod Waiting
 pub mod Held
+pub mod Kept
 pub mod Sessions
 pub mod Steps

@@ -4,10 +4,12 @@ use Rattle.cu_model.specs.declared.queries.Query.{Query}
 use Rattle.cu_model.specs.declared.queries.QueryRefusal.{QueryRefusal}
 use Rattle.cu_model.specs.declared.queries.QueryRefusal.TheVariants as query
 use Rattle.cu_model.specs.declared.roads.Edit.{Edit}
-use Rattle.cu_model.specs.Answers.{IsAnswer}
+use Rattle.cu_model.specs.Answers.{IsAnswer, arrive_text}
 use Rattle.cu_model.specs.Networks.{NetworkValue}
 use Rattle.cu_model.specs.Orders.{OrderValue}
 use Rattle.cu_model.specs.Queries.{query_of}
+use Rattle.cu_drive.specs.DriveAnswers.{IsDriveAnswer}
+use Rattle.cu_drive.specs.DriveLines.{drive_of}
 use Rattle.cu_day.specs.declared.lines.DayAsked.{DayAsked}
 use Rattle.cu_day.specs.declared.lines.DayRefusal.{DayRefusal}
 use Rattle.cu_day.specs.DayLines.{day_of}
@@ -24,17 +26,19 @@ use Rattle.cu_reach.specs.NodeFields.{TableValue}
 use Rattle.cu_reach.specs.ReachAnswers.{IsReachAnswer, IsTableAnswer, SaysLatest, SaysReach, SaysTable}
 use Rattle.cu_reach.specs.ReachLines.{latest_of, reach_of, table_of}
 use Rattle.cu_reach.specs.ReachTexts.{reach_reply, table_reply}
-use Rattle.cu_router.specs.Answers.{IsHeldAnswer}
+use Rattle.cu_router.specs.Answers.{IsHeldAnswer, IsHeldDrive}
 use Rattle.cu_router.specs.Days.{IsHeldDayReply}
 use Rattle.cu_router.specs.Reaches.{IsHeldLatestReply}
-use Rattle.cu_router.specs.Swept.{IsSweptAnswer}
+use Rattle.cu_router.specs.Swept.{IsSweptAnswer, IsSweptDrive}
 use Rattle.cu_wait.specs.Networks.{RawNetwork}
 use Rattle.cu_wait.specs.WaitingAnswers.{IsWaitingAnswer}
+use Rattle.cu_wait.specs.WaitingDrives.{IsWaitingDriveAnswer, says_waits}
 use Rattle.cu_session.specs.declared.questions.Kind.{Kind}
 use Rattle.cu_session.specs.declared.questions.Kind.TheVariants as kind
 use Rattle.cu_session.specs.Refusals.{check_word, day_check_word, edit_check_words, many_check_word}
 use Rattle.cu_session.specs.WaitingDays.{IsWaitingDayAnswer}
 use Rattle.cu_session.specs.WaitingReaches.{IsLatestWaiting, IsWaitingTime}
+use Rattle.cu_session.specs.WaitingSwept.{IsSweptOver}
 
 -- A kind of question: its replies by a hierarchy that is held, built or not; those that are right over a network under an order, which it
 -- gets where that hierarchy is built; those that are right over a network with measured profiles, where waiting before a road may pay; and
@@ -57,12 +61,23 @@ pub data Asked : Type 1 where
   Fails : (words : List ℕ) → Asked
 
 -- A query gets the answer of the held hierarchy: over a network the least arrival, with the walk that the built hierarchy's sweeps choose;
--- over measured profiles the least waiting arrival, with a walk that has waits by which it arrives then.
+-- over measured profiles the least waiting arrival, with a walk that has waits by which it arrives then, which the sweeps choose over pieces
+-- that stand for them.
 abbrev pub query_question : Query → Question
 query_question query = record {
   held = λ h reply. IsHeldAnswer h query reply;
   right = λ g order reply. IsAnswer g query reply × IsSweptAnswer g order query reply;
-  waiting = λ g order reply. IsWaitingAnswer g query reply;
+  waiting = λ g order reply. IsWaitingAnswer g query reply × IsSweptOver arrive_text g order query reply;
+  may_lack = false;
+}
+
+-- A question for the drive of a query gets the same arrival and walk, told by the seconds at which the roads are entered; over measured
+-- profiles by the seconds at which one comes to each and leaves, having waited as little as serves.
+abbrev pub drive_question : Query → Question
+drive_question query = record {
+  held = λ h reply. IsHeldDrive h query reply;
+  right = λ g order reply. IsDriveAnswer g query reply × IsSweptDrive g order query reply;
+  waiting = λ g order reply. IsWaitingDriveAnswer g query reply × IsSweptOver (says_waits g query.second) g order query reply;
   may_lack = false;
 }
 
@@ -109,6 +124,10 @@ abbrev pub asked_by_query : Result Query QueryRefusal → Asked
 asked_by_query (Ok query) = Asks (query_question query)
 asked_by_query (Err refusal) = Fails (check_word refusal)
 
+abbrev pub asked_by_drive : Result Query QueryRefusal → Asked
+asked_by_drive (Ok query) = Asks (drive_question query)
+asked_by_drive (Err refusal) = Fails (check_word refusal)
+
 abbrev pub asked_by_day : Result DayAsked DayRefusal → Asked
 asked_by_day (Ok query) = Asks (day_question query)
 asked_by_day (Err refusal) = Fails (day_check_word refusal)
@@ -134,14 +153,16 @@ abbrev pub kind_of : List ℕ → Kind
 kind_of [] = kind.Edit
 kind_of (byte ∷ bytes) =
     if byte == 113 then kind.Query
+    else (if byte == 118 then kind.Drive
     else (if byte == 100 then kind.Day
     else (if byte == 114 then kind.Reach
     else (if byte == 116 then kind.Table
-    else (if byte == 108 then kind.Latest else kind.Edit))))
+    else (if byte == 108 then kind.Latest else kind.Edit)))))
 
 -- what the text of a line of a kind asks for, where there are so many nodes, roads and profiles
 abbrev pub asked_as : Kind → (nodes arcs profiles : ℕ) → List ℕ → Asked
 asked_as kind.Query nodes arcs profiles text = asked_by_query (query_of nodes text)
+asked_as kind.Drive nodes arcs profiles text = asked_by_drive (drive_of nodes text)
 asked_as kind.Day nodes arcs profiles text = asked_by_day (day_of nodes text)
 asked_as kind.Reach nodes arcs profiles text = asked_by_reach (reach_of nodes text)
 asked_as kind.Table nodes arcs profiles text = asked_by_table (table_of nodes text)

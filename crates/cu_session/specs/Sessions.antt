@@ -8,12 +8,15 @@ use Rattle.cu_io.specs.Sinks as sinks
 use Rattle.cu_io.specs.Sinks.{SinkState}
 use Rattle.cu_io.specs.Sources.{SourceState}
 use Rattle.cu_io.specs.Transfers.{Appends, Takes}
+use Rattle.cu_model.specs.Orders.{OrderValue}
 use Rattle.cu_interval.specs.Hierarchies.{HierarchyValue, IsBuilt}
+use Rattle.cu_wait.specs.Networks.{RawNetwork}
 use Rattle.cu_session.specs.declared.stops.SessionStop.{SessionStop}
 use Rattle.cu_session.specs.declared.stops.SessionStop.TheVariants as stop
 use Rattle.cu_session.specs.Held.{AreDone, IsHeldOutput}
 use Rattle.cu_session.specs.Replies.{IsOutput}
 use Rattle.cu_session.specs.Scripts.{AreReplied, IsLineReply, line_limit}
+use Rattle.cu_session.specs.Waiting.{IsWaitingOutput}
 
 -- why the answering stopped, if it did
 abbrev pub stop_of : {T : Type 0} → Result T SessionStop → Option SessionStop
@@ -98,6 +101,16 @@ pub record EndsSession (h : HierarchyValue) (why : Option SessionStop) (source_b
   pub appends : Appends sink_before.written sink_now.written output
   pub held : AnswersBy (IsHeldOutput h) why taken output
   pub legal : IsBuilt h → AnswersBy (IsOutput h.network h.order) why taken output
+  pub leaves : Leaves true (session_status why) source_before source_now sink_before sink_now
+
+-- A script was answered over a network with measured profiles, under an order: what was taken and written, right over all walks and all
+-- waits of the network at each line; and what is left.
+pub record EndsWaiting (g : RawNetwork) (order : OrderValue) (why : Option SessionStop) (source_before source_now : SourceState) (sink_before sink_now : SinkState) : Type 0 where
+  pub taken : List ℕ
+  pub output : List ℕ
+  pub takes : Takes source_before.left source_now.left taken
+  pub appends : Appends sink_before.written sink_now.written output
+  pub answered : AnswersBy (IsWaitingOutput g order) why taken output
   pub leaves : Leaves true (session_status why) source_before source_now sink_before sink_now
 
 -- The lines of edits are answered, and made: all of them; or some first lines and no other, where memory ran out at the next; or, where

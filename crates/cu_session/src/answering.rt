@@ -1,22 +1,26 @@
 //! The lines of a source, each answered before the next is read.
 
-ghost use Rattle.std.specs.Prelude.{◌≡◌, ◌<◌, ◌≤◌, ℕ, List, Ok, Option, true, false, length};
+ghost use Rattle.std.specs.Prelude.{◌≡◌, ◌<◌, ◌≤◌, ℕ, List, Ok, Option, true, false, length, map};
 ghost use Rattle.cu_io.specs.Sinks.{WroteLine};
 ghost use Rattle.cu_interval.specs.Hierarchies.{HierarchyValue, IsBuilt};
 ghost use Rattle.cu_pack.specs.Checks.{Spells};
+ghost use Rattle.cu_wait.specs.Converted.{IsConverted};
+ghost use Rattle.cu_wait.specs.Networks.{Measured, RawNetwork};
 ghost use Rattle.cu_session.specs.Held.{IsHeldReplyTo};
 ghost use Rattle.cu_session.specs.Questions.{asked_of};
 ghost use Rattle.cu_session.specs.Scripts.{line_limit};
 ghost use Rattle.cu_session.specs.declared.stops.SessionStop.{SessionStop};
-ghost use Rattle.cu_session.specs.Sessions.{EndsLines, EndsSession, session_status, stop_of};
+ghost use Rattle.cu_session.specs.Sessions.{EndsLines, EndsSession, EndsWaiting, session_status, stop_of};
 ghost use Rattle.cu_session.specs.Steps.Turns.{TakesTurn, left_to_read};
 
 use crate::answerer::LineAnswerer;
 use crate::questions::put_reply;
 use crate::stops::SessionStop;
+use crate::waiting::{WaitingRouter, keep_all};
 use cu_io::{Line, LineReader, Sink, SinkFailed, Source, end_line, put_line};
 use cu_router::Router;
 use cu_script::MAX_EDIT_LINE;
+use cu_wait::MeasuredProfile;
 use std::alloc::Global;
 
 /// The most bytes of a line before its end.
@@ -57,6 +61,28 @@ pub fn answer_built<S: Source, K: Sink>(
 {
     let router = Router::built(alloc, bytes)?;
     answer_by(alloc, router, source, sink)
+}
+
+/// [`answer_built`] where the network is in pieces that stand for measured profiles, which are handed in: its lines are answered over
+/// all walks and all waits by these, as long as no edit sets them. All that is kept of them is there before the first reply.
+pub fn answer_waiting<S: Source, K: Sink>(
+    alloc: Global,
+    bytes: Vec<u8>,
+    measured: Vec<MeasuredProfile>,
+    source: &mut S,
+    sink: &mut K,
+) -> Result<(), SessionStop>
+    requires spelled { (h : HierarchyValue) × Spells bytes.items h }
+    requires built { (h : HierarchyValue) → Spells bytes.items h → IsBuilt h }
+    ensures ended { (h : HierarchyValue) (raw : RawNetwork) → Spells bytes.items h
+        → IsConverted raw h.network → raw.profiles ≡ map Measured measured.items
+        → EndsWaiting raw h.order (stop_of result) (S.state source.old) (S.state source.new)
+        (K.state sink.old) (K.state sink.new) }
+{
+    let kept = keep_all(alloc, measured)?;
+    let router = Router::built(alloc, bytes)?;
+    let mut waiting = WaitingRouter { router, kept };
+    answer_lines(alloc, &mut waiting, source, sink)
 }
 
 // Answers the lines of the source from a router.

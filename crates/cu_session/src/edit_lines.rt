@@ -101,8 +101,8 @@ fn answer_refused<K: Sink>(refusal: EditRefusal, sink: &mut K) -> Result<(), Sin
     end_line(sink)
 }
 
-// Writes how many edges an edit touches.
-fn put_done<K: Sink>(count: usize, sink: &mut K) -> Result<(), SinkFailed>
+/// Writes how many edges an edit touches.
+pub(crate) fn put_done<K: Sink>(count: usize, sink: &mut K) -> Result<(), SinkFailed>
     ensures wrote { Wrote (K.state sink.old) (K.state sink.new) result
         (codes "done " ++ decimal count) }
 {
@@ -143,8 +143,11 @@ fn make_edit(alloc: Global, router: &mut Router, checked: EditLine<'_>) -> Resul
     router.edit(alloc, edit)
 }
 
-// Writes the check that an edit line fails.
-fn put_edit_refusal<K: Sink>(refusal: EditRefusal, sink: &mut K) -> Result<(), SinkFailed>
+/// Writes the check that an edit line fails.
+pub(crate) fn put_edit_refusal<K: Sink>(
+    refusal: EditRefusal,
+    sink: &mut K,
+) -> Result<(), SinkFailed>
     ensures wrote { Wrote (K.state sink.old) (K.state sink.new) result
         (codes "refused: " ++ edit_check_words refusal) }
 {

@@ -10,7 +10,7 @@ use crate::answering::LINE_LIMIT;
 use crate::edit_lines::answer_edit;
 use crate::stops::SessionStop;
 use cu_io::{Sink, put_line};
-use cu_progress::{Counter, Progress, Silent, Stage};
+use cu_progress::{Progress, Silent, Stage, Telling};
 use cu_router::Router;
 use std::alloc::Global;
 
@@ -27,12 +27,12 @@ pub fn answer_edits_telling<K: Sink, P: Progress>(
     ensures ended { EndsEdits router.old router.new text.now (stop_of result)
         (K.state sink.old) (K.state sink.new) }
 {
-    let mut counter = Counter::begin(progress, Stage::Editing, text.len() as u64);
+    let mut telling = Telling::begin(progress, Stage::Editing, text.len() as u64);
     let mut rest = text;
     'lines: while !rest.is_empty() {
         let (line, behind) = cut_line(rest);
         answer_edit_line(alloc, router, line, sink)?;
-        counter.add(progress, (line.len() as u64).saturating_add(1));
+        telling.add((line.len() as u64).saturating_add(1));
         rest = behind;
     }
     Ok(())

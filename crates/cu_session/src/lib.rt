@@ -12,7 +12,10 @@
 //! edge that it touches only where something that its lists may be made of has changed. A router keeps which edges are known
 //! to be customized; an edit adds those that it settles.
 //!
-//! It stands on `cu_model` and `cu_io` for lines, queries and sinks, on `cu_script` for lines of edits, on `cu_day` for lines
+//! [`answer_waiting`] answers where profiles are measured, by a router over pieces that stand for them and by their points, which tell
+//! when to leave (`specs/Kept.antt`); its replies are right over all walks and all waits (`EndsWaiting` in `specs/Sessions.antt`).
+//!
+//! It stands on `cu_model` and `cu_io` for lines, queries and sinks, on `cu_script` for lines of edits, on `cu_wait` for measured profiles, on `cu_day` for lines
 //! that ask for a day and how it is written, on `cu_chordal`,
 //! `cu_interval` and `cu_pack` for the hierarchies that bytes spell, and on `cu_router` for what answers them.
 //! [`answer_lines`] answers the lines of a source by whatever answers one ([`LineAnswerer`], `EndsLines` in `specs/Sessions.antt`);
@@ -26,9 +29,10 @@ mod editing;
 mod questions;
 mod refusals;
 mod stops;
+mod waiting;
 
 pub use answerer::LineAnswerer;
-pub use answering::{answer_built, answer_lines, answer_script, session};
+pub use answering::{answer_built, answer_lines, answer_script, answer_waiting, session};
 pub use cu_router::{Router, put_dir, put_word_and_long, put_word_and_number};
 pub use editing::{answer_edits, answer_edits_telling};
 pub use refusals::put_piece_refusal;

@@ -3,17 +3,19 @@
 ghost use Rattle.std.specs.Prelude.{◌≡◌, ◌≤◌, ◌<◌, ℕ, List, true, length};
 ghost use Rattle.cu_io.specs.Sinks.{Wrote};
 ghost use Rattle.cu_model.specs.Queries.{query_of};
+ghost use Rattle.cu_drive.specs.DriveLines.{drive_of};
 ghost use Rattle.cu_day.specs.DayLines.{day_of};
 ghost use Rattle.cu_reach.specs.ReachLines.{latest_of, reach_of, table_of};
 ghost use Rattle.cu_session.specs.Held.{IsHeldAnswerTo, IsHeldReplyTo};
-ghost use Rattle.cu_session.specs.Questions.{MayLack, asked_by_day, asked_by_latest, asked_by_query, asked_by_reach, asked_by_table, asked_of, day_question, kind_of};
+ghost use Rattle.cu_session.specs.Questions.{MayLack, asked_by_day, asked_by_drive, asked_by_latest, asked_by_query, asked_by_reach, asked_by_table, asked_of, day_question, kind_of};
 ghost use Rattle.cu_session.specs.Scripts.{line_limit};
 
 use crate::edit_lines::put_edit_reply;
-use crate::refusals::put_many_refusal;
+use crate::refusals::{put_many_refusal, put_query_refusal};
 use cu_day::{DayAsked, DayRefusal, check_day, write_day};
+use cu_drive::check_drive;
 use cu_io::{Sink, SinkFailed, put_all};
-use cu_model::{NoMemory, QueryRefusal, Roads, check_query};
+use cu_model::{NoMemory, Roads, check_query};
 use cu_reach::{check_latest, check_reach, check_table};
 use cu_router::Router;
 use std::alloc::Global;
@@ -22,6 +24,7 @@ use std::alloc::Global;
 #[derive(Clone, Copy)]
 pub enum Kind {
     Query,
+    Drive,
     Day,
     Reach,
     Table,
@@ -29,12 +32,13 @@ pub enum Kind {
     Edit,
 }
 
-// The kind of a line, by its first byte. What is no question may be an edit.
-fn kind_of(line: &[u8]) -> Kind
+/// The kind of a line, by its first byte. What is no question may be an edit.
+pub(crate) fn kind_of(line: &[u8]) -> Kind
     ensures { result ≡ kind_of line.now }
 {
     match line {
         [b'q', ..] => Kind::Query,
+        [b'v', ..] => Kind::Drive,
         [b'd', ..] => Kind::Day,
         [b'r', ..] => Kind::Reach,
         [b't', ..] => Kind::Table,
@@ -57,6 +61,7 @@ pub(crate) fn put_reply<K: Sink>(
 {
     match kind_of(line) {
         Kind::Query => put_query_reply(router, line, sink),
+        Kind::Drive => put_drive_reply(router, line, sink),
         Kind::Day => put_day_reply(alloc, router, line, sink),
         Kind::Reach => put_reach_reply(router, line, sink),
         Kind::Table => put_table_reply(router, line, sink),
@@ -77,9 +82,23 @@ fn put_query_reply<K: Sink>(
 {
     match check_query(line, router.view().nodes()) {
         Ok(query) => router.put_answer(query, sink),
-        Err(QueryRefusal::Line) => put_all(sink, b"refused: line"),
-        Err(QueryRefusal::Node) => put_all(sink, b"refused: node"),
-        Err(QueryRefusal::Second) => put_all(sink, b"refused: second"),
+        Err(refusal) => put_query_refusal(refusal, sink),
+    }
+}
+
+// Writes the reply to the text of a line that asks for the drive of a query.
+fn put_drive_reply<K: Sink>(
+    router: &mut Router,
+    line: &[u8],
+    sink: &mut K,
+) -> Result<(), SinkFailed>
+    ensures reply { (reply : List ℕ) × IsHeldReplyTo router.old
+        (asked_by_drive (drive_of router.old.network.nodes line.now)) reply router.new
+        × Wrote (K.state sink.old) (K.state sink.new) result reply }
+{
+    match check_drive(line, router.view().nodes()) {
+        Ok(query) => router.put_drive(query, sink),
+        Err(refusal) => put_query_refusal(refusal, sink),
     }
 }
 

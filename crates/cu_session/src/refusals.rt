@@ -2,10 +2,10 @@
 
 ghost use Rattle.std.specs.Prelude.{◌++◌, codes};
 ghost use Rattle.cu_io.specs.Sinks.{Wrote};
-ghost use Rattle.cu_session.specs.Refusals.{many_check_word, piece_refusal_words};
+ghost use Rattle.cu_session.specs.Refusals.{check_word, many_check_word, piece_refusal_words};
 
 use cu_io::{Sink, SinkFailed, put_all};
-use cu_model::{PieceFault, PieceRefusal};
+use cu_model::{PieceFault, PieceRefusal, QueryRefusal};
 use cu_reach::ManyRefusal;
 use cu_router::put_word_and_number;
 
@@ -26,6 +26,21 @@ pub fn put_piece_refusal<K: Sink>(sink: &mut K, refusal: PieceRefusal) -> Result
         PieceRefusal::Fault(PieceFault::Fifo { second }) => put_word_and_number(
             sink, b"fifo ", second,
         ),
+    }
+}
+
+// Writes the reply to a query line, or one that asks for the drive of a query, which fails a check.
+pub(crate) fn put_query_refusal<K: Sink>(
+    refusal: QueryRefusal,
+    sink: &mut K,
+) -> Result<(), SinkFailed>
+    ensures wrote { Wrote (K.state sink.old) (K.state sink.new) result
+        (codes "refused: " ++ check_word refusal) }
+{
+    match refusal {
+        QueryRefusal::Line => put_all(sink, b"refused: line"),
+        QueryRefusal::Node => put_all(sink, b"refused: node"),
+        QueryRefusal::Second => put_all(sink, b"refused: second"),
     }
 }
 

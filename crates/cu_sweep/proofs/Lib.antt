@@ -33,3 +33,4 @@ pub mod Placed
 pub mod Neighbours
 pub mod Lowering
 pub mod Ascending
+pub mod RoutedTexts

@@ -24,15 +24,16 @@ use Rattle.cu_interval.proofs.Unpacked.{unpacked-low}
 use Rattle.cu_unpack.specs.Answers.{walk_between, walk_over}
 use Rattle.cu_sweep.specs.Labels.{Label, call_from, down_label, down_label_by, earlier_of, earliest}
 use Rattle.cu_sweep.specs.Labels.{label_by, label_over, start_label, up_label, up_label_by}
-use Rattle.cu_sweep.specs.Desks.{roads_of}
+use Rattle.cu_sweep.specs.Desks.{AreChained, roads_of}
 use Rattle.cu_sweep.proofs.LabelLaws.{number_below}
 use Rattle.cu_sweep.proofs.Peaks.{IsRankWalk}
 use Rattle.cu_sweep.proofs.RankWalks.{below_walk, ranks_append}
 
--- the roads of a label's calls lead from the start to a rank, and arrive at the label's second
+-- the roads of a label's calls lead from the start to a rank, and arrive at the label's second; each call is asked when those before it arrive
 abbrev pub LeadsTo : HierarchyValue → ℕ → ℕ → ℕ → Label → Type 0
 LeadsTo h from second rank label =
     IsRankWalk h.network h.order from (roads_of h label.calls) rank × (drive h.network (roads_of h label.calls) second ≡ label.second)
+    × AreChained h second label.calls
 
 abbrev pub LeadsToIf : HierarchyValue → ℕ → ℕ → ℕ → Option Label → Type 0
 LeadsToIf h from second rank o = (label : Label) → o ≡ Some label → LeadsTo h from second rank label
@@ -99,6 +100,15 @@ roads_more h calls edge dir t =
     flat_map-append walk calls (call_from edge dir t ∷ [])
     ∙ ap (λ (roads : List ℕ). roads_of h calls ++ roads) (append-nil (walk_over h edge dir t))
 
+-- a call that is asked when those before it arrive
+chained_more : (h : HierarchyValue) (calls : List Call) (call : Call) (t : ℕ) → AreChained h t calls → call.second ≡ drive h.network (roads_of h calls) t
+    → AreChained h t (calls ++ (call ∷ []))
+chained_more h [] call t chained is = (is, tt)
+chained_more h (other ∷ calls) call t (same, more) is =
+    let g = h.network in
+    let walk = walk_over h other.edge other.dir other.second in
+    (same, chained_more h calls call (drive g walk t) more (is ∙ drive-append g walk (roads_of h calls) t))
+
 -- one call more
 called : (h : HierarchyValue) (from second u v edge : ℕ) (dir : Dir) (before : Label) → LeadsTo h from second u before → (s : ℕ)
     → IsCallWalk h u v edge dir before.second s
@@ -110,6 +120,7 @@ called h from second u v edge dir before b s c =
     let roads = roads_more h before.calls edge dir before.second in (
       subst (λ (w : List ℕ). IsRankWalk g h.order from w v) (sym roads) (ranks_append g h.order from u v first on b.0 c.walk),
       ap (λ (w : List ℕ). drive g w second) roads ∙ drive-append g first on second ∙ ap (drive g on) b.1 ∙ c.arrives,
+      chained_more h before.calls (call_from edge dir before.second) second b.2 (sym b.1),
     )
 
 by_answer : (h : HierarchyValue) (from second v : ℕ) (r : Relaxed) (calls : List Call)
@@ -160,7 +171,7 @@ module _ (h : HierarchyValue) (f : IsHierarchy h) where
 start_leads_if : (h : HierarchyValue) (from second y : ℕ) (b : Bool) → (b ≡ true → from ≡ y)
     → LeadsToIf h from second y (if b then Some (record { second = second; calls = [] }) else None)
 start_leads_if h from second y true same label e =
-    subst (LeadsTo h from second y) (same_Some (record { second = second; calls = [] }) label e) (same refl, refl)
+    subst (LeadsTo h from second y) (same_Some (record { second = second; calls = [] }) label e) (same refl, refl, tt)
 start_leads_if h from second y false same label e = absurd (cc e)
 
 -- the start's own label leads there with no road

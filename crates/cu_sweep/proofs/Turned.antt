@@ -1,29 +1,16 @@
 -- The calls of a chain that was turned, from its first place on, and the text of their roads.
-use Rattle.std.proofs.Common.{◌≡◌, ◌≢◌, ◌≤◌, ◌<◌, ◌+◌, ◌*◌, ◌-◌, ◌∙◌, ℕ, zero, suc}
+use Rattle.std.proofs.Common.{◌≡◌, ◌≤◌, ◌<◌, ◌+◌, ◌*◌, ◌-◌, ◌∙◌, ℕ, zero, suc}
 use Rattle.std.proofs.Common.{Bool, true, false, List, [], ◌∷◌, ◌++◌, Option, Some, None, refl, sym, ap, subst, arith, inl, inr, ltb, length, append_assoc}
 use Rattle.std.specs.Prelude.{All, IsErr, Result, Ok, Err}
-use Rattle.std.specs.List.{flat_map}
 use Rattle.std.proofs.lemmas.Bool.{cases_lt}
-use Rattle.std.proofs.lemmas.Grind.{flat_map-append}
 use Rattle.std.proofs.lemmas.List.{append-nil}
-use Rattle.cu_model.proofs.ListLaws.{item_there}
 use Rattle.cu_links.specs.Chains.{AreFollowed, IsChain, IsTurned, link_at}
 use Rattle.cu_io.specs.Sinks.{SinkState, Wrote, WroteAll}
 use Rattle.cu_io.proofs.Appending.{wrote_nothing, wrote_ok, wrote_same, wrote_stops, wrote_then}
 use Rattle.cu_chordal.specs.declared.graph.TheConstants.{MAX_EDGES}
-use Rattle.cu_chordal.specs.declared.graph.Ends.{Ends}
-use Rattle.cu_interval.specs.declared.ways.Entry.{Entry}
 use Rattle.cu_interval.specs.declared.relaxing.Call.{Call}
-use Rattle.cu_interval.specs.declared.relaxing.Relaxed.TheVariants.{At}
-use Rattle.cu_interval.specs.Hierarchies.{HierarchyValue, IsHierarchy, end_of, list_from, start_of}
-use Rattle.cu_interval.specs.Low.{IsLowWalk}
-use Rattle.cu_interval.specs.Unpacking.{answer_by, relaxed_ends, relaxed_from, unpacked_walk}
-use Rattle.cu_interval.proofs.Unpacked.{unpacked-low}
-use Rattle.cu_interval.proofs.EndsLaws.{ends_apart, ends_range}
-use Rattle.cu_unpack.specs.Answers.{walk_between, walk_over}
-use Rattle.cu_unpack.specs.Texts.{road_text, walk_text}
-use Rattle.cu_unpack.proofs.Texts.{first_after}
-use Rattle.cu_sweep.specs.Desks.{AreArriving, IsArrivingCall, roads_of}
+use Rattle.cu_interval.specs.Hierarchies.{HierarchyValue}
+use Rattle.cu_sweep.specs.Desks.{AreArriving, IsArrivingCall, first_after, routed_text}
 use Rattle.cu_sweep.specs.Places.{calls_after, calls_found, calls_of_some, calls_over, calls_to}
 use Rattle.cu_sweep.specs.Steps.Ready.{Rises, calls_along, turn_of}
 use Rattle.cu_sweep.proofs.Held.{no_calls}
@@ -66,14 +53,14 @@ calls_turned n labels links first steps last rises le c none =
     ∙ ap (λ (cs : List Call). cs ++ calls_along n labels first steps) (no_calls n labels links fuel first none)
 
 -- the calls of a place's links so far were written, and the rest is followed from a place on
-pub record IsOnRoute (h : HierarchyValue) (n : ℕ) (labels : List (Option ℕ)) (before after : List (Option (ℕ × ℕ))) (end place : ℕ) (first : Bool) (a b : SinkState) : Type 0 where
+pub record IsOnRoute (text : Bool → Call → List ℕ) (n : ℕ) (labels : List (Option ℕ)) (before after : List (Option (ℕ × ℕ))) (end place : ℕ) (first : Bool) (a b : SinkState) : Type 0 where
   pub steps : List (ℕ × ℕ)
   pub done : List Call
   pub followed : AreFollowed after place steps
   pub chain : IsChain before place steps end
   pub calls : calls_found n labels before end ≡ done ++ calls_along n labels place steps
-  pub wrote : WroteAll a b (walk_text true (roads_of h done))
-  pub next : first ≡ first_after true (roads_of h done)
+  pub wrote : WroteAll a b (routed_text text true done)
+  pub next : first ≡ first_after true done
 
 pub begun_within : (n : ℕ) (before after : List (Option (ℕ × ℕ))) (end place : ℕ) → Rises n before → end ≤ 2 * n → IsTurned before after end place → (turn_of n place ≤ 2 * n) × (place ≤ 2 * n)
 begun_within n before after end place rises le t =
@@ -81,10 +68,10 @@ begun_within n before after end place rises le t =
     let most = turn_few n end le in
     (omega (arith, few, most), chain_within n before rises place t.steps end t.chain le)
 
-pub route_begun : (h : HierarchyValue) (n : ℕ) (labels : List (Option ℕ)) (before after : List (Option (ℕ × ℕ))) (end place : ℕ) (a : SinkState)
+pub route_begun : (text : Bool → Call → List ℕ) (n : ℕ) (labels : List (Option ℕ)) (before after : List (Option (ℕ × ℕ))) (end place : ℕ) (a : SinkState)
     → Rises n before → end ≤ 2 * n → IsTurned before after end place
-    → IsOnRoute h n labels before after end place true a a
-route_begun h n labels before after end place a rises le t = record {
+    → IsOnRoute text n labels before after end place true a a
+route_begun text n labels before after end place a rises le t = record {
   steps = t.steps;
   done = [];
   followed = t.followed;
@@ -137,10 +124,10 @@ pub record IsNextLink (h : HierarchyValue) (n : ℕ) (labels : List (Option ℕ)
   pub within : next ≤ 2 * n
   pub arriving : AreArriving h (calls_over n labels place next edge)
 
-pub route_next : (h : HierarchyValue) (n : ℕ) (labels : List (Option ℕ)) (before after : List (Option (ℕ × ℕ))) (end place : ℕ) (first : Bool) (a b : SinkState) (next edge : ℕ)
+pub route_next : (h : HierarchyValue) (text : Bool → Call → List ℕ) (n : ℕ) (labels : List (Option ℕ)) (before after : List (Option (ℕ × ℕ))) (end place : ℕ) (first : Bool) (a b : SinkState) (next edge : ℕ)
     → Rises n before → end ≤ 2 * n
-    → AreArriving h (calls_found n labels before end) → IsOnRoute h n labels before after end place first a b → link_at after place ≡ Some (next, edge) → IsNextLink h n labels place next edge end
-route_next h n labels before after end place first a b next edge rises le arriving w e =
+    → AreArriving h (calls_found n labels before end) → IsOnRoute text n labels before after end place first a b → link_at after place ≡ Some (next, edge) → IsNextLink h n labels place next edge end
+route_next h text n labels before after end place first a b next edge rises le arriving w e =
     let s = next_step n labels before after end place next edge w.steps w.followed w.chain e in
     let link = rises next place edge s.link in
     let few = chain_steps n before rises next s.rest end s.chain in
@@ -156,125 +143,73 @@ route_next h n labels before after end place first a b next edge rises le arrivi
       arriving = all_first (IsArrivingCall h) here (calls_along n labels next s.rest) (all_last (IsArrivingCall h) w.done (here ++ calls_along n labels next s.rest) all);
     }
 
-plain_text : (roads : List ℕ) → walk_text false roads ≡ flat_map (road_text false) roads
-plain_text [] = refl
-plain_text (road ∷ roads) = refl
+-- the text of these calls, and of those behind them
+pub routed_append : (text : Bool → Call → List ℕ) (first : Bool) (xs ys : List Call) → routed_text text first (xs ++ ys) ≡ routed_text text first xs ++ routed_text text (first_after first xs) ys
+routed_append text first [] ys = refl
+routed_append text first (x ∷ []) ys = ap (λ (w : List ℕ). w ++ routed_text text false ys) (sym (append-nil (text first x)))
+routed_append text first (x ∷ y ∷ xs) ys =
+    ap (λ (w : List ℕ). text first x ++ w) (routed_append text false (y ∷ xs) ys)
+    ∙ sym (append_assoc (text first x) (routed_text text false (y ∷ xs)) (routed_text text false ys))
 
--- the text of one walk behind another
-text_append : (first : Bool) (done roads : List ℕ) → walk_text first (done ++ roads) ≡ walk_text first done ++ walk_text (first_after first done) roads
-text_append first [] roads = refl
-text_append first (road ∷ done) roads =
-    ap (λ (w : List ℕ). road_text first road ++ w) (flat_map-append (road_text false) done roads)
-    ∙ sym (append_assoc (road_text first road) (flat_map (road_text false) done) (flat_map (road_text false) roads))
-    ∙ ap (λ (w : List ℕ). (road_text first road ++ flat_map (road_text false) done) ++ w) (sym (plain_text roads))
+first_append : (first : Bool) (xs ys : List Call) → first_after first (xs ++ ys) ≡ first_after (first_after first xs) ys
+first_append first [] ys = refl
+first_append first (x ∷ xs) [] = refl
+first_append first (x ∷ xs) (y ∷ ys) = refl
 
-first_append : (first : Bool) (done roads : List ℕ) → first_after first (done ++ roads) ≡ first_after (first_after first done) roads
-first_append first [] roads = refl
-first_append first (road ∷ done) [] = refl
-first_append first (road ∷ done) (other ∷ roads) = refl
-
-roads_append : (h : HierarchyValue) (xs ys : List Call) → roads_of h (xs ++ ys) ≡ roads_of h xs ++ roads_of h ys
-roads_append h xs ys = flat_map-append (λ call. walk_over h call.edge call.dir call.second) xs ys
-
--- the text of these calls' roads, and of those behind them
-pub calls_text : (h : HierarchyValue) (done here : List Call)
-    → walk_text true (roads_of h (done ++ here)) ≡ walk_text true (roads_of h done) ++ walk_text (first_after true (roads_of h done)) (roads_of h here)
-calls_text h done here = ap (walk_text true) (roads_append h done here) ∙ text_append true (roads_of h done) (roads_of h here)
-
-pub calls_first : (h : HierarchyValue) (done here : List Call) → first_after true (roads_of h (done ++ here)) ≡ first_after (first_after true (roads_of h done)) (roads_of h here)
-calls_first h done here = ap (first_after true) (roads_append h done here) ∙ first_append true (roads_of h done) (roads_of h here)
-
--- one link more, whose call's roads were written
-pub route_on : (h : HierarchyValue) (n : ℕ) (labels : List (Option ℕ)) (before after : List (Option (ℕ × ℕ))) (end place : ℕ) (first : Bool) (a b d : SinkState)
+-- one link more, whose call was written
+pub route_on : (text : Bool → Call → List ℕ) (n : ℕ) (labels : List (Option ℕ)) (before after : List (Option (ℕ × ℕ))) (end place : ℕ) (first : Bool) (a b d : SinkState)
     (next edge : ℕ) (call : Option Call) (still : Bool) (E : Type 0)
-    → IsOnRoute h n labels before after end place first a b → link_at after place ≡ Some (next, edge) → calls_of_some call ≡ calls_over n labels place next edge
-    → Wrote {T = Bool} {E = E} b d (Ok still) (walk_text first (roads_of h (calls_of_some call))) → still ≡ first_after first (roads_of h (calls_of_some call))
-    → IsOnRoute h n labels before after end next still a d
-route_on h n labels before after end place first a b d next edge call still E w e same wrote is =
+    → IsOnRoute text n labels before after end place first a b → link_at after place ≡ Some (next, edge) → calls_of_some call ≡ calls_over n labels place next edge
+    → Wrote {T = Bool} {E = E} b d (Ok still) (routed_text text first (calls_of_some call)) → still ≡ first_after first (calls_of_some call)
+    → IsOnRoute text n labels before after end next still a d
+route_on text n labels before after end place first a b d next edge call still E w e same wrote is =
     let s = next_step n labels before after end place next edge w.steps w.followed w.chain e in
     let here = calls_over n labels place next edge in
-    let done = walk_text true (roads_of h w.done) in
-    let was = first_after true (roads_of h w.done) in
-    let text : done ++ walk_text first (roads_of h (calls_of_some call)) ≡ walk_text true (roads_of h (w.done ++ here)) =
-    ap (λ (f : Bool). done ++ walk_text f (roads_of h (calls_of_some call))) w.next
-    ∙ ap (λ (cs : List Call). done ++ walk_text was (roads_of h cs)) same ∙ sym (calls_text h w.done here) in
+    let done = routed_text text true w.done in
+    let was = first_after true w.done in
+    let written : done ++ routed_text text first (calls_of_some call) ≡ routed_text text true (w.done ++ here) =
+    ap (λ (f : Bool). done ++ routed_text text f (calls_of_some call)) w.next
+    ∙ ap (λ (cs : List Call). done ++ routed_text text was cs) same ∙ sym (routed_append text true w.done here) in
     record {
       steps = s.rest;
       done = w.done ++ here;
       followed = s.followed;
       chain = s.chain;
       calls = w.calls ∙ ap (λ (cs : List Call). w.done ++ cs) s.calls ∙ sym (append_assoc w.done here (calls_along n labels next s.rest));
-      wrote = wrote_same text (wrote_ok (wrote_then w.wrote wrote));
-      next = is ∙ ap (λ (f : Bool). first_after f (roads_of h (calls_of_some call))) w.next
-          ∙ ap (λ (cs : List Call). first_after was (roads_of h cs)) same ∙ sym (calls_first h w.done here);
+      wrote = wrote_same written (wrote_ok (wrote_then w.wrote wrote));
+      next = is ∙ ap (λ (f : Bool). first_after f (calls_of_some call)) w.next
+          ∙ ap (first_after was) same ∙ sym (first_append true w.done here);
     }
 
 -- a write failed
-pub route_stops : (h : HierarchyValue) (n : ℕ) (labels : List (Option ℕ)) (before after : List (Option (ℕ × ℕ))) (end place : ℕ) (first : Bool) (a b d : SinkState)
+pub route_stops : (text : Bool → Call → List ℕ) (n : ℕ) (labels : List (Option ℕ)) (before after : List (Option (ℕ × ℕ))) (end place : ℕ) (first : Bool) (a b d : SinkState)
     (next edge : ℕ) (call : Option Call) (E : Type 0) (fault : E) (r : Result (Unit {0}) E)
-    → IsOnRoute h n labels before after end place first a b → link_at after place ≡ Some (next, edge) → calls_of_some call ≡ calls_over n labels place next edge
-    → Wrote {T = Bool} {E = E} b d (Err fault) (walk_text first (roads_of h (calls_of_some call))) → IsErr r
-    → Wrote a d r (walk_text true (roads_of h (calls_found n labels before end)))
-route_stops h n labels before after end place first a b d next edge call E fault r w e same wrote failed =
+    → IsOnRoute text n labels before after end place first a b → link_at after place ≡ Some (next, edge) → calls_of_some call ≡ calls_over n labels place next edge
+    → Wrote {T = Bool} {E = E} b d (Err fault) (routed_text text first (calls_of_some call)) → IsErr r
+    → Wrote a d r (routed_text text true (calls_found n labels before end))
+route_stops text n labels before after end place first a b d next edge call E fault r w e same wrote failed =
     let s = next_step n labels before after end place next edge w.steps w.followed w.chain e in
     let here = calls_over n labels place next edge in
     let rest = calls_along n labels next s.rest in
-    let done = walk_text true (roads_of h w.done) in
-    let was = first_after true (roads_of h w.done) in
-    let more = walk_text (first_after was (roads_of h here)) (roads_of h rest) in
-    let text : done ++ (walk_text first (roads_of h (calls_of_some call)) ++ more) ≡ walk_text true (roads_of h (calls_found n labels before end)) =
-    ap (λ (f : Bool). done ++ (walk_text f (roads_of h (calls_of_some call)) ++ more)) w.next
-    ∙ ap (λ (cs : List Call). done ++ (walk_text was (roads_of h cs) ++ more)) same
-    ∙ ap (λ (t : List ℕ). done ++ t) (sym (text_append was (roads_of h here) (roads_of h rest)) ∙ sym (ap (walk_text was) (roads_append h here rest)))
-    ∙ sym (calls_text h w.done (here ++ rest))
-    ∙ sym (ap (λ (cs : List Call). walk_text true (roads_of h cs)) (w.calls ∙ ap (λ (cs : List Call). w.done ++ cs) s.calls)) in
-    wrote_same text (wrote_then w.wrote (wrote_stops more failed wrote))
+    let done = routed_text text true w.done in
+    let was = first_after true w.done in
+    let more = routed_text text (first_after was here) rest in
+    let written : done ++ (routed_text text first (calls_of_some call) ++ more) ≡ routed_text text true (calls_found n labels before end) =
+    ap (λ (f : Bool). done ++ (routed_text text f (calls_of_some call) ++ more)) w.next
+    ∙ ap (λ (cs : List Call). done ++ (routed_text text was cs ++ more)) same
+    ∙ ap (λ (t : List ℕ). done ++ t) (sym (routed_append text was here rest))
+    ∙ sym (routed_append text true w.done (here ++ rest))
+    ∙ sym (ap (routed_text text true) (w.calls ∙ ap (λ (cs : List Call). w.done ++ cs) s.calls)) in
+    wrote_same written (wrote_then w.wrote (wrote_stops more failed wrote))
 
 no_steps : (after : List (Option (ℕ × ℕ))) (place : ℕ) (steps : List (ℕ × ℕ)) → AreFollowed after place steps → link_at after place ≡ None → steps ≡ []
 no_steps after place [] f e = refl
 no_steps after place (step ∷ steps) f e = absurd (cc (f.0, e))
 
 -- all was written where nothing follows
-pub route_over : (h : HierarchyValue) (n : ℕ) (labels : List (Option ℕ)) (before after : List (Option (ℕ × ℕ))) (end place : ℕ) (first : Bool) (a b : SinkState)
-    → IsOnRoute h n labels before after end place first a b → link_at after place ≡ None → WroteAll a b (walk_text true (roads_of h (calls_found n labels before end)))
-route_over h n labels before after end place first a b w e =
+pub route_over : (text : Bool → Call → List ℕ) (n : ℕ) (labels : List (Option ℕ)) (before after : List (Option (ℕ × ℕ))) (end place : ℕ) (first : Bool) (a b : SinkState)
+    → IsOnRoute text n labels before after end place first a b → link_at after place ≡ None → WroteAll a b (routed_text text true (calls_found n labels before end))
+route_over text n labels before after end place first a b w e =
     let none : calls_along n labels place w.steps ≡ [] = ap (calls_along n labels place) (no_steps after place w.steps w.followed e) in
     let whole : w.done ≡ calls_found n labels before end = sym (w.calls ∙ ap (λ (cs : List Call). w.done ++ cs) none ∙ append-nil w.done) in
-    wrote_same (ap (λ (cs : List Call). walk_text true (roads_of h cs)) whole) w.wrote
-
-list_there : (h : HierarchyValue) (entries : List Entry) (walk : List ℕ) (t arrival : ℕ) → answer_by h entries walk t ≡ At arrival → entries ≢ []
-list_there h [] walk t arrival e none = absurd (cc e)
-list_there h (entry ∷ entries) walk t arrival e none = absurd (cc none)
-
-road_there : (h : HierarchyValue) (u : ℕ) (walk : List ℕ) (v : ℕ) → IsLowWalk h.network h.order u walk v → walk ≢ []
-road_there h u [] v low none = low.1
-road_there h u (road ∷ walk) v low none = absurd (cc none)
-
--- the walk of a call that arrives has a road
-arriving_road : (h : HierarchyValue) → IsHierarchy h → (call : Call) → IsArrivingCall h call → walk_over h call.edge call.dir call.second ≢ []
-arriving_road h f call c none =
-    let (ends, at) = item_there h.edges call.edge c.edge in
-    let u = start_of ends call.dir in
-    let v = end_of ends call.dir in
-    let (arrival, answer) = c.answers in
-    let from : relaxed_from h u v call.second ≡ At arrival = sym (ap (λ (o : Option Ends). relaxed_ends h o call.dir call.second) at) ∙ answer in
-    let some = list_there h (list_from h u v) (unpacked_walk h u v call.second) call.second arrival from in
-    let low = unpacked-low h f u v call.second (ends_apart ends call.dir (ends_range h f call.edge ends at).0) some in
-    road_there h u (unpacked_walk h u v call.second) v low (sym (ap (λ (o : Option Ends). walk_between h o call.dir call.second) at) ∙ none)
-
-pub first_some : (first : Bool) (roads : List ℕ) → roads ≢ [] → first_after first roads ≡ false
-first_some first [] some = absurd (some refl)
-first_some first (road ∷ roads) some = refl
-
-pub first_false : (roads : List ℕ) → first_after false roads ≡ false
-first_false [] = refl
-first_false (road ∷ roads) = refl
-
-after_road : (first : Bool) (walk : List ℕ) → walk ≢ [] → first_after first walk ≡ false
-after_road first [] some = absurd (some refl)
-after_road first (road ∷ walk) some = refl
-
--- so the road behind it isn't the first of all
-pub arriving_after : (h : HierarchyValue) → IsHierarchy h → (call : Call) (first : Bool) → IsArrivingCall h call
-    → first_after first (walk_over h call.edge call.dir call.second) ≡ false
-arriving_after h f call first c = after_road first (walk_over h call.edge call.dir call.second) (arriving_road h f call c)
+    wrote_same (ap (routed_text text true) whole) w.wrote

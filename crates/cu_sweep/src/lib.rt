@@ -3,8 +3,9 @@
 //!
 //! [`query`] answers the earliest arrival by labels of both sweeps (`specs/Labels.antt`, `specs/Sweeps.antt`): in a built
 //! hierarchy the least arrival over all walks, or that there is none, and in any hierarchy that of a real walk
-//! (`specs/Answers.antt`). [`SweepDesk`] holds that walk's calls (`specs/Desks.antt`), whose roads [`route`] writes
-//! by whatever is a [`Walker`].
+//! (`specs/Answers.antt`). [`SweepDesk`] holds that walk's calls (`specs/Desks.antt`), whose roads [`route`] writes by whatever
+//! is a `Walker` of `cu_unpack`, and [`route_by`] with what else is asked of each, as the seconds at which they are entered. A law,
+//! [`routes_are_drives`], says that what is written so is the drive of all these roads.
 //!
 //! [`Labels`] makes both sweeps step by step, the downward one over any path of ranks that has all higher neighbours of its
 //! ranks (`specs/Swept.antt`): each is then reached as its downward label says. A query goes down over the ancestors of its
@@ -22,7 +23,7 @@
 //! those that may still be in time for the end (`specs/LedCalls.antt`). They too are over sweep arcs alone, each at most once along
 //! the way and at most once a sweep: [`led_queries_take_arcs_once`].
 //!
-//! It stands on `cu_model`, `cu_io`, `cu_links`, `cu_chordal`, `cu_elimtree`, `cu_interval` and `cu_unpack`. Private are the steps
+//! It stands on `cu_model`, `cu_io`, `cu_drive`, `cu_links`, `cu_chordal`, `cu_elimtree`, `cu_interval` and `cu_unpack`. Private are the steps
 //! of both sweeps, and where a desk keeps its labels and links. `specs/Steps` is cited by private functions alone.
 #![tactic(auto)]
 
@@ -41,16 +42,14 @@ mod querying;
 mod routing;
 mod sweeping;
 mod timing;
-mod walker;
 
 pub use desk::SweepDesk;
 pub use driving::{led_to, place_on};
 pub use finding::Found;
 pub use labels::Labels;
-pub use laws::{led_queries_take_arcs_once, sweeps_take_arcs_once};
+pub use laws::{led_queries_take_arcs_once, routes_are_drives, sweeps_take_arcs_once};
 pub use leading::led_query;
 pub use linking::{Linking, Unlinked};
 pub use outlook::Outlook;
 pub use querying::{Question, query};
-pub use routing::route;
-pub use walker::Walker;
+pub use routing::{route, route_by};

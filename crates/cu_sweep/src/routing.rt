@@ -3,24 +3,22 @@
 ghost use Rattle.std.specs.Prelude.{◌≡◌, ◌≤◌, ◌<◌, ◌*◌, true, false, IfOk, length};
 ghost use Rattle.cu_io.specs.Sinks.{Wrote};
 ghost use Rattle.cu_chordal.specs.declared.graph.TheConstants.{MAX_EDGES};
-ghost use Rattle.cu_unpack.specs.Answers.{walk_over};
-ghost use Rattle.cu_unpack.specs.Texts.{walk_text};
-ghost use Rattle.cu_unpack.proofs.Texts.{first_after};
-ghost use Rattle.cu_sweep.specs.Desks.{AreArriving, IsArrivingCall, roads_of};
+ghost use Rattle.cu_drive.specs.RoadTexts.{number_text};
+ghost use Rattle.cu_sweep.specs.Desks.{AreArriving, IsArrivingCall, call_text, first_after, routed_text};
 ghost use Rattle.cu_sweep.specs.Places.{calls_found, calls_of_some, calls_over, dir_between};
 ghost use Rattle.cu_sweep.specs.Steps.Ready.{IsChainReady};
 
 use crate::desk::SweepDesk;
 use crate::labels::Labels;
-use crate::walker::Walker;
+use cu_drive::{NumberAlone, WalkForm};
 use cu_interval::{Call, Dir};
 use cu_io::{Sink, SinkFailed};
 use cu_links::Chain;
+use cu_unpack::Walker;
 
-/// Writes the roads of the walk that the desk found, each after a blank but the first, in the order in which they are
-/// driven. The desk holds calls over this hierarchy that all arrive, and was not turned since its last query. Its chain is
-/// turned in place, so one route follows a query. Takes no memory; a fault of the sink is handed on, and the roads written
-/// before it stay.
+/// Writes the roads of the walk that the desk found, each by its number, in the order in which they are driven. The desk holds
+/// calls over this hierarchy that all arrive, and was not turned since its last query. Its chain is turned in place, so one route
+/// follows a query. Takes no memory; a fault of the sink is handed on, and the roads written before it stay.
 pub fn route<W: Walker, K: Sink>(
     desk: &mut SweepDesk,
     walker: &mut W,
@@ -29,21 +27,42 @@ pub fn route<W: Walker, K: Sink>(
     requires unturned { desk.old.turned ≡ false }
     requires arriving { AreArriving (W.hierarchy walker.old) desk.old.calls }
     ensures wrote { Wrote (K.state sink.old) (K.state sink.new) result
-        (walk_text true (roads_of (W.hierarchy walker.old) desk.old.calls)) }
+        (routed_text (call_text number_text (W.hierarchy walker.old)) true desk.old.calls) }
     ensures nodes { desk.new.nodes ≡ desk.old.nodes }
     ensures turned { desk.new.turned ≡ true }
     ensures stays { W.hierarchy walker.new ≡ W.hierarchy walker.old }
+    ensures quiet { W.calls walker.new ≡ W.calls walker.old }
+{
+    route_by(desk, walker, &NumberAlone, sink)
+}
+
+/// [`route`], where each road is written as the form says of it and of the second at which it is entered.
+pub fn route_by<W: Walker, P: WalkForm, K: Sink>(
+    desk: &mut SweepDesk,
+    walker: &mut W,
+    form: &P,
+    sink: &mut K,
+) -> Result<(), SinkFailed>
+    requires unturned { desk.old.turned ≡ false }
+    requires arriving { AreArriving (W.hierarchy walker.old) desk.old.calls }
+    ensures wrote { Wrote (K.state sink.old) (K.state sink.new) result
+        (routed_text (call_text (P.text form.now) (W.hierarchy walker.old)) true desk.old.calls) }
+    ensures nodes { desk.new.nodes ≡ desk.old.nodes }
+    ensures turned { desk.new.turned ≡ true }
+    ensures stays { W.hierarchy walker.new ≡ W.hierarchy walker.old }
+    ensures quiet { W.calls walker.new ≡ W.calls walker.old }
 {
     let end = desk.end;
-    desk.labels.write_to(end, walker, sink)
+    desk.labels.write_to(end, walker, form, sink)
 }
 
 impl Labels<Chain> {
     // Turns the chain that leads to a place, and writes the roads of its calls from its first place on.
-    fn write_to<W: Walker, K: Sink>(
+    fn write_to<W: Walker, P: WalkForm, K: Sink>(
         &mut self,
         end: u32,
         walker: &mut W,
+        form: &P,
         sink: &mut K,
     ) -> Result<(), SinkFailed>
         requires end { end ≤ 2 * self.old.nodes }
@@ -51,24 +70,34 @@ impl Labels<Chain> {
         requires arriving { AreArriving (W.hierarchy walker.old)
             (calls_found self.old.nodes self.old.seconds self.old.links end) }
         ensures wrote { Wrote (K.state sink.old) (K.state sink.new) result
-            (walk_text true (roads_of (W.hierarchy walker.old)
-            (calls_found self.old.nodes self.old.seconds self.old.links end))) }
+            (routed_text (call_text (P.text form.now) (W.hierarchy walker.old)) true
+            (calls_found self.old.nodes self.old.seconds self.old.links end)) }
         ensures nodes { self.new.nodes ≡ self.old.nodes }
         ensures turned { self.new.turned ≡ true }
         ensures stays { W.hierarchy walker.new ≡ W.hierarchy walker.old }
+        ensures quiet { W.calls walker.new ≡ W.calls walker.old }
     {
         let nodes = self.nodes();
-        write_chain(nodes, &self.seconds, &mut self.chain, end, walker, sink)
+        write_chain(
+            nodes,
+            &self.seconds,
+            &mut self.chain,
+            end,
+            walker,
+            form,
+            sink,
+        )
     }
 }
 
 // The same, in places for labels and links.
-fn write_chain<W: Walker, K: Sink>(
+fn write_chain<W: Walker, P: WalkForm, K: Sink>(
     nodes: u32,
     labels: &[Option<u64>],
     chain: &mut Chain,
     end: u32,
     walker: &mut W,
+    form: &P,
     sink: &mut K,
 ) -> Result<(), SinkFailed>
     requires ready { IsChainReady nodes labels.now chain.old }
@@ -77,17 +106,18 @@ fn write_chain<W: Walker, K: Sink>(
     requires arriving { AreArriving (W.hierarchy walker.old)
         (calls_found nodes labels.now chain.old.links end) }
     ensures wrote { Wrote (K.state sink.old) (K.state sink.new) result
-        (walk_text true
-        (roads_of (W.hierarchy walker.old) (calls_found nodes labels.now chain.old.links end))) }
+        (routed_text (call_text (P.text form.now) (W.hierarchy walker.old)) true
+        (calls_found nodes labels.now chain.old.links end)) }
     ensures ready { IsChainReady nodes labels.now chain.new }
     ensures turned { chain.new.turned ≡ true }
     ensures stays { W.hierarchy walker.new ≡ W.hierarchy walker.old }
+    ensures quiet { W.calls walker.new ≡ W.calls walker.old }
 {
     let mut place = chain.reverse_from(end);
     let mut first = true;
     'links: while let Some((next, edge)) = chain.follow(place) {
         let call = call_of(nodes, labels, place, next, edge);
-        first = write_some(call, first, walker, sink)?;
+        first = write_some(call, first, walker, form, sink)?;
         place = next;
     }
     Ok(())
@@ -122,39 +152,40 @@ fn direction(nodes: u32, from: u32, place: u32) -> Option<Dir>
 }
 
 // Writes the roads of a call, where there is one, and answers whether the next road is still the first of all.
-fn write_some<W: Walker, K: Sink>(
+fn write_some<W: Walker, P: WalkForm, K: Sink>(
     call: Option<Call>,
     first: bool,
     walker: &mut W,
+    form: &P,
     sink: &mut K,
 ) -> Result<bool, SinkFailed>
     requires arriving { AreArriving (W.hierarchy walker.old) (calls_of_some call) }
     ensures wrote { Wrote (K.state sink.old) (K.state sink.new) result
-        (walk_text first (roads_of (W.hierarchy walker.old) (calls_of_some call))) }
-    ensures first { IfOk result
-        (λ next. next ≡ first_after first (roads_of (W.hierarchy walker.old) (calls_of_some call))) }
+        (routed_text (call_text (P.text form.now) (W.hierarchy walker.old)) first (calls_of_some call)) }
+    ensures first { IfOk result (λ next. next ≡ first_after first (calls_of_some call)) }
     ensures stays { W.hierarchy walker.new ≡ W.hierarchy walker.old }
+    ensures quiet { W.calls walker.new ≡ W.calls walker.old }
 {
     let Some(call) = call else {
         return Ok(first);
     };
-    write_call(call, first, walker, sink)?;
+    write_call(call, first, walker, form, sink)?;
     Ok(false)
 }
 
-// Writes the roads of a call that arrives. The road behind them isn't the first of all.
-fn write_call<W: Walker, K: Sink>(
+// Writes the roads of a call that arrives.
+fn write_call<W: Walker, P: WalkForm, K: Sink>(
     call: Call,
     first: bool,
     walker: &mut W,
+    form: &P,
     sink: &mut K,
 ) -> Result<(), SinkFailed>
     requires arriving { IsArrivingCall (W.hierarchy walker.old) call }
     ensures wrote { Wrote (K.state sink.old) (K.state sink.new) result
-        (walk_text first (walk_over (W.hierarchy walker.old) call.edge call.dir call.second)) }
-    ensures first { first_after first (walk_over (W.hierarchy walker.old) call.edge call.dir call.second)
-        ≡ false }
+        (call_text (P.text form.now) (W.hierarchy walker.old) first call) }
     ensures stays { W.hierarchy walker.new ≡ W.hierarchy walker.old }
+    ensures quiet { W.calls walker.new ≡ W.calls walker.old }
 {
-    walker.walk(call.edge, call.dir, call.second, first, sink)
+    walker.write_walk(call, first, form, sink)
 }

@@ -14,5 +14,5 @@ mod writing;
 
 pub use fields::{field, number_at};
 pub use laws::reads_back;
-pub use rows::{TakesRows, each_row, each_row_below};
+pub use rows::{TakesRows, each_row, each_row_below, each_row_below_telling};
 pub use writing::RowWriter;

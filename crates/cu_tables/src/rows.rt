@@ -7,6 +7,7 @@ ghost use Rattle.cu_tables.specs.Taking.{Ends, EndsBelow};
 use crate::fields::has_fields;
 use csv::{ByteRecord, Reader, ReaderBuilder};
 use cu_model::NoMemory;
+use cu_progress::{Progress, Silent, Stage, Telling};
 use std::alloc::Global;
 
 /// Takes the rows of a table one after the other, until one is refused.
@@ -54,12 +55,13 @@ fn next_row(rows: &mut Reader<&[u8]>, row: &mut ByteRecord) -> Result<bool, NoMe
     Ok(found)
 }
 
-// Hands the rows that are left to the taker, until it refuses one.
-fn take_rows<T: TakesRows>(
+// Hands the rows that are left to the taker, until it refuses one, and tells how many bytes they have.
+fn take_rows<T: TakesRows, P: Progress>(
     alloc: Global,
     rows: &mut Reader<&[u8]>,
     row: &mut ByteRecord,
     taker: &mut T,
+    telling: &mut Telling<'_, P>,
 ) -> Result<Result<(), T::Refusal>, NoMemory>
     ensures { IfOk result (λ answer. (text : List ℕ) → (done : List (List (List ℕ)))
         → HasRead rows.old text done
@@ -71,11 +73,16 @@ fn take_rows<T: TakesRows>(
             return Ok(Ok(()));
         }
         match taker.take_row(alloc, row)? {
-            Ok(()) => {}
+            Ok(()) => telling.add(bytes_of(row)),
             Err(refusal) => return Ok(Err(refusal)),
         }
     }
     Err(NoMemory)
+}
+
+// How many bytes the text of a row has, with a comma or a line's end behind each field.
+fn bytes_of(row: &ByteRecord) -> u64 {
+    (row.as_slice().len() as u64).saturating_add(row.len() as u64)
 }
 
 /// Hands each row of a table text to the taker in turn, until it refuses one, and answers that refusal. The taker is handed
@@ -90,7 +97,9 @@ pub fn each_row<T: TakesRows>(
 {
     let mut rows = rows_of(alloc, text);
     let mut row = ByteRecord::new(alloc);
-    take_rows(alloc, &mut rows, &mut row, taker)
+    let mut silent = Silent;
+    let mut telling = Telling::begin(&mut silent, Stage::Reading, text.len() as u64);
+    take_rows(alloc, &mut rows, &mut row, taker, &mut telling)
 }
 
 // Reads the first row, and answers whether it is this header.
@@ -122,10 +131,27 @@ pub fn each_row_below<T: TakesRows>(
     ensures { IfOk result (λ answer. EndsBelow T.takes T.refuses no_header taker.old
         (rows_below (map (λ f. f.now) header.now) (table text.now)) taker.new answer) }
 {
+    let mut silent = Silent;
+    let mut telling = Telling::begin(&mut silent, Stage::Reading, text.len() as u64);
+    each_row_below_telling(alloc, header, no_header, text, taker, &mut telling)
+}
+
+/// [`each_row_below`], which counts the bytes of the rows that it hands on.
+pub fn each_row_below_telling<T: TakesRows, P: Progress>(
+    alloc: Global,
+    header: &[&[u8]],
+    no_header: T::Refusal,
+    text: &[u8],
+    taker: &mut T,
+    telling: &mut Telling<'_, P>,
+) -> Result<Result<(), T::Refusal>, NoMemory>
+    ensures { IfOk result (λ answer. EndsBelow T.takes T.refuses no_header taker.old
+        (rows_below (map (λ f. f.now) header.now) (table text.now)) taker.new answer) }
+{
     let mut rows = rows_of(alloc, text);
     let mut row = ByteRecord::new(alloc);
     if !take_header(&mut rows, &mut row, header)? {
         return Ok(Err(no_header));
     }
-    take_rows(alloc, &mut rows, &mut row, taker)
+    take_rows(alloc, &mut rows, &mut row, taker, telling)
 }

@@ -3,7 +3,6 @@ pub mod Waiting
 pub mod Down
 pub mod Driving
 pub mod OnWay
-pub mod Texts
 pub mod Built
 pub mod WayFunctions
 pub mod KeptFunctions

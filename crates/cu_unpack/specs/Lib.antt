@@ -3,7 +3,6 @@ pub mod Counts
 pub mod LeastFunctions
 pub mod Rebuilds
 pub mod RebuiltRuns
-pub mod Texts
 pub mod Told
 pub mod Visits
 pub mod Steps

@@ -7,13 +7,15 @@ ghost use Rattle.cu_interval.specs.Calls.{Adds, IfAt};
 ghost use Rattle.cu_interval.specs.Hierarchies.{IsHierarchy};
 ghost use Rattle.cu_interval.specs.LeastBounds.{far, least_bound};
 ghost use Rattle.cu_interval.specs.Unpacking.{relaxed};
+ghost use Rattle.cu_drive.specs.RoadTexts.{driven_text, number_text};
 ghost use Rattle.cu_unpack.specs.Answers.{IsArriving, IsLowWhereBuilt, walk_over};
-ghost use Rattle.cu_unpack.specs.Texts.{walk_text};
 
 use crate::counted::Counted;
 use crate::unpacking::{relax_counted, write_walk};
+use crate::walker::Walker;
 use crate::work::Work;
-use cu_interval::{BoundedWays, Dir, Relaxed, Relaxer, Ways};
+use cu_drive::{NumberAlone, WalkForm};
+use cu_interval::{BoundedWays, Call, Dir, Relaxed, Relaxer, Ways};
 use cu_io::{Sink, SinkFailed};
 use std::marker::Model;
 
@@ -70,14 +72,20 @@ impl<'a, W: Ways> Unpacker<'a, W> {
         requires time { at < 2 ^ 61 }
         requires answers { IsArriving self.old edge dir at }
         ensures wrote { Wrote (K.state sink.old) (K.state sink.new) result
-            (walk_text first (walk_over self.old edge dir at)) }
+            (driven_text number_text self.old.network first
+            (walk_over self.old edge dir at) at) }
         ensures arrival { IfOk result (λ arrival. relaxed self.old edge dir at ≡ At arrival) }
         ensures sound { IsHierarchy self.old }
         ensures stays { self.new ≡ self.old }
     {
         let ways = self.ways;
         let work = &mut self.work;
-        walk_over_ways(ways, work, edge, dir, at, first, sink)
+        let call = Call {
+            edge,
+            dir,
+            second: at,
+        };
+        walk_over_ways(ways, work, call, first, &NumberAlone, sink)
     }
 }
 
@@ -110,6 +118,21 @@ impl<'a, W: BoundedWays> Relaxer for Unpacker<'a, W> {
     }
 }
 
+impl<'a, W: BoundedWays> Walker for Unpacker<'a, W> {
+    fn write_walk<P: WalkForm, K: Sink>(
+        &mut self,
+        call: Call,
+        first: bool,
+        form: &P,
+        sink: &mut K,
+    ) -> Result<(), SinkFailed> {
+        let ways = self.ways;
+        let work = &mut self.work;
+        walk_over_ways(ways, work, call, first, form, sink)?;
+        Ok(())
+    }
+}
+
 // The answer of a relaxation over these ways.
 fn relax_over<W: Ways>(ways: &W, work: &mut Work, edge: u32, dir: Dir, at: u64) -> Relaxed
     requires edge { edge < length (W.hierarchy ways.now).edges }
@@ -123,26 +146,26 @@ fn relax_over<W: Ways>(ways: &W, work: &mut Work, edge: u32, dir: Dir, at: u64) 
     relax_counted(&mut Counted::of(ways), work, edge, dir, at)
 }
 
-// Writes the walk of a relaxation over these ways.
-fn walk_over_ways<W: Ways, K: Sink>(
+// Writes the walk of a call over these ways.
+fn walk_over_ways<W: Ways, P: WalkForm, K: Sink>(
     ways: &W,
     work: &mut Work,
-    edge: u32,
-    dir: Dir,
-    at: u64,
+    call: Call,
     first: bool,
+    form: &P,
     sink: &mut K,
 ) -> Result<u64, SinkFailed>
-    requires edge { edge < length (W.hierarchy ways.now).edges }
-    requires time { at < 2 ^ 61 }
+    requires edge { call.edge < length (W.hierarchy ways.now).edges }
+    requires time { call.second < 2 ^ 61 }
     requires room { work.old ≡ (W.hierarchy ways.now).network.nodes }
-    requires answers { IsArriving (W.hierarchy ways.now) edge dir at }
+    requires answers { IsArriving (W.hierarchy ways.now) call.edge call.dir call.second }
     ensures wrote { Wrote (K.state sink.old) (K.state sink.new) result
-        (walk_text first (walk_over (W.hierarchy ways.now) edge dir at)) }
-    ensures arrival { IfOk result
-        (λ arrival. relaxed (W.hierarchy ways.now) edge dir at ≡ At arrival) }
+        (driven_text (P.text form.now) (W.hierarchy ways.now).network first
+        (walk_over (W.hierarchy ways.now) call.edge call.dir call.second) call.second) }
+    ensures arrival { IfOk result (λ arrival.
+        relaxed (W.hierarchy ways.now) call.edge call.dir call.second ≡ At arrival) }
     ensures sound { IsHierarchy (W.hierarchy ways.now) }
     ensures work { work.new ≡ work.old }
 {
-    write_walk(&mut Counted::of(ways), work, edge, dir, at, first, sink)
+    write_walk(&mut Counted::of(ways), work, call, first, form, sink)
 }

@@ -10,13 +10,14 @@ ghost use Rattle.cu_interval.specs.Shortcuts.{IsMiddle};
 ghost use Rattle.cu_interval.specs.Unpacking.{relaxed};
 ghost use Rattle.cu_unpack.specs.Answers.{IsArriving, walk_over};
 ghost use Rattle.cu_unpack.specs.Counts.{Takes};
-ghost use Rattle.cu_unpack.specs.Texts.{road_text, walk_text};
+ghost use Rattle.cu_drive.specs.RoadTexts.{driven_text};
 ghost use Rattle.cu_unpack.specs.Steps.Legs.{DrivesOn, FindsRoad, IsAt, IsSomewhere, Parts, Resumes};
 
 use crate::counted::CountedWays;
 use crate::work::Work;
-use cu_interval::{Dir, Relaxed, Way, leg_of};
-use cu_io::{Sink, SinkFailed, put_all, put_number};
+use cu_drive::WalkForm;
+use cu_interval::{Call, Dir, Relaxed, Way, leg_of};
+use cu_io::{Sink, SinkFailed};
 
 // Where an unpacking stands: the shortcut that is next, the second at which it is asked, and how many wait behind it, all of
 // which lead upwards.
@@ -95,63 +96,63 @@ fn relax_in<C: CountedWays>(
     Relaxed::Long
 }
 
-/// Writes the roads of the walk of a relaxation that arrives, in plain decimal, a blank before each, but not before the
-/// first where that is the first of all; and answers when the walk arrives. The edge's number is below the number of edges,
-/// the second below 2^61, the work made for as many nodes, and at most 2^62 look-ups were counted before. Takes no memory.
+/// Writes the roads of the walk of a call that arrives, each as the form says of it and of the second at which it is entered; and
+/// answers when the walk arrives. The edge's number is below the number of edges, the second below 2^61, the work made for as
+/// many nodes, and at most 2^62 look-ups were counted before. Takes no memory.
 ///
 /// Refused only where a write is: the sink's count of faults rose, and some first bytes were written.
-pub(crate) fn write_walk<C: CountedWays, K: Sink>(
+pub(crate) fn write_walk<C: CountedWays, P: WalkForm, K: Sink>(
     ways: &mut C,
     work: &mut Work,
-    edge: u32,
-    dir: Dir,
-    at: u64,
+    call: Call,
     first: bool,
+    form: &P,
     sink: &mut K,
 ) -> Result<u64, SinkFailed>
-    requires edge { edge < length (C.hierarchy ways.old).edges }
-    requires time { at < 2 ^ 61 }
+    requires edge { call.edge < length (C.hierarchy ways.old).edges }
+    requires time { call.second < 2 ^ 61 }
     requires room { work.old ≡ (C.hierarchy ways.old).network.nodes }
     requires few { C.steps ways.old ≤ 2 ^ 62 }
-    requires answers { IsArriving (C.hierarchy ways.old) edge dir at }
+    requires answers { IsArriving (C.hierarchy ways.old) call.edge call.dir call.second }
     ensures wrote { Wrote (K.state sink.old) (K.state sink.new) result
-        (walk_text first (walk_over (C.hierarchy ways.old) edge dir at)) }
-    ensures arrival { IfOk result
-        (λ arrival. relaxed (C.hierarchy ways.old) edge dir at ≡ At arrival) }
+        (driven_text (P.text form.now) (C.hierarchy ways.old).network first
+        (walk_over (C.hierarchy ways.old) call.edge call.dir call.second) call.second) }
+    ensures arrival { IfOk result (λ arrival.
+        relaxed (C.hierarchy ways.old) call.edge call.dir call.second ≡ At arrival) }
     ensures sound { IsHierarchy (C.hierarchy ways.old) }
     ensures work { work.new ≡ work.old }
 {
-    write_in(ways, &mut work.pending, edge, dir, at, first, sink)
+    write_in(ways, &mut work.pending, call, first, form, sink)
 }
 
 // The same, in places for the shortcuts that wait.
-fn write_in<C: CountedWays, K: Sink>(
+fn write_in<C: CountedWays, P: WalkForm, K: Sink>(
     ways: &mut C,
     pending: &mut [u32],
-    edge: u32,
-    dir: Dir,
-    at: u64,
+    call: Call,
     first: bool,
+    form: &P,
     sink: &mut K,
 ) -> Result<u64, SinkFailed>
-    requires edge { edge < length (C.hierarchy ways.old).edges }
-    requires time { at < 2 ^ 61 }
+    requires edge { call.edge < length (C.hierarchy ways.old).edges }
+    requires time { call.second < 2 ^ 61 }
     requires room { length pending.old ≡ (C.hierarchy ways.old).network.nodes }
     requires few { C.steps ways.old ≤ 2 ^ 62 }
-    requires answers { IsArriving (C.hierarchy ways.old) edge dir at }
+    requires answers { IsArriving (C.hierarchy ways.old) call.edge call.dir call.second }
     ensures wrote { Wrote (K.state sink.old) (K.state sink.new) result
-        (walk_text first (walk_over (C.hierarchy ways.old) edge dir at)) }
-    ensures arrival { IfOk result
-        (λ arrival. relaxed (C.hierarchy ways.old) edge dir at ≡ At arrival) }
+        (driven_text (P.text form.now) (C.hierarchy ways.old).network first
+        (walk_over (C.hierarchy ways.old) call.edge call.dir call.second) call.second) }
+    ensures arrival { IfOk result (λ arrival.
+        relaxed (C.hierarchy ways.old) call.edge call.dir call.second ≡ At arrival) }
     ensures sound { IsHierarchy (C.hierarchy ways.old) }
 {
-    let mut spot = start(edge, dir, at);
+    let mut spot = start(call.edge, call.dir, call.second);
     let mut first = first;
     'roads: for _number in 1..ways.nodes() {
         let Some(driven) = drive_on(ways, pending, spot) else {
             unreachable!()
         };
-        put_road(sink, driven.road, first)?;
+        form.put(driven.road, spot.second, first, sink)?;
         first = false;
         let Some(next) = driven.rest else {
             return Ok(driven.arrival);
@@ -159,17 +160,6 @@ fn write_in<C: CountedWays, K: Sink>(
         spot = next;
     }
     unreachable!()
-}
-
-// Writes a road, with a blank before it but where it is the first of all.
-fn put_road<K: Sink>(sink: &mut K, road: u32, first: bool) -> Result<(), SinkFailed>
-    ensures wrote { Wrote (K.state sink.old) (K.state sink.new) result (road_text first road) }
-{
-    if first {
-        return put_number(sink, u64::from(road));
-    }
-    put_all(sink, b" ")?;
-    put_number(sink, u64::from(road))
 }
 
 // Where an unpacking begins.

@@ -10,15 +10,18 @@ use crate::verdicts::Verdict;
 use cu_interval::{Dir, Entry, Shortcut, WayList, Ways};
 use cu_model::DAY;
 use cu_pack::{PackedView, WaySlice};
+use cu_progress::{Progress, Stage, Telling};
 
-/// The verdict over a packed file, by the lists that are built of its network and order, by list number. Takes no memory.
-pub fn compare(view: &PackedView<'_>, built: &[WayList]) -> Verdict
+/// The verdict over a packed file, by the lists that are built of its network and order, by list number. How many edges are
+/// compared is told as it goes. Takes no memory.
+pub fn compare<P: Progress>(view: &PackedView<'_>, built: &[WayList], progress: &mut P) -> Verdict
     requires built { IsBuilt (with_lists view.now built.now) }
     ensures right { IsVerdict view.now result }
 {
+    let mut telling = Telling::begin(progress, Stage::Comparing, u64::from(view.edges()));
     for edge in 0..view.edges() {
         match compare_edge(view, built, edge) {
-            Verdict::Same => {}
+            Verdict::Same => telling.add(1),
             differs => return differs,
         }
     }

@@ -42,7 +42,7 @@ pub fn verify_telling<P: Progress>(
     let graph = chordal_of(alloc, view)?;
     prove_eq!(graph.edges(), view.edges());
     let built = built_lists_telling(alloc, &network, &order, &graph, progress)?;
-    Ok(compare(view, &built))
+    Ok(compare(view, &built, progress))
 }
 
 /// Compares a packed file with the hierarchy that is built of its network and order.

@@ -13,7 +13,8 @@ use Rattle.cu_model.proofs.FaultLaws.{piece_begins}
 use Rattle.cu_model.proofs.FormLaws.{AreSame, has_form, same_form}
 use Rattle.cu_wait.specs.declared.points.Point.{Point}
 use Rattle.cu_wait.specs.declared.rows.TheConstants.{MAX_MEASURED}
-use Rattle.cu_wait.specs.Converted.{AreConverted, IsConvertedProfile}
+use Rattle.cu_wait.specs.Converted.{AreConverted, StandFor}
+use Rattle.cu_wait.specs.Networks.{Measured}
 use Rattle.cu_wait.specs.Legs.{hull_at, legs_of}
 use Rattle.cu_wait.specs.Measured.{IsMeasured, raw_arrival}
 use Rattle.cu_wait.specs.Waits.{IsLeastFrom}
@@ -52,9 +53,10 @@ module _ (points : List Point) (m : IsMeasured points) (pieces : List Piece) (fo
       (least_order (raw_arrival points) (profile_value pieces) stands) form
 
   -- and stand for the measured one
-  pub converted_stands : IsConvertedProfile points pieces
+  pub converted_stands : StandFor (Measured points) pieces
   converted_stands = (
-    (stands, form_open (hull_at (legs_of points)) pieces form),
+    stands,
+    form_open (hull_at (legs_of points)) pieces form,
     form_same (hull_at (legs_of points)) (profile_value pieces) pieces (λ t lt. sym (form_value (hull_at (legs_of points)) pieces form t lt)) converted_profile.onward form,
   )
 
@@ -78,7 +80,7 @@ few_answered items (Err why) all few = tt
 
 -- one more profile
 pub converted_more : (measured : List (List Point)) (profiles : List (List Piece)) (points : List Point) (pieces : List Piece)
-    → AreConverted measured profiles → IsConvertedProfile points pieces → AreConverted (measured ++ (points ∷ [])) (profiles ++ (pieces ∷ []))
+    → AreConverted measured profiles → StandFor (Measured points) pieces → AreConverted (measured ++ (points ∷ [])) (profiles ++ (pieces ∷ []))
 converted_more [] [] points pieces all one = (one, tt)
 converted_more [] (other ∷ profiles) points pieces all one = absurd all
 converted_more (other ∷ measured) [] points pieces all one = absurd all

@@ -43,10 +43,10 @@ pub tile_within : (start : ℕ) (legs : List Leg) → Tile start legs → start 
 tile_within start [] t = omega (arith, t)
 tile_within start (leg ∷ legs) (from, some, rest) = let h = tile_within leg.until legs rest in omega (arith, some, h)
 
-in_first : (leg : Leg) (legs : List Leg) (t : ℕ) → t < leg.until → arrival_in (leg ∷ legs) t ≡ leg_arrival leg t
+pub in_first : (leg : Leg) (legs : List Leg) (t : ℕ) → t < leg.until → arrival_in (leg ∷ legs) t ≡ leg_arrival leg t
 in_first leg legs t lt = let b = lt-ltb t leg.until lt in rw b refl
 
-in_rest : (leg : Leg) (legs : List Leg) (t : ℕ) → leg.until ≤ t → arrival_in (leg ∷ legs) t ≡ arrival_in legs t
+pub in_rest : (leg : Leg) (legs : List Leg) (t : ℕ) → leg.until ≤ t → arrival_in (leg ∷ legs) t ≡ arrival_in legs t
 in_rest leg legs t le = let b = le-ltb t leg.until le in rw b refl
 
 -- the best of the first leg and the least of the rest

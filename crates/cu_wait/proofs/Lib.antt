@@ -12,3 +12,8 @@ pub mod GroupLaws
 pub mod CheckLaws
 pub mod ConvertedLaws
 pub mod ReadLaws
+pub mod LeftLaws
+pub mod LeftLegLaws
+pub mod WaitingDriveLaws
+pub mod KeptLaws
+mod ConvertedOne

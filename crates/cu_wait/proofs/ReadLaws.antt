@@ -46,7 +46,7 @@ new_taken s n = (
     passed = refl;
     wrong_mode = n.wrong_mode;
     points = n.points;
-    kept = rw (n.fault, n.profiles) ([], refl, tt);
+    kept = rw (n.fault, n.profiles, n.measured) (refl, tt);
     small = rw n.last tt;
     few = rw n.profiles (omega arith);
   },
@@ -54,17 +54,18 @@ new_taken s n = (
 
 -- the last profile ends
 
-kept_more : (given : Result (List (List Point)) MeasuredRefusal) (why : Option MeasuredRefusal) (points : List Point) (ps qs : List (List Piece)) (f g : Option MeasuredRefusal)
-    → Kept given f ps → KeepsProfile why points ps f qs g → Kept (then_last given (unless why (Ok points))) g qs
-kept_more given (Some y) points ps qs (Some x) g k h = rw (h.1, k) refl
-kept_more given None points ps qs (Some x) g k (pieces, one, more, same) = rw (same, k) refl
-kept_more given (Some y) points ps qs None g (measured, is, all) h = rw (h.1, is) refl
-kept_more given None points ps qs None g (measured, is, all) (pieces, one, more, same) =
-    rw (same, is) (measured ++ (points ∷ []), refl, subst (AreConverted (measured ++ (points ∷ []))) (sym more) (converted_more measured ps points pieces all one))
+kept_more : (given : Result (List (List Point)) MeasuredRefusal) (why : Option MeasuredRefusal) (points : List Point) (ps qs : List (List Piece)) (ms ns : List (List Point)) (f g : Option MeasuredRefusal)
+    → Kept given f ps ms → KeepsProfile why points ps ms f qs ns g → Kept (then_last given (unless why (Ok points))) g qs ns
+kept_more given (Some y) points ps qs ms ns (Some x) g k h = rw (h.1, k) refl
+kept_more given None points ps qs ms ns (Some x) g k (pieces, one, more, same, next) = rw (same, k) refl
+kept_more given (Some y) points ps qs ms ns None g (is, all) h = rw (h.1, is) refl
+kept_more given None points ps qs ms ns None g (is, all) (pieces, one, more, same, next) =
+    rw (same, is, next) (refl, subst (AreConverted (ms ++ (points ∷ []))) (sym more) (converted_more ms ps points pieces all one))
 
-kept_few : (why : Option MeasuredRefusal) (points : List Point) (ps qs : List (List Piece)) (f g : Option MeasuredRefusal) → KeepsProfile why points ps f qs g → length qs ≤ length ps + 1
-kept_few (Some y) points ps qs f g h = let e = ap length h.0 in omega (arith, e)
-kept_few None points ps qs f g (pieces, one, more, same) = let e = ap length more in let k = length-append ps (pieces ∷ []) in omega (arith, e, k)
+kept_few : (why : Option MeasuredRefusal) (points : List Point) (ps qs : List (List Piece)) (ms ns : List (List Point)) (f g : Option MeasuredRefusal) → KeepsProfile why points ps ms f qs ns g
+    → length qs ≤ length ps + 1
+kept_few (Some y) points ps qs ms ns f g h = let e = ap length h.0 in omega (arith, e)
+kept_few None points ps qs ms ns f g (pieces, one, more, same, next) = let e = ap length more in let k = length-append ps (pieces ∷ []) in omega (arith, e, k)
 
 -- what the rows of the last profile give
 own_given : (s : MeasuredRows) (front own : Rows) → IsReading s front own
@@ -76,7 +77,7 @@ own_given s front own r =
     rw (same, mode, sym r.points, sym r.first) refl
 
 pub profile_ended : (s m : MeasuredRows) (front own : Rows) (last : ℕ) → IsReading s front own → s.last ≡ Some last → EndsProfile s m
-    → Kept (measured_of_groups 0 (by_profile (front ++ own))) m.fault m.profiles.items × (length m.profiles.items ≤ last + 1)
+    → Kept (measured_of_groups 0 (by_profile (front ++ own))) m.fault m.profiles.items m.measured.items × (length m.profiles.items ≤ last + 1)
 profile_ended s m front own last r e x =
     let (some, all, other) : AreOwn (Some last) front own = subst (λ (l : Option ℕ). AreOwn l front own) e r.are_own in
     let many = as_many front in
@@ -87,9 +88,9 @@ profile_ended s m front own last r e x =
     ∙ ap (λ (n : ℕ). then_last (measured_of_groups 0 (by_profile front)) (points_of_rows n own)) number
     ∙ ap (then_last (measured_of_groups 0 (by_profile front))) (own_given s front own r) in
     let few = subst (λ (l : Option ℕ). length s.profiles.items ≤ before l) e r.few in
-    let more = kept_few (points_refusal s.first s.wrong_mode s.points.items) s.points.items s.profiles.items m.profiles.items s.fault m.fault x.kept in (
-      subst (λ (given : Result (List (List Point)) MeasuredRefusal). Kept given m.fault m.profiles.items) (sym groups)
-          (kept_more (measured_of_groups 0 (by_profile front)) (points_refusal s.first s.wrong_mode s.points.items) s.points.items s.profiles.items m.profiles.items s.fault m.fault r.kept x.kept),
+    let more = kept_few (points_refusal s.first s.wrong_mode s.points.items) s.points.items s.profiles.items m.profiles.items s.measured.items m.measured.items s.fault m.fault x.kept in (
+      subst (λ (given : Result (List (List Point)) MeasuredRefusal). Kept given m.fault m.profiles.items m.measured.items) (sym groups)
+          (kept_more (measured_of_groups 0 (by_profile front)) (points_refusal s.first s.wrong_mode s.points.items) s.points.items s.profiles.items m.profiles.items s.measured.items m.measured.items s.fault m.fault r.kept x.kept),
       omega (arith, few, more),
     )
 
@@ -109,7 +110,7 @@ record IsBegun (m : MeasuredRows) (front own : Rows) (profile : ℕ) : Type 0 wh
   passed : rows_fault 0 None (front ++ own) ≡ None
   wrong_mode : m.wrong_mode ≡ first_that (λ row. is_none (point_of_row row)) m.first own
   points : m.points.items ≡ filter_map point_of_row own
-  kept : Kept (measured_of_groups 0 (by_profile front)) m.fault m.profiles.items
+  kept : Kept (measured_of_groups 0 (by_profile front)) m.fault m.profiles.items m.measured.items
   few : length m.profiles.items ≤ profile
 
 one_listed : {X : Type 0} (o : Option X) → cons_option o [] ≡ option_to_list o
@@ -150,7 +151,7 @@ row_added m t row line front own b a passed profile point small =
       wrong_mode = a.wrong_mode ∙ sym there ∙ ap (λ (n : ℕ). first_that (λ row. is_none (point_of_row row)) n (own ++ (row ∷ []))) (sym a.first);
       points = a.points ∙ ap (λ (ps : List Point). ps ++ option_to_list line.point) b.points ∙ ap (λ (p : Option Point). filter_map point_of_row own ++ option_to_list p) point
           ∙ ap (λ (ps : List Point). filter_map point_of_row own ++ ps) (sym (one_listed (point_of_row row))) ∙ sym (filter_map-append point_of_row own (row ∷ []));
-      kept = rw (a.fault, a.profiles) b.kept;
+      kept = rw (a.fault, a.profiles, a.measured) b.kept;
       small = rw last small;
       few = rw (last, a.profiles) b.few;
     }
@@ -249,7 +250,7 @@ takes_row s m t row line checked b a rows (front, own, is, r) =
 -- all rows were taken, and the last profile ended
 
 pub all_ended : (s t : MeasuredRows) (rows : Rows) → HasTaken s rows → EndsRows s t
-    → Kept (measured_of_rows rows) t.fault t.profiles.items × (length t.profiles.items ≤ MAX_MEASURED)
+    → Kept (measured_of_rows rows) t.fault t.profiles.items t.measured.items × (length t.profiles.items ≤ MAX_MEASURED)
 all_ended s t rows (front, own, is, r) ends =
     let passed : rows_fault 0 None rows ≡ None = ap (rows_fault 0 None) is ∙ r.passed in
     let given : measured_of_rows rows ≡ measured_of_groups 0 (by_profile (front ++ own)) = rw passed (ap (λ (rs : Rows). measured_of_groups 0 (by_profile rs)) is) in
@@ -260,29 +261,31 @@ all_ended s t rows (front, own, is, r) ends =
           let same = ends.none none in
           let front_only : measured_of_groups 0 (by_profile (front ++ own)) ≡ measured_of_groups 0 (by_profile front) =
           ap (λ (rs : Rows). measured_of_groups 0 (by_profile (front ++ rs))) no_own ∙ ap (λ (rs : Rows). measured_of_groups 0 (by_profile rs)) (append-nil front) in
-          subst (λ (x : MeasuredRows). Kept (measured_of_rows rows) x.fault x.profiles.items × (length x.profiles.items ≤ MAX_MEASURED)) (sym same) (
-            subst (λ (g : Result (List (List Point)) MeasuredRefusal). Kept g s.fault s.profiles.items) (sym (given ∙ front_only)) r.kept,
+          subst (λ (x : MeasuredRows). Kept (measured_of_rows rows) x.fault x.profiles.items x.measured.items × (length x.profiles.items ≤ MAX_MEASURED)) (sym same) (
+            subst (λ (g : Result (List (List Point)) MeasuredRefusal). Kept g s.fault s.profiles.items s.measured.items) (sym (given ∙ front_only)) r.kept,
             omega (arith, few),
           )
       | inr (last, e) ↦
           let (kept, few) = profile_ended s t front own last r e (ends.some last e) in
           let small = subst (λ (l : Option ℕ). IfSome l (λ last. last < MAX_MEASURED)) e r.small in
-          (subst (λ (g : Result (List (List Point)) MeasuredRefusal). Kept g t.fault t.profiles.items) (sym given) kept, omega (arith, few, small))
+          (subst (λ (g : Result (List (List Point)) MeasuredRefusal). Kept g t.fault t.profiles.items t.measured.items) (sym given) kept, omega (arith, few, small))
     ]
 
-pub gives_ok : {P : Type 0} (items : P → List (List Piece)) (s t : MeasuredRows) (profiles : P) → items profiles ≡ t.profiles.items → EndsRows s t → t.fault ≡ None → GivesRead items s (Ok profiles)
-gives_ok items s t profiles same ends none = record {
+pub gives_ok : {P : Type 0} (items : P → List (List Piece)) (points : P → List (List Point)) (s t : MeasuredRows) (read : P) → items read ≡ t.profiles.items → points read ≡ t.measured.items → EndsRows s t
+    → t.fault ≡ None → GivesRead items points s (Ok read)
+gives_ok items points s t read same all ends none = record {
   ok = λ rows h.
-      let k = subst (λ (f : Option MeasuredRefusal). Kept (measured_of_rows rows) f t.profiles.items) none (all_ended s t rows h ends).0 in
-      (k.0, k.1, subst (AreConverted k.0) (sym same) k.2);
+      let k = subst (λ (f : Option MeasuredRefusal). Kept (measured_of_rows rows) f t.profiles.items t.measured.items) none (all_ended s t rows h ends).0 in
+      rw (same, all) k;
   refused = λ rows h. tt;
   few = λ rows h. subst (λ (ps : List (List Piece)). length ps ≤ MAX_MEASURED) (sym same) (all_ended s t rows h ends).1;
 }
 
-pub gives_err : {P : Type 0} (items : P → List (List Piece)) (s t : MeasuredRows) (why : MeasuredRefusal) → EndsRows s t → t.fault ≡ Some why → GivesRead items s (Err why)
-gives_err items s t why ends some = record {
+pub gives_err : {P : Type 0} (items : P → List (List Piece)) (points : P → List (List Point)) (s t : MeasuredRows) (why : MeasuredRefusal) → EndsRows s t → t.fault ≡ Some why
+    → GivesRead items points s (Err why)
+gives_err items points s t why ends some = record {
   ok = λ rows h. tt;
-  refused = λ rows h n. subst (λ (f : Option MeasuredRefusal). Kept (measured_of_rows rows) f t.profiles.items) some (all_ended s t rows h ends).0;
+  refused = λ rows h n. subst (λ (f : Option MeasuredRefusal). Kept (measured_of_rows rows) f t.profiles.items t.measured.items) some (all_ended s t rows h ends).0;
   few = λ rows h. tt;
 }
 

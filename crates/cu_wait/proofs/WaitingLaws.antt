@@ -20,7 +20,7 @@ use Rattle.cu_wait.specs.Networks.{IsRawWalk, raw_arc_value, waiting_drive, Driv
 use Rattle.cu_wait.specs.Converted.{StandFor, StandForSome, IsConverted}
 
 -- functions that are the same at every second have the same least values
-least_alike : (f g : ℕ → ℕ) → ((t : ℕ) → f t ≡ g t) → (t v : ℕ) → IsLeastFrom f t v → IsLeastFrom g t v
+pub least_alike : (f g : ℕ → ℕ) → ((t : ℕ) → f t ≡ g t) → (t v : ℕ) → IsLeastFrom f t v → IsLeastFrom g t v
 least_alike f g same t v l =
     let (s, le, is) = l.reached in
     record {
@@ -32,7 +32,7 @@ least_alike f g same t v l =
 least_at_once : (f : ℕ → ℕ) (t : ℕ) → ((s : ℕ) → t ≤ s → f t ≤ f s) → IsLeastFrom f t (f t)
 least_at_once f t order = record { reached = (t, omega arith, refl); least = order }
 
-stands_some : (p : Option RawProfile) (q : Option (List Piece)) (profile : RawProfile) → p ≡ Some profile → StandForSome p q
+pub stands_some : (p : Option RawProfile) (q : Option (List Piece)) (profile : RawProfile) → p ≡ Some profile → StandForSome p q
     → (pieces : List Piece) × (q ≡ Some pieces) × StandFor profile pieces
 stands_some None q profile e s = absurd (cc e)
 stands_some (Some x) None profile e s = absurd s
@@ -49,7 +49,7 @@ closed_alike (Measured points) pieces s = s.1
 closed_alike (InPieces own) pieces s = ap is_closed s
 
 -- pieces that stand for a profile arrive, at every second, when whoever waits best does
-least_of_profile : (profile : RawProfile) (pieces : List Piece) → StandFor profile pieces → IsProfile pieces
+pub least_of_profile : (profile : RawProfile) (pieces : List Piece) → StandFor profile pieces → IsProfile pieces
     → (t : ℕ) → IsLeastFrom (raw_value profile) t (profile_value pieces t)
 least_of_profile (Measured points) pieces s valid t = s.0 t
 least_of_profile (InPieces own) pieces s valid t =
@@ -65,7 +65,7 @@ arrives_by : (g : NetworkValue) (a : ℕ) (arc : RoadArc) (pieces : List Piece) 
     → (t : ℕ) → arc_value g a t ≡ profile_value pieces t
 arrives_by g a arc pieces at there t = rw (at, there) refl
 
-raw_by : (raw : RawNetwork) (a : ℕ) (arc : RoadArc) (profile : RawProfile) → slice_get raw.arcs a ≡ Some arc → slice_get raw.profiles arc.profile ≡ Some profile
+pub raw_by : (raw : RawNetwork) (a : ℕ) (arc : RoadArc) (profile : RawProfile) → slice_get raw.arcs a ≡ Some arc → slice_get raw.profiles arc.profile ≡ Some profile
     → (t : ℕ) → raw_value profile t ≡ raw_arc_value raw a t
 raw_by raw a arc profile at there t = rw (at, there) refl
 

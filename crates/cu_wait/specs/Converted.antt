@@ -9,19 +9,17 @@ use Rattle.cu_wait.specs.Measured.{raw_arrival}
 use Rattle.cu_wait.specs.Waits.{IsLeastFrom}
 use Rattle.cu_wait.specs.Networks.{RawProfile, Measured, InPieces, RawNetwork}
 
--- these pieces stand for a profile: for a measured one they arrive when whoever waits best does, and those of one in pieces are its own
+-- These pieces stand for a profile: for a measured one they arrive when whoever waits best does, and are the day form of what they say, so
+-- that there are no others; those of one in pieces are its own.
 abbrev pub StandFor : RawProfile → List Piece → Type 0
-StandFor (Measured points) pieces = ((t : ℕ) → IsLeastFrom (raw_arrival points) t (profile_value pieces t)) × (is_closed pieces ≡ false)
+StandFor (Measured points) pieces =
+    ((t : ℕ) → IsLeastFrom (raw_arrival points) t (profile_value pieces t)) × (is_closed pieces ≡ false) × IsDayForm (profile_value pieces) pieces
 StandFor (InPieces own) pieces = pieces ≡ own
-
--- these pieces stand for a measured profile, and are the day form of what they say
-abbrev pub IsConvertedProfile : List Point → List Piece → Type 0
-IsConvertedProfile points pieces = StandFor (Measured points) pieces × IsDayForm (profile_value pieces) pieces
 
 -- as many profiles in pieces as measured ones, each for its own
 abbrev pub AreConverted : List (List Point) → List (List Piece) → Type 0
 AreConverted [] [] = Unit {0}
-AreConverted (points ∷ measured) (pieces ∷ profiles) = IsConvertedProfile points pieces × AreConverted measured profiles
+AreConverted (points ∷ measured) (pieces ∷ profiles) = StandFor (Measured points) pieces × AreConverted measured profiles
 AreConverted _ _ = ⊥
 
 -- where one has a profile, the other has pieces that stand for it

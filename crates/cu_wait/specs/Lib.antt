@@ -6,3 +6,6 @@ pub mod Converted
 pub mod WaitingAnswers
 pub mod MeasuredTexts
 pub mod Steps
+pub mod LeftSeconds
+pub mod WaitingDrives
+pub mod KeptPoints

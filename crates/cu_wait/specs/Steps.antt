@@ -1,3 +1,4 @@
 pub mod HullLegs
 pub mod Listed
 pub mod ReadRows
+pub mod LeftLegs

@@ -45,7 +45,7 @@ impl Leg {
     }
 
     // Whether travel times fall by a second a second or more.
-    fn falls(self) -> bool
+    pub fn falls(self) -> bool
         requires leg { IsLeg self }
         ensures { result ≡ falls self }
     {

@@ -43,7 +43,7 @@ pub(crate) fn legs_of(alloc: Global, points: &[Point]) -> Result<Vec<Leg>, NoMem
 }
 
 // The leg from a point to a second with this travel time.
-fn leg_behind(point: Point, until: u32, next: u32) -> Leg
+pub(crate) fn leg_behind(point: Point, until: u32, next: u32) -> Leg
     ensures { result ≡ leg_behind point until next }
 {
     let last = match point.mode {

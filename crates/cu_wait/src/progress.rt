@@ -3,6 +3,7 @@
 ghost use Rattle.std.specs.Prelude.{◌+◌, ◌≤◌, ◌<◌, ◌^◌, All, length};
 ghost use Rattle.cu_model.specs.Profiles.{IsProfile};
 
+use crate::measured::MeasuredProfile;
 use crate::points::Point;
 use crate::refusals::MeasuredRefusal;
 use cu_model::Profile;
@@ -20,6 +21,8 @@ pub(crate) struct MeasuredRows {
     pub wrong_mode: Option<u32>,
     pub points: Vec<Point>,
     pub profiles: Vec<Profile>,
+    // The points of these profiles.
+    pub measured: Vec<MeasuredProfile>,
     // Why the first profile that isn't one is refused. A row that fails its own checks goes before it.
     pub fault: Option<MeasuredRefusal>,
     ghost narrow: { row < 2 ^ 32 },

@@ -15,14 +15,24 @@ ghost use Rattle.cu_wait.specs.declared.rows.TheConstants.{MAX_MEASURED};
 
 use crate::checks::points_refusal;
 use crate::converting::converted;
+use crate::measured::MeasuredProfile;
 use crate::points::Point;
 use crate::progress::MeasuredRows;
 use crate::refusals::MeasuredRefusal;
 use crate::rows::{PointRow, check_row, header};
 use csv::ByteRecord;
 use cu_model::{NoMemory, Profile};
-use cu_tables::{TakesRows, each_row_below};
+use cu_progress::{Progress, Silent, Stage, Telling};
+use cu_tables::{TakesRows, each_row_below_telling};
 use std::alloc::Global;
+use std::mem::replace;
+
+/// The measured profiles of a text: the pieces that stand for each, and its points.
+#[derive(Drop)]
+pub struct ReadProfiles {
+    pub profiles: Vec<Profile>,
+    pub measured: Vec<MeasuredProfile>,
+}
 
 impl MeasuredRows {
     // No rows yet.
@@ -36,6 +46,7 @@ impl MeasuredRows {
             wrong_mode: None,
             points: Vec::new(alloc),
             profiles: Vec::new(alloc),
+            measured: Vec::new(alloc),
             fault: None,
         }
     }
@@ -45,14 +56,15 @@ impl MeasuredRows {
         ensures { OnOk result (EndsProfile self.old self.new) }
     {
         let refusal = points_refusal(self.first, self.wrong_mode.take(), &self.points);
+        let points = replace(&mut self.points, Vec::new(alloc));
         keep_profile(
             alloc,
             refusal,
-            &self.points,
+            points,
             &mut self.profiles,
+            &mut self.measured,
             &mut self.fault,
         )?;
-        self.points.clear();
         self.first = self.row;
         Ok(())
     }
@@ -92,13 +104,16 @@ impl MeasuredRows {
     }
 
     // The profiles that were read, once the last one ended.
-    fn finish(mut self, alloc: Global) -> Result<Vec<Profile>, MeasuredRefusal>
-        ensures given { GivesRead (λ profiles. profiles.items) self result }
-        ensures valid { IfOk result (λ profiles. All IsProfile profiles.items) }
+    fn finish(mut self, alloc: Global) -> Result<ReadProfiles, MeasuredRefusal>
+        ensures given { GivesRead (λ read. read.profiles.items) (λ read. read.measured.items) self result }
+        ensures valid { IfOk result (λ read. All IsProfile read.profiles.items) }
     {
         self.end_rows(alloc)?;
         match self.fault {
-            None => Ok(self.profiles),
+            None => Ok(ReadProfiles {
+                profiles: self.profiles,
+                measured: self.measured,
+            }),
             Some(refusal) => Err(refusal),
         }
     }
@@ -132,7 +147,7 @@ impl TakesRows for MeasuredRows {
 /// `line` or `step`, and its travel time. Profiles stand in the order of their numbers, from 0 to at most 49,709. Numbers,
 /// quotes, line ends, blank lines and a byte-order mark mean what they do in a table of profiles.
 ///
-/// A refused text is refused for the first check that fails: first each row is checked by itself, `Fields`, `Number`,
+/// Refused at the first check that fails, the text's in the order of its rows: `Header`, then `Fields`, `Number`,
 /// `Sequence`, `TooMany`, row by row, and then the points of each profile: `Mode`, `Limit`, `Start`, `Rising`. Later points
 /// may arrive earlier. A number too wide is past its limit. `NoMemory` may come instead of any answer, also where csv
 /// answers an error; two points may need 43,201 pieces.
@@ -144,26 +159,72 @@ pub fn read_measured(alloc: Global, bytes: &[u8]) -> Result<Vec<Profile>, Measur
     ensures few { IfOk result (λ profiles. length profiles.items ≤ MAX_MEASURED) }
     ensures pieces { IfOk result (λ profiles. sum_by length profiles.items < 2 ^ 32) }
 {
+    read_measured_telling(alloc, bytes, &mut Silent)
+}
+
+/// [`read_measured`]. How much of the text is turned into pieces is told as it goes.
+pub fn read_measured_telling<P: Progress>(
+    alloc: Global,
+    bytes: &[u8],
+    progress: &mut P,
+) -> Result<Vec<Profile>, MeasuredRefusal>
+    ensures ok { IfOk result (λ profiles. (measured : List (List Point))
+        × (measured_of_text bytes.now ≡ Ok measured) × AreConverted measured profiles.items) }
+    ensures refused { IfErr result (IsRefused refusal.NoMemory (measured_of_text bytes.now)) }
+    ensures valid { IfOk result (λ profiles. All IsProfile profiles.items) }
+    ensures few { IfOk result (λ profiles. length profiles.items ≤ MAX_MEASURED) }
+    ensures pieces { IfOk result (λ profiles. sum_by length profiles.items < 2 ^ 32) }
+{
+    let ReadProfiles { profiles, .. } = read_with_points(alloc, bytes, progress)?;
+    Ok(profiles)
+}
+
+/// [`read_measured_telling`], with the points of each profile beside its pieces.
+pub fn read_with_points<P: Progress>(
+    alloc: Global,
+    bytes: &[u8],
+    progress: &mut P,
+) -> Result<ReadProfiles, MeasuredRefusal>
+    ensures ok { IfOk result (λ read. (measured_of_text bytes.now ≡ Ok read.measured.items)
+        × AreConverted read.measured.items read.profiles.items) }
+    ensures refused { IfErr result (IsRefused refusal.NoMemory (measured_of_text bytes.now)) }
+    ensures valid { IfOk result (λ read. All IsProfile read.profiles.items) }
+    ensures few { IfOk result (λ read. length read.profiles.items ≤ MAX_MEASURED) }
+    ensures pieces { IfOk result (λ read. sum_by length read.profiles.items < 2 ^ 32) }
+{
     let mut rows = MeasuredRows::new(alloc);
-    each_row_below(alloc, &header(), MeasuredRefusal::Header, bytes, &mut rows)??;
+    let mut telling = Telling::begin(progress, Stage::Measuring, bytes.len() as u64);
+    each_row_below_telling(
+        alloc,
+        &header(),
+        MeasuredRefusal::Header,
+        bytes,
+        &mut rows,
+        &mut telling,
+    )??;
     rows.finish(alloc)
 }
 
-// Adds the profile of these points to those before it, or keeps the first refusal of one.
+// Adds the profile of these points to those before it, and the points, or keeps the first refusal of one.
 fn keep_profile(
     alloc: Global,
     refusal: Option<MeasuredRefusal>,
-    points: &[Point],
+    points: Vec<Point>,
     profiles: &mut Vec<Profile>,
+    measured: &mut Vec<MeasuredProfile>,
     fault: &mut Option<MeasuredRefusal>,
 ) -> Result<(), NoMemory>
-    requires { refusal ≡ None → IsMeasured points.now }
+    requires { refusal ≡ None → IsMeasured points.items }
     ensures kept { OnOk result
-        (KeepsProfile refusal points.now profiles.old.items fault.old profiles.new.items fault.new) }
+        (KeepsProfile refusal points.items profiles.old.items measured.old.items fault.old
+        profiles.new.items measured.new.items fault.new) }
     ensures valid { All IsProfile profiles.old.items → All IsProfile profiles.new.items }
 {
     match refusal {
-        None => profiles.push(converted(alloc, points)?)?,
+        None => {
+            profiles.push(converted(alloc, &points)?)?;
+            measured.push(MeasuredProfile::of(points))?;
+        }
         Some(refusal) => *fault = fault.or(Some(refusal)),
     }
     Ok(())

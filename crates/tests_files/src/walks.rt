@@ -1,15 +1,17 @@
-//! Walks as relaxations that remember write them, beside those of an unpacking that remembers nothing.
+//! Walks as relaxations that remember write them, with the seconds at which their roads are entered, beside those of an unpacking that
+//! remembers nothing.
 
 ghost use Rattle.std.specs.Prelude.{◌≡◌, ◌<◌, ◌^◌, length};
 ghost use Rattle.cu_unpack.specs.Answers.{IsArriving};
 
-use cu_interval::{Dir, Relaxed, Relaxer, Ways};
+use cu_drive::WithSecond;
+use cu_interval::{Call, Dir, Relaxed, Relaxer, Ways};
 use cu_io::MemorySink;
 use cu_model::Roads;
 use cu_pack::{PackedView, chordal_of};
 use cu_recall::{Recall, Room};
 use cu_samples::{BUILT, FORGED, ROW, packed};
-use cu_unpack::{Unpacker, Work};
+use cu_unpack::{Unpacker, Walker, Work};
 use std::alloc::Global;
 use std::test::Fail;
 
@@ -32,8 +34,9 @@ fn plain_walk(
     requires answers { IsArriving unpacker.old edge dir at }
     ensures unpacker { unpacker.new ≡ unpacker.old }
 {
-    let mut sink = MemorySink::new(alloc, 32, Vec::new(alloc))?;
-    unpacker.walk(edge, dir, at, true, &mut sink)?;
+    let mut sink = MemorySink::new(alloc, 128, Vec::new(alloc))?;
+    let second = at;
+    unpacker.write_walk(Call { edge, dir, second }, true, &WithSecond, &mut sink)?;
     Ok(sink)
 }
 
@@ -50,8 +53,9 @@ fn learnt_walk(
     requires answers { IsArriving recall.old edge dir at }
     ensures recall { recall.new ≡ recall.old }
 {
-    let mut sink = MemorySink::new(alloc, 32, Vec::new(alloc))?;
-    recall.walk(edge, dir, at, true, &mut sink)?;
+    let mut sink = MemorySink::new(alloc, 128, Vec::new(alloc))?;
+    let second = at;
+    recall.write_walk(Call { edge, dir, second }, true, &WithSecond, &mut sink)?;
     recall.relax(edge, dir, at);
     Ok(sink)
 }

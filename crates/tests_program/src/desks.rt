@@ -58,7 +58,7 @@ fn edits_are_published_by_steps_or_not_at_all(rt: HostRuntime) -> Result<(), Fai
 }
 
 // Lines that are refused whoever asks.
-const OTHER_LINES: [&str; 28] = [
+const OTHER_LINES: [&str; 29] = [
     "\n",
     "Step\n",
     "step,\n",
@@ -82,6 +82,7 @@ const OTHER_LINES: [&str; 28] = [
     "1,q,0,2,0,0\n",
     "1,q,9,9,now\n",
     "1,d,0,2\n",
+    "1,v,0,2,0\n",
     "1,s,9\n",
     "1,a,9\n",
     "70000,q,9,9,now\n",

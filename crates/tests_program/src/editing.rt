@@ -60,8 +60,8 @@ fn edited_files_are_stored(rt: HostRuntime) -> Result<(), Fail> {
         (SLOW, b"done 2\nstored 416\n", slower.as_slice()),
         (THERE_AND_BACK, b"done 2\ndone 2\nstored 440\n", &BUILT),
         (
-            b"q,0,2,0\nd,0,2\ns,9,0,fly,1\na,0,0",
-            b"refused: line\nrefused: line\nrefused: profile\ndone 2\nstored 440\n",
+            b"q,0,2,0\nd,0,2\nv,0,2,0\ns,9,0,fly,1\na,0,0",
+            b"refused: line\nrefused: line\nrefused: line\nrefused: profile\ndone 2\nstored 440\n",
             &BUILT,
         ),
     ];

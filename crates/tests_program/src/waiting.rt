@@ -58,6 +58,73 @@ fn queries_wait_where_it_pays(rt: HostRuntime) -> Result<(), Fail> {
     Ok(())
 }
 
+// A road that takes longer before midnight.
+const NIGHT: &[u8] = b"profile,second,mode,travel\n0,0,step,20\n0,86300,step,200\n";
+
+// A road that one is through with at second 10 who leaves at any second from 0 to 10.
+const LEVEL: &[u8] = b"profile,second,mode,travel\n0,0,line,10\n0,10,step,0\n";
+
+// A road that one is through with at second 10 who leaves at second 9 or 10, and later who leaves before.
+const STEEP: &[u8] = b"profile,second,mode,travel\n0,0,line,15\n0,10,step,0\n";
+
+// Measured profiles, a script that asks for drives, and its replies: one leaves as soon as serves, and at once where pieces were set.
+const DRIVES: [(&[u8], &str, &[u8]); 6] = [
+    (
+        FALLS,
+        "v,0,1,950\nv,0,1,0\nv,0,1,1000\nv,0,1,920\nv,0,1,921\nv,1,0,0\nv,1,1,7\nv,2,0,0\nv,0,1,86400\nv,0,1\n",
+        b"arrive=1020 drive=0,950,1000\narrive=100 drive=0,0,0\narrive=1020 drive=0,1000,1000\narrive=1020 drive=0,920,920\narrive=1020 drive=0,921,1000\nunreachable\narrive=7 drive=\nrefused: node\nrefused: second\nrefused: line\n",
+    ),
+    (
+        NIGHT,
+        "v,0,1,86350\ns,0,5,travel,7\ns,1,0,travel,7\nv,0,1,86350\ns,0,0,travel,7\nv,0,1,86350\n",
+        b"arrive=86420 drive=0,86350,86400\nrefused: start\nrefused: profile\narrive=86420 drive=0,86350,86400\ndone 1\narrive=86357 drive=0,86350,86350\n",
+    ),
+    (
+        LEVEL,
+        "v,0,1,3\nv,0,1,0\nv,0,1,10\n",
+        b"arrive=10 drive=0,3,3\narrive=10 drive=0,0,0\narrive=10 drive=0,10,10\n",
+    ),
+    (
+        STEEP,
+        "v,0,1,0\nv,0,1,9\nv,0,1,10\n",
+        b"arrive=10 drive=0,0,9\narrive=10 drive=0,9,9\narrive=10 drive=0,10,10\n",
+    ),
+    (
+        FALLS,
+        "s,0,0,travel,100,921,until,1020,1001,travel,20\nv,0,1,950\ns,0,0,closed,0\nv,0,1,950\n",
+        b"done 1\narrive=1020 drive=0,950,950\ndone 1\nunreachable\n",
+    ),
+    (
+        b"profile,second,mode,travel\n0,0,step,100\n0,1000,step,20\n1,0,step,5\n",
+        "a,0,1\nv,0,1,950\ns,0,0,travel,3\na,0,0\nv,0,1,950\n",
+        b"done 1\narrive=955 drive=0,950,950\ndone 0\ndone 1\narrive=953 drive=0,950,950\n",
+    ),
+];
+
+#[test]
+fn drives_are_left_for_as_soon_as_serves(rt: HostRuntime) -> Result<(), Fail> {
+    for (profiles, script, said) in &DRIVES {
+        assert!(rt; waits(rt.alloc(), *profiles, *script, 0, *said));
+    }
+    Ok(())
+}
+
+#[test]
+fn each_road_is_left_for_in_turn(rt: HostRuntime) -> Result<(), Fail> {
+    let asked = Run {
+        words: "wait nodes roads profiles identity",
+        nodes: b"node,x,y\n0,0,0\n1,0,0\n2,0,0\n",
+        roads: b"arc,tail,head,profile\n0,0,1,0\n1,1,2,1\n",
+        profiles: b"profile,second,mode,travel\n0,0,step,20\n0,86300,step,200\n1,0,step,604800\n",
+        script: "v,0,2,86350\na,0,1\na,1,0\nv,0,2,86350\n",
+        ..PLAIN
+    };
+    let said =
+        b"arrive=691220 drive=0,86350,86400 1,86420,86420\ndone 1\ndone 1\narrive=691220 drive=0,86350,86350 1,691150,691200\n";
+    assert!(rt; says(rt.alloc(), asked, 0, said));
+    Ok(())
+}
+
 #[test]
 fn waits_come_before_each_road(rt: HostRuntime) -> Result<(), Fail> {
     let asked = Run {

@@ -5,6 +5,8 @@
 #[cfg(test)]
 mod devices;
 #[cfg(test)]
+mod left_seconds;
+#[cfg(test)]
 mod measured;
 #[cfg(test)]
 mod networks;

@@ -1,8 +1,10 @@
 //! Texts of networks, and grids.
 
 use cu_model::{Network, NoMemory, RoadArc, Roads};
-use cu_profile::ProfileRefusal;
-use cu_roads::{Draws, File, GridTexts, Place, Places, RoadRefusal, grid, read_network};
+use cu_profile::{ProfileRefusal, read_profiles};
+use cu_roads::{
+    Draws, File, GridTexts, Place, Places, RoadRefusal, draw_grid, grid, read_network, read_roads,
+};
 use std::alloc::Global;
 
 const NODES: File = File::Nodes;
@@ -13,6 +15,12 @@ const ROADS: File = File::Roads;
 fn refusal(alloc: Global, nodes: &[u8], roads: &[u8]) -> Option<RoadRefusal> {
     let profiles = b"profile,from,kind,value\n0,0,travel,60\n".as_slice();
     read_network(alloc, nodes, roads, profiles).err()
+}
+
+// Why it is refused where the profile is there before.
+fn refusal_behind(alloc: Global, nodes: &[u8], roads: &[u8]) -> Option<RoadRefusal> {
+    let profiles = b"profile,from,kind,value\n0,0,travel,60\n".as_slice();
+    read_roads(alloc, nodes, roads, read_profiles(alloc, profiles).ok()?).err()
 }
 
 // Texts of nodes, and why they are refused.
@@ -112,6 +120,7 @@ const REFUSED_NODES: [(&[u8], RoadRefusal); 17] = [
 fn refuses_nodes(rt: HostRuntime) {
     for (nodes, expected) in &REFUSED_NODES {
         assert!(rt; refusal(rt.alloc(), *nodes, b"".as_slice()) == Some(*expected));
+        assert!(rt; refusal_behind(rt.alloc(), *nodes, b"".as_slice()) == Some(*expected));
     }
 }
 
@@ -182,6 +191,7 @@ fn refuses_roads(rt: HostRuntime) {
     let nodes = b"node,x,y\n0,0,0\n1,5,5\n".as_slice();
     for (roads, expected) in &REFUSED_ROADS {
         assert!(rt; refusal(rt.alloc(), nodes, *roads) == Some(*expected));
+        assert!(rt; refusal_behind(rt.alloc(), nodes, *roads) == Some(*expected));
     }
 }
 
@@ -310,4 +320,26 @@ fn reads_a_grid(rt: HostRuntime) -> Result<(), NoMemory> {
     let texts = grid(rt.alloc(), &mut Draws::new(7), 2, 2)?;
     assert_eq!(rt; sizes(rt.alloc(), &texts), Some((4, 4, 8, 64)));
     Ok(())
+}
+
+#[test]
+fn draws_a_grid(rt: HostRuntime) -> Result<(), NoMemory> {
+    let (network, places) = draw_grid(rt.alloc(), &mut Draws::new(7), 2, 2)?;
+    let roads = [
+        road(0, 1, 17),
+        road(1, 0, 17),
+        road(0, 2, 42),
+        road(2, 0, 37),
+        road(1, 3, 55),
+        road(3, 1, 33),
+        road(2, 3, 49),
+        road(3, 2, 7),
+    ];
+    assert!(rt; is_network(&network, 4, 64, &roads));
+    assert!(rt; are_places(&places, &[at(0, 0), at(100, 0), at(0, 100), at(100, 100)]));
+    Ok(())
+}
+
+fn at(x: u32, y: u32) -> Place {
+    Place { x, y }
 }

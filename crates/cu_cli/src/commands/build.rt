@@ -19,7 +19,7 @@ use cu_customize::customize_telling;
 use cu_interval::{Hierarchy, Ways};
 use cu_io::{Shelf, Sink, SinkFailed};
 use cu_model::Roads;
-use cu_pack::pack;
+use cu_pack::pack_telling;
 use cu_progress::{Progress, Stage, begin};
 use std::alloc::Global;
 
@@ -89,8 +89,7 @@ fn store_built<H: Shelf, K: Sink, P: Progress>(
         (world_of first source (K.state sink.old))
         (world_of (H.state shelf.new) source (K.state sink.new)) }
 {
-    begin(progress, Stage::Packing);
-    let bytes = pack(alloc, hierarchy)?;
+    let bytes = pack_telling(alloc, hierarchy, progress)?;
     let length = bytes.len() as u64;
     if length > shelf.limit() {
         return Err(Stop::TooLarge(length));

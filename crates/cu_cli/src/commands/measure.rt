@@ -13,7 +13,7 @@ use crate::storing::store_file;
 use cu_io::{Shelf, Sink};
 use cu_profile::write_profiles;
 use cu_progress::{Progress, Stage, begin};
-use cu_wait::read_measured;
+use cu_wait::read_measured_telling;
 use std::alloc::Global;
 
 /// The file of measured profiles, and the file that gets the table of those that stand for them.
@@ -51,8 +51,7 @@ pub fn measure<H: Shelf, K: Sink, P: Progress>(
 {
     begin(progress, Stage::Reading);
     let text = load_file(alloc, Role::Profiles, asked.measured, shelf)?;
-    begin(progress, Stage::Measuring);
-    let profiles = read_measured(alloc, &text)?;
+    let profiles = read_measured_telling(alloc, &text, progress)?;
     begin(progress, Stage::Packing);
     let table = write_profiles(alloc, &profiles)?;
     begin(progress, Stage::Storing);

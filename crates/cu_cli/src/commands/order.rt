@@ -6,12 +6,12 @@ ghost use Rattle.cu_cli.specs.Commands.Order.{order_of};
 ghost use Rattle.cu_cli.specs.Steps.Asks.{Parses, order_words_asked};
 ghost use Rattle.cu_cli.specs.Steps.Outcomes.{Works, stop_of, world_of};
 
-use crate::preparing::{load_tables, read_tables};
+use crate::preparing::{STEPS, load_tables, read_tables};
 use crate::saying::put_numbers_line;
 use crate::stops::{Role, Stop};
 use crate::storing::store_file;
 use crate::words::TableNames;
-use cu_dissect::dissect;
+use cu_dissect::dissect_telling;
 use cu_io::{Shelf, Sink};
 use cu_model::Roads;
 use cu_order::write_order;
@@ -55,11 +55,11 @@ pub fn order<H: Shelf, K: Sink, P: Progress>(
         (world_of (H.state shelf.old) source (K.state sink.old))
         (world_of (H.state shelf.new) source (K.state sink.new)) }
 {
-    begin(progress, Stage::Reading);
+    progress.tell(Stage::Reading, 0, STEPS);
     let texts = load_tables(alloc, asked.tables, shelf)?;
+    progress.tell(Stage::Reading, 1, STEPS);
     let (network, places) = read_tables(alloc, &texts)?;
-    begin(progress, Stage::Ordering);
-    let (order, _splits) = dissect(alloc, &network, &places)?;
+    let (order, _splits) = dissect_telling(alloc, &network, &places, progress)?;
     let text = write_order(alloc, &order)?;
     begin(progress, Stage::Storing);
     store_file(alloc, Role::Out, asked.out, &text, shelf)?;

@@ -29,7 +29,7 @@ use cu_io::{Sink, SinkFailed, end_line, put_all, put_number};
 use cu_model::{DAY, Edit, Network, NoMemory, Profile, Query, Roads};
 use cu_pack::PackedView;
 use cu_progress::Silent;
-use cu_roads::{Draws, Places, draw_day, grid, read_network};
+use cu_roads::{Draws, Places, draw_day, draw_grid};
 use cu_session::Router;
 use std::alloc::Global;
 
@@ -160,8 +160,7 @@ fn draw_network(
     ensures behind { OnOk result (draws.new ≡ behind_grid size.start size.width size.height) }
     ensures err { IfErr result (StopsGrid (grid_asked size)) }
 {
-    let texts = grid(alloc, draws, size.width, size.height)?;
-    Ok(read_network(alloc, &texts.nodes, &texts.roads, &texts.profiles)?)
+    Ok(draw_grid(alloc, draws, size.width, size.height)?)
 }
 
 // The packed bytes of the built hierarchy of what is prepared, and the room for its queries and edits.

@@ -10,13 +10,14 @@ ghost use Rattle.cu_cli.specs.Steps.Loading.{OnlyLoads};
 ghost use Rattle.cu_cli.specs.Steps.Measuring.{HasBuiltMeasured};
 ghost use Rattle.cu_cli.specs.Steps.Outcomes.{IsBeforeScript, Works, stop_of, world_of};
 
-use crate::measuring::prepare_measured;
+use crate::measuring::{PreparedWaiting, prepare_measured};
 use crate::preparing::pack_prepared;
 use crate::stops::Stop;
 use crate::words::{OrderWord, TableNames, parse_order};
 use cu_io::{Shelf, Sink, Source};
 use cu_progress::{Progress, Stage, begin};
-use cu_session::answer_built;
+use cu_session::answer_waiting;
+use cu_wait::MeasuredProfile;
 use std::alloc::Global;
 
 /// The tables of a network, of which that of the profiles is measured, and its order.
@@ -24,6 +25,13 @@ use std::alloc::Global;
 pub struct WaitWords<'a> {
     pub tables: TableNames<'a>,
     pub order: OrderWord<'a>,
+}
+
+// The packed bytes of a hierarchy over pieces that stand for measured profiles, and the points of these.
+#[derive(Drop)]
+struct PackedWaiting {
+    bytes: Vec<u8>,
+    measured: Vec<MeasuredProfile>,
 }
 
 /// What the words behind `wait` name; none where they are not four.
@@ -58,26 +66,30 @@ pub fn wait<H: Shelf, S: Source, K: Sink, P: Progress>(
         (world_of (H.state shelf.old) (S.state source.old) (K.state sink.old))
         (world_of (H.state shelf.new) (S.state source.new) (K.state sink.new)) }
 {
-    let bytes = pack_measured(alloc, asked, shelf, progress)?;
+    let packed = pack_measured(alloc, asked, shelf, progress)?;
     begin(progress, Stage::Done);
-    answer_built(alloc, bytes, source, sink)?;
+    answer_waiting(alloc, packed.bytes, packed.measured, source, sink)?;
     Ok(())
 }
 
-// The packed bytes of the built hierarchy of the converted network.
+// The packed bytes of the built hierarchy of the converted network, and the points of the measured profiles.
 fn pack_measured<H: Shelf, P: Progress>(
     alloc: Global,
     asked: WaitWords<'_>,
     shelf: &mut H,
     progress: &mut P,
-) -> Result<Vec<u8>, Stop>
-    ensures ok { IfOk result (λ bytes. (h : HierarchyValue)
-        × HasBuiltMeasured (H.state shelf.old) (tables_asked asked.entry.tables) (order_asked asked.entry.order) h × Spells bytes.items h) }
+) -> Result<PackedWaiting, Stop>
+    ensures ok { IfOk result (λ packed. (h : HierarchyValue)
+        × HasBuiltMeasured (H.state shelf.old) (tables_asked asked.entry.tables)
+        (order_asked asked.entry.order) packed.measured.items h
+        × Spells packed.bytes.items h) }
     ensures err { IfErr result (StopsWaiting (H.state shelf.old) (H.state shelf.new)
         (tables_asked asked.entry.tables) (order_asked asked.entry.order)) }
     ensures before { IfErr result IsBeforeScript }
     ensures loads { OnlyLoads (stop_of result) (H.state shelf.old) (H.state shelf.new) }
 {
-    let prepared = prepare_measured(alloc, asked.tables, asked.order, shelf, progress)?;
-    Ok(pack_prepared(alloc, prepared, progress)?)
+    let ready = prepare_measured(alloc, asked.tables, asked.order, shelf, progress)?;
+    let PreparedWaiting { prepared, measured } = ready;
+    let bytes = pack_prepared(alloc, prepared, progress)?;
+    Ok(PackedWaiting { bytes, measured })
 }

@@ -1,6 +1,8 @@
 -- A walk that is written road by road: the list that is next, those that wait behind it, and what is read of each.
-use Rattle.std.specs.Prelude.{ℕ, List, [], ◌∷◌, Option, Some, None, ◌≡◌, ◌≢◌, ◌≤◌, ◌<◌, ◌+◌, ◌^◌, length, min, slice_get, slice_set}
+use Rattle.std.specs.Prelude.{ℕ, List, [], ◌∷◌, Option, Some, None, ◌≡◌, ◌≢◌, ◌≤◌, ◌<◌, ◌+◌, ◌*◌, ◌^◌, length, min, slice_get, slice_set}
+use Rattle.cu_model.specs.declared.limits.TheConstants.{MAX_UNTIL}
 use Rattle.cu_model.specs.Days.{day}
+use Rattle.cu_model.specs.Roads.{drive}
 use Rattle.cu_interval.specs.declared.shortcuts.Leg.{Leg}
 use Rattle.cu_interval.specs.Hierarchies.{HierarchyValue, list_from}
 use Rattle.cu_interval.specs.Unpacking.{unpacked_walk}
@@ -68,3 +70,8 @@ abbrev pub FindsRoad : HierarchyValue → Leg → List Leg → ℕ → List Glan
 FindsRoad h leg legs t waiting found =
     (rest : List Leg) × AreWaiting h waiting found.waiting rest × (walk_on h (leg ∷ legs) t ≡ found.road ∷ walk_on h rest (t + found.travel))
     × (t + found.travel < 2 ^ 64) × (found.waiting ≤ h.network.nodes)
+
+-- whoever enters the road that is found at this second of any day takes as long as it says
+pub record DrivesRoad (h : HierarchyValue) (t : ℕ) (found : NextRoad) : Type 0 where
+  pub near : found.travel ≤ MAX_UNTIL
+  pub arrives : (k : ℕ) → drive h.network (found.road ∷ []) (k * day + t) ≡ k * day + (t + found.travel)

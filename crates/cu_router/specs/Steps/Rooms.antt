@@ -5,7 +5,6 @@ use Rattle.cu_interval.specs.EdgeArcs.{AreEdgeArcs}
 use Rattle.cu_interval.specs.Hierarchies.{HierarchyValue}
 use Rattle.cu_recall.specs.Rooms.{RoomValue}
 use Rattle.cu_sweep.specs.Desks.{DeskValue}
-use Rattle.cu_sweep.specs.Outlooks.{OutlookValue}
 use Rattle.cu_router.specs.declared.edit_room.EditRoom.{EditRoom}
 
 -- what queries keep, while none is answered
@@ -14,10 +13,9 @@ kept_in None = record { nodes = 0; rows = []; downs = [] }
 kept_in (Some room) = room
 
 -- room for queries, all of it for as many nodes
-pub record IsWholeRoom (queries : DeskValue) (ahead : OutlookValue) (known : Option RoomValue) : Type 0 where
+pub record IsWholeRoom (sweeps : DeskValue) (known : Option RoomValue) : Type 0 where
   pub there : IsSome known
-  pub desk : queries.nodes ≡ (kept_in known).nodes
-  pub outlook : ahead.nodes ≡ (kept_in known).nodes
+  pub nodes : sweeps.nodes ≡ (kept_in known).nodes
 
 -- room for edits fits a hierarchy: the roads of each edge, buckets for its ranks and edges, and functions of its lists, if any are known
 pub record HasEditRoom (h : HierarchyValue) (room : EditRoom) : Type 0 where

@@ -14,7 +14,8 @@ use Rattle.cu_wait.specs.declared.refusals.MeasuredRefusal.{MeasuredRefusal}
 use Rattle.cu_wait.specs.declared.refusals.MeasuredRefusal.TheVariants as refusal
 use Rattle.cu_wait.specs.declared.rows.PointRow.{PointRow}
 use Rattle.cu_wait.specs.declared.rows.TheConstants.{MAX_MEASURED}
-use Rattle.cu_wait.specs.Converted.{AreConverted, IsConvertedProfile}
+use Rattle.cu_wait.specs.Converted.{AreConverted, StandFor}
+use Rattle.cu_wait.specs.Networks.{Measured}
 use Rattle.cu_wait.specs.MeasuredTexts.{fallen_from, first_that, is_none, measured_of_groups, measured_of_rows, point_of_row, point_row_fault, rows_fault, started_late}
 
 -- a row that passes its checks, or the check that it fails
@@ -48,12 +49,14 @@ pub record IsNew (s : MeasuredRows) : Type 0 where
   pub wrong_mode : s.wrong_mode ≡ None
   pub points : s.points.items ≡ []
   pub profiles : s.profiles.items ≡ []
+  pub measured : s.measured.items ≡ []
   pub fault : s.fault ≡ None
 
--- the profile of points after those before it, or the first refusal of one
-abbrev pub KeepsProfile : Option MeasuredRefusal → List Point → List (List Piece) → Option MeasuredRefusal → List (List Piece) → Option MeasuredRefusal → Type 0
-KeepsProfile None points profiles fault profiles' fault' = (pieces : List Piece) × IsConvertedProfile points pieces × (profiles' ≡ profiles ++ (pieces ∷ [])) × (fault' ≡ fault)
-KeepsProfile (Some why) points profiles fault profiles' fault' = (profiles' ≡ profiles) × (fault' ≡ option_or fault (Some why))
+-- the profile of points after those before it, and the points; or the first refusal of one
+abbrev pub KeepsProfile : Option MeasuredRefusal → List Point → List (List Piece) → List (List Point) → Option MeasuredRefusal → List (List Piece) → List (List Point) → Option MeasuredRefusal → Type 0
+KeepsProfile None points profiles measured fault profiles' measured' fault' =
+    (pieces : List Piece) × StandFor (Measured points) pieces × (profiles' ≡ profiles ++ (pieces ∷ [])) × (fault' ≡ fault) × (measured' ≡ measured ++ (points ∷ []))
+KeepsProfile (Some why) points profiles measured fault profiles' measured' fault' = (profiles' ≡ profiles) × (fault' ≡ option_or fault (Some why)) × (measured' ≡ measured)
 
 -- the last profile ended
 pub record EndsProfile (s t : MeasuredRows) : Type 0 where
@@ -61,7 +64,7 @@ pub record EndsProfile (s t : MeasuredRows) : Type 0 where
   pub first : t.first ≡ s.row
   pub wrong_mode : t.wrong_mode ≡ None
   pub points : t.points.items ≡ []
-  pub kept : KeepsProfile (points_refusal s.first s.wrong_mode s.points.items) s.points.items s.profiles.items s.fault t.profiles.items t.fault
+  pub kept : KeepsProfile (points_refusal s.first s.wrong_mode s.points.items) s.points.items s.profiles.items s.measured.items s.fault t.profiles.items t.measured.items t.fault
 
 -- once the rows end, so does the last profile, where there is one
 pub record EndsRows (s t : MeasuredRows) : Type 0 where
@@ -82,6 +85,7 @@ pub record AddsRow (s t : MeasuredRows) (line : PointRow) : Type 0 where
   pub wrong_mode : t.wrong_mode ≡ option_or s.wrong_mode (if is_none line.point then Some s.row else None)
   pub points : t.points.items ≡ s.points.items ++ option_to_list line.point
   pub profiles : t.profiles.items ≡ s.profiles.items
+  pub measured : t.measured.items ≡ s.measured.items
   pub fault : t.fault ≡ s.fault
 
 -- the profile of the last of some rows, behind a row of this one
@@ -103,9 +107,9 @@ AreOwn None front own = (front ≡ []) × (own ≡ [])
 AreOwn (Some last) front own = (0 < length own) × All (IsOf last) own × (last_profile None front ≢ Some last)
 
 -- what is kept of the profiles that ended, where this is what their rows give
-abbrev pub Kept : Result (List (List Point)) MeasuredRefusal → Option MeasuredRefusal → List (List Piece) → Type 0
-Kept given (Some why) profiles = given ≡ Err why
-Kept given None profiles = (measured : List (List Point)) × (given ≡ Ok measured) × AreConverted measured profiles
+abbrev pub Kept : Result (List (List Point)) MeasuredRefusal → Option MeasuredRefusal → List (List Piece) → List (List Point) → Type 0
+Kept given (Some why) profiles measured = given ≡ Err why
+Kept given None profiles measured = (given ≡ Ok measured) × AreConverted measured profiles
 
 -- these rows were taken, and passed their own checks: those of the profiles that ended, and those of the last one
 pub record IsReading (s : MeasuredRows) (front own : List (List (List ℕ))) : Type 0 where
@@ -116,7 +120,7 @@ pub record IsReading (s : MeasuredRows) (front own : List (List (List ℕ))) : T
   pub passed : rows_fault 0 None (front ++ own) ≡ None
   pub wrong_mode : s.wrong_mode ≡ first_that (λ row. is_none (point_of_row row)) s.first own
   pub points : s.points.items ≡ filter_map point_of_row own
-  pub kept : Kept (measured_of_groups 0 (by_profile front)) s.fault s.profiles.items
+  pub kept : Kept (measured_of_groups 0 (by_profile front)) s.fault s.profiles.items s.measured.items
   pub small : IfSome s.last (λ last. last < MAX_MEASURED)
   pub few : length s.profiles.items ≤ before s.last
 
@@ -133,8 +137,8 @@ abbrev pub RefusesRow : MeasuredRows → List (List ℕ) → MeasuredRefusal →
 RefusesRow s row why t = (rows : List (List (List ℕ))) → HasTaken s rows → point_row_fault s.row s.last row ≡ Some why
 
 -- what is answered of the rows that were taken, once there are no more
-pub record GivesRead {P : Type 0} (items : P → List (List Piece)) (s : MeasuredRows) (answer : Result P MeasuredRefusal) : Type 0 where
+pub record GivesRead {P : Type 0} (items : P → List (List Piece)) (points : P → List (List Point)) (s : MeasuredRows) (answer : Result P MeasuredRefusal) : Type 0 where
   pub ok : (rows : List (List (List ℕ))) → HasTaken s rows
-      → IfOk answer (λ profiles. (measured : List (List Point)) × (measured_of_rows rows ≡ Ok measured) × AreConverted measured (items profiles))
+      → IfOk answer (λ read. (measured_of_rows rows ≡ Ok (points read)) × AreConverted (points read) (items read))
   pub refused : (rows : List (List (List ℕ))) → HasTaken s rows → IfErr answer (IsRefused refusal.NoMemory (measured_of_rows rows))
-  pub few : (rows : List (List (List ℕ))) → HasTaken s rows → IfOk answer (λ profiles. length (items profiles) ≤ MAX_MEASURED)
+  pub few : (rows : List (List (List ℕ))) → HasTaken s rows → IfOk answer (λ read. length (items read) ≤ MAX_MEASURED)

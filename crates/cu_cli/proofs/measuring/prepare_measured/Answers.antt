@@ -39,7 +39,7 @@ returns-clause-ok g c =
     let given = c.in_ok-given.given in
     let order = all_loaded_behind (order_files asked) (order_texts given) c.in_ok-texts.ensures.loads c.in_ok-given.ensures.ok in
     let loaded = loaded_then before (network_files (tables_asked c.args.tables)) (order_files asked) (table_texts texts) (order_texts given) c.in_ok-texts.ensures.ok order in
-    if_ok_map c.read_converted.result _ _ (λ prepared read. prepared_measured before (tables_asked c.args.tables) asked texts given prepared c.in_ok-given.ensures.given loaded read)
+    if_ok_map c.read_converted.result _ _ (λ ready read. prepared_measured before (tables_asked c.args.tables) asked texts given ready c.in_ok-given.ensures.given loaded read)
     c.read_converted.ensures.ok
 
 pub returns-clause-err : goal.returns-clause-err

@@ -1,10 +1,11 @@
 use Rattle.std.proofs.Common.{arith, refl}
 use Rattle.std.specs.Prelude.{codes}
 use Rattle.cu_io.proofs.Appending.{wrote_stops, wrote_then}
+use Rattle.cu_model.specs.Answers.{arrive_text}
 use Rattle.cu_router.specs.Swept.{swept_reply}
 use Rattle.cu_desk.specs.Machine.{said_to}
 use Rattle.cu_desk.proofs.ClientLaws.{known_client, past_client}
-use Rattle.cu_desk.proofs.HeldAnswers.{held_answer}
+use Rattle.cu_router.proofs.HeldAnswers.{held_answer}
 use Rattle.cu_desk.proofs.ReplyLaws.{query_reply}
 use Rattle.cu_desk.proofs.replies.put_query.Goals as goal
 
@@ -17,7 +18,7 @@ pub returns-in_err-put_client : goal.returns-in_err-put_client
 returns-in_err-put_client g c =
     let desk = c.args.desk.now in
     let text = swept_reply desk.published c.args.query in
-    let answer = held_answer desk.published c.requires.sound c.args.query c.requires.from c.requires.to c.requires.second in
+    let answer = held_answer arrive_text desk.published c.requires.sound c.args.query c.requires.from c.requires.to c.requires.second in
     record {
       reply = (
         said_to c.args.client text,

@@ -9,7 +9,7 @@ use Rattle.cu_dissect.proofs.SplitLaws.{whole_part}
 use Rattle.cu_dissect.proofs.dissecting.dissection_of.Goals as goal
 
 pub add_part-requires-clause-part : goal.add_part-requires-clause-part
-add_part-requires-clause-part c =
+add_part-requires-clause-part g c =
     let n : ℕ = c.args.network.now.nodes in
     let nodes : c.deref-2.result.now ≡ range_with_len 0 n = c.deref-2.ensures.value ∙ c.in_ok-counted.ensures ∙ ap (range_with_len 0) c.nodes-nodes.ensures.count in
     subst (IsPart n) (sym nodes) (whole_part n)
@@ -19,7 +19,7 @@ whole : (g : NetworkValue) (places given : List Place) (nodes : List ℕ) → gi
 whole g places given nodes places_is nodes_is = ap (λ (ps : List Place). dissected_by g ps g.nodes nodes) places_is ∙ ap (dissected_by g places g.nodes) nodes_is
 
 pub returns-clause-order : goal.returns-clause-order
-returns-clause-order c =
+returns-clause-order g c =
     let g : NetworkValue = c.args.network.now in
     let nodes : c.deref-2.result.now ≡ range_with_len 0 g.nodes = c.deref-2.ensures.value ∙ c.in_ok-counted.ensures ∙ ap (range_with_len 0) c.nodes-nodes.ensures.count in
     let enough : length c.deref-2.result.now ≤ g.nodes = omega (arith, ap length nodes, length-range_with_len 0 g.nodes) in
@@ -28,7 +28,7 @@ returns-clause-order c =
     ∙ ap (λ (d : Dissected). d.order) (whole g c.args.places.now c.deref.result.now c.deref-2.result.now (c.deref.ensures.value ∙ c.places.view_is) nodes)
 
 pub returns-clause-splits : goal.returns-clause-splits
-returns-clause-splits c =
+returns-clause-splits g c =
     let g : NetworkValue = c.args.network.now in
     let nodes : c.deref-2.result.now ≡ range_with_len 0 g.nodes = c.deref-2.ensures.value ∙ c.in_ok-counted.ensures ∙ ap (range_with_len 0) c.nodes-nodes.ensures.count in
     let enough : length c.deref-2.result.now ≤ g.nodes = omega (arith, ap length nodes, length-range_with_len 0 g.nodes) in

@@ -1,4 +1,4 @@
-use Rattle.std.proofs.Common.{◌≡◌, ◌+◌, ◌<◌, ◌%◌, ◌∙◌, ap, arith, length, refl, subst, sym}
+use Rattle.std.proofs.Common.{◌+◌, ◌<◌, ◌%◌, ◌∙◌, ap, arith, length, refl, subst, sym}
 use Rattle.cu_interval.specs.declared.relaxing.Relaxed.TheVariants.{At}
 use Rattle.cu_recall.specs.Downs.{HasDriven, HoldsDown}
 use Rattle.cu_recall.specs.Rooms.{Fits, RoomValue}

@@ -1,8 +1,8 @@
 use Rattle.std.proofs.Common.{◌≡◌, ◌<◌, ◌∙◌, ℕ, refl, sym, subst, arith, length}
 use Rattle.cu_recall.specs.declared.walking.NextRoad.{NextRoad}
 use Rattle.cu_recall.specs.Spans.{low_of_list}
-use Rattle.cu_recall.specs.Steps.Walks.{FindsRoad}
-use Rattle.cu_recall.proofs.RoadByRoad.{WentDown, asked_at, halves_there, road_found, spot_room, went_part, went_somewhere}
+use Rattle.cu_recall.specs.Steps.Walks.{DrivesRoad, FindsRoad}
+use Rattle.cu_recall.proofs.RoadByRoad.{WentDown, asked_at, halves_there, road_drives, road_found, spot_room, went_part, went_somewhere}
 use Rattle.cu_recall.proofs.walking.next_road.Goals as goal
 
 pub entry_at-met-requires-clause-asked : goal.entry_at-met-requires-clause-asked
@@ -73,3 +73,13 @@ parts-preserved c =
           c.in-Halves.first c.in-Halves.second c.in-Halves.is leg legs
           c.entry_at-met.new.rows moved next long (c.parts.invariant.went leg legs is) knows c.part-spot.ensures.next (c.part-spot.ensures.holds h knows at.holds) c.part-spot.ensures.waits);
     }
+
+pub returns-in-Road-clause-drives : goal.returns-in-Road-clause-drives
+returns-in-Road-clause-drives c =
+    let h = c.args.view.now in
+    let spot = c.parts.spot in
+    let found : NextRoad = record { road = c.in-Road.road; travel = c.travel_of.result; waiting = spot.waiting } in
+    let (leg, legs, is) = c.requires.somewhere in
+    let drives = road_drives h c.requires.sound c.parts.waiting spot c.entry_at-met.result c.entry_at-met.ensures.met leg legs found (c.parts.invariant.went leg legs is) c.in-Road.is
+    c.travel_of.ensures.travel in
+    subst (λ (t : ℕ). DrivesRoad h t found) c.parts.invariant.second drives

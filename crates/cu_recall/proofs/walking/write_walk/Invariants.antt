@@ -1,8 +1,10 @@
--- So many roads less one of the walk were written.
-use Rattle.std.proofs.Common.{◌≡◌}
+-- So many roads less one of the walk were written, and the next one is entered at this second.
+use Rattle.std.proofs.Common.{◌≡◌, ◌≤◌, ◌+◌, ◌*◌, ◌%◌, length}
 use Rattle.cu_io.specs.Sinks.{WroteAll}
-use Rattle.cu_unpack.specs.Texts.{walk_text}
-use Rattle.cu_unpack.proofs.Texts.{first_after}
+use Rattle.cu_model.specs.declared.limits.TheConstants.{MAX_UNTIL}
+use Rattle.cu_model.specs.Days.{day}
+use Rattle.cu_model.specs.Roads.{drive}
+use Rattle.cu_drive.specs.RoadTexts.{driven_text, first_after}
 use Rattle.cu_recall.specs.Spans.{Knows}
 use Rattle.cu_recall.proofs.OnWalk.{IsOnWalk}
 use Rattle.cu_recall.proofs.walking.write_walk.Given as goal
@@ -11,6 +13,8 @@ abbrev pub invariant-roads : goal.invariant-roads
 invariant-roads g l = record {
   last : l._number-end ≡ l.view.network.nodes;
   knows : Knows l.view l.rows;
-  way : (w : IsOnWalk l.view l.fn.asked l.waiting l.spot l._number)
-      × WroteAll (g.K.Sink.state l.fn.sink) (g.K.Sink.state l.sink) (walk_text l.fn.first w.done) × (l.first ≡ first_after l.fn.first w.done);
+  way : (w : IsOnWalk l.view l.fn.start.asked l.waiting l.spot l._number)
+      × WroteAll (g.K.Sink.state l.fn.sink) (g.K.Sink.state l.sink) (driven_text (g.P.WalkForm.text l.form) l.view.network l.fn.first w.done l.fn.start.at)
+      × (l.first ≡ first_after l.fn.first w.done) × (drive l.view.network w.done l.fn.start.at ≡ l.entered) × (l.entered % day ≡ l.spot.second)
+      × (l.entered ≤ l.fn.start.at + MAX_UNTIL * length w.done);
 }

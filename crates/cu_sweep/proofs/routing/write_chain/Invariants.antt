@@ -1,15 +1,17 @@
 -- The roads of the calls before a place were written.
 use Rattle.std.proofs.Common.{◌≡◌, ◌≤◌, ◌*◌, ◌-◌}
+use Rattle.cu_sweep.specs.Desks.{call_text}
 use Rattle.cu_sweep.specs.Steps.Ready.{turn_of}
 use Rattle.cu_sweep.proofs.Turned.{IsOnRoute}
 use Rattle.cu_sweep.proofs.routing.write_chain.Given as goal
 
 abbrev pub invariant-links : goal.invariant-links
 invariant-links g l = record {
-  stays : g.W.Walker.hierarchy l.walker ≡ g.W.Walker.hierarchy l.fn.walker;
+  stays : g.W.Relaxer.hierarchy l.walker ≡ g.W.Relaxer.hierarchy l.fn.walker;
+  quiet : g.W.Relaxer.calls l.walker ≡ g.W.Relaxer.calls l.fn.walker;
   within : l.place ≤ 2 * l.fn.nodes;
   few : turn_of l.fn.nodes l.place ≤ 2 * l.fn.nodes;
-  on : IsOnRoute (g.W.Walker.hierarchy l.fn.walker) l.fn.nodes l.fn.labels l.fn.chain.links l.chain.links l.fn.end l.place l.first (g.K.Sink.state l.fn.sink) (g.K.Sink.state l.sink);
+  on : IsOnRoute (call_text (g.P.WalkForm.text l.form) (g.W.Relaxer.hierarchy l.fn.walker)) l.fn.nodes l.fn.labels l.fn.chain.links l.chain.links l.fn.end l.place l.first (g.K.Sink.state l.fn.sink) (g.K.Sink.state l.sink);
 }
 
 abbrev pub decreases-links : goal.decreases-links

@@ -1,44 +1,48 @@
-use Rattle.std.proofs.Common.{◌≡◌, ◌≤◌, ◌<◌, ◌+◌, ◌^◌, ◌∙◌, ◌++◌, None, refl, sym, ap, subst, arith, rules, length}
+use Rattle.std.proofs.Common.{◌≡◌, ◌≤◌, ◌<◌, ◌+◌, ◌^◌, ◌∙◌, ◌++◌, ℕ, List, [], ◌∷◌, None, refl, sym, ap, subst, arith, rules, length}
 use Rattle.cu_interval.specs.Hierarchies.{HierarchyValue, IsHierarchy}
 use Rattle.cu_unpack.specs.declared.unpacking.Spot.{Spot}
 use Rattle.cu_unpack.specs.Steps.Legs.{IsSomewhere}
-use Rattle.std.specs.List.{flat_map}
+use Rattle.cu_model.specs.Roads.{drive}
 use Rattle.std.proofs.Common.{false, Bool}
 use Rattle.cu_io.specs.Sinks.{WroteAll}
 use Rattle.cu_io.proofs.Appending.{wrote_nothing, wrote_ok, wrote_same, wrote_stops, wrote_then}
 use Rattle.cu_unpack.specs.Answers.{walk_over}
-use Rattle.cu_unpack.specs.Texts.{road_text, walk_text}
+use Rattle.cu_drive.specs.RoadTexts.{driven_text, first_after}
+use Rattle.cu_drive.proofs.DrivenTexts.{not_first, text_cut, text_more}
 use Rattle.cu_unpack.proofs.OnWay.{IsOnWay, arriving_short, arriving_some, on_way_begin, on_way_cut, on_way_few, on_way_last, on_way_long, on_way_next, on_way_none, on_way_time}
-use Rattle.cu_unpack.proofs.Texts.{first_after, not_first, text_cut, text_more}
 use Rattle.cu_unpack.proofs.unpacking.write_in.Goals as goal
 
 pub roads-init : goal.roads-init
 roads-init g c =
     let h = g.C.CountedWays.hierarchy c.args.ways.now in
     let before = g.C.CountedWays.steps c.args.ways.now in
-    let (begun, nothing) = on_way_begin h c.nodes-number-end.ensures.sound c.args.edge c.args.dir c.args.at c.args.pending.now before c.requires.edge in
+    let (begun, nothing) = on_way_begin h c.nodes-number-end.ensures.sound c.args.call.edge c.args.call.dir c.args.call.second c.args.pending.now before c.requires.edge in
     record {
       stays = refl;
       sound = c.nodes-number-end.ensures.sound;
       last = c.nodes-number-end.ensures.count;
-      way = subst (λ (s : Spot). (w : IsOnWay h c.args.edge c.args.dir c.args.at c.args.pending.now s before before 1)
-          × WroteAll (g.K.Sink.state c.args.sink.now) (g.K.Sink.state c.args.sink.now) (walk_text c.args.first w.done) × (c.args.first ≡ first_after c.args.first w.done)) (sym c.start-spot.ensures)
-          (begun, wrote_same (sym (ap (walk_text c.args.first) nothing)) (wrote_nothing (g.K.Sink.state c.args.sink.now) tt), sym (ap (first_after c.args.first) nothing));
+      way = subst (λ (s : Spot). (w : IsOnWay h c.args.call.edge c.args.call.dir c.args.call.second c.args.pending.now s before before 1)
+          × WroteAll (g.K.Sink.state c.args.sink.now) (g.K.Sink.state c.args.sink.now) (driven_text (g.P.WalkForm.text c.args.form.now) (g.C.CountedWays.hierarchy c.args.ways.now).network c.args.first w.done c.args.call.second) × (c.args.first ≡ first_after c.args.first w.done)) (sym c.start-spot.ensures)
+          (begun, wrote_same (sym (ap (λ (d : List ℕ). driven_text (g.P.WalkForm.text c.args.form.now) (g.C.CountedWays.hierarchy c.args.ways.now).network c.args.first d c.args.call.second) nothing)) (wrote_nothing (g.K.Sink.state c.args.sink.now) tt), sym (ap (first_after c.args.first) nothing));
     }
 
 pub roads-preserved : goal.roads-preserved
 roads-preserved g c =
     let i = c.roads.invariant in
-    let (w, text, is) = i.way in
+    let (w, so_far, is) = i.way in
     let road = c.in-Some.driven.road in
     let (m, same) = on_way_next i.stays w c.in-Some.ensures.drives c.in-Some-rest.is in
-    let written : walk_text c.args.first w.done ++ road_text c.roads.first road ≡ walk_text c.args.first m.done =
-    ap (λ (f : Bool). walk_text c.args.first w.done ++ road_text f road) is ∙ sym (text_more c.args.first w.done road) ∙ sym (ap (walk_text c.args.first) same) in
+    let text = (g.P.WalkForm.text c.args.form.now) in
+    let net = (g.C.CountedWays.hierarchy c.args.ways.now).network in
+    let before = driven_text text net c.args.first w.done c.args.call.second in
+    let written : before ++ text c.roads.first road c.roads.spot.second ≡ driven_text text net c.args.first m.done c.args.call.second =
+    ap (λ (f : Bool). before ++ text f road c.roads.spot.second) is ∙ ap (λ (s : ℕ). before ++ text (first_after c.args.first w.done) road s) (sym w.under.arrives)
+    ∙ sym (text_more text net c.args.first w.done road c.args.call.second) ∙ sym (ap (λ (d : List ℕ). driven_text text net c.args.first d c.args.call.second) same) in
     record {
       stays = c.drive_on.ensures.stays ∙ i.stays;
       sound = i.sound;
       last = i.last;
-      way = (m, wrote_same written (wrote_ok (wrote_then text c.in_ok-put_road.ensures.wrote)), sym (ap (first_after c.args.first) same ∙ not_first c.args.first w.done road));
+      way = (m, wrote_same written (wrote_ok (wrote_then so_far c.in_ok-put.ensures.wrote)), sym (ap (first_after c.args.first) same ∙ not_first c.args.first w.done road));
     }
 
 pub drive_on-requires-clause-sound : goal.drive_on-requires-clause-sound
@@ -70,20 +74,25 @@ pub unreachable-requires : goal.unreachable-requires
 unreachable-requires g c =
     let i = c.roads.invariant in
     let none : c.drive_on.result ≡ None = search rules in
-    arriving_some (g.C.CountedWays.hierarchy c.args.ways.now) c.args.edge c.args.dir c.args.at c.requires.answers (on_way_none c.drive_on.new.pending i.stays i.way.0 c.drive_on.ensures.drives none).0
+    arriving_some (g.C.CountedWays.hierarchy c.args.ways.now) c.args.call.edge c.args.call.dir c.args.call.second c.requires.answers (on_way_none c.drive_on.new.pending i.stays i.way.0 c.drive_on.ensures.drives none).0
 
-pub returns-in_err-put_road-clause-wrote : goal.returns-in_err-put_road-clause-wrote
-returns-in_err-put_road-clause-wrote g c =
+pub returns-in_err-put-clause-wrote : goal.returns-in_err-put-clause-wrote
+returns-in_err-put-clause-wrote g c =
     let h = g.C.CountedWays.hierarchy c.args.ways.now in
     let i = c.roads.invariant in
-    let (w, text, is) = i.way in
+    let (w, so_far, is) = i.way in
     let road = c.in-Some.driven.road in
     let (left, cut) = on_way_cut c.drive_on.new.pending (g.C.CountedWays.steps c.drive_on.new.ways) c.in-Some.driven i.stays w c.in-Some.ensures.drives in
-    let all = walk_text c.args.first (walk_over h c.args.edge c.args.dir c.args.at) in
-    let whole : walk_text c.args.first w.done ++ (road_text c.roads.first road ++ flat_map (road_text false) left) ≡ all =
-    ap (λ (f : Bool). walk_text c.args.first w.done ++ (road_text f road ++ flat_map (road_text false) left)) is
-    ∙ sym (text_cut c.args.first w.done road left) ∙ sym (ap (walk_text c.args.first) cut) in
-    wrote_same whole (wrote_then text (wrote_stops (flat_map (road_text false) left) c.from_residual.ensures.0 c.in_err-put_road.ensures.wrote))
+    let text = (g.P.WalkForm.text c.args.form.now) in
+    let net = h.network in
+    let before = driven_text text net c.args.first w.done c.args.call.second in
+    let all = driven_text text net c.args.first (walk_over h c.args.call.edge c.args.call.dir c.args.call.second) c.args.call.second in
+    let rest = driven_text text net false left (drive net (road ∷ []) (drive net w.done c.args.call.second)) in
+    let whole : before ++ (text c.roads.first road c.roads.spot.second ++ rest) ≡ all =
+    ap (λ (f : Bool). before ++ (text f road c.roads.spot.second ++ rest)) is
+    ∙ ap (λ (s : ℕ). before ++ (text (first_after c.args.first w.done) road s ++ rest)) (sym w.under.arrives)
+    ∙ sym (text_cut text net c.args.first w.done road left c.args.call.second) ∙ sym (ap (λ (d : List ℕ). driven_text text net c.args.first d c.args.call.second) cut) in
+    wrote_same whole (wrote_then so_far (wrote_stops rest c.from_residual.ensures.0 c.in_err-put.ensures.wrote))
 
 pub returns-in_default-rest-clause-wrote : goal.returns-in_default-rest-clause-wrote
 returns-in_default-rest-clause-wrote g c =
@@ -92,11 +101,15 @@ returns-in_default-rest-clause-wrote g c =
     let none : c.in-Some.driven.rest ≡ None = search rules in
     let short : c.roads._number < h.network.nodes = omega (arith, c.roads-test.true, i.last) in
     let last = on_way_last c.drive_on.new.pending i.stays i.sound i.way.0 c.in-Some.ensures.drives none short in
-    let (w, text, is) = i.way in
+    let (w, so_far, is) = i.way in
     let road = c.in-Some.driven.road in
-    let written : walk_text c.args.first w.done ++ road_text c.roads.first road ≡ walk_text c.args.first (walk_over h c.args.edge c.args.dir c.args.at) =
-    ap (λ (f : Bool). walk_text c.args.first w.done ++ road_text f road) is ∙ sym (text_more c.args.first w.done road) ∙ sym (ap (walk_text c.args.first) last.walk) in
-    wrote_same written (wrote_ok (wrote_then text c.in_ok-put_road.ensures.wrote))
+    let text = (g.P.WalkForm.text c.args.form.now) in
+    let net = h.network in
+    let before = driven_text text net c.args.first w.done c.args.call.second in
+    let written : before ++ text c.roads.first road c.roads.spot.second ≡ driven_text text net c.args.first (walk_over h c.args.call.edge c.args.call.dir c.args.call.second) c.args.call.second =
+    ap (λ (f : Bool). before ++ text f road c.roads.spot.second) is ∙ ap (λ (s : ℕ). before ++ text (first_after c.args.first w.done) road s) (sym w.under.arrives)
+    ∙ sym (text_more text net c.args.first w.done road c.args.call.second) ∙ sym (ap (λ (d : List ℕ). driven_text text net c.args.first d c.args.call.second) last.walk) in
+    wrote_same written (wrote_ok (wrote_then so_far c.in_ok-put.ensures.wrote))
 
 pub returns-in_default-rest-clause-arrival : goal.returns-in_default-rest-clause-arrival
 returns-in_default-rest-clause-arrival g c =
@@ -109,4 +122,10 @@ pub unreachable-requires-2 : goal.unreachable-requires-2
 unreachable-requires-2 g c =
     let i = c.roads.invariant in
     let last : (g.C.CountedWays.hierarchy c.args.ways.now).network.nodes ≤ c.roads._number = omega (arith, c.roads-test.false, i.last) in
-    arriving_short (g.C.CountedWays.hierarchy c.args.ways.now) c.args.edge c.args.dir c.args.at c.requires.answers (on_way_long i.sound i.way.0 last).0
+    arriving_short (g.C.CountedWays.hierarchy c.args.ways.now) c.args.call.edge c.args.call.dir c.args.call.second c.requires.answers (on_way_long i.sound i.way.0 last).0
+
+pub put-requires : goal.put-requires
+put-requires g c =
+    let i = c.roads.invariant in
+    let le : c.roads._number ≤ (g.C.CountedWays.hierarchy c.args.ways.now).network.nodes = omega (arith, c.roads-test.true, i.last) in
+    record { time = on_way_time i.sound i.way.0 le c.requires.time }

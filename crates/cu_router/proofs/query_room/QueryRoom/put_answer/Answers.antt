@@ -1,17 +1,17 @@
-use Rattle.std.proofs.Common.{◌∙◌, sym, subst}
-use Rattle.cu_io.specs.Sinks.{Wrote}
-use Rattle.cu_interval.specs.Hierarchies.{HierarchyValue}
-use Rattle.cu_sweep.specs.Answers.{IsLeastWhereBuilt}
-use Rattle.cu_router.specs.Swept.{swept_reply}
+use Rattle.std.specs.Prelude.{codes}
+use Rattle.cu_io.proofs.Appending.{wrote_same}
+use Rattle.cu_model.specs.Answers.{arrive_text}
+use Rattle.cu_drive.specs.RoadTexts.{arrival_text, number_text}
+use Rattle.cu_drive.proofs.DrivenTexts.{numbers_said}
+use Rattle.cu_router.proofs.HeldAnswers.{held_answer}
+use Rattle.cu_router.proofs.RouteLaws.{swept_alike}
 use Rattle.cu_router.proofs.query_room.QueryRoom.put_answer.Goals as goal
 
-pub put_found-outcome-requires-clause-least : goal.put_found-outcome-requires-clause-least
-put_found-outcome-requires-clause-least g c =
-    let same = sym c.find_walk-found.ensures.stays ∙ sym c.of-walks.ensures in
-    subst (λ (h : HierarchyValue). IsLeastWhereBuilt h c.rank-from.result c.rank-to.result c.args.query.second c.find_walk-found.result) same c.find_walk-found.ensures.least
+pub returns-clause-answer : goal.returns-clause-answer
+returns-clause-answer g c = held_answer arrive_text c.args.held.now c.put_in.ensures.sound c.args.query c.requires.from c.requires.to c.requires.second
 
 pub returns-clause-wrote : goal.returns-clause-wrote
 returns-clause-wrote g c =
-    let same = c.of-walks.ensures ∙ c.find_walk-found.ensures.stays ∙ c.new-recall.ensures.view ∙ c.view-view.ensures.same in
-    subst (λ (h : HierarchyValue). Wrote (g.K.Sink.state c.args.sink.now) (g.K.Sink.state c.put_found-outcome.new.sink) c.put_found-outcome.result (swept_reply h c.args.query)) same
-    c.put_found-outcome.ensures.wrote
+    let h = c.args.held.now in
+    let second = c.args.query.second in
+    wrote_same (swept_alike (arrival_text (codes " arcs=") number_text h.network second) arrive_text (numbers_said h.network second) h c.args.query) c.put_in.ensures.wrote

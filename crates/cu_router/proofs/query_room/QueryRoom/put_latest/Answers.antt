@@ -2,7 +2,7 @@ use Rattle.std.proofs.Common.{◌≡◌, ◌∙◌, Some, subst, sym}
 use Rattle.std.specs.Prelude.{slice_get}
 use Rattle.cu_io.specs.Sinks.{Wrote}
 use Rattle.cu_interval.specs.Hierarchies.{HierarchyValue, IsHierarchy}
-use Rattle.cu_reach.specs.Departures.{IsDeparture, IsLatestWhereBuilt}
+use Rattle.cu_reach.specs.Departures.{IsDeparture}
 use Rattle.cu_router.specs.Reaches.{IsHeldLatestReply}
 use Rattle.cu_router.specs.Steps.Departing.{departure_text}
 use Rattle.cu_router.proofs.DepartureLaws.{departure_told}
@@ -10,13 +10,8 @@ use Rattle.cu_router.proofs.query_room.QueryRoom.put_latest.Goals as goal
 
 pub put_departure-outcome-requires-clause-departs : goal.put_departure-outcome-requires-clause-departs
 put_departure-outcome-requires-clause-departs g c =
-    let same = sym c.latest-departure.ensures.stays ∙ sym c.of-walks.ensures in
+    let same = sym c.latest-departure.ensures.stays in
     subst (λ (h : HierarchyValue). IsDeparture h c.rank-from.result c.rank-to.result c.args.asked.by c.latest-departure.result) same c.latest-departure.ensures.departure
-
-pub put_departure-outcome-requires-clause-latest : goal.put_departure-outcome-requires-clause-latest
-put_departure-outcome-requires-clause-latest g c =
-    let same = sym c.latest-departure.ensures.stays ∙ sym c.of-walks.ensures in
-    subst (λ (h : HierarchyValue). IsLatestWhereBuilt h c.rank-from.result c.rank-to.result c.args.asked.by c.latest-departure.result) same c.latest-departure.ensures.latest
 
 pub returns-clause-reply : goal.returns-clause-reply
 returns-clause-reply g c =
@@ -28,10 +23,10 @@ returns-clause-reply g c =
     let start = subst (λ (h : HierarchyValue). slice_get h.order.rank_of asked.from ≡ Some c.rank-from.result) (sym over) c.rank-from.ensures.there in
     let stop = subst (λ (h : HierarchyValue). slice_get h.order.rank_of asked.to ≡ Some c.rank-to.result) (sym over) c.rank-to.ensures.there in
     let sound = subst IsHierarchy (sym over) c.rank-from.ensures.sound in
-    let told = departure_told c.new-recall.result sound asked c.rank-from.result c.rank-to.result start stop found.result found.new.desk
-    found.ensures.departure found.ensures.search found.ensures.latest found.ensures.holds found.ensures.real in
+    let told = departure_told c.new-recall.result sound asked c.rank-from.result c.rank-to.result start stop found.result
+    found.ensures.departure found.ensures.search found.ensures.latest in
     let wrote = subst (λ (h : HierarchyValue). Wrote (g.K.Sink.state c.args.sink.now) (g.K.Sink.state c.put_departure-outcome.new.sink) c.put_departure-outcome.result
-    (departure_text h asked found.result)) (c.of-walks.ensures ∙ c.latest-departure.ensures.stays ∙ over ∙ seen) c.put_departure-outcome.ensures.wrote in (
+    (departure_text h asked found.result)) (c.latest-departure.ensures.stays ∙ over ∙ seen) c.put_departure-outcome.ensures.wrote in (
       departure_text held asked found.result,
       subst (λ (h : HierarchyValue). IsHeldLatestReply h asked (departure_text h asked found.result)) (over ∙ seen) told,
       wrote,

@@ -1,0 +1,2 @@
+pub mod DrivenTexts
+pub mod FourFields

@@ -1,0 +1,5 @@
+pub mod Drives
+pub mod RoadTexts
+pub mod DriveLines
+pub mod DriveAnswers
+pub mod Steps
