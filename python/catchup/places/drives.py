@@ -96,26 +96,34 @@ class Driver:
 
     async def _ways(self, sources: Sequence[Source], targets: Sequence[Target], ask: Ask) -> list[_Way]:
         """The best way from each beginning to the node of each end."""
-        nodes = {target.node: [of for of in targets if of.node == target.node] for target in targets}
-        lines: list[str] = []
-        for source in sources:
-            lines += [f"{self._line},{source.node},{node},{source.second % DAY}" for node in nodes]
-            if self._may_wait(source):
-                lines += [f"{self._line},{source.node},{node},{(source.second + 1) % DAY}" for node in nodes]
-        replies = iter(await ask(lines) if lines else ())
+        nodes: dict[int, list[Target]] = {}
+        for target in targets:
+            nodes.setdefault(target.node, []).append(target)
+        pairs = [(source, node) for source in sources for node in nodes]
+        replies = await self._said(pairs, 0, ask)
+        # Who begins between two seconds might arrive as early as who begins at the later one.
+        late = [at for at, ((source, _), reply) in enumerate(zip(pairs, replies))
+                if reply and source.part > 0.0 and self._may_wait(source, reply)]
+        later = dict(zip(late, await self._said([pairs[at] for at in late], 1, ask)))
         ways: list[_Way] = []
-        for source in sources:
-            said = [checked(next(replies)) for _ in nodes]
-            later = [checked(next(replies)) for _ in nodes] if self._may_wait(source) else [""] * len(nodes)
-            for of, reply, behind in zip(nodes.values(), said, later):
-                if reply:
-                    time = _between_seconds(source, reply, behind)
-                    ways += [_Way(source, target, *time) for target in of]
+        for at, ((source, node), reply) in enumerate(zip(pairs, replies)):
+            if reply:
+                time = _between_seconds(source, reply, later.get(at, ""))
+                ways += [_Way(source, target, *time) for target in nodes[node]]
         return ways
 
-    def _may_wait(self, source: Source) -> bool:
-        """Whether who begins a second later might arrive as early."""
-        return source.part > 0.0 and self.travel.has_rest(source.second, source.second + DAY)
+    async def _said(self, pairs: Sequence[tuple[Source, int]], later: int, ask: Ask) -> list[str]:
+        """The replies of drives from some beginnings, so many seconds later, to a node each; empty where no way
+        leads."""
+        if not pairs:
+            return []
+        return [checked(reply) for reply in await ask([
+            f"{self._line},{source.node},{node},{(source.second + later) % DAY}" for source, node in pairs])]
+
+    def _may_wait(self, source: Source, reply: str) -> bool:
+        """Whether who begins a second later than a reply says might arrive as early: somewhere on the way one may leave
+        a road no later for entering it a second later."""
+        return self.travel.has_rest(source.second, arrival(reply, source.second))
 
     def _along(self, start: Snap, end: Snap, depart: int, time: float, part: Part) -> Drive:
         road, begin, stop = part

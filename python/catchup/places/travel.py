@@ -38,6 +38,7 @@ class Travel:
         """int64[m]: the seconds that a road takes all day, -1 where that changes, or nobody may drive it."""
         # The same for what goes road by road.
         self._constant = array("i", self.constant.astype(np.int32).tobytes())
+        self._number = array("i", profile.astype(np.int32).tobytes())
         self.is_closed: Bools = (kind[first[:-1]] == CLOSED)[profile]
         self._known: dict[int, tuple[list[int], list[int], list[int]]] = {}
 
@@ -72,10 +73,16 @@ class Travel:
         if min(takes, default=0) >= 0:
             *seconds, second = accumulate(takes, initial=second)
             return seconds, second
-        seconds = []
+        seconds, known, number = [], self._known, self._number
         for road, each in zip(roads, takes):
             seconds.append(second)
-            second = second + each if each >= 0 else self.arrive(road, second)
+            if each < 0:
+                # As `arrive`, whose call would take most of the time.
+                starts, kinds, values = known.get(number[road]) or self._of_road(road)
+                now = second % DAY
+                at = bisect_right(starts, now) - 1
+                each = values[at] if kinds[at] == TRAVEL else values[at] - now
+            second += each
         return seconds, second
 
     def arrive_all(self, roads: Ints, seconds: Ints) -> Ints:
@@ -125,7 +132,7 @@ class Travel:
 
     def _of_road(self, road: int) -> tuple[list[int], list[int], list[int]]:
         """The starts, kinds and values of a road's pieces."""
-        profile = int(self._profile[road])
+        profile = self._number[road]
         known = self._known.get(profile)
         if known is None:
             of = self._profiles

@@ -6,6 +6,7 @@ from __future__ import annotations
 import sqlite3
 import threading
 from contextlib import closing
+from collections.abc import Mapping
 from dataclasses import dataclass
 from pathlib import Path
 from typing import Final
@@ -16,6 +17,7 @@ from catchup.errors import Failure
 from catchup.places.places import MAP_FILE, Ground
 from catchup.service.osrm.hints import Hints
 from catchup.service.osrm.junctions import Junctions
+from catchup.service.osrm.lines import FORMS
 from catchup.service.osrm.stretches import Stretches
 from catchup.service.osrm.turns import Turns
 
@@ -26,11 +28,11 @@ MODES: Final = {"bicycle": "cycling", "foot": "walking"}
 
 @dataclass(frozen=True, slots=True)
 class Guide:
-    """What is made of a map once."""
+    """What is made of a map once. turns: for each form of lines."""
 
     ground: Ground
     stretches: Stretches
-    turns: Turns
+    turns: Mapping[str, Turns]
     hints: Hints
     nodes: NodeNumbers
 
@@ -90,4 +92,6 @@ def made(ground: Ground) -> Guide:
         raise Failure(f"{path} can't be read: {fault}") from fault
     side = "left" if said.get("driving_side") == "left" else "right"
     stretches = Stretches(ground.lines, MODES.get(said.get("vehicle", ""), "driving"), side)
-    return Guide(ground, stretches, Turns(ground), Hints(ground.streets), NodeNumbers(path))
+    junctions = Junctions(ground)
+    turns = {name: Turns(junctions, ground.lines, form) for name, form in FORMS.items()}
+    return Guide(ground, stretches, turns, Hints(ground.streets), NodeNumbers(path))

@@ -52,7 +52,7 @@ def route(drives: Sequence[Drive], guide: Guide, asked: AskedRoute) -> str:
 
 def leg_told(leg: Leg, guide: Guide, asked: AskedRoute) -> str:
     """A leg."""
-    steps, summary = steps_told(leg, guide, FORMS[asked.geometries]) if asked.steps else ("", "")
+    steps, summary = steps_told(leg, guide, asked.geometries) if asked.steps else ("", "")
     more = f'"annotation":{annotation(leg, guide, asked.annotations)},' if asked.annotations else ""
     return (f'{{"steps":[{steps}],"summary":{text(summary)},{more}{sums(leg.arrive - leg.depart, leg.metres)},'
             f'{timed("depart", leg.depart)},{timed("arrive", leg.arrive)}}}')
@@ -63,11 +63,14 @@ def overview_of(legs: Sequence[Leg], asked: AskedRoute) -> str:
     form = FORMS[asked.geometries]
     if asked.overview == "simplified":
         return form.whole(simplified([leg.line() for leg in legs]))
-    parts = [legs[0].stretches[0].first]
+    parts = []
     for at, leg in enumerate(legs):
+        rests = [stretch.rest for stretch in leg.stretches]
         if at:
-            parts.append(joint(legs[at - 1], leg, form))
-        parts += [stretch.rest for stretch in leg.stretches]
+            rests[0] = joint(legs[at - 1], leg, form) + rests[0]
+        else:
+            rests[0] = leg.stretches[0].line
+        parts += rests
     return form.line("".join(parts))
 
 

@@ -37,13 +37,15 @@ def steps_of(stretches: Sequence[Stretch], turns: Turns, joints: Sequence[int] =
         before, after = stretches[at - 1:at + 1]
         if before.high < 1.0 or after.low > 0.0:
             passages[at - 1] = turning_round(before, after)
-    begins, name = [0], stretches[0].name
-    for at, turn in enumerate(passages, 1):
+    kinds = [turn.kind for turn in passages]
+    begins, last = [0], stretches[0].name
+    for at in [at for at, kind in enumerate(kinds, 1) if kind]:
+        name = stretches[at].name
         # A street that has no name for a while is still the same behind that.
-        if turn.kind and not (turn.kind == "new name" and stretches[at].name == name != ""):
+        if name != last or not name or kinds[at - 1] != "new name":
             begins.append(at)
-            name = stretches[at].name
-    return Steps(passages, begins, rings_of(stretches, passages, begins))
+            last = name
+    return Steps(passages, begins, rings_of(stretches, passages, begins) if "exit roundabout" in kinds else {})
 
 
 def rings_of(stretches: Sequence[Stretch], passages: Sequence[Turn], begins: Sequence[int]) -> dict[int, Ring]:

@@ -2,60 +2,71 @@
 
 from __future__ import annotations
 
+from collections import defaultdict
 from collections.abc import Sequence
-from itertools import accumulate
+from itertools import accumulate, chain, pairwise, repeat
 from typing import Final
 
 from catchup.places import Snap
 from catchup.service.osrm.courses import course, direction, turned
 from catchup.service.osrm.guide import Guide
 from catchup.service.osrm.legs import Leg
-from catchup.service.osrm.lines import Form, point
+from catchup.service.osrm.lines import FORMS, Form, point
 from catchup.service.osrm.steps import Steps, steps_of
-from catchup.service.osrm.texts import sums, text
+from catchup.service.osrm.texts import sums, tenths, text
 from catchup.service.osrm.turns import head_of, modifier_of, sides_told
 
 ASIDE: Final = (5.0, 300.0)             # metres within which a place lies on a side of its street that is worth a word
 SUMMED: Final = 2                       # streets of a summary
 
 
-def steps_told(leg: Leg, guide: Guide, form: Form) -> tuple[str, str]:
+def steps_told(leg: Leg, guide: Guide, form: str) -> tuple[str, str]:
     """The steps of a leg with its arrival, and the names of the streets that take longest."""
-    stretches = leg.stretches
-    steps = steps_of(stretches, guide.turns, leg.joints)
-    begins = steps.begins
-    ends = [*begins[1:], len(stretches)]
+    steps = steps_of(leg.stretches, guide.turns[form], leg.joints)
+    seconds = [leg.depart, *[leg.entered[at] for at in steps.begins[1:]], leg.arrive]
+    takes = [later - second if later > second else 0.0 for second, later in pairwise(seconds)]
+    durations = list(map(tenths, takes))
+    # As texts.sums; the texts of most steps are ready.
+    parts = zip(*texts_of(leg, steps, FORMS[form], durations), durations, repeat("},"))
+    return "".join(chain.from_iterable(parts)) + arrival(leg, FORMS[form]), summary_of(leg, steps, takes)
+
+
+def texts_of(leg: Leg, steps: Steps, form: Form, durations: Sequence[str]) -> tuple[Sequence[str], Sequence[str], Sequence[str]]:
+    """Of each step the text up to its duration, and that from there to its weight."""
+    stretches, passages, begins = leg.stretches, steps.passages, steps.begins
+    begun = ["", *[passages[at - 1].begun for at in begins[1:]]]
+    fars = [stretches[at].far for at in begins]
     heads = heads_of(leg, steps)
-    rests, passed = [stretch.rest for stretch in stretches], [turn.passed for turn in steps.passages]
+    for at in heads:
+        fars[at] = ""
     so_far = list(accumulate([stretch.metres for stretch in stretches], initial=0.0))
-    seconds = [leg.depart, *[leg.entered[at] for at in begins[1:]], leg.arrive]
-    takes = [max(end - begin, 0.0) for begin, end in zip(seconds, seconds[1:])]
-    told, opens, closes = [], form.opens, form.closes
-    for head, begin, end, second in zip(heads, begins, ends, takes):
-        # As texts.sums; most time goes into this.
-        seconds_told, metres = f"{second:.1f}", so_far[end] - so_far[begin]
-        crossings, rest = ("".join(passed[begin:end - 1]), "".join(rests[begin:end])) if end - begin > 1 else (
-            "", rests[begin])
-        told.append(f'{{{head}{crossings}],"geometry":{opens}{stretches[begin].first}{rest}{closes},'
-                    f'"duration":{seconds_told},"distance":{metres:.1f},"weight":{seconds_told}}}')
-    told.append(arrival(leg, form))
-    return ",".join(told), summary_of(leg, steps, takes)
+    opens, closes = f'],"geometry":{form.opens}', f'{form.closes},"duration":'
+    for at, (begin, end) in enumerate(zip(begins, [*begins[1:], len(stretches)])):
+        if end - begin == 1 and fars[at]:
+            continue
+        head = heads[at] if at in heads else begun[at][:passages[begin - 1].head]
+        crossings = "".join([turn.passed for turn in passages[begin:end - 1]])
+        more = "".join([stretch.rest for stretch in stretches[begin + 1:end]])
+        begun[at] = f"{head}{crossings}{opens}{stretches[begin].line}{more}{closes}"
+        fars[at] = f',"distance":{so_far[end] - so_far[begin]:.1f},"weight":'
+    return begun, durations, fars
 
 
-def heads_of(leg: Leg, steps: Steps) -> list[str]:
-    """The beginning of each step's members: its street, its maneuver, and the intersection there."""
-    found = [departure(leg), *[steps.passages[at - 1].head for at in steps.begins[1:]]]
-    for at, begin in enumerate(steps.begins):
-        if begin in steps.rings:
-            ring, turn = steps.rings[begin], steps.passages[begin - 1]
-            rotary = f'"rotary_name":{text(ring.rotary)},' if ring.rotary else ""
-            maneuver = f'"type":"{ring.kind}","exit":{ring.exit},{turn.sides}'
-            found[at] = head_of(rotary + leg.stretches[ring.street].street, maneuver, turn.intersection)
+def heads_of(leg: Leg, steps: Steps) -> dict[int, str]:
+    """The text up to the first of its intersections of the first step, and of those into roundabouts and out of
+    them."""
+    found = {0: departure(leg)}
+    for begin, ring in steps.rings.items():
+        turn = steps.passages[begin - 1]
+        rotary = f'"rotary_name":{text(ring.rotary)},' if ring.rotary else ""
+        maneuver = f'"type":"{ring.kind}","exit":{ring.exit},{turn.sides}'
+        found[steps.begins.index(begin)] = head_of(
+            rotary + leg.stretches[ring.street].street, maneuver, turn.intersection)
     return found
 
 
 def departure(leg: Leg) -> str:
-    """The beginning of the first step's members."""
+    """The text of the first step up to its intersection."""
     stretch = leg.stretches[0]
     ahead = course(stretch.places)
     sides = sides_told(side_of(leg.start, ahead, is_start=True), stretch.at, 0, ahead)
@@ -71,7 +82,7 @@ def arrival(leg: Leg, form: Form) -> str:
     sides = sides_told(side_of(leg.end, before, is_start=False), at, before, 0)
     back = f'{{"in":0,"entry":[true],"bearings":[{(before + 180) % 360}],"location":{at}}}'
     head = head_of(stretch.street, f'"type":"arrive",{sides}', back)
-    return f'{{{head}],"geometry":{form.single(place)},{sums(0.0, 0.0)}}}'
+    return f'{head}],"geometry":{form.single(place)},{sums(0.0, 0.0)}}}'
 
 
 def side_of(snap: Snap, ahead: int, *, is_start: bool) -> str:
@@ -88,10 +99,11 @@ def side_of(snap: Snap, ahead: int, *, is_start: bool) -> str:
 
 def summary_of(leg: Leg, steps: Steps, takes: Sequence[float]) -> str:
     """The names of the streets that take longest, in their order."""
-    seconds: dict[str, float] = {}
-    for begin, second in zip(steps.begins, takes):
-        stretch = leg.stretches[steps.rings[begin].street if begin in steps.rings else begin]
-        if name := stretch.name or stretch.ref:
-            seconds[name] = seconds.get(name, 0.0) + second
+    rings, stretches = steps.rings, leg.stretches
+    told = [rings[begin].street if begin in rings else begin for begin in steps.begins] if rings else steps.begins
+    seconds: dict[str, float] = defaultdict(float)
+    for stretch, second in zip([stretches[at] for at in told], takes):
+        seconds[stretch.name or stretch.ref] += second
+    seconds.pop("", None)
     longest = sorted(seconds, key=seconds.__getitem__, reverse=True)[:SUMMED]
     return ", ".join([name for name in seconds if name in longest])
