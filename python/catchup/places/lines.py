@@ -8,7 +8,9 @@ road. What is made of whole roads is kept, since drives share most of them.
 from __future__ import annotations
 
 import json
+from bisect import bisect_left, bisect_right
 from collections.abc import Sequence
+from functools import cached_property
 from typing import NamedTuple, TypeAlias, TypeVar
 
 import numpy as np
@@ -78,6 +80,12 @@ class Lines:
         self._encoded: dict[int, dict[int, str]] = {}
         self._stretches: dict[int, list[Stretch]] = {}
 
+    @cached_property
+    def _numbers(self) -> tuple[memoryview, memoryview, memoryview]:
+        """Each road's class, whether it is of a roundabout, and its metres, for who looks up one: numpy takes several
+        times as long."""
+        return self._kind.data, self._ring.data, self.metres.data
+
     @property
     def kinds(self) -> tuple[Shorts, list[str]]:
         """Of each road its class, int32[m], a number into a list of them."""
@@ -91,11 +99,15 @@ class Lines:
 
     def kind(self, road: int) -> str:
         """A road's class."""
-        return self._kinds[int(self._kind[road])]
+        return self._kinds[self._numbers[0][road]]
 
     def is_roundabout(self, road: int) -> bool:
         """Whether a road is one of a roundabout."""
-        return bool(self._ring[road])
+        return bool(self._numbers[1][road])
+
+    def length(self, road: int) -> float:
+        """A road's metres."""
+        return float(self._numbers[2][road])
 
     def name(self, road: int) -> tuple[str, str]:
         """The name and the reference number of most of a road, empty where it has none."""
@@ -112,8 +124,8 @@ class Lines:
 
     def place(self, road: int, share: float) -> Place:
         """The point of a road behind a share of its metres."""
-        shares = self._streets.shares(road)
-        return _between(self._streets.line(road), shares, int(shares.searchsorted(share, "right")), share)
+        shares = self._streets.shares(road).tolist()
+        return _between(self._streets.line(road).tolist(), shares, bisect_right(shares, share), share)
 
     def line(self, roads: Sequence[int], begin: float, end: float) -> Floats:
         """The coordinates of roads that follow one another, from a share of the first one to one of the last one:
@@ -173,11 +185,11 @@ class Lines:
         line = self._streets.line(road)
         if begin == 0.0 and end == 1.0:
             return line
-        shares = self._streets.shares(road)
-        low, high = int(shares.searchsorted(begin, "right")), int(shares.searchsorted(end, "left"))
-        last = int(shares.searchsorted(end, "right"))
-        ends = np.array((_between(line, shares, low, begin), _between(line, shares, last, end)))
-        return np.concatenate((ends[:1], line[low:high], ends[1:]))
+        # Roads have few points, for which lists are faster than arrays.
+        shares, points = self._streets.shares(road).tolist(), line.tolist()
+        inner = points[bisect_right(shares, begin):bisect_left(shares, end)]
+        return np.array([_between(points, shares, bisect_right(shares, begin), begin), *inner,
+                         _between(points, shares, bisect_right(shares, end), end)])
 
     def stretches(self, part: Part) -> list[Stretch]:
         """The stretches of a part under one name each."""
@@ -188,7 +200,7 @@ class Lines:
 
     def _named(self, part: Part) -> list[Stretch]:
         road, begin, end = part
-        name = self._names.only(road, float(self.metres[road]))
+        name = self._names.only(road, self.length(road))
         if name is not None:
             return [Stretch(*name, begin, end, self.cut(part))]
         found: list[tuple[str, str, float, float]] = []
@@ -219,12 +231,12 @@ def parts_of(roads: Sequence[int], begin: float, end: float) -> list[Part]:
     return found
 
 
-def _between(line: Floats, shares: Floats, behind: int, share: float) -> Place:
+def _between(line: Sequence[Sequence[float]], shares: Sequence[float], behind: int, share: float) -> Place:
     """The point of a line behind a share of its metres, which is between a point and the one before it."""
     at = min(behind, len(line) - 1)
-    low, high = float(shares[at - 1]), float(shares[at])
+    low, high = shares[at - 1:at + 1]
     part = min(max((share - low) / (high - low), 0.0), 1.0) if high > low else 0.0
-    (x, y), (u, v) = line[at - 1:at + 1].tolist()
+    (x, y), (u, v) = line[at - 1:at + 1]
     return x + (u - x) * part, y + (v - y) * part
 
 

@@ -82,15 +82,22 @@ class Streets:
 
     def line(self, road: int) -> Floats:
         """The points of a road in the sense in which it is driven, float64[k, 2]."""
-        street = self.of_road[road]
-        points = self.places[self.first[street]:self.first[street + 1]]
-        return points if self.is_forward[road] else points[::-1]
+        of_road, first, is_forward = self._numbers
+        street = of_road[road]
+        points = self.places[first[street]:first[street + 1]]
+        return points if is_forward[road] else points[::-1]
 
     def shares(self, road: int) -> Floats:
         """How much of a road's metres lies before each of its points, from 0 to 1."""
-        street = self.of_road[road]
-        found = self.share[self.first[street]:self.first[street + 1]]
-        return found if self.is_forward[road] else 1.0 - found[::-1]
+        of_road, first, is_forward = self._numbers
+        street = of_road[road]
+        found = self.share[first[street]:first[street + 1]]
+        return found if is_forward[road] else 1.0 - found[::-1]
+
+    @cached_property
+    def _numbers(self) -> tuple[memoryview, memoryview, memoryview]:
+        """of_road, first and is_forward, for who looks up one: numpy takes several times as long."""
+        return self.of_road.data, self.first.data, self.is_forward.data
 
     @cached_property
     def segment_street(self) -> Shorts:

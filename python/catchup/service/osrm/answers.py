@@ -92,11 +92,11 @@ async def drive(asked: AskedRoute, placed: Placed, guide: Guide, now: int) -> st
     """A route over places. now: the second of the day that is meant where none is said."""
     snaps = await beside(STEPS * len(asked.places), snapped, asked, placed, guide)
     driven = await drives(asked, snaps, placed, now)
-    told = f'"routes":[{await beside(roads_of(driven), route, driven, guide, asked)}]'
-    if asked.skip_waypoints:
-        return told
-    kept = snaps if asked.waypoints is None else [snaps[at] for at in sorted(set(asked.waypoints))]
-    return f'{told},"waypoints":{waypoints(kept, guide, asked)}'
+    told = ['"routes":[', *await beside(roads_of(driven), route, driven, guide, asked), "]"]
+    if not asked.skip_waypoints:
+        kept = snaps if asked.waypoints is None else [snaps[at] for at in sorted(set(asked.waypoints))]
+        told.append(f',"waypoints":{waypoints(kept, guide, asked)}')
+    return "".join(told)
 
 
 async def drives(asked: AskedRoute, snaps: Sequence[Snap], placed: Placed, now: int) -> list[Drive]:

@@ -10,6 +10,7 @@ import functools
 import math
 from abc import ABC, abstractmethod
 from collections.abc import Mapping, Sequence
+from itertools import pairwise
 from typing import Final
 
 import numpy as np
@@ -63,13 +64,15 @@ class Polyline(Form):
         return escaped(letters(unit(place[1], self.units)) + letters(unit(place[0], self.units)))
 
     def rest(self, places: Floats) -> str:
+        units = self.units
+        # In both cases as `unit` has them.
         if len(places) > FEW:
-            scaled = places[:, ::-1] * self.units
-            # As `unit` has them.
+            scaled = places[:, ::-1] * units
             whole = np.copysign(np.floor(np.abs(scaled) + 0.5), scaled).astype(np.int64)
             return escaped("".join(map(letters, np.diff(whole, axis=0).ravel().tolist())))
-        values = [(unit(lon, self.units), unit(lat, self.units)) for lon, lat in places.tolist()]
-        return escaped("".join([letters(y - v) + letters(x - u) for (u, v), (x, y) in zip(values, values[1:])]))
+        values = [(int(lon * units + (0.5 if lon > 0.0 else -0.5)), int(lat * units + (0.5 if lat > 0.0 else -0.5)))
+                  for lon, lat in places.tolist()]
+        return escaped("".join([letters(y - v) + letters(x - u) for (u, v), (x, y) in pairwise(values)]))
 
     def single(self, place: Place) -> str:
         return f'"{self.first(place)}"'

@@ -39,39 +39,40 @@ def waypoints(snaps: Sequence[Snap], guide: Guide, asked: Asked) -> str:
     return f'[{",".join([waypoint(snap, guide, with_hint=asked.generate_hints) for snap in snaps])}]'
 
 
-def route(drives: Sequence[Drive], guide: Guide, asked: AskedRoute) -> str:
-    """A route over drives."""
+def route(drives: Sequence[Drive], guide: Guide, asked: AskedRoute) -> list[str]:
+    """A route over drives, as parts of a text: most are ready, and are put together once, with all of the answer."""
     legs = legs_of(drives, asked.waypoints, guide.stretches, asked.geometries)
-    overview = "" if asked.overview == "false" else f'"geometry":{overview_of(legs, asked)},'
-    told = ",".join([leg_told(leg, guide, asked) for leg in legs])
+    told = ["{"]
+    if asked.overview != "false":
+        told += ['"geometry":', *overview_of(legs, asked), ","]
+    told.append('"legs":[')
+    for at, leg in enumerate(legs):
+        told += [*"," * (at > 0), *leg_told(leg, guide, asked)]
     depart, arrive = legs[0].depart, legs[-1].arrive
     whole = sums(arrive - depart, sum(leg.metres for leg in legs))
-    return (f'{{{overview}"legs":[{told}],{whole},"weight_name":"duration",'
-            f'{timed("depart", depart)},{timed("arrive", arrive)}}}')
+    told.append(f'],{whole},"weight_name":"duration",{timed("depart", depart)},{timed("arrive", arrive)}}}')
+    return told
 
 
-def leg_told(leg: Leg, guide: Guide, asked: AskedRoute) -> str:
-    """A leg."""
-    steps, summary = steps_told(leg, guide, asked.geometries) if asked.steps else ("", "")
+def leg_told(leg: Leg, guide: Guide, asked: AskedRoute) -> list[str]:
+    """A leg, as parts of a text."""
+    steps, summary = steps_told(leg, guide, asked.geometries) if asked.steps else ([], "")
     more = f'"annotation":{annotation(leg, guide, asked.annotations)},' if asked.annotations else ""
-    return (f'{{"steps":[{steps}],"summary":{text(summary)},{more}{sums(leg.arrive - leg.depart, leg.metres)},'
-            f'{timed("depart", leg.depart)},{timed("arrive", leg.arrive)}}}')
+    return ['{"steps":[', *steps, f'],"summary":{text(summary)},{more}{sums(leg.arrive - leg.depart, leg.metres)},'
+            f'{timed("depart", leg.depart)},{timed("arrive", leg.arrive)}}}']
 
 
-def overview_of(legs: Sequence[Leg], asked: AskedRoute) -> str:
-    """The line of all of a route."""
+def overview_of(legs: Sequence[Leg], asked: AskedRoute) -> list[str]:
+    """The line of all of a route, as parts of a text."""
     form = FORMS[asked.geometries]
     if asked.overview == "simplified":
-        return form.whole(simplified([leg.line() for leg in legs]))
-    parts = []
+        return [form.whole(simplified([leg.line() for leg in legs]))]
+    told = [form.opens]
     for at, leg in enumerate(legs):
-        rests = [stretch.rest for stretch in leg.stretches]
-        if at:
-            rests[0] = joint(legs[at - 1], leg, form) + rests[0]
-        else:
-            rests[0] = leg.stretches[0].line
-        parts += rests
-    return form.line("".join(parts))
+        begin = joint(legs[at - 1], leg, form) + leg.stretches[0].rest if at else leg.stretches[0].line
+        told += [begin, *[stretch.rest for stretch in leg.stretches[1:]]]
+    told.append(form.closes)
+    return told
 
 
 def joint(before: Leg, after: Leg, form: Form) -> str:

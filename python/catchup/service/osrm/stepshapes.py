@@ -20,19 +20,21 @@ ASIDE: Final = (5.0, 300.0)             # metres within which a place lies on a 
 SUMMED: Final = 2                       # streets of a summary
 
 
-def steps_told(leg: Leg, guide: Guide, form: str) -> tuple[str, str]:
-    """The steps of a leg with its arrival, and the names of the streets that take longest."""
+def steps_told(leg: Leg, guide: Guide, form: str) -> tuple[list[str], str]:
+    """The steps of a leg with its arrival, as parts of a text, and the names of the streets that take longest."""
     steps = steps_of(leg.stretches, guide.turns[form], leg.joints)
     seconds = [leg.depart, *[leg.entered[at] for at in steps.begins[1:]], leg.arrive]
     takes = [later - second if later > second else 0.0 for second, later in pairwise(seconds)]
     durations = list(map(tenths, takes))
-    # As texts.sums; the texts of most steps are ready.
-    parts = zip(*texts_of(leg, steps, FORMS[form], durations), durations, repeat("},"))
-    return "".join(chain.from_iterable(parts)) + arrival(leg, FORMS[form]), summary_of(leg, steps, takes)
+    begun, fars = texts_of(leg, steps, FORMS[form])
+    told = list(chain.from_iterable(zip(begun, durations, fars, durations, repeat("},"))))
+    told.append(arrival(leg, FORMS[form]))
+    return told, summary_of(leg, steps, takes)
 
 
-def texts_of(leg: Leg, steps: Steps, form: Form, durations: Sequence[str]) -> tuple[Sequence[str], Sequence[str], Sequence[str]]:
-    """Of each step the text up to its duration, and that from there to its weight."""
+def texts_of(leg: Leg, steps: Steps, form: Form) -> tuple[list[str], list[str]]:
+    """Of each step the text up to its duration, and that from there to its weight: texts.sums tells which members these
+    are. They are ready where a step is along one whole stretch."""
     stretches, passages, begins = leg.stretches, steps.passages, steps.begins
     begun = ["", *[passages[at - 1].begun for at in begins[1:]]]
     fars = [stretches[at].far for at in begins]
@@ -45,11 +47,13 @@ def texts_of(leg: Leg, steps: Steps, form: Form, durations: Sequence[str]) -> tu
         if end - begin == 1 and fars[at]:
             continue
         head = heads[at] if at in heads else begun[at][:passages[begin - 1].head]
-        crossings = "".join([turn.passed for turn in passages[begin:end - 1]])
-        more = "".join([stretch.rest for stretch in stretches[begin + 1:end]])
+        crossings = more = ""
+        if end - begin > 1:
+            crossings = "".join([turn.passed for turn in passages[begin:end - 1]])
+            more = "".join([stretch.rest for stretch in stretches[begin + 1:end]])
         begun[at] = f"{head}{crossings}{opens}{stretches[begin].line}{more}{closes}"
         fars[at] = f',"distance":{so_far[end] - so_far[begin]:.1f},"weight":'
-    return begun, durations, fars
+    return begun, fars
 
 
 def heads_of(leg: Leg, steps: Steps) -> dict[int, str]:
@@ -105,5 +109,10 @@ def summary_of(leg: Leg, steps: Steps, takes: Sequence[float]) -> str:
     for stretch, second in zip([stretches[at] for at in told], takes):
         seconds[stretch.name or stretch.ref] += second
     seconds.pop("", None)
-    longest = sorted(seconds, key=seconds.__getitem__, reverse=True)[:SUMMED]
-    return ", ".join([name for name in seconds if name in longest])
+    least = min(sorted(seconds.values())[-SUMMED:], default=0.0)
+    longest = [name for name, second in seconds.items() if second >= least]
+    if len(longest) > SUMMED:
+        # Of streets that take equally long the first ones.
+        first = sorted(longest, key=seconds.__getitem__, reverse=True)[:SUMMED]
+        longest = [name for name in longest if name in first]
+    return ", ".join(longest)

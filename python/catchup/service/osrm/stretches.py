@@ -81,7 +81,9 @@ class Stretches:
             by_road = [its or self._whole(road, form) for its, road in zip(by_road, roads)]
         found = cast(list[Its], by_road)
         stretches = list(chain.from_iterable(found))
-        return stretches, drive.seconds if len(stretches) == len(roads) else entered_all(found, drive)
+        if len(stretches) == len(roads):
+            return stretches, drive.seconds
+        return stretches, entered_all(found, drive)
 
     def _whole(self, road: int, form: str) -> Its:
         """The stretches of a whole road, which are kept."""
@@ -96,7 +98,7 @@ class Stretches:
     def _one(self, road: int, of: Named, is_whole: bool, form: str) -> Stretch:
         name, ref, low, high, places = of
         lines, write, begin = self._lines, FORMS[form], places[0].tolist()
-        kind, metres, rest = lines.kind(road), (high - low) * float(lines.metres[road]), write.rest(places)
+        kind, metres, rest = lines.kind(road), (high - low) * lines.length(road), write.rest(places)
         street = street_told(name, ref, "ferry" if kind == "ferry" else self._mode, self._side)
         far = f',"distance":{metres:.1f},"weight":' if is_whole and abs(10 * metres % 1 - 0.5) > UNSURE else ""
         return Stretch(road, name, ref, kind, lines.is_roundabout(road), low, high, metres, places,

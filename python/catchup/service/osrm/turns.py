@@ -70,9 +70,9 @@ class Turns:
     def between(self, stretches: Sequence[Stretch]) -> list[Turn]:
         """The passages between stretches that are driven one after the other: that to the second one first."""
         found = list(map(self._kept.new.get, pairwise([stretch.road for stretch in stretches])))
-        if None not in found:
-            return cast(list[Turn], found)
-        return [turn or self._judged(*stretches[at:at + 2]) for at, turn in enumerate(found)]
+        for at in [at for at, turn in enumerate(found) if turn is None]:
+            found[at] = self._judged(*stretches[at:at + 2])
+        return cast(list[Turn], found)
 
     def _judged(self, before: Stretch, after: Stretch) -> Turn:
         """The passage between two stretches that isn't known by their roads."""
