@@ -10,7 +10,6 @@ import functools
 import math
 from abc import ABC, abstractmethod
 from collections.abc import Mapping, Sequence
-from itertools import pairwise
 from typing import Final
 
 import numpy as np
@@ -33,15 +32,15 @@ class Form(ABC):
     opens = closes = '"'
 
     @abstractmethod
-    def first(self, place: Place) -> str:
-        """The text of a line's first place."""
+    def told(self, places: Floats) -> tuple[str, str]:
+        """The texts of all places of a line, and of all but the first."""
 
-    @abstractmethod
     def rest(self, places: Floats) -> str:
         """The text of all places of a line but the first."""
+        return self.told(places)[1]
 
     def line(self, text: str) -> str:
-        """The JSON of a line, from the texts of its places."""
+        """The JSON of a line, from the text of its places."""
         return f"{self.opens}{text}{self.closes}"
 
     @abstractmethod
@@ -50,7 +49,7 @@ class Form(ABC):
 
     def whole(self, places: Floats) -> str:
         """The JSON of a line."""
-        return self.line(self.first(places[0].tolist()) + self.rest(places))
+        return self.line(self.told(places)[0])
 
 
 class Polyline(Form):
@@ -61,18 +60,25 @@ class Polyline(Form):
         self.decimals, self.units = decimals, 10.0**decimals
 
     def first(self, place: Place) -> str:
+        """The text of a line's first place."""
         return escaped(letters(unit(place[1], self.units)) + letters(unit(place[0], self.units)))
 
-    def rest(self, places: Floats) -> str:
-        units = self.units
-        # In both cases as `unit` has them.
+    def told(self, places: Floats) -> tuple[str, str]:
         if len(places) > FEW:
-            scaled = places[:, ::-1] * units
+            scaled = places[:, ::-1] * self.units
+            # As `unit` has them.
             whole = np.copysign(np.floor(np.abs(scaled) + 0.5), scaled).astype(np.int64)
-            return escaped("".join(map(letters, np.diff(whole, axis=0).ravel().tolist())))
-        values = [(int(lon * units + (0.5 if lon > 0.0 else -0.5)), int(lat * units + (0.5 if lat > 0.0 else -0.5)))
-                  for lon, lat in places.tolist()]
-        return escaped("".join([letters(y - v) + letters(x - u) for (u, v), (x, y) in pairwise(values)]))
+            rest = escaped("".join(map(letters, np.diff(whole, axis=0).ravel().tolist())))
+            return self.first(places[0].tolist()) + rest, rest
+        units, texts = self.units, []
+        v = u = 0
+        for lon, lat in places.tolist():
+            # As `unit` has them.
+            y, x = int(lat * units + (0.5 if lat > 0.0 else -0.5)), int(lon * units + (0.5 if lon > 0.0 else -0.5))
+            texts.append(letters(y - v) + letters(x - u))
+            v, u = y, x
+        first, rest = escaped(texts[0]), escaped("".join(texts[1:]))
+        return first + rest, rest
 
     def single(self, place: Place) -> str:
         return f'"{self.first(place)}"'
@@ -83,13 +89,10 @@ class GeoJson(Form):
 
     opens, closes = '{"type":"LineString","coordinates":[', "]}"
 
-    def first(self, place: Place) -> str:
-        return point(place)
-
-    def rest(self, places: Floats) -> str:
-        if len(places) > FEW:
-            return places_text(places[1:])
-        return "".join([f",{point(place)}" for place in places[1:].tolist()])
+    def told(self, places: Floats) -> tuple[str, str]:
+        rest = (places_text(places[1:]) if len(places) > FEW
+                else "".join([f",{point(place)}" for place in places[1:].tolist()]))
+        return point(places[0].tolist()) + rest, rest
 
     def single(self, place: Place) -> str:
         return self.line(f"{point(place)},{point(place)}")

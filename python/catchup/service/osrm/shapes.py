@@ -78,7 +78,7 @@ def overview_of(legs: Sequence[Leg], asked: AskedRoute) -> list[str]:
 def joint(before: Leg, after: Leg, form: Form) -> str:
     """What a line has between two legs: nothing, where one begins at the very place where the other ends."""
     ends, begins = before.stretches[-1].places[-1].tolist(), after.stretches[0].places[0].tolist()
-    return "" if form.first(ends) == form.first(begins) else form.rest(np.array([ends, begins]))
+    return "" if form.single(ends) == form.single(begins) else form.rest(np.array([ends, begins]))
 
 
 async def grid(entries: Floats) -> str:

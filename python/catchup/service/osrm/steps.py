@@ -4,6 +4,8 @@ from __future__ import annotations
 
 from collections.abc import Mapping, Sequence
 from dataclasses import dataclass
+from itertools import compress
+from operator import eq
 
 from catchup.service.osrm.stretches import Stretch
 from catchup.service.osrm.turns import Turn, Turns, turning_round
@@ -38,14 +40,21 @@ def steps_of(stretches: Sequence[Stretch], turns: Turns, joints: Sequence[int] =
         if before.high < 1.0 or after.low > 0.0:
             passages[at - 1] = turning_round(before, after)
     kinds = [turn.kind for turn in passages]
-    begins, last = [0], stretches[0].name
-    for at in [at for at, kind in enumerate(kinds, 1) if kind]:
-        name = stretches[at].name
-        # A street that has no name for a while is still the same behind that.
-        if name != last or not name or kinds[at - 1] != "new name":
-            begins.append(at)
-            last = name
+    begins = [0, *compress(range(1, len(stretches)), kinds)]
+    names = [stretches[at].name for at in begins]
+    if any(map(eq, names, names[1:])):
+        begins = without_needless(begins, names, kinds)
     return Steps(passages, begins, rings_of(stretches, passages, begins) if "exit roundabout" in kinds else {})
+
+
+def without_needless(begins: Sequence[int], names: Sequence[str], kinds: Sequence[str]) -> list[int]:
+    """The beginnings of steps without those at which a street that had no name for a while has its name again."""
+    found, last = [0], names[0]
+    for at, name in zip(begins[1:], names[1:]):
+        if name != last or not name or kinds[at - 1] != "new name":
+            found.append(at)
+            last = name
+    return found
 
 
 def rings_of(stretches: Sequence[Stretch], passages: Sequence[Turn], begins: Sequence[int]) -> dict[int, Ring]:

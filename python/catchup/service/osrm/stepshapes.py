@@ -2,7 +2,6 @@
 
 from __future__ import annotations
 
-from collections import defaultdict
 from collections.abc import Sequence
 from itertools import accumulate, chain, pairwise, repeat
 from typing import Final
@@ -44,15 +43,16 @@ def texts_of(leg: Leg, steps: Steps, form: Form) -> tuple[list[str], list[str]]:
     so_far = list(accumulate([stretch.metres for stretch in stretches], initial=0.0))
     opens, closes = f'],"geometry":{form.opens}', f'{form.closes},"duration":'
     for at, (begin, end) in enumerate(zip(begins, [*begins[1:], len(stretches)])):
-        if end - begin == 1 and fars[at]:
+        is_single = end == begin + 1
+        if is_single and fars[at]:
+            continue
+        fars[at] = f',"distance":{so_far[end] - so_far[begin]:.1f},"weight":'
+        if is_single and stretches[begin].is_whole and at not in heads:
             continue
         head = heads[at] if at in heads else begun[at][:passages[begin - 1].head]
-        crossings = more = ""
-        if end - begin > 1:
-            crossings = "".join([turn.passed for turn in passages[begin:end - 1]])
-            more = "".join([stretch.rest for stretch in stretches[begin + 1:end]])
+        crossings = "" if is_single else "".join([turn.passed for turn in passages[begin:end - 1]])
+        more = "" if is_single else "".join([stretch.rest for stretch in stretches[begin + 1:end]])
         begun[at] = f"{head}{crossings}{opens}{stretches[begin].line}{more}{closes}"
-        fars[at] = f',"distance":{so_far[end] - so_far[begin]:.1f},"weight":'
     return begun, fars
 
 
@@ -105,9 +105,10 @@ def summary_of(leg: Leg, steps: Steps, takes: Sequence[float]) -> str:
     """The names of the streets that take longest, in their order."""
     rings, stretches = steps.rings, leg.stretches
     told = [rings[begin].street if begin in rings else begin for begin in steps.begins] if rings else steps.begins
-    seconds: dict[str, float] = defaultdict(float)
-    for stretch, second in zip([stretches[at] for at in told], takes):
-        seconds[stretch.name or stretch.ref] += second
+    seconds: dict[str, float] = {}
+    so_far = seconds.get
+    for name, second in zip([stretches[at].called for at in told], takes):
+        seconds[name] = so_far(name, 0.0) + second
     seconds.pop("", None)
     least = min(sorted(seconds.values())[-SUMMED:], default=0.0)
     longest = [name for name, second in seconds.items() if second >= least]

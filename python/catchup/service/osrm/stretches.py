@@ -31,7 +31,7 @@ class Stretch:
     """A part of a road under one name, as it is driven. Nobody changes one: it isn't frozen since that would take much
     of the time of making it.
 
-    low, high: the shares of the road's metres at which it begins and ends. places: float64[k, 2], longitude and
+    called: its name, or the number where it has none. low, high: the shares of the road's metres at which it begins and ends. places: float64[k, 2], longitude and
     latitude in degrees, two at least. behind: the bytes of all places but the first. at: its first place as JSON.
     line, rest: the texts of its places, and of all but the first, in the form of lines that was asked for. street:
     OSRM's members of a step that tell which street it is. is_whole: whether all of its road is driven. far: the text of
@@ -42,6 +42,7 @@ class Stretch:
     road: int
     name: str
     ref: str
+    called: str
     kind: str
     is_ring: bool
     low: float
@@ -98,11 +99,12 @@ class Stretches:
     def _one(self, road: int, of: Named, is_whole: bool, form: str) -> Stretch:
         name, ref, low, high, places = of
         lines, write, begin = self._lines, FORMS[form], places[0].tolist()
-        kind, metres, rest = lines.kind(road), (high - low) * lines.length(road), write.rest(places)
+        kind, metres = lines.kind(road), (high - low) * lines.length(road)
+        line, rest = write.told(places)
         street = street_told(name, ref, "ferry" if kind == "ferry" else self._mode, self._side)
         far = f',"distance":{metres:.1f},"weight":' if is_whole and abs(10 * metres % 1 - 0.5) > UNSURE else ""
-        return Stretch(road, name, ref, kind, lines.is_roundabout(road), low, high, metres, places,
-                       places[1:].tobytes(), point(begin), write.first(begin) + rest, rest, street, is_whole, far)
+        return Stretch(road, name, ref, name or ref, kind, lines.is_roundabout(road), low, high, metres, places,
+                       places[1:].tobytes(), point(begin), line, rest, street, is_whole, far)
 
     def _still(self, drive: Drive, form: str) -> Stretch:
         """The stretch of a drive between two places that are one."""
