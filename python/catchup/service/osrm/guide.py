@@ -16,8 +16,8 @@ import numpy as np
 from catchup.errors import Failure
 from catchup.places.places import MAP_FILE, Ground
 from catchup.service.osrm.hints import Hints
-from catchup.service.osrm.junctions import Junctions
 from catchup.service.osrm.lines import FORMS
+from catchup.service.osrm.rows import Rows
 from catchup.service.osrm.stretches import Stretches
 from catchup.service.osrm.turns import Turns
 
@@ -28,11 +28,10 @@ MODES: Final = {"bicycle": "cycling", "foot": "walking"}
 
 @dataclass(frozen=True, slots=True)
 class Guide:
-    """What is made of a map once. turns: for each form of lines."""
+    """What is made of a map once. rows: for each form of lines, and for answers with steps and without."""
 
     ground: Ground
-    stretches: Stretches
-    turns: Mapping[str, Turns]
+    rows: Mapping[tuple[str, bool], Rows]
     hints: Hints
     nodes: NodeNumbers
 
@@ -92,6 +91,6 @@ def made(ground: Ground) -> Guide:
         raise Failure(f"{path} can't be read: {fault}") from fault
     side = "left" if said.get("driving_side") == "left" else "right"
     stretches = Stretches(ground.lines, MODES.get(said.get("vehicle", ""), "driving"), side)
-    junctions = Junctions(ground)
-    turns = {name: Turns(junctions, ground.lines, form) for name, form in FORMS.items()}
-    return Guide(ground, stretches, turns, Hints(ground.streets), NodeNumbers(path))
+    turns = Turns(ground)
+    rows = {(form, steps): Rows(stretches, turns if steps else None, form) for form in FORMS for steps in (True, False)}
+    return Guide(ground, rows, Hints(ground.streets), NodeNumbers(path))

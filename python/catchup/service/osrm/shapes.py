@@ -41,7 +41,7 @@ def waypoints(snaps: Sequence[Snap], guide: Guide, asked: Asked) -> str:
 
 def route(drives: Sequence[Drive], guide: Guide, asked: AskedRoute) -> list[str]:
     """A route over drives, as parts of a text: most are ready, and are put together once, with all of the answer."""
-    legs = legs_of(drives, asked.waypoints, guide.stretches, asked.geometries)
+    legs = legs_of(drives, asked.waypoints, guide.rows[asked.geometries, asked.steps])
     told = ["{"]
     if asked.overview != "false":
         told += ['"geometry":', *overview_of(legs, asked), ","]
@@ -56,7 +56,7 @@ def route(drives: Sequence[Drive], guide: Guide, asked: AskedRoute) -> list[str]
 
 def leg_told(leg: Leg, guide: Guide, asked: AskedRoute) -> list[str]:
     """A leg, as parts of a text."""
-    steps, summary = steps_told(leg, guide, asked.geometries) if asked.steps else ([], "")
+    steps, summary = steps_told(leg, asked.geometries) if asked.steps else ([], "")
     more = f'"annotation":{annotation(leg, guide, asked.annotations)},' if asked.annotations else ""
     return ['{"steps":[', *steps, f'],"summary":{text(summary)},{more}{sums(leg.arrive - leg.depart, leg.metres)},'
             f'{timed("depart", leg.depart)},{timed("arrive", leg.arrive)}}}']
@@ -69,15 +69,18 @@ def overview_of(legs: Sequence[Leg], asked: AskedRoute) -> list[str]:
         return [form.whole(simplified([leg.line() for leg in legs]))]
     told = [form.opens]
     for at, leg in enumerate(legs):
-        begin = joint(legs[at - 1], leg, form) + leg.stretches[0].rest if at else leg.stretches[0].line
-        told += [begin, *[stretch.rest for stretch in leg.stretches[1:]]]
+        if at:
+            told.append(joint(legs[at - 1], leg, form))
+        # The first place of a line is told in another way than those behind it.
+        told += [row.rest for row in leg.rows] if at else [
+            leg.rows[0].stretch.line, *[row.rest for row in leg.rows[1:]]]
     told.append(form.closes)
     return told
 
 
 def joint(before: Leg, after: Leg, form: Form) -> str:
     """What a line has between two legs: nothing, where one begins at the very place where the other ends."""
-    ends, begins = before.stretches[-1].places[-1].tolist(), after.stretches[0].places[0].tolist()
+    ends, begins = before.rows[-1].stretch.places[-1].tolist(), after.rows[0].stretch.places[0].tolist()
     return "" if form.single(ends) == form.single(begins) else form.rest(np.array([ends, begins]))
 
 

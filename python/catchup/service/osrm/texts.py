@@ -14,12 +14,6 @@ def text(value: str) -> str:
     return json.dumps(value)
 
 
-@functools.lru_cache(maxsize=65_536)
-def tenths(value: float) -> str:
-    """A number with one decimal. Seconds are whole numbers mostly, so the same come again and again."""
-    return f"{value:.1f}"
-
-
 def sums(seconds: float, metres: float) -> str:
     """The members that tell how long and how far a route, a leg or a step is."""
     return f'"duration":{seconds:.1f},"distance":{metres:.1f},"weight":{seconds:.1f}'

@@ -2,7 +2,7 @@
 to.
 
 A street that goes on by itself is not spoken of, whatever meets it; where its name changes that is told. What is told
-at a junction depends on the two roads alone, so it is kept.
+at a junction depends on the two roads alone.
 """
 
 from __future__ import annotations
@@ -10,14 +10,11 @@ from __future__ import annotations
 import functools
 from collections.abc import Iterable, Mapping, Sequence
 from dataclasses import dataclass
-from itertools import pairwise
-from typing import Final, cast
+from typing import Final
 
-from catchup.kept import Kept
-from catchup.places.lines import Lines
+from catchup.places.places import Ground
 from catchup.service.osrm.courses import course, turned
 from catchup.service.osrm.junctions import Junctions
-from catchup.service.osrm.lines import Form
 from catchup.service.osrm.stretches import Stretch
 
 STRAIGHT: Final = 20                    # degrees to either side that are straight on
@@ -31,25 +28,22 @@ RANKS: Final = {
     "motorway": 0, "trunk": 1, "primary": 2, "secondary": 3, "tertiary": 4, "unclassified": 5, "residential": 5,
     "road": 5, "living_street": 6, "service": 8, "track": 9}
 LOWEST: Final = 7                       # the rank of any other class
-MOST_KEPT: Final = 65_536               # passages that are kept, in each form of lines
 MINOR: Final = 2                        # ranks below another road's from which a road isn't mistaken for its way on
 
 
 @dataclass(slots=True, eq=False)
 class Turn:
-    """The passage from one stretch to the next. Texts that nobody asks for are empty, since many passages are kept.
-    Nobody changes one: it isn't frozen since that would take much of the time of making it.
+    """The passage from one stretch to the next. Texts that nobody asks for are empty, since many are kept. Nobody
+    changes one: it isn't frozen since that would take much of the time of making it.
 
-    kind: OSRM's type of a maneuver, "" where nothing is told. begun: where something is told, the text of a step that
-    begins here; `head` of its letters go up to the first of its intersections, and behind these it may go on as that of
-    a step along the whole of the next stretch alone, up to its duration. passed: where a step may go on over it, the
-    intersection with a comma before it. has_others: whether another road could be taken, besides turning round. sides,
-    intersection: of a roundabout, the parts that its head is made of once the exit is known.
+    kind: OSRM's type of a maneuver, "" where nothing is told. head: where something is told, the text of a step that
+    begins here, up to the first of its intersections. passed: where a step may go on over it, the intersection with a
+    comma before it. has_others: whether another road could be taken, besides turning round. sides, intersection: of a
+    roundabout, the parts that its head is made of once the exit is known.
     """
 
     kind: str
-    begun: str = ""
-    head: int = 0
+    head: str = ""
     passed: str = ""
     has_others: bool = False
     sides: str = ""
@@ -61,35 +55,17 @@ RINGS: Final = frozenset(["roundabout", "exit roundabout"])
 
 
 class Turns:
-    """The passages of a network, found as they are asked for, with the texts of lines in one form."""
+    """The passages of a network."""
 
-    def __init__(self, junctions: Junctions, lines: Lines, form: Form) -> None:
-        self._junctions, self._lines, self._form = junctions, lines, form
-        self._kept: Kept[tuple[int, float], Turn] = Kept(MOST_KEPT // 2)
+    def __init__(self, ground: Ground) -> None:
+        self._junctions = Junctions(ground)
+        self._lines = ground.lines
 
-    def between(self, stretches: Sequence[Stretch]) -> list[Turn]:
-        """The passages between stretches that are driven one after the other: that to the second one first."""
-        found = list(map(self._kept.new.get, pairwise([stretch.road for stretch in stretches])))
-        for at in [at for at, turn in enumerate(found) if turn is None]:
-            found[at] = self._judged(*stretches[at:at + 2])
-        return cast(list[Turn], found)
-
-    def _judged(self, before: Stretch, after: Stretch) -> Turn:
-        """The passage between two stretches that isn't known by their roads."""
-        is_within = before.road == after.road and after.low > 0.0
-        if is_within and not is_renamed(before, after):
-            return NOTHING
-        # Within a road it is known by the share that lies before it, which is below any road's number.
-        key = before.road, -after.low if is_within else after.road
-        found = self._kept.find(key)
-        if found is not None:
-            return found
-        found = renaming(before, after) if is_within else self._at_junction(before, after)
-        if not after.is_whole:
-            return found
-        if found.kind:
-            found.begun += f'],"geometry":{self._form.line(after.line)},"duration":'
-        return self._kept.put(key, found)
+    def into(self, before: Stretch, after: Stretch) -> Turn:
+        """The passage from one stretch to another one that is driven behind it."""
+        if before.road == after.road and after.low > 0.0:
+            return renaming(before, after) if is_renamed(before, after) else NOTHING
+        return self._at_junction(before, after)
 
     def _at_junction(self, before: Stretch, after: Stretch) -> Turn:
         """Decides what is told at a junction."""
@@ -151,7 +127,7 @@ def made(kind: str, intersection: str, sides: str, after: Stretch, has_others: b
     """A passage into a stretch."""
     passed = f",{intersection}" if kind in ("", "new name") else ""
     head = head_of(after.street, f'"type":"{kind}",{sides}', intersection) if kind else ""
-    return Turn(kind, head, len(head), passed, has_others, *((sides, intersection) if kind in RINGS else ("", "")))
+    return Turn(kind, head, passed, has_others, *((sides, intersection) if kind in RINGS else ("", "")))
 
 
 def head_of(street: str, maneuver: str, intersection: str) -> str:
