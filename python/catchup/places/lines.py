@@ -116,7 +116,10 @@ class Lines:
 
     def name_at(self, road: int, share: float) -> tuple[str, str]:
         """The name and the reference number at a point of a road."""
-        at = share * float(self.metres[road])
+        name = self._names.only(road, self.length(road))
+        if name is not None:
+            return name
+        at = share * self.length(road)
         for span in self._names.of(road):
             if span.from_metres - 0.01 <= at <= span.to_metres + 0.01:
                 return span.name, span.ref

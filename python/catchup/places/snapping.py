@@ -165,7 +165,7 @@ class Snapper:
         begin, end = streets.share[segment:segment + 2].tolist()
         point = (x + (u - x) * part, y + (v - y) * part)
         share = begin + (end - begin) * part
-        metres, lead = float(streets.metres[street]), int(streets.lead[street])
+        metres, lead = streets.metres.item(street), streets.lead.item(street)
         if share * metres <= _AT_END or (1.0 - share) * metres <= _AT_END:
             share = 0.0 if share * metres <= _AT_END else 1.0
             x, y = streets.places[streets.first[street + int(share)] - int(share)].tolist()

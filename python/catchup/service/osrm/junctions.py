@@ -7,11 +7,12 @@ streets that meet at a junction are its arms, by rising direction in whole degre
 from __future__ import annotations
 
 from array import array
-from typing import Final
+from typing import Final, NamedTuple
 
 import numpy as np
 from numpy.typing import NDArray
 
+from catchup.kept import Kept
 from catchup.places.places import Ground
 from catchup.places.streets import Grouped, Streets
 from catchup.service.osrm.lines import Floats, Ints, point
@@ -19,7 +20,17 @@ from catchup.service.osrm.lines import Floats, Ints, point
 Shorts = NDArray[np.int16]
 
 AHEAD: Final = 15.0                     # metres of a street that tell its direction where it begins and ends
-MOST_KEPT: Final = 65_536               # junctions whose text is kept
+MOST_KEPT: Final = 65_536               # nodes of which it is kept what is there
+
+
+class Crossing(NamedTuple):
+    """What is at a node: its junction's arms, by their directions; of each road that may be driven from it by which arm
+    it leaves, in which direction, and its class; and the members `entry`, `bearings` and `location` of its
+    intersection, as JSON."""
+
+    arms: list[int]
+    roads: list[tuple[int, int, str]]
+    text: str
 
 
 class Junctions:
@@ -45,36 +56,24 @@ class Junctions:
             array("h", of.tobytes()) for of in (rank[:len(ends.tail)], rank[len(ends.tail):]))
         self._junction, self._first, self._arms = ends.junction, first, (arms % 360).astype(np.int16)
         self._from = Grouped.by(ends.tail, len(ends.junction))
-        self._streets = ground.streets
-        self._texts: dict[int, str] = {}
+        self._streets, self._lines = ground.streets, ground.lines
+        self._kept: Kept[int, Crossing] = Kept(MOST_KEPT // 2)
 
-    def roads_from(self, node: int) -> list[int]:
-        """The roads that may be driven from a node."""
-        found: list[int] = self._from[node].tolist()
-        return found
-
-    def arms(self, node: int) -> list[int]:
-        """The directions of a node's junction's arms, in degrees."""
-        junction = int(self._junction[node])
-        found: list[int] = self._arms[self._first[junction]:self._first[junction + 1]].tolist()
-        return found
-
-    def text(self, road: int) -> str:
-        """The members `entry`, `bearings` and `location` of the intersection at a road's end, as JSON."""
+    def at_end(self, road: int) -> Crossing:
+        """What is where a road ends."""
         node = self.head[road]
-        found = self._texts.get(node)
-        if found is None:
-            if len(self._texts) >= MOST_KEPT:
-                self._texts.clear()
-            found = self._texts[node] = self._written(node, point(self._streets.line(road)[-1].tolist()))
-        return found
+        return self._kept.find(node) or self._kept.put(node, self._made(node, self._streets.line(road)[-1].tolist()))
 
-    def _written(self, node: int, location: str) -> str:
-        bearings = self.arms(node)
-        entries = ["false"] * len(bearings)
-        for road in self.roads_from(node):
-            entries[self.leaves_by[road]] = "true"
-        return f'"entry":[{",".join(entries)}],"bearings":[{",".join(map(str, bearings))}],"location":{location}'
+    def _made(self, node: int, place: list[float]) -> Crossing:
+        junction = int(self._junction[node])
+        arms: list[int] = self._arms[self._first[junction]:self._first[junction + 1]].tolist()
+        roads = [(self.leaves_by[road], self.leaves[road], self._lines.kind(road))
+                 for road in self._from[node].tolist()]
+        entries = ["false"] * len(arms)
+        for arm, _, _ in roads:
+            entries[arm] = "true"
+        return Crossing(arms, roads, f'"entry":[{",".join(entries)}],"bearings":[{",".join(map(str, arms))}],'
+                        f'"location":{point(place)}')
 
 
 def directions_of(streets: Streets) -> tuple[Shorts, Shorts]:

@@ -59,7 +59,6 @@ class Turns:
 
     def __init__(self, ground: Ground) -> None:
         self._junctions = Junctions(ground)
-        self._lines = ground.lines
 
     def into(self, before: Stretch, after: Stretch) -> Turn:
         """The passage from one stretch to another one that is driven behind it."""
@@ -70,9 +69,9 @@ class Turns:
     def _at_junction(self, before: Stretch, after: Stretch) -> Turn:
         """Decides what is told at a junction."""
         of = self._junctions
-        node, arrived, leaves = of.head[before.road], of.reaches[before.road], of.leaves[after.road]
-        came_by, goes_by, leaves_by = of.reaches_by[before.road], of.leaves_by[after.road], of.leaves_by
-        others = [road for road in of.roads_from(node) if leaves_by[road] != came_by and leaves_by[road] != goes_by]
+        crossing, arrived, leaves = of.at_end(before.road), of.reaches[before.road], of.leaves[after.road]
+        came_by, goes_by = of.reaches_by[before.road], of.leaves_by[after.road]
+        others = [(direction, kind) for arm, direction, kind in crossing.roads if arm != came_by and arm != goes_by]
         angle = turned(arrived, leaves)
         kind, modifier = "turn", "uturn" if came_by == goes_by else modifier_of(angle)
         if after.is_ring:
@@ -82,20 +81,20 @@ class Turns:
         elif came_by == goes_by:
             kind = "continue" if is_same(before, after) and after.name else "turn"
         else:
-            rank, ranks = rank_of(after.kind), [rank_of(self._lines.kind(road)) for road in others]
-            rivals = {turned(arrived, of.leaves[road]): rank - other < MINOR
-                      for road, other in zip(others, ranks) if other - rank < MINOR}
+            rank, ranks = rank_of(after.kind), [(direction, rank_of(kind)) for direction, kind in others]
+            rivals = {turned(arrived, direction): rank - other < MINOR
+                      for direction, other in ranks if other - rank < MINOR}
             kind, modifier = kind_on_streets(before, after, angle, rivals)
-            if kind == "turn" and self._ends(node, came_by, arrived):
+            if kind == "turn" and ends_at(crossing.arms, came_by, arrived):
                 kind = "end of road"
-        intersection = f'{{"in":{came_by},"out":{goes_by},{of.text(before.road)}}}'
+        intersection = f'{{"in":{came_by},"out":{goes_by},{crossing.text}}}'
         return made(kind, intersection, sides_told(modifier, after.at, arrived, leaves), after, bool(others))
 
-    def _ends(self, node: int, came_by: int, arrived: int) -> bool:
-        """Whether a road that comes to a junction by one of its arms ends at one that leads across."""
-        arms = self._junctions.arms(node)
-        sides = [turned(arrived, direction) for arm, direction in enumerate(arms) if arm != came_by]
-        return len(sides) == 2 and min(sides) < 0 < max(sides) and all(abs(side) in CROSSWISE for side in sides)
+
+def ends_at(arms: Sequence[int], came_by: int, arrived: int) -> bool:
+    """Whether a road that comes to a junction by one of its arms ends at one that leads across."""
+    sides = [turned(arrived, direction) for arm, direction in enumerate(arms) if arm != came_by]
+    return len(sides) == 2 and min(sides) < 0 < max(sides) and all(abs(side) in CROSSWISE for side in sides)
 
 
 def turning_round(before: Stretch, after: Stretch) -> Turn:
