@@ -10,7 +10,9 @@ import numpy as np
 import pytest
 from placed import DAY, Town, import_map, made_town, real_map
 
-from catchup.places import Ask, Leg, NoRoute, Snap, TooLate, days, reach
+from catchup.places import Ask, Leg, NoRoute, Places, Snap, TooLate, days, reach
+from catchup.places.travel import Travel
+from catchup.tables import PROFILES_FILE, read_profiles
 
 THEMES = ["hours", "turns", "ferries", "edges"]
 
@@ -199,7 +201,6 @@ def test_legs_go_on_from_one_another(made: Town) -> None:
 
 def test_seconds_that_the_program_says_are_taken(made: Town) -> None:
     """Where the program answers `v` lines a drive has its seconds, and is the same as without."""
-    draw = random.Random(9)
     travel = made.places.ground.travel
     told = made.places.over(travel, "v")
 
@@ -217,13 +218,41 @@ def test_seconds_that_the_program_says_are_taken(made: Town) -> None:
             seconds, _ = travel.entered(roads, int(line.split(",")[3]))
             return f"{head} drive=" + " ".join(f"{road},{second}" for road, second in zip(roads, seconds))
 
-        for _ in range(30):
-            stops = [made.somewhere(draw) for _ in range(3)]
-            depart = draw.choice([draw.randrange(DAY), DAY - 30])
-            try:
-                wanted = await made.places.drives(stops, depart, ask)
-            except NoRoute:
-                continue
-            assert await told.drives(stops, depart, ask_for_seconds) == wanted
+        await compare_told(made, told, ask, ask_for_seconds)
 
     made.ask(compare_lines)
+
+
+async def compare_told(made: Town, told: Places, ask: Ask, ask_for_seconds: Ask) -> None:
+    """Compares drives whose seconds are said with those whose seconds are added up."""
+    draw = random.Random(9)
+    for _ in range(30):
+        stops = [made.somewhere(draw) for _ in range(3)]
+        depart = draw.choice([draw.randrange(DAY), DAY - 30])
+        try:
+            wanted = await made.places.drives(stops, depart, ask)
+        except NoRoute:
+            continue
+        assert await told.drives(stops, depart, ask_for_seconds) == wanted
+
+
+def test_the_program_s_seconds_are_those_that_are_added_up(made: Town) -> None:
+    """Where the program answers `v` lines nothing is added up, and all is as with `q` lines."""
+    told = made.places.over(Silent(made.places.ground.profile, read_profiles(made.folder / PROFILES_FILE)), "v")
+
+    async def compare_lines(ask: Ask) -> bool:
+        [said] = await ask(["v,0,0,0"])
+        if said.startswith("refused"):
+            return False
+        await compare_told(made, told, ask, ask)
+        return True
+
+    if not made.ask(compare_lines):
+        pytest.skip("this program doesn't say at which second a road is entered")
+
+
+class Silent(Travel):
+    """Travel functions that add nothing up."""
+
+    def entered(self, roads: list[int], second: int) -> tuple[list[int], int]:
+        pytest.fail("seconds are added up that the program says")

@@ -45,8 +45,8 @@ def as_route(reply: str, start: int, end: int, depart: int) -> dict[str, Any]:
 def test_routes_are_the_programs(service: Service, town: Path) -> None:
     queries = [(i * 7919 % NODES, (i * 104729 + 11) % NODES, i * 2713 % DAY) for i in range(200)]
     queries += [(0, 2, 86399), (1, 1, 5)]
-    replies = ask_program(town, *(f"q,{a},{b},{t}" for a, b, t in queries))
-    for reply, (start, end, depart) in zip(replies, queries):
+    replies, timed = (ask_program(town, *(f"{kind},{a},{b},{t}" for a, b, t in queries)) for kind in "qv")
+    for reply, said, (start, end, depart) in zip(replies, timed, queries):
         for address in (f"/route?from={start}&to={end}&depart={depart}",
                         f"/route?depart={time_of(depart)}&to=node:{end}&from={start}"):
             told = service.get(address)
@@ -54,8 +54,11 @@ def test_routes_are_the_programs(service: Service, town: Path) -> None:
             [leg] = told.pop("legs")
             assert told == as_route(reply, start, end, depart)
             assert leg["roads"] == told["roads"] and (leg["depart"], leg["arrive"]) == (depart, told["arrive"])
+            # A program that doesn't say seconds refuses the line.
+            assert ("seconds" in leg) == (said != "refused: line")
             if "seconds" in leg:
-                assert len(leg["seconds"]) == len(leg["roads"]) and leg["seconds"][:1] in ([], [depart])
+                drive = " ".join(f"{road},{second}" for road, second in zip(leg["roads"], leg["seconds"], strict=True))
+                assert said == f"arrive={leg['arrive']} drive={drive}"
 
 
 @pytest.mark.parametrize("depart", ["28800", "08:00", "8%3A00:00", "8:00", "0028800"])

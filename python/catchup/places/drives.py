@@ -145,11 +145,13 @@ class Driver:
         """The roads of a reply to a query at a second, when each is entered, and when the last one is left."""
         head, _, said = reply.partition(" ")
         if said.startswith("arcs="):
+            # Of a program that doesn't say seconds.
             roads = list(map(int, said[5:].split()))
             return roads, *self.travel.entered(roads, second)
         day = second // DAY * DAY
-        numbers = [int(number) for number in said[6:].replace(",", " ").split()]
-        return numbers[::2], [entered + day for entered in numbers[1::2]], int(head[7:]) + day
+        numbers = list(map(int, said[6:].replace(",", " ").split()))
+        seconds = numbers[1::2] if day == 0 else [entered + day for entered in numbers[1::2]]
+        return numbers[::2], seconds, int(head[7:]) + day
 
 
 def roads_of(drives: Sequence[Drive]) -> int:

@@ -67,7 +67,7 @@ class Travel:
 
     def entered(self, roads: list[int], second: int) -> tuple[list[int], int]:
         """When each of some roads is entered that are driven one after the other from a second on, and when the last
-        one is left. Lines `v` of the program say the same."""
+        one is left. Lines `v` say the same, so nobody asks this of a program that answers them."""
         constant = self._constant
         takes = [constant[road] for road in roads]
         if min(takes, default=0) >= 0:
