@@ -11,7 +11,7 @@ from typing import Any
 import polyline
 import pytest
 from osm_maps import OsmMap
-from osrm_grid import grid_map
+from osrm_grid import grid_map, place_of
 from osrm_town import Town, town
 
 from catchup.geometry import metres
@@ -109,6 +109,14 @@ def test_waypoints(grid: Town) -> None:
     told = grid.get("route", [1, 23, 45], waypoints="0;2")
     assert len(told["waypoints"]) == 2 and len(told["routes"][0]["legs"]) == 1
     assert told["routes"][0]["distance"] == pytest.approx(1600.0, abs=1.0)
+
+
+def test_a_turn_is_told_where_it_is_whatever_was_asked_before(grid: Town) -> None:
+    for north in (150.0, 200.0, 150.0):
+        _, step, _ = grid.steps((0.0, 20.0), (0.0, north), (0.0, 20.0), waypoints="0;2")
+        assert step["maneuver"]["modifier"] == "uturn"
+        place = [float(each) for each in place_of(0.0, north).split(",")]
+        assert step["maneuver"]["location"] == pytest.approx(place, abs=2e-6)
 
 
 def test_a_time_to_arrive(grid: Town) -> None:

@@ -199,6 +199,39 @@ def test_legs_go_on_from_one_another(made: Town) -> None:
     made.ask(compare_legs)
 
 
+def test_no_more_is_asked_than_may_count(made: Town) -> None:
+    """Who begins within a second is asked for at the next one only where that may be as early."""
+    draw = random.Random(11)
+    driver = made.places.driver
+
+    async def count_lines(ask: Ask) -> list[int]:
+        asked: list[Sequence[str]] = []
+
+        async def counting(lines: Sequence[str]) -> Sequence[str]:
+            asked.append(lines)
+            return await ask(lines)
+
+        rounds = []
+        for _ in range(60):
+            start, end, depart = made.somewhere(draw), made.somewhere(draw), draw.randrange(DAY)
+            asked.clear()
+            try:
+                drive = await driver.drive(start, end, depart, counting)
+            except NoRoute:
+                continue
+            sources, targets = (driver.ends.sources(start, depart, driver.travel),
+                                driver.ends.targets(end, driver.travel))
+            if not asked:
+                continue
+            assert len(asked[0]) == len(sources) * len({target.node for target in targets})
+            rounds.append(len(asked))
+            if all(source.part == 0.0 for source in sources) or not driver.travel.has_rest(depart, depart + DAY):
+                assert len(asked) == 1, drive
+        return rounds
+
+    assert set(made.ask(count_lines)) <= {1, 2}
+
+
 def test_seconds_that_the_program_says_are_taken(made: Town) -> None:
     """Where the program answers `v` lines a drive has its seconds, and is the same as without."""
     travel = made.places.ground.travel
