@@ -48,14 +48,14 @@ def test_places_are_written_with_six_decimals(line: list[tuple[float, float]]) -
 def test_a_line_is_put_together_from_its_parts(form: str, line: list[list[float]], cut: int) -> None:
     places, write = np.array(line), FORMS[form]
     cut = min(cut, len(line) - 1)
-    text = write.first(line[0]) + write.rest(places[:cut + 1]) + write.rest(places[cut:])
+    text = write.told(places[:cut + 1])[0] + write.rest(places[cut:])
     assert json.loads(write.line(text)) == json.loads(write.whole(places))
 
 
 def test_few_places_are_written_as_many() -> None:
     places = np.cumsum(np.random.default_rng(1).normal(0, 1e-3, (FEW + 1, 2)), axis=0) + [9.5, 47.1]
     for form in FORMS.values():
-        joined = form.line(form.first(places[0]) + form.rest(places[:FEW]) + form.rest(places[FEW - 1:]))
+        joined = form.line(form.told(places[:FEW])[0] + form.rest(places[FEW - 1:]))
         assert json.loads(joined) == json.loads(form.whole(places))
 
 

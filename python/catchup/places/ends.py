@@ -60,18 +60,19 @@ class Ends:
 
     def may_begin(self, road: int) -> bool:
         """Whether a drive may begin on a road."""
-        return not self.copy[self.tail[road]]
+        return not self.copy.item(self.tail.item(road))
 
     def beginnings(self, snap: Snap, travel: Travel) -> list[Beginning]:
         """All ways to begin a drive at a place, but those that another makes needless at any time."""
         nodes = self._nodes(snap)
         # Whoever begins at a node may drive as who came to it, and more.
-        freer = {int(self.junction[node]) for node in nodes}
+        freer = {self.junction.item(node) for node in nodes}
         found = [Beginning(node, NO_ROAD, 1.0) for node in nodes]
         for road, share in snap.roads:
-            is_needless = share == 0.0 and int(self.tail[road]) in nodes or int(self.junction[self.head[road]]) in freer
-            if not is_needless and not travel.is_closed[road] and self.may_begin(road):
-                found.append(Beginning(int(self.head[road]), road, share))
+            head = self.head.item(road)
+            is_needless = share == 0.0 and self.tail.item(road) in nodes or self.junction.item(head) in freer
+            if not is_needless and not travel.is_closed.item(road) and self.may_begin(road):
+                found.append(Beginning(head, road, share))
         return found
 
     def sources(self, snap: Snap, depart: int, travel: Travel) -> list[Source]:
@@ -88,13 +89,17 @@ class Ends:
 
     def targets(self, snap: Snap, travel: Travel) -> list[Target]:
         """The ends of drives to a place."""
-        found = [Target(int(self.tail[road]), road, share) for road, share in snap.roads if not travel.is_closed[road]]
+        found = [Target(self.tail.item(road), road, share) for road, share in snap.roads
+                 if not travel.is_closed.item(road)]
         there = {target.node: target for target in found if target.share == 0.0}
         # Who is at one of these needs no road that leads to it.
         return [*there.values(), *(target for target in found if target.share > 0.0 and target.node not in there
-                                   and (target.share < 1.0 or int(self.head[target.road]) not in there))]
+                                   and (target.share < 1.0 or self.head.item(target.road) not in there))]
 
     def _nodes(self, snap: Snap) -> set[int]:
         """The first copies that a place is at: those that all roads which leave them leave at this place."""
-        count = Counter(int(self.tail[road]) for road, share in snap.roads if share == 0.0)
+        # Most places are in the middle of a road.
+        if all(share for _, share in snap.roads):
+            return set()
+        count = Counter(self.tail.item(road) for road, share in snap.roads if share == 0.0)
         return {node for node, roads in count.items() if roads == self.leaving[node] and not self.copy[node]}

@@ -7,6 +7,7 @@ InvalidValue), too many (TooBig). Beside OSRM's options there are `depart=` and 
 
 from __future__ import annotations
 
+import functools
 import math
 import re
 import urllib.parse
@@ -36,6 +37,7 @@ _SERVICE: Final = re.compile(r"[A-Za-z0-9]{1,64}", re.ASCII)
 _PROFILE: Final = re.compile(r"[A-Za-z0-9_.~-]{1,64}", re.ASCII)
 _VERSION: Final = re.compile(r"v[0-9]{1,9}", re.ASCII)
 _CLASS: Final = re.compile(r"[A-Za-z0-9]+(?:,[A-Za-z0-9]+)*", re.ASCII)
+SHORT: Final = 256                      # letters of options whose values are kept
 _FORM: Final = "/{service}/v1/{profile}/{longitude},{latitude};..?{option}={value}&.."
 
 
@@ -104,10 +106,10 @@ def parse(path: bytes, query: bytes) -> AskedNearest | AskedRoute | AskedTable:
     rest = decoded(words[4] + (f"?{query.decode('latin-1')}" if query else ""))
     coordinates, options = parted(rest)
     places = places_of(coordinates, MOST_PLACES if service == "route" else MOST_ENTRIES)
-    read = READ[service]
-    values = {name: read[name](value, len(places)) for name, value in options_of(options, service, read)}
-    for name in UNUSED:
-        values.pop(name, None)
+    if len(options) <= SHORT:
+        values = kept_values(options, service, len(places))
+    else:
+        values = values_of(options, service, len(places))
     found: AskedNearest | AskedRoute | AskedTable = _CHECKS[service](profile, places, values)
     return found
 
@@ -422,6 +424,16 @@ def checked_table(profile: str, places: list[Place], values: dict[str, Any]) -> 
                     "sources and destinations")
     return asked
 
+
+def values_of(options: str, service: str, count: int) -> dict[str, Any]:
+    """The values of a service's options, for some number of places. They may be kept, so nobody changes them."""
+    read = READ[service]
+    values = {name: read[name](value, count) for name, value in options_of(options, service, read)}
+    return {name: value for name, value in values.items() if name not in UNUSED}
+
+
+kept_values = functools.lru_cache(maxsize=1_024)(values_of)
+"""The same for short options, which clients mostly ask alike each time."""
 
 _CHECKS: Final[Mapping[str, Callable[[str, list[Place], dict[str, Any]], Any]]] = {
     "nearest": checked_nearest, "route": checked_route, "table": checked_table}

@@ -74,7 +74,7 @@ class Rows:
             if len(found) > 1:
                 several[at] = found
         rows = cast(list[Row], by_road)
-        return (rows, drive.seconds) if not several else spread(rows, several, drive)
+        return spread(rows, several, drive)
 
     def row(self, before: Stretch | None, stretch: Stretch) -> Row:
         """The row of a stretch behind another one, or as the first one."""
@@ -124,8 +124,10 @@ def keys_of(roads: Sequence[int]) -> list[int]:
     return [SPAN * before + road for before, road in pairwise(roads)]
 
 
-def spread(rows: list[Row], several: dict[int, list[Row]], drive: Drive) -> tuple[list[Row], list[float]]:
+def spread(rows: list[Row], several: dict[int, list[Row]], drive: Drive) -> tuple[list[Row], Sequence[float]]:
     """The rows of a drive, some of whose roads have several, and when each stretch is entered."""
+    if not several:
+        return rows, drive.seconds
     seconds: list[float] = [*drive.seconds, drive.arrive]
     # From the end on, so that what comes before stays in its place.
     for at in sorted(several, reverse=True):
