@@ -90,13 +90,13 @@ class Rows:
     def row_of(self, turn: Turn, stretch: Stretch) -> Row:
         """The row of a stretch into which a passage leads."""
         metres, told = stretch.metres, turn.head
-        # A step is as long as a difference of sums says, which may be rounded otherwise than the metres themselves where
-        # these are halfway between two tenths.
+        # A step is as long as a difference of sums says, which may be rounded otherwise than the metres themselves
+        # where these are halfway between two tenths.
         is_ready = bool(told) and stretch.is_whole and abs(10 * metres % 1 - 0.5) > UNSURE
         if is_ready:
             told = f'{told}],"geometry":{FORMS[self._form].line(stretch.line)},"distance":{metres:.1f},"duration":'
-        return Row(stretch, stretch.rest, metres, stretch.name or stretch.ref, turn.kind, told, len(turn.head), is_ready,
-                   turn.passed, turn.has_others, turn.sides, turn.intersection)
+        return Row(stretch, stretch.rest, metres, stretch.name or stretch.ref, turn.kind, told, len(turn.head),
+                   is_ready, turn.passed, turn.has_others, turn.sides, turn.intersection)
 
     def _of_road(self, drive: Drive, at: int, before: Stretch | None) -> list[Row]:
         """The rows of one of a drive's roads, which isn't there at once."""

@@ -23,8 +23,8 @@ class Ring:
 
 @dataclass(frozen=True, slots=True)
 class Steps:
-    """The steps of a leg, but for the arrival. begins: the first row of each step; the first one departs. rings: what is
-    told of some steps, by their first rows."""
+    """The steps of a leg, but for the arrival. begins: the first row of each step; the first one departs. rings: what
+    is told of some steps, by their first rows."""
 
     begins: Sequence[int]
     rings: Mapping[int, Ring]
