@@ -13,10 +13,10 @@ use Rattle.cu_interval.specs.declared.ways.Way.{Way}
 use Rattle.cu_interval.specs.declared.ways.Way.TheVariants.{Road, Via}
 use Rattle.cu_interval.specs.Hierarchies.{HierarchyValue, IsHierarchyOf, IsWellFormed, end_of, list_number, list_of, start_of}
 use Rattle.cu_interval.proofs.EndsLaws.{number_within}
-use Rattle.cu_interval.specs.Touching.{IsChanged}
 use Rattle.cu_unpack.specs.RebuiltRuns.{PackedValue}
 use Rattle.cu_edits.specs.Steps.Packed.{AreAtHandIfMoved, AreCandidatesAtHand, IsAtHand, IsWayAtHand, LearnsPacked}
 use Rattle.cu_edits.specs.Steps.Moving.{AreWaysUnmoved, HalvesAre, IsUnmoved, IsUnmovedWay, KeepsWays, MayStand, MovedValue}
+use Rattle.cu_resettled.specs.ResettlingAll.{IsChangedBySome}
 
 module _ (h : HierarchyValue) (graph : ChordalValue) (of : IsHierarchyOf graph h) where
   pub same_edges : graph.edges ≡ h.edges
@@ -36,10 +36,10 @@ module _ (h : HierarchyValue) (graph : ChordalValue) (of : IsHierarchyOf graph h
   of_all_ends Fact edge fact =
       subst (λ (es : List Ends). (ends : Ends) → slice_get es edge ≡ Some ends → Fact es ends) same_edges fact
 
-  module _ (edit : Edit) (marks : List Bool) (moved : MovedValue) (edge : ℕ) (dir : Dir) where
+  module _ (edit : List Edit) (marks : List Bool) (moved : MovedValue) (edge : ℕ) (dir : Dir) where
     -- a list may stand
     pub may_stand : (arcs : List (List ℕ)) (ends : Ends) → slice_get marks edge ≡ Some true
-        → ((list : List ℕ) → slice_get arcs (list_number edge dir) ≡ Some list → All (λ a. IsChanged h.network edit a → ⊥) list) → slice_get graph.edges edge ≡ Some ends
+        → ((list : List ℕ) → slice_get arcs (list_number edge dir) ≡ Some list → All (λ a. IsChangedBySome h.network edit a → ⊥) list) → slice_get graph.edges edge ≡ Some ends
         → ((middle : ℕ) → HalvesAre (IsUnmoved moved) graph.edges ends dir middle) → MayStand h edit arcs marks moved edge dir
     may_stand arcs ends marked roads at halves = record {
       marked = marked;

@@ -15,12 +15,11 @@ use Rattle.cu_interval.specs.declared.ways.Entry.{Entry}
 use Rattle.cu_interval.specs.declared.ways.TouchedEdge.{TouchedEdge}
 use Rattle.cu_interval.specs.Hierarchies.{HierarchyValue, IsHierarchy, end_of, list_from, start_of}
 use Rattle.cu_interval.specs.LeastBounds.{bound_by, bound_ends, least_bound, least_of, least_over, road_bound, way_bound}
-use Rattle.cu_interval.specs.Replacing.{hierarchy_with}
-use Rattle.cu_interval.specs.Touching.{NumbersTouched}
 use Rattle.cu_edits.specs.Settling.{SettlingValue, numbers_of}
 use Rattle.cu_edits.specs.Steps.Frames.{IsFrame, IsFramed}
 use Rattle.cu_edits.proofs.SettledFrames.{UntouchedPair, other_frame}
 use Rattle.cu_edits.proofs.Sides.{over}
+use Rattle.cu_resettled.specs.ResettlingAll.{NumbersTouchedBySome, hierarchy_with_all}
 
 least_over-same : (n : ℕ) (f g : ℕ → ℕ) → ((s : ℕ) → f s ≡ g s) → least_over n f ≡ least_over n g
 unfolding least_over
@@ -68,11 +67,11 @@ module _ (a b : HierarchyValue) (Pair : ℕ → ℕ → Type 0) (frame : IsFrame
       ∙ sym (ap (λ (o : Option Ends). bound_ends (road_bound b.network) b o dir) there)
 
 -- an edge that an edit doesn't touch keeps the least bounds of its lists, whatever the new lists of those that it touches
-pub untouched_bound : (h : HierarchyValue) → IsHierarchy h → (edit : Edit) (lists : List TouchedEdge) → NumbersTouched h edit (numbers_of lists)
+pub untouched_bound : (h : HierarchyValue) → IsHierarchy h → (edit : List Edit) (lists : List TouchedEdge) → NumbersTouchedBySome h edit (numbers_of lists)
     → (edge : ℕ) (dir : Dir) → edge < length h.edges → (Contains (numbers_of lists) edge → ⊥)
-    → least_bound h edge dir ≡ least_bound (hierarchy_with h edit lists) edge dir
+    → least_bound h edge dir ≡ least_bound (hierarchy_with_all h edit lists) edge dir
 untouched_bound h sound edit lists numbers edge dir inside other =
     let s : SettlingValue = record { before = h; edit = edit; settled = lists } in
     let (ends, at) = item_there h.edges edge inside in
-    least_bound-stays h (hierarchy_with h edit lists) (UntouchedPair h edit) (other_frame s sound (λ e c. (numbers.exact e).0 c)) refl edge dir ends at
+    least_bound-stays h (hierarchy_with_all h edit lists) (UntouchedPair h edit) (other_frame s sound (λ e c. (numbers.exact e).0 c)) refl edge dir ends at
     (edge, dir, over h.edges edge dir ends at, λ touched. other ((numbers.exact edge).1 touched))

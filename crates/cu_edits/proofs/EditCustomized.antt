@@ -9,9 +9,7 @@ use Rattle.cu_chordal.proofs.Members.{here, there}
 use Rattle.cu_chordal.proofs.Decided.{member_decided}
 use Rattle.cu_interval.specs.declared.ways.TouchedEdge.{TouchedEdge}
 use Rattle.cu_interval.specs.Hierarchies.{HierarchyValue, IsHierarchy, end_of, list_of, start_of}
-use Rattle.cu_interval.specs.Replacing.{hierarchy_with}
-use Rattle.cu_interval.specs.Resettling.{ArrivesIn, IsCandidateIn, IsResettled, IsResettledList}
-use Rattle.cu_interval.specs.Touching.{IsTouchedEdge, NumbersTouched}
+use Rattle.cu_interval.specs.Resettling.{ArrivesIn, IsCandidateIn, IsResettledList}
 use Rattle.cu_edits.specs.Customized.{AreCustomized, IsCustomizedEdge, marked}
 use Rattle.cu_edits.specs.Settling.{IsResettledEdge, SettlingValue, list_in, numbers_of}
 use Rattle.cu_edits.specs.Steps.Settled.{AreSettled}
@@ -21,6 +19,7 @@ use Rattle.cu_edits.proofs.SettledAll.{edges_differ}
 use Rattle.cu_edits.proofs.SettledFrames.{UntouchedPair, leads_touched, untouched_frame, untouched_sides}
 use Rattle.cu_edits.proofs.Sides.{halves_good, over}
 use Rattle.cu_edits.proofs.StandingChoices.{choices_stand}
+use Rattle.cu_resettled.specs.ResettlingAll.{IsResettledAll, IsTouchedEdgeBySome, NumbersTouchedBySome, hierarchy_with_all}
 
 -- the mark of an edge that isn't touched stays
 marked_other : (marks : List Bool) (ts : List TouchedEdge) (edge : ℕ) → (Contains (numbers_of ts) edge → ⊥) → slice_get (marked marks ts) edge ≡ slice_get marks edge
@@ -29,10 +28,10 @@ marked_other marks (t ∷ ts) edge none =
     marked_other (slice_set marks t.edge true) ts edge (λ c. none (there t.edge (numbers_of ts) edge c))
     ∙ get_other marks t.edge edge true (λ same. none (subst (Contains (numbers_of (t ∷ ts))) same (here t.edge (numbers_of ts))))
 
-module _ (before : HierarchyValue) (edit : Edit) (ts : List TouchedEdge) (sound : IsHierarchy before)
-    (settled : IsResettled before edit (hierarchy_with before edit ts)) (numbers : NumbersTouched before edit (numbers_of ts)) where
+module _ (before : HierarchyValue) (edit : List Edit) (ts : List TouchedEdge) (sound : IsHierarchy before)
+    (settled : IsResettledAll before edit (hierarchy_with_all before edit ts)) (numbers : NumbersTouchedBySome before edit (numbers_of ts)) where
   abbrev after : HierarchyValue
-  after = hierarchy_with before edit ts
+  after = hierarchy_with_all before edit ts
 
   abbrev whole : SettlingValue
   whole = record { before = before; edit = edit; settled = ts }
@@ -58,14 +57,14 @@ module _ (before : HierarchyValue) (edit : Edit) (ts : List TouchedEdge) (sound 
     once = edges_differ ts numbers.rising;
   }
 
-  untouched_stays : (edge : ℕ) → (IsTouchedEdge before edit edge → ⊥) → IsCustomizedEdge before edge → IsCustomizedEdge after edge
+  untouched_stays : (edge : ℕ) → (IsTouchedEdgeBySome before edit edge → ⊥) → IsCustomizedEdge before edge → IsCustomizedEdge after edge
   untouched_stays edge untouched customized dir ends at =
       let u = start_of ends dir in
       let v = end_of ends dir in
       let leads = over before.edges edge dir ends at in
       let alike = choices_stand before edit ts (UntouchedPair before edit) (untouched_frame whole all_settled) u v
       (λ a joins changed. untouched (leads_touched before sound edit edge dir u v a leads joins changed))
-      (λ m to on. halves_good before.edges (λ e. IsTouchedEdge before edit e → ⊥) edge dir u v m leads (untouched_sides whole sound edge untouched) to on) in
+      (λ m to on. halves_good before.edges (λ e. IsTouchedEdgeBySome before edit e → ⊥) edge dir u v m leads (untouched_sides whole sound edge untouched) to on) in
       subst (IsResettledList after u v) (sym (settled.kept edge dir untouched))
       (runs_alike (IsCandidateIn before u v) (IsCandidateIn after u v) (ArrivesIn before u v) (ArrivesIn after u v) (list_of before edge dir) alike (customized dir ends at))
 
@@ -75,7 +74,7 @@ module _ (before : HierarchyValue) (edit : Edit) (ts : List TouchedEdge) (sound 
     | inr off ↦ untouched_stays edge (λ touched. off ((numbers.exact edge).1 touched)) (customized edge (sym (marked_other marks ts edge off) ∙ mark))
   ]
 
-pub edit_customized : (before : HierarchyValue) (edit : Edit) (ts : List TouchedEdge) (marks : List Bool) → IsHierarchy before
-    → IsResettled before edit (hierarchy_with before edit ts) → NumbersTouched before edit (numbers_of ts)
-    → AreCustomized before marks → AreCustomized (hierarchy_with before edit ts) (marked marks ts)
+pub edit_customized : (before : HierarchyValue) (edit : List Edit) (ts : List TouchedEdge) (marks : List Bool) → IsHierarchy before
+    → IsResettledAll before edit (hierarchy_with_all before edit ts) → NumbersTouchedBySome before edit (numbers_of ts)
+    → AreCustomized before marks → AreCustomized (hierarchy_with_all before edit ts) (marked marks ts)
 edit_customized before edit ts marks sound settled numbers customized = edit_keeps before edit ts sound settled numbers marks customized

@@ -4,7 +4,6 @@ use Rattle.std.specs.Prelude.{slice_get, slice_set}
 use Rattle.std.proofs.lemmas.Bool.{cases_eq}
 use Rattle.std.proofs.lemmas.Option.{slice_get_within}
 use Rattle.std.proofs.lemmas.List.{length-set}
-use Rattle.cu_model.specs.Edits.{edited}
 use Rattle.cu_model.proofs.ListLaws.{get_here, get_other}
 use Rattle.cu_arrival.specs.declared.runs.Run.{Run}
 use Rattle.cu_arrival.specs.Runs.{arrival_value}
@@ -17,7 +16,6 @@ use Rattle.cu_interval.specs.declared.ways.TouchedEdge.{TouchedEdge}
 use Rattle.cu_interval.specs.EdgeArcs.{AreEdgeArcs}
 use Rattle.cu_interval.specs.Hierarchies.{HierarchyValue, end_of, list_of, start_of}
 use Rattle.cu_interval.specs.Resettling.{IsResettledList, rebuilt}
-use Rattle.cu_interval.specs.Touching.{IsTouchedEdge}
 use Rattle.cu_customize.specs.Functions.{FunctionsState}
 use Rattle.cu_customize.specs.Settling.{IsValueOf}
 use Rattle.cu_unpack.specs.Rebuilds.{IsRebuiltFunction, Keeps, RebuiltValue}
@@ -33,6 +31,7 @@ use Rattle.cu_edits.proofs.Replaced.{list_pushed}
 use Rattle.cu_edits.proofs.SettledFrames.{FinalPair, UntouchedPair, final_still, other_edge, settled_cases, settled_itself, settled_with, stays_frame, untouched_frame, untouched_list}
 use Rattle.cu_edits.proofs.SettledOnce as once
 use Rattle.cu_edits.proofs.Sides.{halves_at, over}
+use Rattle.cu_resettled.specs.ResettlingAll.{IsTouchedEdgeBySome, edited_all}
 
 -- functions of a pair that is framed stay those of its list
 pub function_stays : (a b : HierarchyValue) (Pair : ℕ → ℕ → Type 0) → IsFrame a b Pair → (edges : List Ends) → a.edges ≡ edges → b.edges ≡ edges → (e : ℕ) (dir : Dir) (function : Option (List Run))
@@ -45,7 +44,7 @@ function_stays a b Pair frame edges of_a of_b e dir (Some runs) pair list (some,
   rebuilt_stays a b Pair frame edges of_a of_b e dir (arrival_value runs) pair values,
 )
 
-untouched_rebuilt : (s : SettlingValue) → AreSettled s → (e : ℕ) (functions : EdgeFunctions) → (IsTouchedEdge s.before s.edit e → ⊥) → AreRebuilt s.before e functions
+untouched_rebuilt : (s : SettlingValue) → AreSettled s → (e : ℕ) (functions : EdgeFunctions) → (IsTouchedEdgeBySome s.before s.edit e → ⊥) → AreRebuilt s.before e functions
     → AreRebuilt (settled_so_far s) e functions
 untouched_rebuilt s are e functions untouched before = λ dir.
     function_stays s.before (settled_so_far s) (UntouchedPair s.before s.edit) (untouched_frame s are) s.before.edges refl refl e dir (function_in functions dir)
@@ -85,11 +84,11 @@ settling_learnt s graph arcs rebuilt next known mid edge ends old at sides learn
 -- one edge is settled by what is known
 module _ (s : SettlingValue) (are : AreSettled s) (arcs : List (List ℕ)) (roads : AreEdgeArcs s.before.network s.before.order s.before.edges arcs) (known : List (Option EdgeFunctions))
     (final : (e : ℕ) (functions : EdgeFunctions) → slice_get known e ≡ Some (Some functions) → IsFinal s e × AreRebuilt (settled_so_far s) e functions) (t : TouchedEdge)
-    (touched : IsTouchedEdge s.before s.edit t.edge) (fresh : IsSettled s t.edge → ⊥) (sides : HasFinalSides s t.edge)
+    (touched : IsTouchedEdgeBySome s.before s.edit t.edge) (fresh : IsSettled s t.edge → ⊥) (sides : HasFinalSides s t.edge)
     (has : (side : ℕ) → IsLowerSide s.before.edges t.edge side → HasFunctions known side) (functions : EdgeFunctions)
-    (settled : IsSettledEdge s.before.edges arcs (functions_of (record { network = edited s.before.network s.edit; known = known })) t.edge t functions) where
+    (settled : IsSettledEdge s.before.edges arcs (functions_of (record { network = edited_all s.before.network s.edit; known = known })) t.edge t functions) where
   abbrev pub asked : FunctionsState
-  asked = functions_of (record { network = edited s.before.network s.edit; known = known })
+  asked = functions_of (record { network = edited_all s.before.network s.edit; known = known })
 
   abbrev pub now : HierarchyValue
   now = settled_so_far s
@@ -104,9 +103,9 @@ module _ (s : SettlingValue) (are : AreSettled s) (arcs : List (List ℕ)) (road
         let halves = halves_at s.before.edges t.edge dir u v m leads first second in
         let (one, one_at) = has halves.first halves.first_side in
         let (two, two_at) = has halves.second halves.second_side in (
-          half_known s are.sound (edited s.before.network s.edit) known halves.first Down u m one (over s.before.edges halves.first Down (record { low = m; high = u }) halves.to) one_at
+          half_known s are.sound (edited_all s.before.network s.edit) known halves.first Down u m one (over s.before.edges halves.first Down (record { low = m; high = u }) halves.to) one_at
               (final halves.first one one_at).1,
-          half_known s are.sound (edited s.before.network s.edit) known halves.second Up m v two (over s.before.edges halves.second Up (record { low = m; high = v }) halves.on) two_at
+          half_known s are.sound (edited_all s.before.network s.edit) known halves.second Up m v two (over s.before.edges halves.second Up (record { low = m; high = v }) halves.on) two_at
               (final halves.second two two_at).1,
         );
   }
@@ -156,15 +155,15 @@ module _ (s : SettlingValue) (are : AreSettled s) (arcs : List (List ℕ)) (road
 
 -- so it holds one edge more
 pub settling_more : (s : SettlingValue) (graph : ChordalValue) (arcs : List (List ℕ)) (rebuilt : RebuiltValue) (known : List (Option EdgeFunctions)) (t : TouchedEdge) (functions : EdgeFunctions)
-    → IsSettling s graph arcs rebuilt known → IsTouchedEdge s.before s.edit t.edge → (IsSettled s t.edge → ⊥) → HasFinalSides s t.edge
+    → IsSettling s graph arcs rebuilt known → IsTouchedEdgeBySome s.before s.edit t.edge → (IsSettled s t.edge → ⊥) → HasFinalSides s t.edge
     → ((side : ℕ) → IsLowerSide graph.edges t.edge side → HasFunctions known side)
-    → IsSettledEdge graph.edges arcs (functions_of (record { network = edited s.before.network s.edit; known = known })) t.edge t functions
+    → IsSettledEdge graph.edges arcs (functions_of (record { network = edited_all s.before.network s.edit; known = known })) t.edge t functions
     → IsResettledEdge (settled_so_far (settled_with s t)) t × IsSettling (settled_with s t) graph arcs rebuilt (slice_set known t.edge (Some functions))
 settling_more s graph arcs rebuilt known t functions old touched fresh sides has_given settled_given =
     let edges = ap (λ (k : ChordalValue). k.edges) old.hierarchy.0 in
     let has : (side : ℕ) → IsLowerSide s.before.edges t.edge side → HasFunctions known side =
     subst (λ (es : List Ends). (side : ℕ) → IsLowerSide es t.edge side → HasFunctions known side) edges has_given in
-    let asked = functions_of (record { network = edited s.before.network s.edit; known = known }) in
+    let asked = functions_of (record { network = edited_all s.before.network s.edit; known = known }) in
     let settled : IsSettledEdge s.before.edges arcs asked t.edge t functions = subst (λ (es : List Ends). IsSettledEdge es arcs asked t.edge t functions) edges settled_given in
     let (ends, at, is) = touched in
     let inside = slice_get_within s.before.edges t.edge ends at in

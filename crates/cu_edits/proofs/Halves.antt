@@ -2,7 +2,6 @@
 use Rattle.std.proofs.Common.{◌≡◌, ◌≢◌, ◌<◌, ◌^◌, ◌∙◌, ℕ, Bool, List, [], Option, Some, None, refl, ap, sym, subst, arith, min, true, false, ltb, if◌then◌else◌, IsSome}
 use Rattle.std.specs.Prelude.{option_map, slice_get}
 use Rattle.cu_model.specs.declared.roads.Edit.{Edit}
-use Rattle.cu_model.specs.Edits.{edited}
 use Rattle.cu_model.specs.Networks.{NetworkValue}
 use Rattle.cu_model.specs.Orders.{OrderValue}
 use Rattle.cu_model.specs.Roads.{arc_value, is_closed_arc}
@@ -31,7 +30,9 @@ use Rattle.cu_edits.specs.Steps.Known.{AreRebuilt, function_in, functions_of, kn
 use Rattle.cu_edits.specs.Steps.Frames.{LeadsOver}
 use Rattle.cu_edits.proofs.Frames.{ChoosesAlike}
 use Rattle.cu_edits.proofs.Sides.{edge_down, edge_up, list_at}
-use Rattle.cu_resettled.proofs.Unchanged.{joins_leads, leads_joins, ranks_edited, ranks_kept}
+use Rattle.cu_resettled.proofs.Unchanged.{joins_leads, leads_joins}
+use Rattle.cu_resettled.specs.ResettlingAll.{edited_all}
+use Rattle.cu_resettled.proofs.TouchedBySome.{all_ranks_edited, all_ranks_kept}
 
 -- the function that is asked for between the ends of an edge is the edge's
 function_at_ends : (h : HierarchyValue) → IsHierarchy h → (f : FunctionsState) (edge : ℕ) (dir : Dir) (ends : Ends) → slice_get h.edges edge ≡ Some ends
@@ -124,7 +125,7 @@ abbrev pub KnowsWay : HierarchyValue → FunctionsState → ℕ → ℕ → Way 
 KnowsWay h f u v (Road a) = f.road a ≡ road_in h.network a
 KnowsWay h f u v (Via m) = m < u → m < v → HasEdge h.edges m u → HasEdge h.edges m v → IsHalf h f u m × IsHalf h f m v
 
-module _ (before : HierarchyValue) (edit : Edit) (h : HierarchyValue) (network : h.network ≡ edited before.network edit) (order : h.order ≡ before.order) (roads : List ℕ) (f : FunctionsState)
+module _ (before : HierarchyValue) (edit : List Edit) (h : HierarchyValue) (network : h.network ≡ edited_all before.network edit) (order : h.order ≡ before.order) (roads : List ℕ) (f : FunctionsState)
     (u v : ℕ) (are : AreArcsFrom before.network before.order u v roads) where
   is_open : (a : ℕ) → KnowsWay h f u v (Road a) → IsSome (f.road a) → is_closed_arc h.network a ≡ false
   is_open a knows some = open_road h.network a (is_closed_arc h.network a) refl (subst IsSome knows some)
@@ -133,8 +134,8 @@ module _ (before : HierarchyValue) (edit : Edit) (h : HierarchyValue) (network :
   pub candidate_in : (way : Way) → KnowsWay h f u v way → IsCandidateBy h.edges roads f u v way → IsCandidateIn h u v way
   candidate_in (Road a) knows (c, some) =
       joins_leads h.network h.order a u v
-      (subst (λ (g : NetworkValue). LinksRanks g h.order a u v) (sym network) (subst (λ (o : OrderValue). LinksRanks (edited before.network edit) o a u v) (sym order)
-      (ranks_edited before.network before.order edit a u v ((are.exact a).0 c)))) (is_open a knows some)
+      (subst (λ (g : NetworkValue). LinksRanks g h.order a u v) (sym network) (subst (λ (o : OrderValue). LinksRanks (edited_all before.network edit) o a u v) (sym order)
+      (all_ranks_edited before.network before.order edit a u v ((are.exact a).0 c)))) (is_open a knows some)
   candidate_in (Via m) knows (to, on, first, second) =
       let halves = knows to on (down_edge h.edges f u m to first) (up_edge h.edges f m v on second) in (
         to,
@@ -147,8 +148,8 @@ module _ (before : HierarchyValue) (edit : Edit) (h : HierarchyValue) (network :
   pub candidate_by : (way : Way) → KnowsWay h f u v way → IsCandidateIn h u v way → IsCandidateBy h.edges roads f u v way
   candidate_by (Road a) knows leads =
       let (joins, open_now) = leads_joins h.network h.order a u v leads in (
-        (are.exact a).1 (ranks_kept before.network before.order edit a u v
-            (subst (λ (o : OrderValue). LinksRanks (edited before.network edit) o a u v) order (subst (λ (g : NetworkValue). LinksRanks g h.order a u v) network joins))),
+        (are.exact a).1 (all_ranks_kept before.network before.order edit a u v
+            (subst (λ (o : OrderValue). LinksRanks (edited_all before.network edit) o a u v) order (subst (λ (g : NetworkValue). LinksRanks g h.order a u v) network joins))),
         subst IsSome (sym (knows ∙ road_there h.network a open_now)) refl,
       )
   candidate_by (Via m) knows (to, on, first, second) =
@@ -188,7 +189,7 @@ pub knows_way : (h : HierarchyValue) (f : FunctionsState) (u v : ℕ) → KnowsA
 knows_way h f u v knows (Road a) = knows.road a
 knows_way h f u v knows (Via m) = knows.halves m
 
-pub settled_alike : (before : HierarchyValue) (edit : Edit) (h : HierarchyValue) → h.network ≡ edited before.network edit → h.order ≡ before.order → (roads : List ℕ) (f : FunctionsState) (u v : ℕ)
+pub settled_alike : (before : HierarchyValue) (edit : List Edit) (h : HierarchyValue) → h.network ≡ edited_all before.network edit → h.order ≡ before.order → (roads : List ℕ) (f : FunctionsState) (u v : ℕ)
     → AreArcsFrom before.network before.order u v roads → KnowsAll h f u v
     → ChoosesAlike (IsCandidateBy h.edges roads f u v) (IsCandidateIn h u v) (ArrivesBy h.edges f u v) (ArrivesIn h u v)
 settled_alike before edit h network order roads f u v are knows = record {

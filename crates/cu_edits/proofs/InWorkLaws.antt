@@ -6,15 +6,11 @@ use Rattle.std.specs.List.Sorted.{IsStrictlyIncreasing}
 use Rattle.std.proofs.lemmas.List.{length-map}
 use Rattle.std.proofs.lemmas.Option.{get_or_from_slice_get, slice_get_within}
 use Rattle.cu_model.specs.declared.roads.Edit.{Edit}
-use Rattle.cu_model.specs.Edits.{edited}
 use Rattle.cu_model.specs.Networks.{IsNetwork}
 use Rattle.cu_chordal.specs.declared.graph.TheConstants.{MAX_EDGES}
 use Rattle.cu_chordal.proofs.Members.{here, there}
 use Rattle.cu_interval.specs.declared.ways.TouchedEdge.{TouchedEdge}
 use Rattle.cu_interval.specs.Hierarchies.{HierarchyValue, IsHierarchy}
-use Rattle.cu_interval.specs.Replacing.{hierarchy_with}
-use Rattle.cu_interval.specs.Resettling.{IsResettled}
-use Rattle.cu_interval.specs.Touching.{NumbersTouched}
 use Rattle.cu_edits.specs.InWork.{InWorkValue, IsInWork, PapersValue, SettlesNext, in_work_of, left_of}
 use Rattle.cu_edits.specs.Steps.Settled.{AreSettled}
 use Rattle.cu_edits.specs.Settling.{IsResettledEdge, SettlingValue, numbers_of, settled_so_far}
@@ -23,6 +19,7 @@ use Rattle.cu_edits.proofs.Recustomized.{AreFirstSettled, first_all, first_asks,
 use Rattle.cu_edits.proofs.RisingEdges.{head_less, tail_increasing}
 use Rattle.cu_edits.proofs.SettledAll.{AllSettled, all_resettled, all_sound}
 use Rattle.cu_edits.proofs.SettledFrames.{settled_none, settled_with}
+use Rattle.cu_resettled.specs.ResettlingAll.{IsResettledAll, NumbersTouchedBySome, edited_all, hierarchy_with_all}
 
 few_from : (a n : ℕ) (xs : List ℕ) → a ≤ n → IsStrictlyIncreasing xs → ((y : ℕ) → Contains xs y → (a ≤ y) × (y < n)) → length xs + a ≤ n
 few_from a n [] le rising within = omega (arith, le)
@@ -35,7 +32,7 @@ few_from a n (x ∷ xs) le rising within =
     omega (arith, rest, x_in)
 
 -- an edit touches no more edges than there are
-pub few_touched : (h : HierarchyValue) → IsHierarchy h → (edit : Edit) (edges : List ℕ) → NumbersTouched h edit edges → length edges ≤ MAX_EDGES
+pub few_touched : (h : HierarchyValue) → IsHierarchy h → (edit : List Edit) (edges : List ℕ) → NumbersTouchedBySome h edit edges → length edges ≤ MAX_EDGES
 few_touched h sound edit edges touched =
     let few = few_from 0 (length h.edges) edges (omega arith) touched.rising (λ y c.
     let (ends, at, is) = (touched.exact y).0 c in
@@ -45,7 +42,7 @@ few_touched h sound edit edges touched =
     omega (arith, few, most)
 
 -- an edit begins with none settled
-pub in_work_none : (client : ℕ) (edges : List ℕ) (s : SettlingValue) → s.settled ≡ [] → NumbersTouched s.before s.edit edges → IsHierarchy s.before
+pub in_work_none : (client : ℕ) (edges : List ℕ) (s : SettlingValue) → s.settled ≡ [] → NumbersTouchedBySome s.before s.edit edges → IsHierarchy s.before
     → IsInWork (record { client = client; edges = edges; state = s })
 in_work_none client edges s none touched sound = record {
   touched = touched;
@@ -90,17 +87,17 @@ module _ (work : InWorkValue) (is : IsInWork work) where
 
   -- and what they are then
   module _ (none : left_of work ≡ 0) (lists : List TouchedEdge) (same : lists ≡ work.state.settled) where
-    pub work_touched : NumbersTouched work.state.before work.state.edit (numbers_of lists)
-    work_touched = subst (NumbersTouched work.state.before work.state.edit) (sym (ap numbers_of same ∙ none_left none)) is.touched
+    pub work_touched : NumbersTouchedBySome work.state.before work.state.edit (numbers_of lists)
+    work_touched = subst (NumbersTouchedBySome work.state.before work.state.edit) (sym (ap numbers_of same ∙ none_left none)) is.touched
 
-    pub work_resettled : IsResettled work.state.before work.state.edit (hierarchy_with work.state.before work.state.edit lists)
+    pub work_resettled : IsResettledAll work.state.before work.state.edit (hierarchy_with_all work.state.before work.state.edit lists)
     work_resettled =
-        subst (λ (x : List TouchedEdge). IsResettled work.state.before work.state.edit (hierarchy_with work.state.before work.state.edit x)) (sym same)
+        subst (λ (x : List TouchedEdge). IsResettledAll work.state.before work.state.edit (hierarchy_with_all work.state.before work.state.edit x)) (sym same)
         (all_resettled work.state is.are (all_in_work none))
 
-    pub work_sound : IsNetwork (edited work.state.before.network work.state.edit) → IsHierarchy (hierarchy_with work.state.before work.state.edit lists)
+    pub work_sound : IsNetwork (edited_all work.state.before.network work.state.edit) → IsHierarchy (hierarchy_with_all work.state.before work.state.edit lists)
     work_sound network =
-        subst (λ (x : List TouchedEdge). IsHierarchy (hierarchy_with work.state.before work.state.edit x)) (sym same)
+        subst (λ (x : List TouchedEdge). IsHierarchy (hierarchy_with_all work.state.before work.state.edit x)) (sym same)
         (all_sound work.state is.are (all_in_work none) network)
 
 -- what a step leaves

@@ -3,8 +3,10 @@ pub mod BothHalves
 pub mod BoundsStay
 pub mod ChangedRoads
 pub mod DrivenPieces
+pub mod DrivenRoads
 pub mod EditSettling
 pub mod FirstOnes
+pub mod FoundLaws
 pub mod Frames
 pub mod StandingChoices
 pub mod TurnedPlain
@@ -13,6 +15,7 @@ pub mod KnownLists
 pub mod LearntSides
 pub mod LearntPacked
 pub mod MovedPlaces
+pub mod Reached
 pub mod Recustomized
 pub mod Replaced
 pub mod RisingEdges
@@ -38,3 +41,8 @@ pub mod TakenLists
 pub mod EditedNetworks
 pub mod InWorkLaws
 pub mod PausedLaws
+pub mod EditedLists
+pub mod Planned
+pub mod AddedEdits
+pub mod ListLaws
+pub mod PiecesGiven

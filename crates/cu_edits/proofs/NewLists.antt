@@ -4,7 +4,6 @@ use Rattle.std.specs.Prelude.{All, slice_get}
 use Rattle.std.proofs.lemmas.List.Elements.{All-contains}
 use Rattle.std.proofs.lemmas.Option.{slice_get-get_or, slice_get_within}
 use Rattle.cu_model.specs.Days.{day}
-use Rattle.cu_model.specs.Edits.{edited}
 use Rattle.cu_model.specs.Networks.{NetworkValue}
 use Rattle.cu_model.specs.Roads.{arc_value, is_closed_arc}
 use Rattle.cu_model.proofs.RoadLaws.{all_at}
@@ -22,7 +21,6 @@ use Rattle.cu_interval.specs.declared.ways.Entry.{Entry}
 use Rattle.cu_interval.specs.EdgeArcs.{AreArcsFrom}
 use Rattle.cu_interval.specs.Hierarchies.{HierarchyValue, IsWellFormed, end_of, list_number, list_of, start_of}
 use Rattle.cu_interval.specs.Resettling.{ArrivesIn, IsCandidateIn, IsResettledList}
-use Rattle.cu_interval.specs.Touching.{IsChanged}
 use Rattle.cu_interval.specs.WayLists.{GoesFirst, IsFirstEarliest}
 use Rattle.cu_interval.proofs.Lookups.{way_held}
 use Rattle.cu_interval.proofs.Unpacked.{way_there}
@@ -44,8 +42,10 @@ use Rattle.cu_edits.proofs.SettledOnce.{listed}
 use Rattle.cu_edits.proofs.SettledValues as values
 use Rattle.cu_edits.proofs.Sides.{halves_at, edge_down, edge_up, list_at, over}
 use Rattle.cu_edits.proofs.StandingChoices as standing
-use Rattle.cu_resettled.proofs.Unchanged.{leads_joins, unchanged_alike}
+use Rattle.cu_resettled.proofs.Unchanged.{leads_joins}
 use Rattle.cu_edits.proofs.PackedStay.{packed_stay}
+use Rattle.cu_resettled.specs.ResettlingAll.{IsChangedBySome, edited_all}
+use Rattle.cu_resettled.proofs.TouchedBySome.{all_alike}
 
 pub packed_values : (h : HierarchyValue) (edge : ℕ) (dir : Dir) (function : Option (List Run)) → IsRebuiltRuns h edge dir function → HasValues h edge dir function
 packed_values h edge dir None is = is
@@ -108,7 +108,7 @@ module _ (s : SettlingValue) (graph : ChordalValue) (arcs : List (List ℕ)) (pa
   way_stands (Via m) unmoved = both_stand m unmoved
 
   way_framed : (way : Way) → IsWellFormed s.before u v way → IsUnmovedWay s.before.network s.edit s.before.edges moved ends dir way → IsFramed s.before now (StandingPair s moved) u v way
-  way_framed (Road a) formed unchanged = λ t. sym ((unchanged_alike s.before.network s.edit a unchanged).value t)
+  way_framed (Road a) formed unchanged = λ t. sym ((all_alike s.before.network s.edit a unchanged).value t)
   way_framed (Via m) (to, on, first, second, some, more) unmoved = let both = both_stand m unmoved first second in (to, on, both.0, both.1)
 
   pub old_framed : All (λ (entry : Entry). IsUnmovedWay s.before.network s.edit s.before.edges moved ends dir entry.way) old
@@ -117,11 +117,11 @@ module _ (s : SettlingValue) (graph : ChordalValue) (arcs : List (List ℕ)) (pa
 
   -- where nothing has changed that a list may be made of, it stands
   module _ (marks : List Bool) (customized : AreCustomized s.before marks) (may : MayStand s.before s.edit arcs marks moved edge dir) where
-    unchanged : (a : ℕ) → LinksRanks s.before.network s.before.order a u v → IsChanged s.before.network s.edit a → ⊥
+    unchanged : (a : ℕ) → LinksRanks s.before.network s.before.order a u v → IsChangedBySome s.before.network s.edit a → ⊥
     unchanged a links changed =
         let (list, there) = listed s.before arcs holds.parts.roads edge dir ends at in
         let among = ((holds.parts.roads.each edge dir ends list at there).exact a).1 links in
-        All-contains (λ (b : ℕ). IsChanged s.before.network s.edit b → ⊥) list a (may.roads list there) among changed
+        All-contains (λ (b : ℕ). IsChangedBySome s.before.network s.edit b → ⊥) list a (may.roads list there) among changed
 
     halves : (m : ℕ) → HasEdge s.before.edges m u → HasEdge s.before.edges m v → StandingPair s moved u m × StandingPair s moved m v
     halves m = both_stand m (may.halves ends at m)
@@ -143,7 +143,7 @@ module _ (s : SettlingValue) (graph : ChordalValue) (arcs : List (List ℕ)) (pa
 
   -- else it is settled by functions of the hierarchy before, but of moved lists by their functions after
   abbrev pub asked : FunctionsState
-  asked = kept_state (edited s.before.network s.edit) (layered packed.functions moved.places moved.functions)
+  asked = kept_state (edited_all s.before.network s.edit) (layered packed.functions moved.places moved.functions)
 
   -- the packed runs of a half that stands
   half_before : (e : ℕ) (d : Dir) (x y : ℕ) (l : LeadsOver s.before.edges e d x y) → IsLowerSide s.before.edges edge e → IsUnmoved moved e d → IsKnownList packed (list_number e d)
@@ -208,7 +208,7 @@ module _ (s : SettlingValue) (graph : ChordalValue) (arcs : List (List ℕ)) (pa
 
   -- each road is known
   knows_road : (a : ℕ) → KnowsWay now asked u v (Road a)
-  knows_road a = road_same (edited s.before.network s.edit) a (is_closed_arc (edited s.before.network s.edit) a)
+  knows_road a = road_same (edited_all s.before.network s.edit) a (is_closed_arc (edited_all s.before.network s.edit) a)
 
   -- and so is each way at hand
   pub knows_at_hand : (way : Way) → IsWayAtHand moved packed s.before.edges ends dir way → KnowsWay now asked u v way

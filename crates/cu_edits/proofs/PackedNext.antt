@@ -3,7 +3,6 @@ use Rattle.std.proofs.Common.{◌≡◌, ◌≢◌, ◌≤◌, ◌<◌, ◌+◌,
 use Rattle.std.specs.Prelude.{All, IfSome, slice_get, slice_set}
 use Rattle.std.proofs.lemmas.Option.{slice_get_within}
 use Rattle.cu_model.specs.declared.roads.Edit.{Edit}
-use Rattle.cu_model.specs.Edits.{edited}
 use Rattle.cu_model.specs.Networks.{NetworkValue}
 use Rattle.cu_model.proofs.RoadLaws.{all_at}
 use Rattle.cu_arrival.specs.declared.runs.Run.{Run}
@@ -36,6 +35,7 @@ use Rattle.cu_edits.proofs.Placing.{outcome_in, placed_both}
 use Rattle.cu_edits.proofs.SettledFrames.{settled_with}
 use Rattle.cu_edits.proofs.SettledOnce as once
 use Rattle.cu_edits.proofs.StandingLists.{ArePlaced, moves_more, stands_more}
+use Rattle.cu_resettled.specs.ResettlingAll.{edited_all}
 
 -- the next edge is one of the graph's
 pub edge_inside : (s : SettlingValue) (graph : ChordalValue) (edge : ℕ) → IsHierarchyOf graph s.before → IsNext s edge → edge < length graph.edges
@@ -101,7 +101,7 @@ module _ (s : SettlingValue) (graph : ChordalValue) (arcs : List (List ℕ)) (pa
 
   -- a list that was settled
   module _ (hand : AreCandidatesAtHand s.before s.edit marks moved packed edge dir) (found : SettledRuns)
-      (by : IsPackedList s.before.edges arcs (kept_state (edited s.before.network s.edit) (layered packed.functions moved.places moved.functions)) edge dir found) where
+      (by : IsPackedList s.before.edges arcs (kept_state (edited_all s.before.network s.edit) (layered packed.functions moved.places moved.functions)) edge dir found) where
     resettled : (ends : Ends) → slice_get s.before.edges edge ≡ Some ends → IsResettledList (settled_so_far s) (start_of ends dir) (end_of ends dir) found.ways
     resettled ends at =
         let (list, there) = once.listed s.before arcs holds.parts.roads edge dir ends at in
@@ -132,7 +132,7 @@ if_some None P holds = tt
 if_some (Some x) P holds = holds x refl
 
 -- one edge more was settled
-pub record IsOneMore (h : HierarchyValue) (edit : Edit) (before after : List TouchedEdge) (graph : ChordalValue) (arcs : List (List ℕ)) (packed : PackedValue)
+pub record IsOneMore (h : HierarchyValue) (edit : List Edit) (before after : List TouchedEdge) (graph : ChordalValue) (arcs : List (List ℕ)) (packed : PackedValue)
     (moved : MovedValue) (t : TouchedEdge) : Type 0 where
   pub list : after ≡ before ++ (t ∷ [])
   pub resettled : IsResettledEdge (settled_so_far (settling_of h edit after)) t
@@ -183,7 +183,7 @@ module _ (s : SettlingValue) (graph : ChordalValue) (arcs : List (List ℕ)) (pa
   }
 
 -- what settling one edge more gives, by its parts
-pub packed_one : (h : HierarchyValue) (edit : Edit) (before after : List TouchedEdge) (graph : ChordalValue) (arcs : List (List ℕ)) (packed : PackedValue)
+pub packed_one : (h : HierarchyValue) (edit : List Edit) (before after : List TouchedEdge) (graph : ChordalValue) (arcs : List (List ℕ)) (packed : PackedValue)
     (moved one two last : MovedValue) (t copy : TouchedEdge)
     (up down : NewList) (upwards downwards : ℕ) → IsSettlingPacked (settling_of h edit before) graph arcs packed moved → IsNext (settling_of h edit before) t.edge
     → IsNewList (settling_of h edit before) moved t.edge Up up → IsNewList (settling_of h edit before) moved t.edge Down down → t.up ≡ up.ways → t.down ≡ down.ways

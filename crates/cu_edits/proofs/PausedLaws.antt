@@ -1,8 +1,7 @@
 -- A settler put aside may be handed the graph and the roads again; and what it knew of the hierarchy before the edit is known still.
-use Rattle.std.proofs.Common.{◌≡◌, ℕ, List, Option, subst, sym}
+use Rattle.std.proofs.Common.{◌≡◌, ℕ, List, Option, subst}
 use Rattle.std.specs.Prelude.{IfSome}
 use Rattle.cu_model.specs.declared.roads.Edit.{Edit}
-use Rattle.cu_model.specs.Edits.{IsEditInRange, edited}
 use Rattle.cu_model.specs.Networks.{IsNetwork}
 use Rattle.cu_chordal.specs.Graphs.{ChordalValue}
 use Rattle.cu_interval.specs.Hierarchies.{HierarchyValue}
@@ -17,7 +16,9 @@ use Rattle.cu_edits.specs.Steps.Holding.{settling_of}
 use Rattle.cu_edits.specs.Steps.Packed.{IsSettlingPacked}
 use Rattle.cu_edits.specs.Steps.Parts.{AreParts}
 use Rattle.cu_edits.specs.Steps.SettlerStates.{Holds}
-use Rattle.cu_edits.proofs.EditedNetworks.{edited_network}
+use Rattle.cu_resettled.specs.ResettlingAll.{edited_all}
+use Rattle.cu_edits.specs.Lists.{AreInRange}
+use Rattle.cu_edits.proofs.EditedLists.{edited_networks}
 
 -- what is held is held over parts of the hierarchy
 parts_held : (s : SettlingValue) (graph : ChordalValue) (arcs : List (List ℕ)) (state : SettlerState) → Holds s graph arcs state → AreParts s.before s.edit graph arcs
@@ -56,16 +57,16 @@ held_over s (Plain plain) graph other arcs roads h parts = record {
   settled = h.settled;
 }
 
-module _ (h : HierarchyValue) (edit : Edit) (paused : PausedValue) (fits : FitsPaused h edit paused) where
+module _ (h : HierarchyValue) (edit : List Edit) (paused : PausedValue) (fits : FitsPaused h edit paused) where
   held_parts : AreParts h edit fits.0 fits.1
   held_parts = parts_held (settling_of h edit paused.settled) fits.0 fits.1 paused.state fits.2
 
   -- the edit is one of the hierarchy, and leaves a network
-  pub paused_range : IsEditInRange h.network edit
+  pub paused_range : AreInRange h.network edit
   paused_range = held_parts.range
 
-  pub paused_network : IsNetwork (edited h.network edit)
-  paused_network = edited_network h.network edit held_parts.hierarchy.1.network held_parts.range held_parts.pieces
+  pub paused_network : IsNetwork (edited_all h.network edit)
+  paused_network = edited_networks h.network edit held_parts.hierarchy.1.network held_parts.range held_parts.pieces
 
   -- what was learned of the hierarchy
   pub nothing_earlier : (learned : Option PackedValue) → paused.state ≡ Nothing learned → IfSome learned (ArePackedOf h)

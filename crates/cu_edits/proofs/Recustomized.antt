@@ -7,30 +7,27 @@ use Rattle.std.proofs.lemmas.List.{length-map, length_push, map-append}
 use Rattle.std.proofs.lemmas.List.Sorted.{Contains-permutation, IsPermutation-map, IsPermutation-refl, IsPermutation-sym}
 use Rattle.std.proofs.lemmas.Option.{slice_get-get_or}
 use Rattle.cu_model.specs.declared.roads.Edit.{Edit}
-use Rattle.cu_model.specs.Edits.{IsEditInRange}
 use Rattle.cu_interval.specs.declared.ways.TouchedEdge.{TouchedEdge}
 use Rattle.cu_interval.specs.Hierarchies.{HierarchyValue, IsHierarchy}
-use Rattle.cu_interval.specs.Replacing.{hierarchy_with}
-use Rattle.cu_interval.specs.Resettling.{IsResettled}
-use Rattle.cu_interval.specs.Touching.{IsTouchedEdge, NumbersTouched}
 use Rattle.cu_edits.specs.Settling.{IsResettledEdge, IsSettled, SettlingValue, numbers_of, settled_so_far}
 use Rattle.cu_edits.specs.Steps.Holding.{IsNext, settling_of}
-use Rattle.cu_edits.specs.Steps.Known.{IsEditSound}
 use Rattle.cu_edits.specs.Steps.Settled.{AreSettled}
-use Rattle.cu_edits.proofs.EditedNetworks.{edited_network}
 use Rattle.cu_edits.proofs.RisingEdges.{next_of_rising, split_at, whole_front}
 use Rattle.cu_edits.proofs.SettledAll.{AllSettled, all_resettled, all_sound}
 use Rattle.cu_edits.proofs.SettledFrames.{settled_more, settled_none}
+use Rattle.cu_resettled.specs.ResettlingAll.{IsResettledAll, IsTouchedEdgeBySome, NumbersTouchedBySome, hierarchy_with_all}
+use Rattle.cu_edits.specs.Lists.{AreInRange, AreSound}
+use Rattle.cu_edits.proofs.EditedLists.{edited_networks}
 
 -- the lists so far are those that the settler gave, of so many first edges
-pub record AreFirstSettled (h : HierarchyValue) (edit : Edit) (edges : List ℕ) (index : ℕ) (lists : List TouchedEdge) (s : SettlingValue) : Type 0 where
+pub record AreFirstSettled (h : HierarchyValue) (edit : List Edit) (edges : List ℕ) (index : ℕ) (lists : List TouchedEdge) (s : SettlingValue) : Type 0 where
   pub state : s ≡ settling_of h edit lists
   pub are : AreSettled (settling_of h edit lists)
   pub count : length lists ≡ index
   pub rest : List ℕ
   pub parts : numbers_of lists ++ rest ≡ edges
 
-pub first_none : (h : HierarchyValue) → IsHierarchy h → (edit : Edit) (edges : List ℕ) (s : SettlingValue) → s ≡ settling_of h edit [] → AreFirstSettled h edit edges 0 [] s
+pub first_none : (h : HierarchyValue) → IsHierarchy h → (edit : List Edit) (edges : List ℕ) (s : SettlingValue) → s ≡ settling_of h edit [] → AreFirstSettled h edit edges 0 [] s
 first_none h sound edit edges s state = record {
   state = state;
   are = settled_none h edit sound;
@@ -39,7 +36,7 @@ first_none h sound edit edges s state = record {
   parts = refl;
 }
 
-module _ (h : HierarchyValue) (edit : Edit) (edges : List ℕ) (touched : NumbersTouched h edit edges) (index : ℕ) (lists : List TouchedEdge) (s : SettlingValue)
+module _ (h : HierarchyValue) (edit : List Edit) (edges : List ℕ) (touched : NumbersTouchedBySome h edit edges) (index : ℕ) (lists : List TouchedEdge) (s : SettlingValue)
     (first : AreFirstSettled h edit edges index lists s) where
   -- the edges in their parts, before the next one is settled
   pub front_here : index < length edges → (more : List ℕ) × (numbers_of lists ++ (get_or edges index 0 ∷ more) ≡ edges)
@@ -58,7 +55,7 @@ module _ (h : HierarchyValue) (edit : Edit) (edges : List ℕ) (touched : Number
       let edge = get_or edges index 0 in
       let (more, parts) = front_here lt in
       subst (λ (x : SettlingValue). IsNext x edge) (sym first.state)
-      (next_of_rising (settling_of h edit lists) first.are.sound edge more (subst (NumbersTouched h edit) (sym parts) touched))
+      (next_of_rising (settling_of h edit lists) first.are.sound edge more (subst (NumbersTouchedBySome h edit) (sym parts) touched))
 
   -- one more edge is settled
   pub first_next : index < length edges → (grown : List TouchedEdge) (next : SettlingValue) (t : TouchedEdge) → t.edge ≡ get_or edges index 0
@@ -68,7 +65,7 @@ module _ (h : HierarchyValue) (edit : Edit) (edges : List ℕ) (touched : Number
       let number : TouchedEdge → ℕ = λ (x : TouchedEdge). x.edge in
       let (more, parts) = front_here lt in
       let own = subst (λ (e : ℕ). numbers_of lists ++ (e ∷ more) ≡ edges) (sym named) parts in
-      let asked = next_of_rising (settling_of h edit lists) first.are.sound t.edge more (subst (NumbersTouched h edit) (sym own) touched) in
+      let asked = next_of_rising (settling_of h edit lists) first.are.sound t.edge more (subst (NumbersTouchedBySome h edit) (sym own) touched) in
       let moved : next ≡ settling_of h edit (lists ++ (t ∷ [])) = state ∙ ap (λ (x : SettlingValue). record x { settled = x.settled ++ (t ∷ []) }) first.state in
       let are = settled_more (settling_of h edit lists) first.are t asked.touched asked.fresh asked.sides (subst (λ (x : SettlingValue). IsResettledEdge (settled_so_far x) t) moved resettled) in
       let long : length grown ≡ length (lists ++ (t ∷ [])) = ap (λ (x : List TouchedEdge). length x) grows in
@@ -101,31 +98,31 @@ module _ (h : HierarchyValue) (edit : Edit) (edges : List ℕ) (touched : Number
       front_within (x ∷ xs) ys = let h = front_within xs ys in omega (arith, h)
 
 -- all touched edges were settled
-pub record IsRecustomized (h : HierarchyValue) (edit : Edit) (s : SettlingValue) (lists : List TouchedEdge) : Type 0 where
-  pub touched : NumbersTouched h edit (numbers_of lists)
+pub record IsRecustomized (h : HierarchyValue) (edit : List Edit) (s : SettlingValue) (lists : List TouchedEdge) : Type 0 where
+  pub touched : NumbersTouchedBySome h edit (numbers_of lists)
   pub settled : IsPermutation s.settled lists
-  pub resettled : IsResettled h edit (hierarchy_with h edit lists)
-  pub sound : IsHierarchy (hierarchy_with h edit lists)
-  pub same : settled_so_far s ≡ hierarchy_with h edit lists
+  pub resettled : IsResettledAll h edit (hierarchy_with_all h edit lists)
+  pub sound : IsHierarchy (hierarchy_with_all h edit lists)
+  pub same : settled_so_far s ≡ hierarchy_with_all h edit lists
 
-pub recustomized_all : (h : HierarchyValue) (edit : Edit) (edges : List ℕ) → NumbersTouched h edit edges → (index : ℕ) (lists : List TouchedEdge) (s : SettlingValue)
-    → AreFirstSettled h edit edges index lists s → length edges ≤ index → IsEditInRange h.network edit → IsEditSound edit → IsRecustomized h edit s lists
+pub recustomized_all : (h : HierarchyValue) (edit : List Edit) (edges : List ℕ) → NumbersTouchedBySome h edit edges → (index : ℕ) (lists : List TouchedEdge) (s : SettlingValue)
+    → AreFirstSettled h edit edges index lists s → length edges ≤ index → AreInRange h.network edit → AreSound edit → IsRecustomized h edit s lists
 recustomized_all h edit edges touched index lists s first done range sets =
     let settled = settling_of h edit lists in
     let whole = first_all h edit edges touched index lists s first done in
     let all : AllSettled settled = λ e is. subst (λ (xs : List ℕ). Contains xs e) (sym whole) ((touched.exact e).1 is) in
     record {
-      touched = subst (NumbersTouched h edit) (sym whole) touched;
+      touched = subst (NumbersTouchedBySome h edit) (sym whole) touched;
       settled = subst (λ (x : SettlingValue). IsPermutation x.settled lists) (sym first.state) (IsPermutation-refl lists);
       resettled = all_resettled settled first.are all;
-      sound = all_sound settled first.are all (edited_network h.network edit first.are.sound.network range sets);
+      sound = all_sound settled first.are all (edited_networks h.network edit first.are.sound.network range sets);
       same = ap settled_so_far first.state;
     }
 
 -- so each of them is among those that the settler settled
-pub all_settled : (h : HierarchyValue) (edit : Edit) (s : SettlingValue) (lists : List TouchedEdge) → NumbersTouched h edit (numbers_of lists) → IsPermutation s.settled lists
-    → s.before ≡ h → s.edit ≡ edit → (edge : ℕ) → IsTouchedEdge s.before s.edit edge → IsSettled s edge
+pub all_settled : (h : HierarchyValue) (edit : List Edit) (s : SettlingValue) (lists : List TouchedEdge) → NumbersTouchedBySome h edit (numbers_of lists) → IsPermutation s.settled lists
+    → s.before ≡ h → s.edit ≡ edit → (edge : ℕ) → IsTouchedEdgeBySome s.before s.edit edge → IsSettled s edge
 all_settled h edit s lists numbers moved before same edge touched =
-    let there : IsTouchedEdge h edit edge = subst (λ (e : Edit). IsTouchedEdge h e edge) same (subst (λ (x : HierarchyValue). IsTouchedEdge x s.edit edge) before touched) in
+    let there : IsTouchedEdgeBySome h edit edge = subst (λ (e : List Edit). IsTouchedEdgeBySome h e edge) same (subst (λ (x : HierarchyValue). IsTouchedEdgeBySome x s.edit edge) before touched) in
     let back = IsPermutation-sym (numbers_of s.settled) (numbers_of lists) (IsPermutation-map (λ (t : TouchedEdge). t.edge) s.settled lists moved) in
     Contains-permutation (numbers_of lists) (numbers_of s.settled) edge back ((numbers.exact edge).1 there)

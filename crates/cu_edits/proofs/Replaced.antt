@@ -12,9 +12,10 @@ use Rattle.cu_interval.specs.declared.ways.Dir.TheVariants.{Up, Down}
 use Rattle.cu_interval.specs.declared.ways.Entry.{Entry}
 use Rattle.cu_interval.specs.declared.ways.TouchedEdge.{TouchedEdge}
 use Rattle.cu_interval.specs.Hierarchies.{HierarchyValue, entries_or_none, list_number, list_of}
-use Rattle.cu_interval.specs.Replacing.{hierarchy_with, replaced, replaced_by}
+use Rattle.cu_interval.specs.Replacing.{replaced, replaced_by}
 use Rattle.cu_interval.proofs.Replacing.{replaced_by_long}
 use Rattle.cu_edits.specs.Settling.{list_in, numbers_of}
+use Rattle.cu_resettled.specs.ResettlingAll.{hierarchy_with_all}
 
 -- different edges
 abbrev pub AreApart : List TouchedEdge → Type 0
@@ -84,16 +85,16 @@ replaced_here (x ∷ edges) lists t d apart c lt = elim (member_cases x edges t 
     head_apart : (other : TouchedEdge) → Contains edges other → x.edge ≢ other.edge
     head_apart other c = All-contains (λ (y : TouchedEdge). x.edge ≢ y.edge) edges other (pairs_head (λ (first second : TouchedEdge). first.edge ≢ second.edge) x edges apart) c
 
-module _ (h : HierarchyValue) (edit : Edit) (edges : List TouchedEdge) where
+module _ (h : HierarchyValue) (edit : List Edit) (edges : List TouchedEdge) where
   -- the list of an edge that wasn't replaced, and of one that was
-  pub list_kept : (e : ℕ) (d : Dir) → (Contains (numbers_of edges) e → ⊥) → list_of (hierarchy_with h edit edges) e d ≡ list_of h e d
+  pub list_kept : (e : ℕ) (d : Dir) → (Contains (numbers_of edges) e → ⊥) → list_of (hierarchy_with_all h edit edges) e d ≡ list_of h e d
   list_kept e d not_in = ap entries_or_none (replaced_other edges h.lists e d not_in)
 
-  pub list_replaced : (t : TouchedEdge) (d : Dir) → AreApart edges → Contains edges t → 2 * t.edge + 1 < length h.lists → list_of (hierarchy_with h edit edges) t.edge d ≡ list_in t d
+  pub list_replaced : (t : TouchedEdge) (d : Dir) → AreApart edges → Contains edges t → 2 * t.edge + 1 < length h.lists → list_of (hierarchy_with_all h edit edges) t.edge d ≡ list_in t d
   list_replaced t d apart c lt = ap entries_or_none (replaced_here edges h.lists t d apart c lt)
 
   -- one more edge
-  pub list_pushed : (t : TouchedEdge) (e : ℕ) (d : Dir) → t.edge ≢ e → list_of (hierarchy_with h edit (edges ++ (t ∷ []))) e d ≡ list_of (hierarchy_with h edit edges) e d
+  pub list_pushed : (t : TouchedEdge) (e : ℕ) (d : Dir) → t.edge ≢ e → list_of (hierarchy_with_all h edit (edges ++ (t ∷ []))) e d ≡ list_of (hierarchy_with_all h edit edges) e d
   list_pushed t e d ne =
       ap (λ (lists : List (List Entry)). entries_or_none (slice_get lists (list_number e d))) (replaced_push edges h.lists t)
       ∙ ap entries_or_none (replaced_by_other (replaced h.lists edges) t e d ne)

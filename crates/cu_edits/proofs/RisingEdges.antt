@@ -6,10 +6,10 @@ use Rattle.std.specs.List.Sorted.{IsStrictlyIncreasing}
 use Rattle.cu_chordal.proofs.Decided.{member_decided}
 use Rattle.cu_chordal.proofs.Members.{here, member_cases, none_in_nil, there}
 use Rattle.cu_interval.specs.Hierarchies.{HierarchyValue, IsHierarchy}
-use Rattle.cu_interval.specs.Touching.{NumbersTouched}
 use Rattle.cu_interval.proofs.EndsLaws.{number_below}
 use Rattle.cu_edits.specs.Settling.{IsLowerSide, SettlingValue, numbers_of}
 use Rattle.cu_edits.specs.Steps.Holding.{IsNext}
+use Rattle.cu_resettled.specs.ResettlingAll.{NumbersTouchedBySome}
 
 -- behind the first of rising numbers they still rise
 pub tail_increasing : (x : ℕ) (xs : List ℕ) → IsStrictlyIncreasing (x ∷ xs) → IsStrictlyIncreasing xs
@@ -62,7 +62,7 @@ side_lower h sound edge side (ends, rank, at, low, high, which) =
     ]
 
 -- where edges that an edit touches were settled by rising number, the next of them may be settled
-pub next_of_rising : (s : SettlingValue) → IsHierarchy s.before → (edge : ℕ) (more : List ℕ) → NumbersTouched s.before s.edit (numbers_of s.settled ++ (edge ∷ more)) → IsNext s edge
+pub next_of_rising : (s : SettlingValue) → IsHierarchy s.before → (edge : ℕ) (more : List ℕ) → NumbersTouchedBySome s.before s.edit (numbers_of s.settled ++ (edge ∷ more)) → IsNext s edge
 next_of_rising s sound edge more touched =
     let front = numbers_of s.settled in
     record {

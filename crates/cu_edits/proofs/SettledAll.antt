@@ -5,10 +5,8 @@ use Rattle.std.specs.List.Sorted.{IsStrictlyIncreasing}
 use Rattle.std.proofs.lemmas.List.{get_or-map, length-map}
 use Rattle.std.proofs.lemmas.List.Kept.{AllPairs-from_increasing}
 use Rattle.std.proofs.lemmas.Option.{slice_get-get_or}
-use Rattle.cu_model.specs.Edits.{edited}
 use Rattle.cu_model.specs.Networks.{IsNetwork}
 use Rattle.cu_model.proofs.RoadLaws.{all_at}
-use Rattle.cu_model.proofs.EditLaws.{nodes_edited}
 use Rattle.cu_chordal.specs.declared.graph.Ends.{Ends}
 use Rattle.cu_chordal.specs.Graphs.{IsChordal}
 use Rattle.cu_chordal.proofs.Decided.{member_decided}
@@ -17,9 +15,8 @@ use Rattle.cu_interval.specs.declared.ways.Way.{Way}
 use Rattle.cu_interval.specs.declared.ways.Way.TheVariants.{Road, Via}
 use Rattle.cu_interval.specs.declared.ways.Entry.{Entry}
 use Rattle.cu_interval.specs.declared.ways.TouchedEdge.{TouchedEdge}
-use Rattle.cu_interval.specs.Hierarchies.{IsHierarchy, IsWellFormed, end_of, entries_or_none, graph_of, list_number, list_of, start_of}
-use Rattle.cu_interval.specs.Resettling.{ArrivesIn, IsCandidateIn, IsResettled, IsResettledList}
-use Rattle.cu_interval.specs.Touching.{IsTouchedEdge}
+use Rattle.cu_interval.specs.Hierarchies.{IsHierarchy, IsWellFormed, end_of, entries_or_none, list_number, list_of, start_of}
+use Rattle.cu_interval.specs.Resettling.{ArrivesIn, IsCandidateIn, IsResettledList}
 use Rattle.cu_interval.specs.WayLists.{IsWayList}
 use Rattle.cu_interval.proofs.EndsLaws.{each_number}
 use Rattle.cu_interval.proofs.Replacing.{replaced_long}
@@ -30,14 +27,16 @@ use Rattle.cu_edits.proofs.Frames.{candidates_alone}
 use Rattle.cu_edits.proofs.Replaced.{AreApart, number_of_one, replaced_other}
 use Rattle.cu_edits.proofs.SettledFrames.{all_so, leads_touched, settled_list, untouched_frame, untouched_list, untouched_sides}
 use Rattle.cu_edits.proofs.Sides.{edge_down, edge_up, halves_good, over}
-use Rattle.cu_resettled.proofs.Unchanged.{leads_joins, leads_still}
-use Rattle.cu_resettled.proofs.Unmoved.{closure_edited}
+use Rattle.cu_resettled.proofs.Unchanged.{leads_joins}
+use Rattle.cu_resettled.specs.ResettlingAll.{IsResettledAll, IsTouchedEdgeBySome, edited_all}
+use Rattle.cu_resettled.proofs.TouchedBySome.{all_leads_still}
+use Rattle.cu_resettled.proofs.ResettledThere.{edges_all, nodes_all}
 
 -- every touched edge was settled
 abbrev pub AllSettled : SettlingValue → Type 0
-AllSettled s = (e : ℕ) → IsTouchedEdge s.before s.edit e → IsSettled s e
+AllSettled s = (e : ℕ) → IsTouchedEdgeBySome s.before s.edit e → IsSettled s e
 
-pub all_resettled : (s : SettlingValue) → AreSettled s → AllSettled s → IsResettled s.before s.edit (settled_so_far s)
+pub all_resettled : (s : SettlingValue) → AreSettled s → AllSettled s → IsResettledAll s.before s.edit (settled_so_far s)
 all_resettled s are all = record {
   network = refl;
   order = refl;
@@ -76,12 +75,12 @@ candidate_formed s u v (Road road) c = c
 candidate_formed s u v (Via m) (to, on, first, second) = (to, on, edge_down (settled_so_far s) u m to first, edge_up (settled_so_far s) m v on second, first, second)
 
 untouched_formed : (s : SettlingValue) → AreSettled s → (edge : ℕ) (dir : Dir) (u v : ℕ) (way : Way) → LeadsOver s.before.edges edge dir u v
-    → (IsTouchedEdge s.before s.edit edge → ⊥) → IsWellFormed s.before u v way → IsWellFormed (settled_so_far s) u v way
+    → (IsTouchedEdgeBySome s.before s.edit edge → ⊥) → IsWellFormed s.before u v way → IsWellFormed (settled_so_far s) u v way
 untouched_formed s are edge dir u v (Road road) leads untouched formed =
-    leads_still s.before.network s.before.order s.edit road u v
+    all_leads_still s.before.network s.before.order s.edit road u v
     (λ changed. untouched (leads_touched s.before are.sound s.edit edge dir u v road leads (leads_joins s.before.network s.before.order road u v formed).0 changed)) formed
 untouched_formed s are edge dir u v (Via m) leads untouched (to, on, first, second, some, more) =
-    let halves = halves_good s.before.edges (λ e. IsTouchedEdge s.before s.edit e → ⊥) edge dir u v m leads (untouched_sides s are.sound edge untouched) first second in
+    let halves = halves_good s.before.edges (λ e. IsTouchedEdgeBySome s.before s.edit e → ⊥) edge dir u v m leads (untouched_sides s are.sound edge untouched) first second in
     let frame = untouched_frame s are in (
       to,
       on,
@@ -106,23 +105,23 @@ formed_at s are all edge dir ends at =
           (all_so (λ (entry : Entry). IsCandidateIn now u v entry.way) (λ (entry : Entry). IsWellFormed now u v entry.way) (list_in t dir) (λ entry. candidate_formed s u v entry.way)
           (candidates_alone (IsCandidateIn now u v) (ArrivesIn now u v) (list_in t dir) runs))
       | inr n ↦
-          let untouched : IsTouchedEdge s.before s.edit edge → ⊥ = λ touched. n (all edge touched) in
+          let untouched : IsTouchedEdgeBySome s.before s.edit edge → ⊥ = λ touched. n (all edge touched) in
           subst (All (λ (entry : Entry). IsWellFormed now u v entry.way)) (sym (untouched_list s are edge dir untouched))
           (all_so (λ (entry : Entry). IsWellFormed s.before u v entry.way) (λ (entry : Entry). IsWellFormed now u v entry.way) (list_of s.before edge dir)
           (λ entry. untouched_formed s are edge dir u v entry.way (over s.before.edges edge dir ends at) untouched) (are.sound.formed edge dir ends at))
     ]
 
-pub all_sound : (s : SettlingValue) → AreSettled s → AllSettled s → IsNetwork (edited s.before.network s.edit) → IsHierarchy (settled_so_far s)
+pub all_sound : (s : SettlingValue) → AreSettled s → AllSettled s → IsNetwork (edited_all s.before.network s.edit) → IsHierarchy (settled_so_far s)
 all_sound s are all network =
     let g = s.before.network in
-    let nodes = nodes_edited g s.edit in
+    let nodes = nodes_all g s.edit in
     let sound = are.sound in
     record {
       network = network;
       order = sound.order;
       same = sound.same ∙ sym nodes;
       graph = subst (λ (n : ℕ). IsChordal (record { ranks = n; edges = s.before.edges })) (sym nodes) sound.graph;
-      edges = (closure_edited g s.before.order s.edit (graph_of s.before) nodes (record { ranks = refl; edges = sound.edges })).edges;
+      edges = edges_all g s.before.order s.edit s.before.edges sound.edges;
       lists = replaced_long s.before.lists s.settled ∙ sound.lists;
       spelled = all_spelled s are;
       formed = λ edge dir ends at. formed_at s are all edge dir ends at;

@@ -13,7 +13,6 @@ use Rattle.cu_interval.specs.declared.ways.TouchedEdge.{TouchedEdge}
 use Rattle.cu_interval.specs.EdgeArcs.{AreEdgeArcs}
 use Rattle.cu_interval.specs.Hierarchies.{HierarchyValue, end_of, list_from, list_number, list_of, start_of}
 use Rattle.cu_interval.specs.Resettling.{ArrivesIn, IsCandidateIn, IsResettledList, least_in, rebuilt, value_by}
-use Rattle.cu_interval.specs.Touching.{IsTouchedEdge}
 use Rattle.cu_interval.specs.WayLists.{way_in}
 use Rattle.cu_interval.proofs.EndsLaws.{number_within}
 use Rattle.cu_customize.specs.Functions.{FunctionsState}
@@ -26,6 +25,7 @@ use Rattle.cu_edits.proofs.Halves.{KnowsAll, knows_way, settled_alike}
 use Rattle.cu_edits.proofs.SettledFrames.{FinalPair, resettled_stays, settled_list, settled_more, settled_with, stays_frame}
 use Rattle.cu_edits.proofs.SettledValues.{least_stays, values_least, way_arrives}
 use Rattle.cu_edits.proofs.Sides.{halves_good, list_at, over}
+use Rattle.cu_resettled.specs.ResettlingAll.{IsTouchedEdgeBySome}
 
 -- both lists of an edge are settled by these functions
 abbrev pub HasSettledLists : List Ends → List (List ℕ) → FunctionsState → TouchedEdge → Type 0
@@ -41,7 +41,7 @@ listed h arcs roads edge dir ends at =
     (get_or arcs (list_number edge dir) [], slice_get-get_or arcs (list_number edge dir) [] (omega (arith, inside, long)))
 
 -- an edge whose new lists are the resettled ones of the hierarchy so far
-module _ (s : SettlingValue) (are : AreSettled s) (t : TouchedEdge) (touched : IsTouchedEdge s.before s.edit t.edge) (fresh : IsSettled s t.edge → ⊥) (sides : HasFinalSides s t.edge)
+module _ (s : SettlingValue) (are : AreSettled s) (t : TouchedEdge) (touched : IsTouchedEdgeBySome s.before s.edit t.edge) (fresh : IsSettled s t.edge → ⊥) (sides : HasFinalSides s t.edge)
     (resettled_now : (dir : Dir) (ends : Ends) → slice_get s.before.edges t.edge ≡ Some ends → IsResettledList (settled_so_far s) (start_of ends dir) (end_of ends dir) (list_in t dir)) where
   abbrev pub now : HierarchyValue
   now = settled_so_far s

@@ -4,11 +4,10 @@ use Rattle.std.specs.Prelude.{All, slice_get}
 use Rattle.std.specs.List.Sorted.{IsStrictlyIncreasing}
 use Rattle.std.proofs.lemmas.Option.{slice_get-get_or}
 use Rattle.cu_model.specs.declared.roads.Edit.{Edit}
-use Rattle.cu_model.specs.Edits.{edited}
 use Rattle.cu_model.specs.Networks.{NetworkValue}
 use Rattle.cu_model.specs.Orders.{OrderValue}
 use Rattle.cu_model.proofs.RoadLaws.{links_within}
-use Rattle.cu_model.proofs.EditLaws.{arcs_edited}
+use Rattle.cu_edits.proofs.EditedLists.{arcs_all}
 use Rattle.cu_arrival.specs.declared.runs.Run.{Run}
 use Rattle.cu_chordal.specs.declared.graph.Ends.{Ends}
 use Rattle.cu_chordal.specs.Graphs.{ChordalValue}
@@ -27,21 +26,22 @@ use Rattle.cu_edits.specs.Settling.{IsLowerSide, list_in}
 use Rattle.cu_edits.specs.Steps.Holding.{IsSettledEdge}
 use Rattle.cu_edits.specs.Steps.Known.{HasFunctions, function_in, functions_of, is_known}
 use Rattle.cu_edits.specs.Steps.Parts.{FitTogether, PartsValue}
+use Rattle.cu_resettled.specs.ResettlingAll.{edited_all}
 
 -- the roads of an edge are roads of the edited network
-pub arcs_within : (g : NetworkValue) (o : OrderValue) (edges : List Ends) (lists : List (List ℕ)) (edit : Edit) (edge : ℕ) (dir : Dir) → AreEdgeArcs g o edges lists → edge < length edges
-    → (list : List ℕ) → slice_get lists (list_number edge dir) ≡ Some list → All (λ a. a < length (edited g edit).arcs) list
+pub arcs_within : (g : NetworkValue) (o : OrderValue) (edges : List Ends) (lists : List (List ℕ)) (edit : List Edit) (edge : ℕ) (dir : Dir) → AreEdgeArcs g o edges lists → edge < length edges
+    → (list : List ℕ) → slice_get lists (list_number edge dir) ≡ Some list → All (λ a. a < length (edited_all g edit).arcs) list
 arcs_within g o edges lists edit edge dir are inside list at =
     let ends = slice_get-get_or edges edge (record { low = 0; high = 0 }) inside in
-    all_from_members (λ a. a < length (edited g edit).arcs) list (λ a c.
+    all_from_members (λ a. a < length (edited_all g edit).arcs) list (λ a c.
     let (u, v, links, from, to) = ((are.each edge dir _ list ends at).exact a).0 c in
     let lt = links_within g a u v links in
-    let long = arcs_edited g edit in
+    let long = arcs_all g edit in
     omega (arith, lt, long))
 
 -- so they are of a network that is the edited one, by rising number
-pub arcs_sound : (g : NetworkValue) (o : OrderValue) (edges : List Ends) (lists : List (List ℕ)) (edit : Edit) (edge : ℕ) (dir : Dir) → AreEdgeArcs g o edges lists → edge < length edges
-    → (after : NetworkValue) → after ≡ edited g edit → (list : List ℕ) → slice_get lists (list_number edge dir) ≡ Some list
+pub arcs_sound : (g : NetworkValue) (o : OrderValue) (edges : List Ends) (lists : List (List ℕ)) (edit : List Edit) (edge : ℕ) (dir : Dir) → AreEdgeArcs g o edges lists → edge < length edges
+    → (after : NetworkValue) → after ≡ edited_all g edit → (list : List ℕ) → slice_get lists (list_number edge dir) ≡ Some list
     → IsStrictlyIncreasing list × All (λ a. a < length after.arcs) list
 arcs_sound g o edges lists edit edge dir are inside after same list at =
     let ends = slice_get-get_or edges edge (record { low = 0; high = 0 }) inside in (
@@ -101,11 +101,11 @@ pub record AsksList (edges : List Ends) (lists : List (List ℕ)) (f : Functions
 
 module _ (p : PartsValue) (graph : ChordalValue) (lists : List (List ℕ)) (of_graph : graph ≡ p.graph) (of_lists : lists ≡ p.arcs) where
   -- over what stands for the graph and the roads of these parts, and for these functions
-  pub asks_list : FitTogether p → (known : List (Option EdgeFunctions)) (f : FunctionsState) → f ≡ functions_of (record { network = edited p.before.network p.edit; known = known }) → (edge : ℕ)
+  pub asks_list : FitTogether p → (known : List (Option EdgeFunctions)) (f : FunctionsState) → f ≡ functions_of (record { network = edited_all p.before.network p.edit; known = known }) → (edge : ℕ)
       → edge < length p.graph.edges → ((side : ℕ) → IsLowerSide p.graph.edges edge side → HasFunctions known side) → (dir : Dir) → AsksList graph.edges lists f edge dir
   asks_list fit known f meant edge inside sides dir =
       let h = p.before in
-      let asked = functions_of (record { network = edited h.network p.edit; known = known }) in
+      let asked = functions_of (record { network = edited_all h.network p.edit; known = known }) in
       let same : p.graph.edges ≡ h.edges = ap (λ (k : ChordalValue). k.edges) fit.0.hierarchy.0 in
       let own = subst (λ (es : List Ends). edge < length es) same inside in
       subst (λ (s : FunctionsState). AsksList graph.edges lists s edge dir) (sym meant)
@@ -114,7 +114,7 @@ module _ (p : PartsValue) (graph : ChordalValue) (lists : List (List ℕ)) (of_g
         inside = inside;
         long = fit.0.roads.long ∙ ap (λ (es : List Ends). 2 * length es) (sym same);
         arcs = arcs_within h.network h.order h.edges p.arcs p.edit edge dir fit.0.roads own;
-        halves = halves_known p.graph.edges (edited h.network p.edit) known edge dir sides;
+        halves = halves_known p.graph.edges (edited_all h.network p.edit) known edge dir sides;
       })))
 
   -- what was settled over these is settled over the parts

@@ -3,13 +3,11 @@ use Rattle.std.proofs.Common.{◌≡◌, ◌<◌, ◌++◌, ◌∙◌, ℕ, List
 use Rattle.std.specs.Prelude.{slice_get, slice_set}
 use Rattle.std.proofs.lemmas.Option.{slice_get_within}
 use Rattle.cu_model.specs.declared.roads.Edit.{Edit}
-use Rattle.cu_model.specs.Edits.{edited}
 use Rattle.cu_model.proofs.RoadLaws.{all_at}
 use Rattle.cu_chordal.specs.declared.graph.Ends.{Ends}
 use Rattle.cu_chordal.specs.Graphs.{ChordalValue, IsChordal}
 use Rattle.cu_interval.specs.declared.ways.TouchedEdge.{TouchedEdge}
 use Rattle.cu_interval.specs.Hierarchies.{HierarchyValue}
-use Rattle.cu_interval.specs.Touching.{IsTouchedEdge}
 use Rattle.cu_unpack.specs.Rebuilds.{Keeps, RebuiltValue}
 use Rattle.cu_edits.specs.declared.edge_functions.EdgeFunctions.{EdgeFunctions}
 use Rattle.cu_edits.specs.Settling.{HasFinalSides, IsLowerSide, IsResettledEdge, IsSettled, SettlingValue, settled_so_far}
@@ -17,6 +15,7 @@ use Rattle.cu_edits.specs.Steps.Holding.{IsNext, IsSettledEdge, IsSettling, sett
 use Rattle.cu_edits.specs.Steps.Known.{HasFunctions, IsSide, Learns, functions_of}
 use Rattle.cu_edits.proofs.EditSettling.{settling_learnt, settling_more}
 use Rattle.cu_edits.proofs.SettledFrames.{settled_with}
+use Rattle.cu_resettled.specs.ResettlingAll.{IsTouchedEdgeBySome, edited_all}
 
 module _ (s : SettlingValue) (graph : ChordalValue) (arcs : List (List ℕ)) (rebuilt : RebuiltValue) (known : List (Option EdgeFunctions)) where
   -- the graph has the hierarchy's edges
@@ -43,7 +42,7 @@ lower_sides edges known edge ends at has side (given, rank, there, low, high, wh
     has side (subst (λ (x : Ends). IsSide edges x side) same (rank, (low, high, which)))
 
 -- nothing more was settled
-pub next_none : (h : HierarchyValue) (edit : Edit) (before after : List TouchedEdge) (graph : ChordalValue) (arcs : List (List ℕ)) (rebuilt next : RebuiltValue)
+pub next_none : (h : HierarchyValue) (edit : List Edit) (before after : List TouchedEdge) (graph : ChordalValue) (arcs : List (List ℕ)) (rebuilt next : RebuiltValue)
     (known learnt : List (Option EdgeFunctions)) (edge : ℕ) (ends : Ends) → IsSettling (settling_of h edit before) graph arcs rebuilt known → IsNext (settling_of h edit before) edge
     → slice_get graph.edges edge ≡ Some ends → Learns h (IsSide graph.edges ends) known learnt → length next.kept ≡ length rebuilt.kept → Keeps h next → after ≡ before
     → IsSettling (settling_of h edit after) graph arcs next learnt
@@ -52,26 +51,26 @@ next_none h edit before after graph arcs rebuilt next known learnt edge ends old
     (settling_learnt (settling_of h edit before) graph arcs rebuilt next known learnt edge ends old at asked.sides learns size keeps)
 
 -- one edge more was settled
-pub record IsOneMore (h : HierarchyValue) (edit : Edit) (before after : List TouchedEdge) (graph : ChordalValue) (arcs : List (List ℕ)) (rebuilt : RebuiltValue)
+pub record IsOneMore (h : HierarchyValue) (edit : List Edit) (before after : List TouchedEdge) (graph : ChordalValue) (arcs : List (List ℕ)) (rebuilt : RebuiltValue)
     (known : List (Option EdgeFunctions)) (t : TouchedEdge) : Type 0 where
   pub list : after ≡ before ++ (t ∷ [])
   pub resettled : IsResettledEdge (settled_so_far (settling_of h edit after)) t
   pub holds : IsSettling (settling_of h edit after) graph arcs rebuilt known
 
-pub next_one : (h : HierarchyValue) (edit : Edit) (before after : List TouchedEdge) (graph : ChordalValue) (arcs : List (List ℕ)) (rebuilt next : RebuiltValue)
+pub next_one : (h : HierarchyValue) (edit : List Edit) (before after : List TouchedEdge) (graph : ChordalValue) (arcs : List (List ℕ)) (rebuilt next : RebuiltValue)
     (known learnt last : List (Option EdgeFunctions)) (edge : ℕ) (ends : Ends) (t copy : TouchedEdge) (functions : EdgeFunctions) → IsSettling (settling_of h edit before) graph arcs rebuilt known
     → IsNext (settling_of h edit before) edge → slice_get graph.edges edge ≡ Some ends → Learns h (IsSide graph.edges ends) known learnt → length next.kept ≡ length rebuilt.kept → Keeps h next
     → ((side : ℕ) → IsSide graph.edges ends side → HasFunctions learnt side)
-    → IsSettledEdge graph.edges arcs (functions_of (record { network = edited h.network edit; known = learnt })) edge t functions → copy ≡ t → after ≡ before ++ (copy ∷ [])
+    → IsSettledEdge graph.edges arcs (functions_of (record { network = edited_all h.network edit; known = learnt })) edge t functions → copy ≡ t → after ≡ before ++ (copy ∷ [])
     → last ≡ slice_set learnt edge (Some functions) → IsOneMore h edit before after graph arcs next last t
 next_one h edit before after graph arcs rebuilt next known learnt last edge ends t copy functions old asked at learns size keeps sides settled copied pushed written =
     let s = settling_of h edit before in
-    let asks = functions_of (record { network = edited h.network edit; known = learnt }) in
+    let asks = functions_of (record { network = edited_all h.network edit; known = learnt }) in
     let number : edge ≡ t.edge = sym settled.number in
     let has : (side : ℕ) → IsLowerSide graph.edges edge side → HasFunctions learnt side = lower_sides graph.edges learnt edge ends at sides in
     let held = settling_learnt s graph arcs rebuilt next known learnt edge ends old at asked.sides learns size keeps in
     let (resettled, holds) = settling_more s graph arcs next learnt t functions held
-    (subst (IsTouchedEdge h edit) number asked.touched)
+    (subst (IsTouchedEdgeBySome h edit) number asked.touched)
     (subst (λ (e : ℕ). IsSettled s e → ⊥) number asked.fresh)
     (subst (HasFinalSides s) number asked.sides)
     (subst (λ (e : ℕ). (side : ℕ) → IsLowerSide graph.edges e side → HasFunctions learnt side) number has)
@@ -86,5 +85,5 @@ next_one h edit before after graph arcs rebuilt next known learnt last edge ends
     }
 
 -- what is asked of an edge, over a settler that stands for this
-pub next_asked : (held given : SettlingValue) (edge : ℕ) → held ≡ given → IsTouchedEdge given.before given.edit edge → (IsSettled given edge → ⊥) → HasFinalSides given edge → IsNext held edge
+pub next_asked : (held given : SettlingValue) (edge : ℕ) → held ≡ given → IsTouchedEdgeBySome given.before given.edit edge → (IsSettled given edge → ⊥) → HasFinalSides given edge → IsNext held edge
 next_asked held given edge same touched fresh sides = subst (λ (s : SettlingValue). IsNext s edge) (sym same) (record { touched = touched; fresh = fresh; sides = sides })

@@ -8,11 +8,12 @@ use Rattle.cu_chordal.proofs.Members.{member_at, place_of}
 use Rattle.cu_interval.specs.declared.ways.Dir.{Dir}
 use Rattle.cu_interval.specs.declared.ways.Dir.TheVariants.{Up, Down}
 use Rattle.cu_interval.specs.Hierarchies.{HierarchyValue, IsHierarchy, end_of, list_from, list_of, list_of_some, number_from, start_of}
-use Rattle.cu_interval.specs.Touching.{IsTouched, IsTouchedEdge, by_first, by_second}
 use Rattle.cu_interval.proofs.Lookups.{number_finds, number_found}
 use Rattle.cu_interval.proofs.EndsLaws.{ends_rise}
 use Rattle.cu_edits.specs.Settling.{IsLowerSide}
 use Rattle.cu_edits.specs.Steps.Frames.{LeadsOver, PairOf}
+use Rattle.cu_resettled.specs.ResettlingAll.{IsTouchedBySome, IsTouchedEdgeBySome}
+use Rattle.cu_resettled.proofs.TouchedBySome.{covered}
 
 pub over : (edges : List Ends) (edge : ℕ) (dir : Dir) (ends : Ends) → slice_get edges edge ≡ Some ends → LeadsOver edges edge dir (start_of ends dir) (end_of ends dir)
 over edges edge dir ends at = record { ends = ends; at = at; from = refl; to = refl }
@@ -93,7 +94,7 @@ halves_good edges Good edge dir u v m leads sides to on =
     )
 
 -- an edge with a touched lower side is touched
-pub side_touched : (h : HierarchyValue) → IsHierarchy h → (edit : Edit) (edge side : ℕ) → IsLowerSide h.edges edge side → IsTouchedEdge h edit side → IsTouchedEdge h edit edge
+pub side_touched : (h : HierarchyValue) → IsHierarchy h → (edit : List Edit) (edge side : ℕ) → IsLowerSide h.edges edge side → IsTouchedEdgeBySome h edit side → IsTouchedEdgeBySome h edit edge
 side_touched h sound edit edge side (ends, m, at, low, high, which) (given, there, touched) =
     let (below, first) = (sound.edges.exact m ends.low).0 low in
     let (lower, second) = (sound.edges.exact m ends.high).0 high in
@@ -103,9 +104,9 @@ side_touched h sound edit edge side (ends, m, at, low, high, which) (given, ther
       elim which [
         | inl to_low ↦
             let is : given ≡ record { low = m; high = ends.low } = cc (there, to_low) in
-            by_first m ends.low ends.high (subst (λ (x : Ends). IsTouched h.network h.order edit x.low x.high) is touched) below rise first second
+            (covered h.network h.order edit).first m ends.low ends.high (subst (λ (x : Ends). IsTouchedBySome h.network h.order edit x.low x.high) is touched) below rise first second
         | inr to_high ↦
             let is : given ≡ record { low = m; high = ends.high } = cc (there, to_high) in
-            by_second m ends.low ends.high (subst (λ (x : Ends). IsTouched h.network h.order edit x.low x.high) is touched) below rise first second
+            (covered h.network h.order edit).second m ends.low ends.high (subst (λ (x : Ends). IsTouchedBySome h.network h.order edit x.low x.high) is touched) below rise first second
       ],
     )

@@ -29,7 +29,7 @@ pub record IsSpreading (h : HierarchyValue) (edit : Edit) (buckets : BucketsValu
   pub above : (e over : ℕ) → IsDone buckets e → IsAbove h.edges e over → IsFree buckets over → ⊥
 
 -- what holds of two ranks in their order
-at_min_max : (P : ℕ → ℕ → Type 0) (x y : ℕ) → (x < y → P x y) → (y ≤ x → P y x) → P (min x y) (max x y)
+pub at_min_max : (P : ℕ → ℕ → Type 0) (x y : ℕ) → (x < y → P x y) → (y ≤ x → P y x) → P (min x y) (max x y)
 at_min_max P x y up down =
     elim (cases_lt x y) [
       | inl lt ↦
@@ -42,15 +42,15 @@ at_min_max P x y up down =
           subst (λ (p : ℕ). P p (max x y)) (sym low) (subst (P y) (sym high) (down ge))
     ]
 
-between_up : (edges : List Ends) (x y e : ℕ) → x < y → slice_get edges e ≡ Some (record { low = x; high = y }) → IsBetween edges x y e
+pub between_up : (edges : List Ends) (x y e : ℕ) → x < y → slice_get edges e ≡ Some (record { low = x; high = y }) → IsBetween edges x y e
 between_up edges x y e lt at = at_min_max (λ p q. slice_get edges e ≡ Some (record { low = p; high = q })) x y (λ up. at) (λ down. absurd (omega (arith, lt, down)))
 
-between_down : (edges : List Ends) (x y e : ℕ) → x < y → slice_get edges e ≡ Some (record { low = x; high = y }) → IsBetween edges y x e
+pub between_down : (edges : List Ends) (x y e : ℕ) → x < y → slice_get edges e ≡ Some (record { low = x; high = y }) → IsBetween edges y x e
 between_down edges x y e lt at = at_min_max (λ p q. slice_get edges e ≡ Some (record { low = p; high = q })) y x (λ up. absurd (omega (arith, lt, up))) (λ down. at)
 
 module _ (h : HierarchyValue) (sound : IsHierarchy h) where
   -- the edge of a changed road is touched
-  changed_touched : (edit : Edit) (e : ℕ) → IsOfChanged h edit e → IsTouchedEdge h edit e
+  pub changed_touched : (edit : Edit) (e : ℕ) → IsOfChanged h edit e → IsTouchedEdge h edit e
   changed_touched edit e (arc, changed, (x, y, links, at)) =
       let rise = ends_rise h sound e (record { low = min x y; high = max x y }) at in (
         record { low = min x y; high = max x y },
@@ -59,7 +59,7 @@ module _ (h : HierarchyValue) (sound : IsHierarchy h) where
       )
 
   -- the edges above a touched one are touched
-  above_touched : (edit : Edit) (e over : ℕ) → IsTouchedEdge h edit e → IsAbove h.edges e over → IsTouchedEdge h edit over
+  pub above_touched : (edit : Edit) (e over : ℕ) → IsTouchedEdge h edit e → IsAbove h.edges e over → IsTouchedEdge h edit over
   above_touched edit e over (ends, at, touched) (same, rank, there, side, between) =
       let is : ends ≡ same = same_value (slice_get h.edges e) ends same at there in
       let t : IsTouched h.network h.order edit same.low same.high = subst (λ (x : Ends). IsTouched h.network h.order edit x.low x.high) is touched in

@@ -12,7 +12,6 @@ use Rattle.cu_interval.specs.declared.ways.Way.TheVariants.{Road, Via}
 use Rattle.cu_interval.specs.declared.ways.Entry.{Entry}
 use Rattle.cu_interval.specs.declared.ways.TouchedEdge.{TouchedEdge}
 use Rattle.cu_interval.specs.Hierarchies.{HierarchyValue, end_of, list_from, list_number, list_of, start_of}
-use Rattle.cu_interval.specs.Touching.{IsTouchedEdge}
 use Rattle.cu_unpack.specs.RebuiltRuns.{IsRebuiltRuns}
 use Rattle.cu_edits.specs.declared.new_list.Outcome.{Outcome}
 use Rattle.cu_edits.specs.declared.new_list.Outcome.TheVariants.{Stands, Moves}
@@ -24,6 +23,7 @@ use Rattle.cu_edits.proofs.Replaced.{list_pushed}
 use Rattle.cu_edits.proofs.SettledFrames.{FinalPair, all_so, final_still, other_edge, settled_cases, settled_itself, settled_list, settled_still, settled_with, stays_frame, untouched_frame}
 use Rattle.cu_edits.proofs.Sides.{list_at, over}
 use Rattle.cu_edits.proofs.PackedStay.{packed_stay}
+use Rattle.cu_resettled.specs.ResettlingAll.{IsTouchedEdgeBySome}
 
 -- the pairs of a frame may be more
 pub framed_as : (a b : HierarchyValue) (P Q : ℕ → ℕ → Type 0) → ((x y : ℕ) → P x y → Q x y) → (u v : ℕ) (way : Way) → IsFramed a b P u v way → IsFramed a b Q u v way
@@ -62,7 +62,7 @@ pub stands_none : (s : SettlingValue) (are : AreSettled s) (moved : MovedValue) 
 stands_none s are moved none unmoved nothing = record { lists = lists; ways = ways }
   where
     Untouched : ℕ → ℕ → Type 0
-    Untouched u v = (edge : ℕ) × (dir : Dir) × LeadsOver s.before.edges edge dir u v × (IsTouchedEdge s.before s.edit edge → ⊥)
+    Untouched u v = (edge : ℕ) × (dir : Dir) × LeadsOver s.before.edges edge dir u v × (IsTouchedEdgeBySome s.before s.edit edge → ⊥)
 
     less : (u v : ℕ) → StandingPair s moved u v → Untouched u v
     less u v (edge, dir, leads, final, still) = (edge, dir, leads, elim final [ inl c ↦ absurd (nothing edge c) | inr untouched ↦ untouched ])
@@ -79,7 +79,7 @@ stands_none s are moved none unmoved nothing = record { lists = lists; ways = wa
         (list_from s.before u v) (λ entry. framed_as s.before (settled_so_far s) Untouched (StandingPair s moved) more u v entry.way) ((untouched_frame s are).ways u v (less u v pair))
 
 -- one edge more is settled, of whose lists it is known what became of them
-module _ (s : SettlingValue) (are : AreSettled s) (t : TouchedEdge) (touched : IsTouchedEdge s.before s.edit t.edge) (fresh : IsSettled s t.edge → ⊥) (more : AreSettled (settled_with s t))
+module _ (s : SettlingValue) (are : AreSettled s) (t : TouchedEdge) (touched : IsTouchedEdgeBySome s.before s.edit t.edge) (fresh : IsSettled s t.edge → ⊥) (more : AreSettled (settled_with s t))
     (moved after : MovedValue) (outcome : Dir → Outcome) (placed : ArePlaced moved after t.edge outcome)
     (became : (dir : Dir) (ends : Ends) → slice_get s.before.edges t.edge ≡ Some ends → IsOutcome s moved t.edge dir ends (list_in t dir) (outcome dir)) where
   abbrev pub now : HierarchyValue

@@ -3,7 +3,6 @@ use Rattle.std.proofs.Common.{◌≡◌, ◌<◌, ◌*◌, ◌∙◌, ℕ, suc, 
 use Rattle.std.specs.Prelude.{All, slice_get}
 use Rattle.cu_arrival.specs.declared.runs.Run.{Run}
 use Rattle.cu_model.specs.declared.roads.Edit.{Edit}
-use Rattle.cu_model.specs.Edits.{IsEditInRange}
 use Rattle.cu_model.proofs.RoadLaws.{all_at}
 use Rattle.cu_chordal.specs.declared.graph.Ends.{Ends}
 use Rattle.cu_chordal.specs.Graphs.{ChordalValue}
@@ -18,17 +17,17 @@ use Rattle.cu_edits.specs.Settling.{IsSettled, SettlingValue}
 use Rattle.cu_edits.specs.Learned.{ArePackedOf}
 use Rattle.cu_edits.specs.Steps.Packed.{IsSettlingPacked}
 use Rattle.cu_edits.specs.Steps.SettlerStates.{IsSettlingNone}
-use Rattle.cu_edits.specs.Steps.Known.{IsEditSound}
 use Rattle.cu_edits.specs.Steps.Moving.{MovedValue}
 use Rattle.cu_edits.specs.Steps.Parts.{AreParts}
 use Rattle.cu_edits.specs.Steps.Settled.{AreSettled}
 use Rattle.cu_edits.proofs.Replaced.{number_among}
 use Rattle.cu_edits.proofs.SettledFrames.{settled_none}
 use Rattle.cu_edits.proofs.StandingLists.{stands_none}
+use Rattle.cu_edits.specs.Lists.{AreInRange, AreSound}
 
 -- before an edge is settled nothing is
-pub parts_of : (h : HierarchyValue) (graph : ChordalValue) (edit : Edit) (arcs : List (List ℕ)) → IsHierarchyOf graph h → AreEdgeArcs h.network h.order graph.edges arcs
-    → IsEditInRange h.network edit → IsEditSound edit → AreParts h edit graph arcs
+pub parts_of : (h : HierarchyValue) (graph : ChordalValue) (edit : List Edit) (arcs : List (List ℕ)) → IsHierarchyOf graph h → AreEdgeArcs h.network h.order graph.edges arcs
+    → AreInRange h.network edit → AreSound edit → AreParts h edit graph arcs
 parts_of h graph edit arcs of roads range pieces = record {
   hierarchy = of;
   roads = subst (λ (es : List Ends). AreEdgeArcs h.network h.order es arcs) (ap (λ (k : ChordalValue). k.edges) of.0) roads;

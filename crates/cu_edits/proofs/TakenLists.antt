@@ -15,7 +15,6 @@ use Rattle.cu_interval.specs.declared.ways.Dir.{Dir}
 use Rattle.cu_interval.specs.declared.ways.Dir.TheVariants.{Up, Down}
 use Rattle.cu_interval.specs.declared.ways.TouchedEdge.{TouchedEdge}
 use Rattle.cu_interval.specs.Hierarchies.{HierarchyValue, IsHierarchy, end_of, list_number, list_of, start_of}
-use Rattle.cu_interval.specs.Touching.{IsTouchedEdge}
 use Rattle.cu_interval.proofs.EndsLaws.{each_number, number_parts}
 use Rattle.cu_unpack.specs.RebuiltRuns.{IsKnownList, IsRebuiltRuns, IsSameList, IsSized, PackedValue, with_list}
 use Rattle.cu_edits.specs.Learned.{ArePackedOf}
@@ -30,6 +29,7 @@ use Rattle.cu_edits.proofs.StateLaws.{no_edge}
 use Rattle.cu_edits.proofs.SettledFrames.{UntouchedPair, settled_none, untouched_frame}
 use Rattle.cu_edits.proofs.Sides.{list_at, over}
 use Rattle.cu_edits.proofs.PackedStay.{packed_stay}
+use Rattle.cu_resettled.specs.ResettlingAll.{IsTouchedEdgeBySome}
 
 same_then : (a b c : PackedValue) (number : ℕ) → IsSameList a b number → IsSameList b c number → IsSameList a c number
 same_then a b c number (known, functions) (later, others) = (later ∙ known, others ∙ functions)
@@ -191,23 +191,23 @@ untouched_packed s graph arcs holds final packed known = record {
     are : AreSettled s
     are = subst (λ (xs : List TouchedEdge). AreSettled (record s { settled = xs })) (sym holds.none) (settled_none s.before s.edit holds.parts.hierarchy.1)
 
-    untouched : (edge : ℕ) → IsTouchedEdge s.before s.edit edge → ⊥
+    untouched : (edge : ℕ) → IsTouchedEdgeBySome s.before s.edit edge → ⊥
     untouched edge = elim (final edge) [
       | inl settled ↦ absurd (no_edge s holds.none edge settled)
       | inr off ↦ off
     ]
 
 -- all edges are final once all that are touched are settled
-pub all_final : (s : SettlingValue) → ((edge : ℕ) → IsTouchedEdge s.before s.edit edge → IsSettled s edge) → (edge : ℕ) → IsFinal s edge
+pub all_final : (s : SettlingValue) → ((edge : ℕ) → IsTouchedEdgeBySome s.before s.edit edge → IsSettled s edge) → (edge : ℕ) → IsFinal s edge
 all_final s all edge = elim (member_decided (numbers_of s.settled) edge) [
   | inl settled ↦ inl settled
   | inr off ↦ inr (λ touched. off (all edge touched))
 ]
 
 -- what is known after an edit, as it is answered
-module _ (s self : SettlingValue) (is : s ≡ self) (graph : ChordalValue) (arcs : List (List ℕ)) (all : (edge : ℕ) → IsTouchedEdge self.before self.edit edge → IsSettled self edge) where
+module _ (s self : SettlingValue) (is : s ≡ self) (graph : ChordalValue) (arcs : List (List ℕ)) (all : (edge : ℕ) → IsTouchedEdgeBySome self.before self.edit edge → IsSettled self edge) where
   final : (edge : ℕ) → IsFinal s edge
-  final = all_final s (subst (λ (x : SettlingValue). (edge : ℕ) → IsTouchedEdge x.before x.edit edge → IsSettled x edge) (sym is) all)
+  final = all_final s (subst (λ (x : SettlingValue). (edge : ℕ) → IsTouchedEdgeBySome x.before x.edit edge → IsSettled x edge) (sym is) all)
 
   pub none_after : (learned : Option PackedValue) → IsSettlingNone s graph arcs → IfSome learned (ArePackedOf s.before) → IfSome learned (ArePackedOf (settled_so_far self))
   none_after None none known = tt

@@ -2,9 +2,9 @@
 use Rattle.std.specs.Prelude.{ℕ, List, ◌++◌, ◌∷◌, [], ◌≡◌, ◌≤◌, ◌-◌, length}
 use Rattle.cu_chordal.specs.declared.graph.TheConstants.{MAX_EDGES}
 use Rattle.cu_interval.specs.declared.ways.TouchedEdge.{TouchedEdge}
-use Rattle.cu_interval.specs.Touching.{NumbersTouched}
 use Rattle.cu_edits.specs.Steps.Settled.{AreSettled}
 use Rattle.cu_edits.specs.Settling.{IsResettledEdge, SettlingValue, numbers_of, settled_so_far}
+use Rattle.cu_resettled.specs.ResettlingAll.{NumbersTouchedBySome}
 
 -- whose edit it is, the edges that it touches, and what of them is settled
 pub record InWorkValue : Type 0 where
@@ -27,7 +27,7 @@ in_work_of papers state = record { client = papers.client; edges = papers.edges;
 
 -- the edges are all that the edit touches, and those settled are the first of them
 pub record IsInWork (work : InWorkValue) : Type 0 where
-  pub touched : NumbersTouched work.state.before work.state.edit work.edges
+  pub touched : NumbersTouchedBySome work.state.before work.state.edit work.edges
   pub few : length work.edges ≤ MAX_EDGES
   pub rest : List ℕ
   pub parts : numbers_of work.state.settled ++ rest ≡ work.edges

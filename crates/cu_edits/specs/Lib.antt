@@ -4,3 +4,6 @@ pub mod Settling
 pub mod InWork
 pub mod Paused
 pub mod Steps
+pub mod Lists
+pub mod EditLists
+pub mod Together

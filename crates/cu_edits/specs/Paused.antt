@@ -14,5 +14,5 @@ pub record PausedValue : Type 0 where
   pub state : SettlerState
 
 -- it was put aside by a settler of this edit of this hierarchy
-abbrev pub FitsPaused : HierarchyValue → Edit → PausedValue → Type 0
+abbrev pub FitsPaused : HierarchyValue → List Edit → PausedValue → Type 0
 FitsPaused h edit paused = (graph : ChordalValue) × (arcs : List (List ℕ)) × Holds (settling_of h edit paused.settled) graph arcs paused.state

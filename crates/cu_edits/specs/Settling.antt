@@ -9,14 +9,13 @@ use Rattle.cu_interval.specs.declared.ways.Dir.TheVariants.{Up, Down}
 use Rattle.cu_interval.specs.declared.ways.Entry.{Entry}
 use Rattle.cu_interval.specs.declared.ways.TouchedEdge.{TouchedEdge}
 use Rattle.cu_interval.specs.Hierarchies.{HierarchyValue, end_of, start_of}
-use Rattle.cu_interval.specs.Replacing.{hierarchy_with}
 use Rattle.cu_interval.specs.Resettling.{IsResettledList}
-use Rattle.cu_interval.specs.Touching.{IsTouchedEdge}
+use Rattle.cu_resettled.specs.ResettlingAll.{IsTouchedEdgeBySome, hierarchy_with_all}
 
 -- a hierarchy before an edit, the edit, and the edges settled so far with their new lists, in the order in which they were settled
 pub record SettlingValue : Type 0 where
   pub before : HierarchyValue
-  pub edit : Edit
+  pub edit : List Edit
   pub settled : List TouchedEdge
 
 -- the numbers of these edges
@@ -30,14 +29,14 @@ list_in touched Down = touched.down
 
 -- the hierarchy with its network edited and the lists of the edges settled so far replaced
 abbrev pub settled_so_far : SettlingValue → HierarchyValue
-settled_so_far s = hierarchy_with s.before s.edit s.settled
+settled_so_far s = hierarchy_with_all s.before s.edit s.settled
 
 abbrev pub IsSettled : SettlingValue → ℕ → Type 0
 IsSettled s edge = Contains (numbers_of s.settled) edge
 
 -- the lists of the edge with this number won't change any more: it is settled, or isn't touched
 abbrev pub IsFinal : SettlingValue → ℕ → Type 0
-IsFinal s edge = IsSettled s edge ⊎ (IsTouchedEdge s.before s.edit edge → ⊥)
+IsFinal s edge = IsSettled s edge ⊎ (IsTouchedEdgeBySome s.before s.edit edge → ⊥)
 
 -- an edge is a lower side of a lower triangle of another: it joins a rank, which is joined to both ends of the other, to one of them
 abbrev pub IsLowerSide : List Ends → ℕ → ℕ → Type 0

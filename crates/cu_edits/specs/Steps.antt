@@ -1,5 +1,6 @@
 -- What private functions mean to each other; no public contract speaks of it.
-pub mod Edited
+pub mod Adding
+pub mod Found
 pub mod Frames
 pub mod Holding
 pub mod Known

@@ -1,37 +1,36 @@
-//! What an edit is settled over.
+//! What edits are settled over.
 
 ghost use Rattle.std.specs.Prelude.{◌≡◌, ◌<◌, ◌*◌, ◌↔◌, ℕ, IfOk, IsTrue, Some, length, slice_get, true};
+ghost use Rattle.cu_resettled.specs.ResettlingAll.{IsChangedBySome, edited_all};
 ghost use Rattle.std.specs.List.{Contains};
-ghost use Rattle.cu_model.specs.Edits.{IsEditInRange, edited};
 ghost use Rattle.cu_chordal.specs.Graphs.{FindsEdge, HasEdge, IsChordal};
 ghost use Rattle.cu_interval.specs.EdgeArcs.{AreEdgeArcs};
 ghost use Rattle.cu_interval.specs.Hierarchies.{IsHierarchy, IsHierarchyOf, list_number, list_of};
 ghost use Rattle.cu_interval.specs.Shortcuts.{FindsHalves};
-ghost use Rattle.cu_interval.specs.Touching.{IsChanged};
 ghost use Rattle.cu_unpack.specs.Rebuilds.{IsRebuiltFunction, Keeps};
 ghost use Rattle.cu_unpack.specs.RebuiltRuns.{IsKnownList};
 ghost use Rattle.cu_edits.specs.Customized.{AreCustomized};
 ghost use Rattle.cu_edits.specs.Learned.{ArePackedOf};
 ghost use Rattle.cu_edits.specs.Steps.Packed.{IfNear, LearnsPacked};
 ghost use Rattle.cu_edits.specs.Steps.Parts.{FitTogether};
+ghost use Rattle.cu_edits.specs.Together.{FitEdits, edits_of};
 
 use crate::edited_roads::EditedRoads;
-use crate::reading::read_edit;
-use crate::road_functions::is_changed;
+use crate::edits::{Edits, is_changed_by_some, read_edits};
 use cu_arrival::Arrival;
 use cu_chordal::{Chordal, Ends};
 use cu_interval::{Dir, EdgeArcs, Entry, Ways, find_halves};
-use cu_model::{Edit, NoMemory};
+use cu_model::NoMemory;
 use cu_unpack::{PackedFunctions, Rebuilt};
 use std::alloc::Global;
 use std::marker::Model;
 
-/// The hierarchy before an edit, the edit, and the graph and the roads of the hierarchy; and marks of edges whose lists are
+/// The hierarchy before some edits, the edits, and the graph and the roads of the hierarchy; and marks of edges whose lists are
 /// known to be what customization makes of the lists below them. Contracts see all of them.
 #[derive(Drop)]
 pub struct EditParts<'a, W: Ways> {
     ways: &'a W,
-    edit: &'a Edit,
+    edits: Edits<'a>,
     graph: &'a Chordal,
     arcs: &'a EdgeArcs,
     customized: &'a [bool],
@@ -39,12 +38,13 @@ pub struct EditParts<'a, W: Ways> {
 
 impl<'a, W: Ways> Model for EditParts<'a, W> {
     ghost use Rattle.cu_edits.specs.Steps.Parts.{FitTogether, PartsValue};
+    ghost use Rattle.cu_edits.specs.Together.{FitEdits, edits_of};
 
     ghost Value = { PartsValue };
 
     ghost view = { λ parts. record {
       before = W.hierarchy parts.ways.now;
-      edit = parts.edit.now;
+      edit = edits_of parts.edits;
       graph = parts.graph.now;
       arcs = parts.arcs.now;
       customized = parts.customized.now;
@@ -52,47 +52,47 @@ impl<'a, W: Ways> Model for EditParts<'a, W> {
 
     ghost invariant = { λ parts. FitTogether (record {
       before = W.hierarchy parts.ways.now;
-      edit = parts.edit.now;
+      edit = edits_of parts.edits;
       graph = parts.graph.now;
       arcs = parts.arcs.now;
       customized = parts.customized.now;
-    }) };
+    }) × FitEdits (W.hierarchy parts.ways.now).network parts.edits };
 }
 
 impl<'a, W: Ways> EditParts<'a, W> {
     /// These, of one hierarchy. Takes no memory.
     pub fn of(
         ways: &'a W,
-        edit: &'a Edit,
+        edits: Edits<'a>,
         graph: &'a Chordal,
         arcs: &'a EdgeArcs,
         customized: &'a [bool],
     ) -> EditParts<'a, W>
-        requires edit { IsEditInRange (W.hierarchy ways.now).network edit.now }
+        requires edits { FitEdits (W.hierarchy ways.now).network edits }
         requires graph { IsHierarchyOf graph.now (W.hierarchy ways.now) }
         requires arcs { AreEdgeArcs (W.hierarchy ways.now).network (W.hierarchy ways.now).order
             graph.now.edges arcs.now }
         requires customized { AreCustomized (W.hierarchy ways.now) customized.now }
         ensures parts { result ≡ record {
           before = W.hierarchy ways.now;
-          edit = edit.now;
+          edit = edits_of edits.entry;
           graph = graph.now;
           arcs = arcs.now;
           customized = customized.now;
         } }
         ensures fit { FitTogether result }
     {
-        read_edit(edit);
+        read_edits(edits);
         EditParts {
             ways,
-            edit,
+            edits,
             graph,
             arcs,
             customized,
         }
     }
 
-    /// The ways before the edit.
+    /// The ways before the editss.
     pub fn ways(&self) -> &'a W {
         self.ways
     }
@@ -112,19 +112,19 @@ impl<'a, W: Ways> EditParts<'a, W> {
         self.arcs
     }
 
-    /// The roads after the edit. Takes no memory.
+    /// The roads after the edits. Takes no memory.
     pub fn edited_roads(&self) -> EditedRoads<'a, W>
-        ensures roads { result ≡ edited self.now.before.network self.now.edit }
+        ensures roads { result ≡ edited_all self.now.before.network self.now.edit }
     {
-        EditedRoads::of(self.ways, self.edit)
+        EditedRoads::of(self.ways, self.edits)
     }
 
-    /// Does the edit change a road, below the number of roads?
+    /// Does some of the edits change a road, below the number of roads?
     pub fn is_changed(&self, arc: u32) -> bool
         requires { arc < length self.now.before.network.arcs }
-        ensures { IsTrue result ↔ IsChanged self.now.before.network self.now.edit arc }
+        ensures { IsTrue result ↔ IsChangedBySome self.now.before.network self.now.edit arc }
     {
-        is_changed(self.ways, self.edit, arc)
+        is_changed_by_some(self.ways, self.edits, arc)
     }
 
     /// Is an edge known to be customized?
@@ -194,7 +194,7 @@ impl<'a, W: Ways> EditParts<'a, W> {
         self.arcs.arcs(edge, dir)
     }
 
-    /// How many entries the list of an edge in a direction has before the edit.
+    /// How many entries the list of an edge in a direction has before the edits.
     pub fn entries(&self, edge: u32, dir: Dir) -> u32
         requires { edge < length self.now.graph.edges }
         ensures count { result ≡ length (list_of self.now.before edge dir) }
@@ -203,7 +203,7 @@ impl<'a, W: Ways> EditParts<'a, W> {
         self.ways.entries(edge, dir)
     }
 
-    /// The entry with this index, below the number of entries, of the list of an edge in a direction before the edit.
+    /// The entry with this index, below the number of entries, of the list of an edge in a direction before the edits.
     pub fn entry(&self, edge: u32, dir: Dir, index: u32) -> Entry
         requires edge { edge < length self.now.graph.edges }
         requires index { index < length (list_of self.now.before edge dir) }
@@ -213,7 +213,7 @@ impl<'a, W: Ways> EditParts<'a, W> {
         self.ways.entry(edge, dir, index)
     }
 
-    /// The function of the list of an edge in a direction before the edit, rebuilt where it isn't kept. What is kept stays so
+    /// The function of the list of an edge in a direction before the edits, rebuilt where it isn't kept. What is kept stays so
     /// after a refusal too.
     pub fn function_before(
         &self,
@@ -233,7 +233,7 @@ impl<'a, W: Ways> EditParts<'a, W> {
         rebuilt.function(alloc, self.ways, edge, dir)
     }
 
-    /// Makes sure that the packed function of the list of an edge in a direction before the edit is known. False where a way takes
+    /// Makes sure that the packed function of the list of an edge in a direction before the edits is known. False where a way takes
     /// longer than packed runs can say. What was learned stays after a refusal too.
     pub fn learn(
         &self,

@@ -1,23 +1,26 @@
 //! The settler of an edit: it settles an edge by the functions of the edges settled before it and of those that stay.
 
 ghost use Rattle.std.specs.Prelude.{◌≡◌, ◌<◌, ◌*◌, ◌++◌, ◌∷◌, [], ℕ, List, All, IfNone, IfOk, IfSome, OnErr, OnOk, length};
-ghost use Rattle.cu_model.specs.Edits.{IsEditInRange, edited};
+ghost use Rattle.cu_resettled.specs.ResettlingAll.{IsTouchedEdgeBySome, edited_all};
+ghost use Rattle.cu_model.specs.Edits.{IsEditInRange};
 ghost use Rattle.cu_interval.specs.declared.ways.TouchedEdge.{TouchedEdge};
 ghost use Rattle.cu_interval.specs.EdgeArcs.{AreEdgeArcs};
 ghost use Rattle.cu_interval.specs.Hierarchies.{HierarchyValue, IsHierarchyOf};
-ghost use Rattle.cu_interval.specs.Touching.{IsTouchedEdge};
 ghost use Rattle.cu_edits.specs.Customized.{AreCustomized};
+ghost use Rattle.cu_edits.specs.EditLists.{FitsNetwork};
 ghost use Rattle.cu_edits.specs.Learned.{ArePackedOf};
 ghost use Rattle.cu_edits.specs.Paused.{FitsPaused};
 ghost use Rattle.cu_edits.specs.Settling.{IsLowerSide, IsResettledEdge, IsSettled, settled_so_far};
 ghost use Rattle.cu_edits.specs.Steps.SettlerStates.{HoldsOver, HoldsPacked, IsBegun, IsPlain};
 ghost use Rattle.cu_edits.specs.Steps.Holding.{IsNext, IsSettledEdge, IsSettling};
 ghost use Rattle.cu_edits.specs.Steps.Known.{HasFunctions, functions_of};
-ghost use Rattle.cu_edits.specs.Steps.Parts.{settling_over};
+ghost use Rattle.cu_edits.specs.Steps.Parts.{FitTogether, settling_over};
 
 use crate::copied_lists::push_copy;
 use crate::edge_functions::{EdgeFunctions, KnownFunctions, know};
+use crate::edit_list::EditList;
 use crate::edit_parts::EditParts;
+use crate::edits::Edits;
 use crate::learned::Learned;
 use crate::learning::learn_sides;
 use crate::moved_lists::MovedLists;
@@ -51,7 +54,7 @@ pub struct EditSettler<'a, W: Ways> {
 impl<'a, W: Ways> Model for EditSettler<'a, W> {
     ghost use Rattle.cu_edits.specs.Settling.{SettlingValue};
     ghost use Rattle.cu_edits.specs.Steps.SettlerStates.{HoldsOver};
-    ghost use Rattle.cu_edits.specs.Steps.Parts.{settling_over};
+    ghost use Rattle.cu_edits.specs.Steps.Parts.{FitTogether, settling_over};
 
     ghost Value = { SettlingValue };
 
@@ -75,7 +78,7 @@ impl<'a, W: Ways> EditSettler<'a, W> {
         requires arcs { AreEdgeArcs (W.hierarchy ways.now).network (W.hierarchy ways.now).order
             graph.now.edges arcs.now }
         ensures { IfOk result (λ settler. settler
-            ≡ record { before = W.hierarchy ways.now; edit = edit.now; settled = [] }) }
+            ≡ record { before = W.hierarchy ways.now; edit = edit.now ∷ []; settled = [] }) }
     {
         EditSettler::over(alloc, ways, edit, graph, arcs, &[], None)
     }
@@ -98,15 +101,51 @@ impl<'a, W: Ways> EditSettler<'a, W> {
         requires customized { AreCustomized (W.hierarchy ways.now) customized.now }
         requires learned { IfSome learned (ArePackedOf (W.hierarchy ways.now)) }
         ensures { IfOk result (λ settler. settler
-            ≡ record { before = W.hierarchy ways.now; edit = edit.now; settled = [] }) }
+            ≡ record { before = W.hierarchy ways.now; edit = edit.now ∷ []; settled = [] }) }
     {
-        let parts = EditParts::of(ways, edit, graph, arcs, customized);
+        let parts = EditParts::of(ways, Edits::One(edit), graph, arcs, customized);
+        Ok(EditSettler::of_parts(alloc, parts, learned))
+    }
+
+    /// The same for all edits of a list.
+    pub fn over_all(
+        alloc: Global,
+        ways: &'a W,
+        edits: &'a EditList,
+        graph: &'a Chordal,
+        arcs: &'a EdgeArcs,
+        customized: &'a [bool],
+        learned: Option<Learned>,
+    ) -> EditSettler<'a, W>
+        requires edits { FitsNetwork (W.hierarchy ways.now).network edits.now }
+        requires graph { IsHierarchyOf graph.now (W.hierarchy ways.now) }
+        requires arcs { AreEdgeArcs (W.hierarchy ways.now).network (W.hierarchy ways.now).order
+            graph.now.edges arcs.now }
+        requires customized { AreCustomized (W.hierarchy ways.now) customized.now }
+        requires learned { IfSome learned (ArePackedOf (W.hierarchy ways.now)) }
+        ensures { result
+            ≡ record { before = W.hierarchy ways.now; edit = edits.now.edits; settled = [] } }
+    {
+        let parts = EditParts::of(ways, Edits::All(edits), graph, arcs, customized);
+        EditSettler::of_parts(alloc, parts, learned)
+    }
+
+    // A settler over these parts that settled none yet.
+    fn of_parts(
+        alloc: Global,
+        parts: EditParts<'a, W>,
+        learned: Option<Learned>,
+    ) -> EditSettler<'a, W>
+        requires fit { FitTogether parts }
+        requires learned { IfSome learned (ArePackedOf parts.before) }
+        ensures { result ≡ settling_over parts.entry [] }
+    {
         let settled = Vec::new(alloc);
-        Ok(EditSettler {
+        EditSettler {
             parts,
             settled,
             state: SettlerState::Nothing(learned),
-        })
+        }
     }
 
     /// Makes the room that it takes for all edges of the hierarchy together, so that settling an edge takes none but for what it
@@ -131,14 +170,14 @@ impl<'a, W: Ways> EditSettler<'a, W> {
         requires arcs { AreEdgeArcs (W.hierarchy ways.now).network (W.hierarchy ways.now).order
             graph.now.edges arcs.now }
         requires customized { AreCustomized (W.hierarchy ways.now) customized.now }
-        requires fits { FitsPaused (W.hierarchy ways.now) edit.now paused }
+        requires fits { FitsPaused (W.hierarchy ways.now) (edit.now ∷ []) paused }
         ensures { result ≡ record {
           before = W.hierarchy ways.now;
-          edit = edit.now;
+          edit = edit.now ∷ [];
           settled = paused.settled;
         } }
     {
-        let parts = EditParts::of(ways, edit, graph, arcs, customized);
+        let parts = EditParts::of(ways, Edits::One(edit), graph, arcs, customized);
         let PausedSettler { settled, state } = paused;
         EditSettler {
             parts,
@@ -159,7 +198,7 @@ impl<'a, W: Ways> EditSettler<'a, W> {
     /// What is known of lists once all touched edges are settled. None where nothing is, since a way takes longer than packed runs
     /// can say or memory ran out.
     pub fn into_learned(self, alloc: Global) -> Option<Learned>
-        requires all { (edge : ℕ) → IsTouchedEdge self.before self.edit edge → IsSettled self edge }
+        requires all { (edge : ℕ) → IsTouchedEdgeBySome self.before self.edit edge → IsSettled self edge }
         ensures { IfSome result (ArePackedOf (settled_so_far self.entry)) }
     {
         let EditSettler { parts, state, .. } = self;
@@ -385,7 +424,7 @@ fn settle_edge<W: Ways>(
     ensures { IfOk result (λ (lists, functions).
         IsSettledEdge parts.now.graph.edges parts.now.arcs
         (functions_of (record {
-          network = edited parts.now.before.network parts.now.edit;
+          network = edited_all parts.now.before.network parts.now.edit;
           known = known.now;
         }))
         edge lists functions) }

@@ -1,43 +1,46 @@
-//! The roads of a network after an edit, over the roads before it.
+//! The roads of a network after edits, over the roads before them.
 
-ghost use Rattle.std.specs.Prelude.{◌≡◌, ◌<◌, ◌%◌, Some, length, slice_get};
+ghost use Rattle.std.specs.Prelude.{◌≡◌, ◌<◌, ◌%◌, ◌∷◌, [], Some, length, slice_get};
 ghost use Rattle.cu_model.specs.declared.roads.RoadArc.{RoadArc};
-ghost use Rattle.cu_model.specs.Edits.{IsEditInRange, edited};
+ghost use Rattle.cu_model.specs.Edits.{edited};
 ghost use Rattle.cu_model.specs.Networks.{IsNetwork, NetworkValue};
 ghost use Rattle.cu_model.specs.Profiles.{piece_at};
 ghost use Rattle.cu_model.specs.Roads.{pieces_of};
-ghost use Rattle.cu_edits.specs.Steps.Edited.{GivesProfile};
+ghost use Rattle.cu_resettled.specs.ResettlingAll.{edited_all};
+ghost use Rattle.cu_edits.specs.Together.{FitEdits, GiveProfile, edits_of};
 
+use crate::edits::{Edits, last_given, with_last_profile};
 use cu_model::{DAY, Edit, Piece, Profile, RoadArc, Roads};
 use std::marker::Model;
 
-/// Roads as an edit leaves them. Contracts see their network.
+/// Roads as edits leave them. Contracts see their network.
 #[derive(Drop)]
 pub struct EditedRoads<'a, R: Roads> {
     roads: &'a R,
-    edit: &'a Edit,
+    edits: Edits<'a>,
 }
 
 impl<'a, R: Roads> Model for EditedRoads<'a, R> {
-    ghost use Rattle.cu_model.specs.Edits.{IsEditInRange, edited};
     ghost use Rattle.cu_model.specs.Networks.{IsNetwork, NetworkValue};
+    ghost use Rattle.cu_resettled.specs.ResettlingAll.{edited_all};
+    ghost use Rattle.cu_edits.specs.Together.{FitEdits, edits_of};
 
     ghost Value = { NetworkValue };
 
-    ghost view = { λ after. edited (R.network after.roads.now) after.edit.now };
+    ghost view = { λ after. edited_all (R.network after.roads.now) (edits_of after.edits) };
 
-    ghost invariant = { λ after. IsEditInRange (R.network after.roads.now) after.edit.now
-        × IsNetwork (edited (R.network after.roads.now) after.edit.now) };
+    ghost invariant = { λ after. FitEdits (R.network after.roads.now) after.edits
+        × IsNetwork (edited_all (R.network after.roads.now) (edits_of after.edits)) };
 }
 
 impl<'a, R: Roads> EditedRoads<'a, R> {
-    /// These roads after an edit, which leaves them a network. Takes no memory.
-    pub fn of(roads: &'a R, edit: &'a Edit) -> EditedRoads<'a, R>
-        requires range { IsEditInRange (R.network roads.now) edit.now }
-        requires sound { IsNetwork (edited (R.network roads.now) edit.now) }
-        ensures { result ≡ edited (R.network roads.now) edit.now }
+    /// These roads after edits, which leave them a network. Takes no memory.
+    pub fn of(roads: &'a R, edits: Edits<'a>) -> EditedRoads<'a, R>
+        requires fits { FitEdits (R.network roads.now) edits }
+        requires sound { IsNetwork (edited_all (R.network roads.now) (edits_of edits)) }
+        ensures { result ≡ edited_all (R.network roads.now) (edits_of edits.entry) }
     {
-        EditedRoads { roads, edit }
+        EditedRoads { roads, edits }
     }
 
     // The last piece of a profile that has begun by this second of the day.
@@ -70,7 +73,7 @@ impl<'a, R: Roads> Roads for EditedRoads<'a, R> {
 
     fn arc(&self, arc: u32) -> RoadArc {
         let road = self.roads.arc(arc);
-        with_profile(self.edit, arc, road)
+        with_last_profile(self.edits, arc, road)
     }
 
     fn closed(&self, arc: u32) -> bool {
@@ -85,14 +88,14 @@ impl<'a, R: Roads> Roads for EditedRoads<'a, R> {
     }
 
     fn pieces(&self, profile: u32) -> u32 {
-        match given_to(self.edit, profile) {
+        match last_given(self.edits, profile) {
             Some(given) => given.pieces().len() as u32,
             None => self.roads.pieces(profile),
         }
     }
 
     fn piece(&self, profile: u32, index: u32) -> Piece {
-        match given_to(self.edit, profile) {
+        match last_given(self.edits, profile) {
             Some(given) => given.pieces()[index as usize],
             None => self.roads.piece(profile, index),
         }
@@ -100,7 +103,7 @@ impl<'a, R: Roads> Roads for EditedRoads<'a, R> {
 }
 
 // A road with the profile that it has after an edit.
-fn with_profile(edit: &Edit, arc: u32, road: RoadArc) -> RoadArc
+pub(crate) fn with_profile(edit: &Edit, arc: u32, road: RoadArc) -> RoadArc
     ensures { (g : NetworkValue) → slice_get g.arcs arc ≡ Some road
         → slice_get (edited g edit.now).arcs arc ≡ Some result }
 {
@@ -118,8 +121,8 @@ fn with_profile(edit: &Edit, arc: u32, road: RoadArc) -> RoadArc
 }
 
 // The pieces that an edit gives the profile with this number. None where it leaves that one.
-fn given_to(edit: &Edit, profile: u32) -> Option<&Profile>
-    ensures { GivesProfile edit.now profile result }
+pub(crate) fn given_to(edit: &Edit, profile: u32) -> Option<&Profile>
+    ensures { (g : NetworkValue) → GiveProfile g (edit.now ∷ []) profile result }
 {
     match edit {
         Edit::Set {

@@ -1,12 +1,9 @@
 //! An edit in work: its touched edges are settled one a step.
 
 ghost use Rattle.std.specs.Prelude.{◌≡◌, ◌<◌, ◌+◌, [], IfOk, OnErr};
-ghost use Rattle.cu_model.specs.Edits.{edited};
+ghost use Rattle.cu_resettled.specs.ResettlingAll.{IsResettledAll, NumbersTouchedBySome, edited_all, hierarchy_with_all};
 ghost use Rattle.cu_model.specs.Networks.{IsNetwork};
 ghost use Rattle.cu_interval.specs.Hierarchies.{IsHierarchy};
-ghost use Rattle.cu_interval.specs.Replacing.{hierarchy_with};
-ghost use Rattle.cu_interval.specs.Resettling.{IsResettled};
-ghost use Rattle.cu_interval.specs.Touching.{NumbersTouched};
 ghost use Rattle.cu_edits.specs.InWork.{IsInWork, SettlesNext, in_work_of, left_of};
 ghost use Rattle.cu_edits.specs.Settling.{numbers_of};
 
@@ -47,7 +44,7 @@ impl<S: Settler + Drop> InWork<S> {
         settler: S,
     ) -> Result<InWork<S>, NoMemory>
         requires none { (S.state settler).settled ≡ [] }
-        requires touched { NumbersTouched
+        requires touched { NumbersTouchedBySome
             (S.state settler).before (S.state settler).edit edges.items }
         requires sound { IsHierarchy (S.state settler).before }
         ensures { IfOk result (λ work. work ≡ record {
@@ -111,13 +108,13 @@ impl<S: Settler + Drop> InWork<S> {
     pub fn lists(&self) -> &[TouchedEdge]
         requires left { left_of self.now ≡ 0 }
         ensures settled { result.now ≡ self.now.state.settled }
-        ensures touched { NumbersTouched
+        ensures touched { NumbersTouchedBySome
             self.now.state.before self.now.state.edit (numbers_of result.now) }
-        ensures resettled { IsResettled self.now.state.before self.now.state.edit
-            (hierarchy_with self.now.state.before self.now.state.edit result.now) }
-        ensures sound { IsNetwork (edited self.now.state.before.network self.now.state.edit)
+        ensures resettled { IsResettledAll self.now.state.before self.now.state.edit
+            (hierarchy_with_all self.now.state.before self.now.state.edit result.now) }
+        ensures sound { IsNetwork (edited_all self.now.state.before.network self.now.state.edit)
             → IsHierarchy
-            (hierarchy_with self.now.state.before self.now.state.edit result.now) }
+            (hierarchy_with_all self.now.state.before self.now.state.edit result.now) }
     {
         self.papers.lists()
     }

@@ -1,6 +1,6 @@
 //! A settler put aside between two steps.
 
-ghost use Rattle.std.specs.Prelude.{IfSome};
+ghost use Rattle.std.specs.Prelude.{IfSome, List};
 ghost use Rattle.cu_model.specs.declared.roads.Edit.{Edit};
 ghost use Rattle.cu_interval.specs.Hierarchies.{HierarchyValue};
 ghost use Rattle.cu_edits.specs.Learned.{ArePackedOf};
@@ -34,7 +34,7 @@ impl PausedSettler {
     /// What is known of lists of the hierarchy before the edit, where that isn't made. None where nothing is, since a way took longer
     /// than packed runs can say. Takes no memory.
     pub fn into_earlier(self) -> Option<Learned>
-        ensures { (h : HierarchyValue) (edit : Edit) → FitsPaused h edit self
+        ensures { (h : HierarchyValue) (edit : List Edit) → FitsPaused h edit self
             → IfSome result (ArePackedOf h) }
     {
         let PausedSettler { state, .. } = self;

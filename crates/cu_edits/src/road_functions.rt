@@ -6,7 +6,6 @@ ghost use Rattle.cu_interval.specs.Touching.{IsChanged};
 ghost use Rattle.cu_edits.specs.Steps.Known.{road_in};
 
 use cu_arrival::Arrival;
-use cu_interval::Ways;
 use cu_model::{Edit, NoMemory, Roads};
 use std::alloc::Global;
 
@@ -27,12 +26,12 @@ pub fn road_function<R: Roads>(
 }
 
 /// Whether an edit changes a road, below the number of roads.
-pub fn is_changed<W: Ways>(ways: &W, edit: &Edit, arc: u32) -> bool
-    requires { arc < length (W.hierarchy ways.now).network.arcs }
-    ensures { IsTrue result ↔ IsChanged (W.hierarchy ways.now).network edit.now arc }
+pub fn is_changed<R: Roads>(roads: &R, edit: &Edit, arc: u32) -> bool
+    requires { arc < length (R.network roads.now).arcs }
+    ensures { IsTrue result ↔ IsChanged (R.network roads.now) edit.now arc }
 {
     match edit {
-        Edit::Set { profile, .. } => ways.arc(arc).profile == *profile,
+        Edit::Set { profile, .. } => roads.arc(arc).profile == *profile,
         Edit::Assign { arc: changed, .. } => arc == *changed,
     }
 }

@@ -1,7 +1,7 @@
 //! Settlers: what gives a touched edge its lists after an edit.
 
 ghost use Rattle.std.specs.Prelude.{◌≡◌, ◌++◌, ◌∷◌, [], IfOk, OnErr};
-ghost use Rattle.cu_interval.specs.Touching.{IsTouchedEdge};
+ghost use Rattle.cu_resettled.specs.ResettlingAll.{IsTouchedEdgeBySome};
 ghost use Rattle.cu_edits.specs.Settling.{HasFinalSides, IsResettledEdge, IsSettled, SettlingValue, settled_so_far};
 
 use cu_interval::TouchedEdge;
@@ -17,7 +17,7 @@ pub trait Settler {
     /// The edge is touched and wasn't settled before, and each touched edge of its lower triangles was. Where memory runs
     /// out nothing is settled.
     fn settle(&mut self, alloc: Global, edge: u32) -> Result<TouchedEdge, NoMemory>
-        requires touched { IsTouchedEdge (state self.old).before (state self.old).edit edge }
+        requires touched { IsTouchedEdgeBySome (state self.old).before (state self.old).edit edge }
         requires fresh { IsSettled (state self.old) edge → ⊥ }
         requires sides { HasFinalSides (state self.old) edge }
         ensures edge { IfOk result (λ touched. touched.edge ≡ edge) }

@@ -1,7 +1,7 @@
 //! Settling the touched edges of an edit by packed runs.
 
 ghost use Rattle.std.specs.Prelude.{◌≡◌, ◌<◌, ◌*◌, ◌++◌, ◌∷◌, [], IfNone, IfOk, IfSome, OnErr, OnOk, length, true};
-ghost use Rattle.cu_model.specs.Edits.{edited};
+ghost use Rattle.cu_resettled.specs.ResettlingAll.{edited_all};
 ghost use Rattle.cu_interval.specs.declared.ways.Dir.TheVariants.{Up, Down};
 ghost use Rattle.cu_interval.specs.Hierarchies.{list_number, list_of};
 ghost use Rattle.cu_customize.specs.Functions.{kept_state};
@@ -232,7 +232,7 @@ fn settle_runs<W: Ways>(
     requires edge { edge < length parts.now.graph.edges }
     requires functions { length functions ≡ 2 * length parts.now.graph.edges }
     ensures { IfOk result (λ found. IfSome found (IsPackedList parts.now.before.edges
-        parts.now.arcs (kept_state (edited parts.now.before.network parts.now.edit)
+        parts.now.arcs (kept_state (edited_all parts.now.before.network parts.now.edit)
         functions.entry) edge dir)) }
 {
     let roads = parts.edited_roads();

@@ -1,8 +1,8 @@
 //! Lists that an edit leaves as they are, since nothing changed that they are made of.
 
 ghost use Rattle.std.specs.Prelude.{◌≡◌, ◌<◌, ℕ, List, All, IfOk, Some, length, slice_get, true};
+ghost use Rattle.cu_resettled.specs.ResettlingAll.{IsChangedBySome};
 ghost use Rattle.cu_interval.specs.Hierarchies.{IsWellFormed, end_of, list_number, list_of, start_of};
-ghost use Rattle.cu_interval.specs.Touching.{IsChanged};
 ghost use Rattle.cu_edits.specs.Steps.Moving.{AreWaysUnmoved, HalvesAre, IsUnmoved, IsUnmovedWay};
 ghost use Rattle.cu_edits.specs.Steps.Parts.{TellsLists};
 
@@ -18,7 +18,7 @@ pub fn are_roads_unchanged<W: Ways>(parts: &EditParts<'_, W>, edge: u32, dir: Di
     requires edge { edge < length parts.now.graph.edges }
     ensures { result ≡ true → (list : List ℕ)
         → slice_get parts.now.arcs (list_number edge dir) ≡ Some list
-        → All (λ a. IsChanged parts.now.before.network parts.now.edit a → ⊥)
+        → All (λ a. IsChangedBySome parts.now.before.network parts.now.edit a → ⊥)
         list }
 {
     for arc in parts.arcs(edge, dir) {

@@ -11,5 +11,4 @@ pub mod Cursors
 pub mod Copied
 pub mod Stretches
 pub mod CountedStarts
-pub mod SetItems
 pub mod PairedLists

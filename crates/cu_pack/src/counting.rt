@@ -6,7 +6,7 @@ ghost use Rattle.cu_pack.specs.Spelling.{counts_of, total};
 
 use crate::layout::Counts;
 use cu_interval::{Dir, Hierarchy, Ways};
-use cu_model::{Network, Roads};
+use cu_model::Roads;
 
 // How many of each there are, for a file of version 2. None is past its limit.
 pub fn count(hierarchy: &Hierarchy) -> Counts
@@ -24,12 +24,13 @@ pub fn count(hierarchy: &Hierarchy) -> Counts
     }
 }
 
-fn count_pieces(network: &Network) -> u64
-    ensures { result ≡ total network.now.profiles }
+// How many pieces there are in all.
+pub fn count_pieces<R: Roads>(roads: &R) -> u64
+    ensures { result ≡ total (R.network roads.now).profiles }
 {
     let mut count = 0;
-    for profile in 0..network.profiles() {
-        count += u64::from(network.pieces(profile));
+    for profile in 0..roads.profiles() {
+        count += u64::from(roads.pieces(profile));
     }
     count
 }

@@ -7,8 +7,8 @@
 //! [`WaySlice`] is a way list in them. [`WayInForce`] and [`RuleInForce`] say a way or a rule with the seconds at which it
 //! holds (`specs/InForce.antt`). [`HalvesInFile`] finds the halves of its shortcuts by rising edge
 //! (`specs/Halves.antt`). [`order_of`] and [`chordal_of`] copy the order and the graph. [`repack`] gives the file of
-//! a view's hierarchy with its network edited and the way lists of some edges replaced: whatever stays is copied as it
-//! lies, and the least bounds are found anew. [`repack_unsealed`] saves the digest, [`PackedView::adopt_unsealed`] reads its
+//! a view's hierarchy with other roads and the way lists of some edges replaced, as edits leave it: its order, its graph
+//! and way lists that stay are copied as they lie, and the least bounds are found anew. [`repack_unsealed`] saves the digest, [`PackedView::adopt_unsealed`] reads its
 //! bytes as they are, and [`seal`] writes the digest once the whole file is asked for. [`repack_touched`] is for edits that
 //! leave the least bounds of all other lists: it finds those of the replaced lists alone.
 //!
@@ -26,7 +26,7 @@
 //! passed; the later checks (`checks`) and the view call the same ones. `ways_in_file` stands for the hierarchy of sections
 //! whose bounds nobody has looked at, `bounds_in_file` for the numbers in their place, and `halving` finds the halves of
 //! its shortcuts by rising edge, for the check of the bounds and for a view. `sections` puts the sections of a
-//! hierarchy, `editing` and `replacing` those of a view's after an edit, `bounding` the bounds. What only private functions
+//! hierarchy, `replacing` the way lists of a view's after edits, `bounding` the bounds. What only private functions
 //! cite is in `specs/Steps`.
 //!
 //! It stands on `cu_model`, `cu_chordal` and `cu_interval`, on `cu_bounds` for the least bounds, and on the crate `sha2`
@@ -43,7 +43,6 @@ mod copying;
 mod counting;
 mod cutting;
 mod driving;
-mod editing;
 mod halving;
 mod joining;
 mod laws;

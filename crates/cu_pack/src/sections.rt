@@ -14,7 +14,7 @@ use crate::layout::Counts;
 use crate::numbers::{put_arc, put_entry, put_long, put_piece, put_short};
 use cu_chordal::Chordal;
 use cu_interval::{Dir, Hierarchy, Ways};
-use cu_model::{Network, NoMemory, Order, Roads};
+use cu_model::{NoMemory, Order, Roads};
 
 // Whose file it is, the version, the counts and the length of the whole file.
 pub fn put_header(bytes: &mut Vec<u8>, counts: &Counts, length: u64) -> Result<(), NoMemory>
@@ -62,55 +62,55 @@ fn put_ranks(bytes: &mut Vec<u8>, order: &Order) -> Result<(), NoMemory>
 }
 
 // The roads.
-pub fn put_arcs(bytes: &mut Vec<u8>, network: &Network) -> Result<(), NoMemory>
+pub fn put_arcs<R: Roads>(bytes: &mut Vec<u8>, roads: &R) -> Result<(), NoMemory>
     ensures { OnOk result
-        (bytes.new.items ≡ bytes.old.items ++ flat_map arc_bytes network.now.arcs) }
+        (bytes.new.items ≡ bytes.old.items ++ flat_map arc_bytes (R.network roads.now).arcs) }
 {
-    for arc in 0..network.arcs() {
-        put_arc(bytes, network.arc(arc))?;
+    for arc in 0..roads.arcs() {
+        put_arc(bytes, roads.arc(arc))?;
     }
     Ok(())
 }
 
 // How many pieces are before each profile, and in all; and the pieces.
-pub fn put_profiles(bytes: &mut Vec<u8>, network: &Network) -> Result<(), NoMemory>
+pub fn put_profiles<R: Roads>(bytes: &mut Vec<u8>, roads: &R) -> Result<(), NoMemory>
     ensures { OnOk result (bytes.new.items ≡ bytes.old.items
-        ++ (flat_map long (starts_from 0 network.now.profiles)
-        ++ flat_map (flat_map piece_bytes) network.now.profiles)) }
+        ++ (flat_map long (starts_from 0 (R.network roads.now).profiles)
+        ++ flat_map (flat_map piece_bytes) (R.network roads.now).profiles)) }
 {
-    put_profile_starts(bytes, network)?;
-    put_all_pieces(bytes, network)
+    put_profile_starts(bytes, roads)?;
+    put_all_pieces(bytes, roads)
 }
 
-fn put_profile_starts(bytes: &mut Vec<u8>, network: &Network) -> Result<(), NoMemory>
+fn put_profile_starts<R: Roads>(bytes: &mut Vec<u8>, roads: &R) -> Result<(), NoMemory>
     ensures { OnOk result (bytes.new.items
-        ≡ bytes.old.items ++ flat_map long (starts_from 0 network.now.profiles)) }
+        ≡ bytes.old.items ++ flat_map long (starts_from 0 (R.network roads.now).profiles)) }
 {
     let mut start = 0;
-    for profile in 0..network.profiles() {
+    for profile in 0..roads.profiles() {
         put_long(bytes, start)?;
-        start += u64::from(network.pieces(profile));
+        start += u64::from(roads.pieces(profile));
     }
     put_long(bytes, start)
 }
 
-fn put_all_pieces(bytes: &mut Vec<u8>, network: &Network) -> Result<(), NoMemory>
+fn put_all_pieces<R: Roads>(bytes: &mut Vec<u8>, roads: &R) -> Result<(), NoMemory>
     ensures { OnOk result (bytes.new.items
-        ≡ bytes.old.items ++ flat_map (flat_map piece_bytes) network.now.profiles) }
+        ≡ bytes.old.items ++ flat_map (flat_map piece_bytes) (R.network roads.now).profiles) }
 {
-    for profile in 0..network.profiles() {
-        put_pieces(bytes, network, profile)?;
+    for profile in 0..roads.profiles() {
+        put_pieces(bytes, roads, profile)?;
     }
     Ok(())
 }
 
-fn put_pieces(bytes: &mut Vec<u8>, network: &Network, profile: u32) -> Result<(), NoMemory>
-    requires { profile < length network.now.profiles }
+fn put_pieces<R: Roads>(bytes: &mut Vec<u8>, roads: &R, profile: u32) -> Result<(), NoMemory>
+    requires { profile < length (R.network roads.now).profiles }
     ensures { OnOk result (bytes.new.items
-        ≡ bytes.old.items ++ flat_map piece_bytes (pieces_of network.now profile)) }
+        ≡ bytes.old.items ++ flat_map piece_bytes (pieces_of (R.network roads.now) profile)) }
 {
-    for index in 0..network.pieces(profile) {
-        put_piece(bytes, network.piece(profile, index))?;
+    for index in 0..roads.pieces(profile) {
+        put_piece(bytes, roads.piece(profile, index))?;
     }
     Ok(())
 }

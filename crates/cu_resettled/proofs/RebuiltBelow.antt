@@ -10,7 +10,7 @@ use Rattle.cu_interval.specs.declared.ways.Dir.TheVariants.{Up, Down}
 use Rattle.cu_interval.specs.declared.ways.Way.{Way}
 use Rattle.cu_interval.specs.declared.ways.Way.TheVariants.{Road, Via}
 use Rattle.cu_interval.specs.declared.ways.Entry.{Entry}
-use Rattle.cu_interval.specs.Hierarchies.{HierarchyValue, IsHierarchy, IsWellFormed, end_of, list_from, list_of, list_of_some, number_from, start_of}
+use Rattle.cu_interval.specs.Hierarchies.{HierarchyValue, IsWellFormed, end_of, list_from, list_of, list_of_some, number_from, start_of}
 use Rattle.cu_interval.specs.Resettling.{least_in, rebuilt, rebuilt_by, value_by}
 use Rattle.cu_interval.proofs.Lookups.{number_found}
 use Rattle.cu_interval.proofs.Rebuilding.{least_in-same, then_at-same}
@@ -119,17 +119,6 @@ rebuilt_below h k limit agree u v t le =
       ways = λ x y below. read_list h k limit x y (list_from h x y) agree.roads below (low_list h k limit agree x y below);
     }) u v t le
 
-formed_low : (h : HierarchyValue) (u v : ℕ) (way : Way) → IsWellFormed h u v way → IsLowWay u v way
+pub formed_low : (h : HierarchyValue) (u v : ℕ) (way : Way) → IsWellFormed h u v way → IsLowWay u v way
 formed_low h u v (Road a) formed = tt
 formed_low h u v (Via m) formed = (formed.0, formed.1)
-
--- a hierarchy and one with the same network and edges, and the same lists from lower ends up to a limit
-pub agrees_below : (h k : HierarchyValue) (limit : ℕ) → IsHierarchy h → h.network ≡ k.network → h.edges ≡ k.edges
-    → ((edge : ℕ) (dir : Dir) (ends : Ends) → slice_get h.edges edge ≡ Some ends → ends.low ≤ limit → list_of h edge dir ≡ list_of k edge dir)
-    → AgreesBelow h k limit
-agrees_below h k limit sound network edges lists = record {
-  edges = edges;
-  lists = lists;
-  middles = λ edge dir ends at low i d lt. formed_low h (start_of ends dir) (end_of ends dir) _ (sound.formed edge dir ends at i d lt);
-  roads = λ a t. ap (λ g. arc_value g a t) network;
-}

@@ -27,11 +27,11 @@ some_below P (suc n) each =
     ]
 
 -- a road from rank x to rank y
-abbrev JoinsRanks : Option RoadArc → List ℕ → ℕ → ℕ → Type 0
+abbrev pub JoinsRanks : Option RoadArc → List ℕ → ℕ → ℕ → Type 0
 JoinsRanks o ranks x y = (u v : ℕ) × ((arc : RoadArc) × (o ≡ Some arc) × (arc.tail ≡ u) × (arc.head ≡ v))
     × (slice_get ranks u ≡ Some x) × (slice_get ranks v ≡ Some y)
 
-joins_decided : (o : Option RoadArc) (ranks : List ℕ) (x y : ℕ) → Decided (JoinsRanks o ranks x y)
+pub joins_decided : (o : Option RoadArc) (ranks : List ℕ) (x y : ℕ) → Decided (JoinsRanks o ranks x y)
 joins_decided None ranks x y = inr (λ p. absurd (cc p.2.1))
 joins_decided (Some arc) ranks x y =
     elim (both_decided _ _ (some_decided (slice_get ranks arc.tail) x) (some_decided (slice_get ranks arc.head) y)) [

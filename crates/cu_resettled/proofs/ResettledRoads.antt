@@ -22,6 +22,15 @@ pub record IsSameRoad (g h : NetworkValue) (a : ℕ) : Type 0 where
 pub same_back : (g h : NetworkValue) (a : ℕ) → IsSameRoad g h a → IsSameRoad h g a
 same_back g h a same = record { arc = sym same.arc; profile = λ road at. sym (same.profile road (same.arc ∙ at)) }
 
+pub same_road : (g : NetworkValue) (a : ℕ) → IsSameRoad g g a
+same_road g a = record { arc = refl; profile = λ road at. refl }
+
+pub same_then : (g h k : NetworkValue) (a : ℕ) → IsSameRoad g h a → IsSameRoad h k a → IsSameRoad g k a
+same_then g h k a one two = record {
+  arc = one.arc ∙ two.arc;
+  profile = λ road at. one.profile road at ∙ two.profile road (sym one.arc ∙ at);
+}
+
 -- what isn't changed is the same
 pub unchanged_same : (g : NetworkValue) (edit : Edit) (a : ℕ) → (IsChanged g edit a → ⊥) → IsSameRoad g (edited g edit) a
 unchanged_same g (Set profile pieces) a off = record {

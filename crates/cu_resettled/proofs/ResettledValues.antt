@@ -40,10 +40,10 @@ pub some_walk : (h : HierarchyValue) → IsHierarchy h → (u v : ℕ) → u ≢
 some_walk h sound u v apart some = (unpacked_walk h u v 0, unpacked-low h sound u v 0 apart some)
 
 -- the value of each entry's way is there, and none is less than this
-abbrev IsNoLess : (Way → Option ℕ) → ℕ → Entry → Type 0
+abbrev pub IsNoLess : (Way → Option ℕ) → ℕ → Entry → Type 0
 IsNoLess value least entry = (b : ℕ) × (value entry.way ≡ Some b) × (least ≤ b)
 
-abbrev AreNoLess : (Way → Option ℕ) → ℕ → List Entry → Type 0
+abbrev pub AreNoLess : (Way → Option ℕ) → ℕ → List Entry → Type 0
 AreNoLess value least entries = All (IsNoLess value least) entries
 
 no_less : (value : Way → Option ℕ) (least lower : ℕ) (entries : List Entry) → lower ≤ least → AreNoLess value least entries → AreNoLess value lower entries
@@ -64,7 +64,7 @@ least_in_list value lower entry (next ∷ entries) all =
       All-cons (IsNoLess value (min b c)) entry (next ∷ entries) (b, e, omega arith) (no_less value c (min b c) (next ∷ entries) (omega arith) rest),
     )
 
-least_in_some : (value : Way → Option ℕ) (lower : ℕ) (entries : List Entry) → entries ≢ [] → AreNoLess value lower entries
+pub least_in_some : (value : Way → Option ℕ) (lower : ℕ) (entries : List Entry) → entries ≢ [] → AreNoLess value lower entries
     → (c : ℕ) × (least_in value entries ≡ Some c) × (lower ≤ c) × AreNoLess value c entries
 least_in_some value lower [] some all = absurd (some refl)
 least_in_some value lower (entry ∷ entries) some all = least_in_list value lower entry entries all

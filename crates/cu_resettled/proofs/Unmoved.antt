@@ -57,7 +57,7 @@ links_kept g (Assign b profile) a u v h = kept_ends g.arcs b profile a u v (slic
 
 -- two networks with the same links have the same closed graph
 module _ (g h : NetworkValue) (o : OrderValue) (same : (a u v : ℕ) → Links g a u v → Links h a u v) where
-  ranks_linked : (a x y : ℕ) → LinksRanks g o a x y → LinksRanks h o a x y
+  pub ranks_linked : (a x y : ℕ) → LinksRanks g o a x y → LinksRanks h o a x y
   ranks_linked a x y (u, v, links, from, to) = (u, v, same a u v links, from, to)
 
   adjacent : (x y : ℕ) → Adjacent g o x y → Adjacent h o x y
@@ -68,7 +68,7 @@ module _ (g h : NetworkValue) (o : OrderValue) (same : (a u v : ℕ) → Links g
   path m x y [] joined = adjacent x y joined
   path m x y (z ∷ zs) (first, below, rest) = (adjacent x z first, below, path m z y zs rest)
 
-  edge : (x y : ℕ) → IsEdge g o x y → IsEdge h o x y
+  pub edge : (x y : ℕ) → IsEdge g o x y → IsEdge h o x y
   edge x y (apart, joined) = (apart, (joined.0, path (min x y) x y joined.0 joined.1))
 
 -- the closed graph of a network is that of the edited one

@@ -6,7 +6,6 @@ use Rattle.std.proofs.lemmas.List.Elements.{Contains-get_or}
 use Rattle.std.proofs.lemmas.Option.{slice_get_within}
 use Rattle.cu_model.specs.declared.roads.Edit.{Edit}
 use Rattle.cu_model.specs.Networks.{NetworkValue}
-use Rattle.cu_model.proofs.EditLaws.{nodes_edited}
 use Rattle.cu_chordal.specs.declared.graph.Ends.{Ends}
 use Rattle.cu_chordal.specs.Graphs.{ChordalValue}
 use Rattle.cu_elimtree.specs.SweepArcs.{parents_in}
@@ -15,9 +14,7 @@ use Rattle.cu_edits.specs.Settling.{numbers_of}
 use Rattle.cu_edits.proofs.EditCustomized.{edit_customized}
 use Rattle.cu_interval.specs.declared.ways.TouchedEdge.{TouchedEdge}
 use Rattle.cu_interval.specs.Hierarchies.{HierarchyValue, IsBuilt, IsHierarchy, graph_of}
-use Rattle.cu_interval.specs.Replacing.{hierarchy_with}
-use Rattle.cu_interval.specs.Resettling.{IsResettled}
-use Rattle.cu_interval.specs.Touching.{NumbersTouched}
+use Rattle.cu_resettled.specs.ResettlingAll.{IsResettledAll, NumbersTouchedBySome, hierarchy_with_all}
 use Rattle.cu_pack.specs.Checks.{Spells, sealed}
 use Rattle.cu_pack.specs.Reading.{decoded}
 use Rattle.cu_pack.specs.Spelling.{spelling}
@@ -29,7 +26,8 @@ use Rattle.cu_router.specs.declared.held_file.Known.{Known}
 use Rattle.cu_router.specs.declared.held_file.Known.TheVariants.{Built, Short, Nothing}
 use Rattle.cu_router.specs.Steps.Holding.{HoldsFile, IsKnown, IsKnownBut}
 use Rattle.cu_router.proofs.RoadsStay.{counts_stay}
-use Rattle.cu_resettled.proofs.ResettledBuilt.{resettled_built}
+use Rattle.cu_resettled.proofs.ResettledBuilt.{all_built}
+use Rattle.cu_resettled.proofs.ResettledThere.{nodes_all}
 
 -- bytes say the hierarchy that they spell
 pub decoded_is : (bytes : List ℕ) (h : HierarchyValue) → Spells bytes h → decoded bytes ≡ h
@@ -59,9 +57,9 @@ held_new bytes h has_digest graph parents marks holds =
     subst (λ (g : HierarchyValue). HoldsFile g bytes has_digest graph parents marks) (sym (decoded_is (sealed bytes) h holds.spelled)) holds
 
 -- an edit leaves nodes and edges
-module _ (old new : HierarchyValue) (edit : Edit) (resettled : IsResettled old edit new) where
+module _ (old new : HierarchyValue) (edits : List Edit) (resettled : IsResettledAll old edits new) where
   pub nodes_same : new.network.nodes ≡ old.network.nodes
-  nodes_same = ap (λ (g : NetworkValue). g.nodes) resettled.network ∙ nodes_edited old.network edit
+  nodes_same = ap (λ (g : NetworkValue). g.nodes) resettled.network ∙ nodes_all old.network edits
 
   pub edges_same : length new.edges ≡ length old.edges
   edges_same = ap (λ (es : List Ends). length es) resettled.edges
@@ -77,63 +75,55 @@ marked_long marks [] = refl
 marked_long marks (touched ∷ lists) = marked_long (slice_set marks touched.edge true) lists ∙ length-set marks touched.edge true
 
 -- an edge that is known to be customized is so after an edit, and so are those that the edit touched
-pub knows_after : (old : HierarchyValue) (edit : Edit) (lists : List TouchedEdge) (marks : List Bool) → IsHierarchy old → IsResettled old edit (hierarchy_with old edit lists)
-    → NumbersTouched old edit (numbers_of lists) → KnowsCustomized old marks → KnowsCustomized (hierarchy_with old edit lists) (marked marks lists)
-knows_after old edit lists marks sound resettled numbers knows = record {
-  long = marked_long marks lists ∙ knows.long ∙ sym (edges_same old (hierarchy_with old edit lists) edit resettled);
-  customized = edit_customized old edit lists marks sound resettled numbers knows.customized;
+pub knows_after : (old : HierarchyValue) (edits : List Edit) (lists : List TouchedEdge) (marks : List Bool) → IsHierarchy old → IsResettledAll old edits (hierarchy_with_all old edits lists)
+    → NumbersTouchedBySome old edits (numbers_of lists) → KnowsCustomized old marks → KnowsCustomized (hierarchy_with_all old edits lists) (marked marks lists)
+knows_after old edits lists marks sound resettled numbers knows = record {
+  long = marked_long marks lists ∙ knows.long ∙ sym (edges_same old (hierarchy_with_all old edits lists) edits resettled);
+  customized = edit_customized old edits lists marks sound resettled numbers knows.customized;
 }
 
 -- touched edges are below the number of edges
-pub touched_below : (h : HierarchyValue) (edit : Edit) (lists : List TouchedEdge) → NumbersTouched h edit (numbers_of lists)
+pub touched_below : (h : HierarchyValue) (edits : List Edit) (lists : List TouchedEdge) → NumbersTouchedBySome h edits (numbers_of lists)
     → All (λ (touched : TouchedEdge). touched.edge < length h.edges) lists
-touched_below h edit lists numbers k d lt =
+touched_below h edits lists numbers k d lt =
     let number : TouchedEdge → ℕ = λ touched. touched.edge in
     let has = Contains-get_or (map number lists) k 0 (omega (arith, lt, length-map lists number)) in
     let here : get_or (map number lists) k 0 ≡ number (get_or lists k d) = get_or-map number lists k d 0 lt in
     let (ends, at, is) = (numbers.exact (get_or (map number lists) k 0)).0 has in
     subst (λ (edge : ℕ). edge < length h.edges) here (slice_get_within h.edges _ ends at)
 
--- the bytes that are written spell the hierarchy after the edit
-pub spelled_with : (h : HierarchyValue) (edit kept : Edit) (lists read : List TouchedEdge) (bytes : List ℕ) → kept ≡ edit → read ≡ lists
-    → IsHierarchy (hierarchy_with h edit lists) → bytes ≡ spelling (hierarchy_with h kept read) → Spells bytes (hierarchy_with h edit lists)
-spelled_with h edit kept lists read bytes same all sound is = record {
-  sound = sound;
-  spelled = is ∙ ap (λ (e : Edit). spelling (hierarchy_with h e read)) same ∙ ap (λ (l : List TouchedEdge). spelling (hierarchy_with h edit l)) all;
-}
-
 -- what is held after a change
 pub changed_over : (old : HierarchyValue) (before bytes : List ℕ) (had : Bool) (graph : ChordalValue) (parents : List (Option ℕ)) (marks : List Bool) (lists : List TouchedEdge)
     → HoldsFile old before had graph parents marks → IsChange old bytes lists → HoldsFile (decoded (sealed bytes)) bytes false graph parents (marked marks lists)
 changed_over old before bytes had graph parents marks lists holds change =
-    let new = hierarchy_with old change.edit lists in
-    let same = sym (graph_same old new change.edit change.resettled) in
+    let new = hierarchy_with_all old change.edits lists in
+    let same = sym (graph_same old new change.edits change.resettled) in
     held_new bytes new false graph parents (marked marks lists) (record {
       spelled = change.spelled;
       digest = λ is. absurd (cc is);
       chordal = holds.chordal ∙ same;
       tree = holds.tree ∙ ap parents_in same;
-      knows = knows_after old change.edit lists marks holds.spelled.sound change.resettled change.touched holds.knows;
+      knows = knows_after old change.edits lists marks holds.spelled.sound change.resettled change.touched holds.knows;
     })
 
-known_but : (known : Known) (old : HierarchyValue) (edit : Edit) (lists : List TouchedEdge) → (IsBuilt old → IsBuilt (hierarchy_with old edit lists)) → IsHierarchy old
-    → NumbersTouched old edit (numbers_of lists) → IsKnown old known → IsKnownBut (hierarchy_with old edit lists) known (numbers_of lists)
-known_but Built old edit lists again sound touched is = again is
-known_but (Short roads) old edit lists again sound touched is = counts_stay old sound edit lists touched roads is
-known_but Nothing old edit lists again sound touched is = tt
+known_but : (known : Known) (old : HierarchyValue) (edits : List Edit) (lists : List TouchedEdge) → (IsBuilt old → IsBuilt (hierarchy_with_all old edits lists)) → IsHierarchy old
+    → NumbersTouchedBySome old edits (numbers_of lists) → IsKnown old known → IsKnownBut (hierarchy_with_all old edits lists) known (numbers_of lists)
+known_but Built old edits lists again sound touched is = again is
+known_but (Short roads) old edits lists again sound touched is = counts_stay old sound edits lists touched roads is
+known_but Nothing old edits lists again sound touched is = tt
 
 -- what is known of the walks is so after a change, but for the lists that it resettled: a built hierarchy is built again
 pub known_over : (old : HierarchyValue) (bytes : List ℕ) (lists : List TouchedEdge) (known : Known) → IsHierarchy old → IsChange old bytes lists → IsKnown old known
     → IsKnownBut (decoded (sealed bytes)) known (numbers_of lists)
 known_over old bytes lists known sound change is =
-    let new = hierarchy_with old change.edit lists in
+    let new = hierarchy_with_all old change.edits lists in
     subst (λ (h : HierarchyValue). IsKnownBut h known (numbers_of lists)) (sym (decoded_is (sealed bytes) new change.spelled))
-    (known_but known old change.edit lists (λ built. resettled_built old new change.edit built change.range change.spelled.sound change.resettled) sound change.touched is)
+    (known_but known old change.edits lists (λ built. all_built old new change.edits built change.spelled.sound change.resettled) sound change.touched is)
 
 -- the edges of a change are edges of the hierarchy after it
 pub change_below : (old : HierarchyValue) (bytes : List ℕ) (lists : List TouchedEdge) → IsChange old bytes lists
     → All (λ (touched : TouchedEdge). touched.edge < length (decoded (sealed bytes)).edges) lists
 change_below old bytes lists change =
     subst (λ (h : HierarchyValue). All (λ (touched : TouchedEdge). touched.edge < length h.edges) lists)
-    (sym (decoded_is (sealed bytes) (hierarchy_with old change.edit lists) change.spelled))
-    (touched_below old change.edit lists change.touched)
+    (sym (decoded_is (sealed bytes) (hierarchy_with_all old change.edits lists) change.spelled))
+    (touched_below old change.edits lists change.touched)

@@ -2,14 +2,13 @@
 use Rattle.std.proofs.Common.{◌≡◌, ◌∙◌, ℕ, zero, suc, List, [], ◌∷◌, refl, ap, arith, min}
 use Rattle.std.specs.Prelude.{All}
 use Rattle.cu_model.specs.declared.roads.Edit.{Edit}
-use Rattle.cu_model.proofs.EditLaws.{nodes_edited}
+use Rattle.cu_resettled.proofs.ResettledThere.{nodes_all}
 use Rattle.cu_interval.specs.declared.ways.Way.{Way}
 use Rattle.cu_interval.specs.declared.ways.Way.TheVariants.{Road, Via}
 use Rattle.cu_interval.specs.declared.ways.Entry.{Entry}
 use Rattle.cu_interval.specs.declared.ways.TouchedEdge.{TouchedEdge}
 use Rattle.cu_interval.specs.Hierarchies.{HierarchyValue, IsHierarchy, end_of, list_from, start_of}
-use Rattle.cu_interval.specs.Replacing.{hierarchy_with}
-use Rattle.cu_interval.specs.Touching.{NumbersTouched}
+use Rattle.cu_resettled.specs.ResettlingAll.{NumbersTouchedBySome, hierarchy_with_all}
 use Rattle.cu_edits.specs.Settling.{SettlingValue, numbers_of}
 use Rattle.cu_edits.specs.Steps.Frames.{IsFrame, IsFramed}
 use Rattle.cu_edits.proofs.SettledFrames.{UntouchedPair, other_frame}
@@ -38,18 +37,18 @@ module _ (a b : HierarchyValue) (Pair : ℕ → ℕ → Type 0) (frame : IsFrame
       ways_stay fuel u v (most_stays fuel) (list_from a u v) (frame.ways u v pair) ∙ ap (most_of (way_roads (most_by b fuel) u v)) (frame.lists u v pair)
 
 -- the most roads that are counted before an edit are those after it, but for the lists of the edges that it touches
-pub counts_stay : (h : HierarchyValue) → IsHierarchy h → (edit : Edit) (lists : List TouchedEdge) → NumbersTouched h edit (numbers_of lists)
-    → (counts : List ℕ) → AreRoadCounts h counts → AreRoadCountsBut (hierarchy_with h edit lists) counts (numbers_of lists)
-counts_stay h sound edit lists numbers counts counted =
-    let s : SettlingValue = record { before = h; edit = edit; settled = lists } in
-    let new = hierarchy_with h edit lists in
-    let nodes = nodes_edited h.network edit in record {
+pub counts_stay : (h : HierarchyValue) → IsHierarchy h → (edits : List Edit) (lists : List TouchedEdge) → NumbersTouchedBySome h edits (numbers_of lists)
+    → (counts : List ℕ) → AreRoadCounts h counts → AreRoadCountsBut (hierarchy_with_all h edits lists) counts (numbers_of lists)
+counts_stay h sound edits lists numbers counts counted =
+    let s : SettlingValue = record { before = h; edit = edits; settled = lists } in
+    let new = hierarchy_with_all h edits lists in
+    let nodes = nodes_all h.network edits in record {
       long = counted.long;
       right = λ edge dir ends at other.
           let u = start_of ends dir in
           let v = end_of ends dir in
           let (is, few) = counted.right edge dir ends at in
-          let same = most_stays h new (UntouchedPair h edit) (other_frame s sound (λ e c. (numbers.exact e).0 c)) (suc (min u v)) u v
+          let same = most_stays h new (UntouchedPair h edits) (other_frame s sound (λ e c. (numbers.exact e).0 c)) (suc (min u v)) u v
           (edge, dir, over h.edges edge dir ends at, λ touched. other ((numbers.exact edge).1 touched)) in
           (is ∙ same, omega (arith, few, nodes));
     }

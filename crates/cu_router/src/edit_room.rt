@@ -1,21 +1,24 @@
 //! What edits need beside a held file.
 
-ghost use Rattle.std.specs.Prelude.{◌≡◌, IfOk, IsSome, OnErr, OnOk};
+ghost use Rattle.std.specs.Prelude.{◌≡◌, ◌∷◌, ◌++◌, [], IfOk, IsSome, OnErr, OnOk};
 ghost use Rattle.cu_model.specs.Edits.{IsEditInRange};
+ghost use Rattle.cu_model.specs.Networks.{IsNetwork};
+ghost use Rattle.cu_edits.specs.EditLists.{CountsTouched, FitsList};
 ghost use Rattle.cu_edits.specs.Settling.{numbers_of};
 ghost use Rattle.cu_interval.specs.EdgeArcs.{AreEdgeArcs};
 ghost use Rattle.cu_interval.specs.Hierarchies.{IsHierarchy, graph_of};
 ghost use Rattle.cu_interval.specs.Replacing.{hierarchy_with};
 ghost use Rattle.cu_interval.specs.Resettling.{IsResettled};
 ghost use Rattle.cu_interval.specs.Touching.{NumbersTouched};
+ghost use Rattle.cu_resettled.specs.ResettlingAll.{IsResettledAll, NumbersTouchedBySome, edited_all, hierarchy_with_all};
 ghost use Rattle.cu_pack.specs.Checks.{Spells, sealed};
 ghost use Rattle.cu_recall.specs.Spans.{Knows};
 ghost use Rattle.cu_router.specs.Steps.Rooms.{FitsEdits, HasEditRoom};
 
 use crate::held_file::HeldFile;
 use cu_chordal::Chordal;
-use cu_edits::{Learned, Touched, touch_over};
-use cu_interval::{EdgeArcs, Ways};
+use cu_edits::{EditList, Edits, Learned, Touched, plan_all, touch_all, touch_over};
+use cu_interval::{EdgeArcs, TouchedEdge, Ways};
 use cu_links::RankBuckets;
 use cu_model::{Edit, NoMemory, Roads};
 use cu_pack::{PackedView, order_of};
@@ -131,7 +134,7 @@ fn repack_held(
         (λ made. HasEditRoom (hierarchy_with held.now edit made.1.lists.items) room.new) }
 {
     let touched = touch_held(alloc, held, rows, edit, room)?;
-    let bytes = held.repacked(alloc, &touched.edit, touched.lists.as_slice())?;
+    let bytes = held.repacked(alloc, Edits::One(&touched.edit), touched.lists.as_slice())?;
     Ok((bytes, touched))
 }
 
@@ -171,4 +174,119 @@ fn touch_held(
         held.customized(),
         &mut room.learned,
     )
+}
+
+/// Adds an edit to a list of edits of a held file, behind the others, and answers how many edges it touches over the network as
+/// they leave it.
+pub(crate) fn add_held(
+    alloc: Global,
+    held: &HeldFile,
+    edits: &mut EditList,
+    edit: Edit,
+) -> Result<u32, NoMemory>
+    requires edits { FitsList held.now edits.old }
+    requires range { IsEditInRange (edited_all held.now.network edits.old.edits) edit }
+    ensures fits { FitsList held.now edits.new }
+    ensures made { IfOk result (λ count. edits.new.edits ≡ edits.old.edits ++ edit ∷ []) }
+    ensures count { IfOk result
+        (CountsTouched held.now (edited_all held.now.network edits.old.edits) edit) }
+    ensures sound { IfOk result
+        (λ count. IsNetwork (edited_all held.now.network edits.new.edits)) }
+    ensures kept { OnErr result (edits.new ≡ edits.old) }
+{
+    let view = held.view();
+    plan_all(alloc, &view, edits, edit, held.graph())
+}
+
+/// The edges that some edits of a list touch, each settled once, with their lists after all of them, and the packed bytes, but for
+/// their digest, of the hierarchy after them; these rows say what is so of the one before. The room for edits fits the hierarchy
+/// after them, and is made if there is none; where memory runs out it is let go of.
+pub(crate) fn edit_all_held(
+    alloc: Global,
+    held: &HeldFile,
+    rows: &[Row],
+    edits: &EditList,
+    editing: &mut Option<EditRoom>,
+) -> Result<(Vec<u8>, Vec<TouchedEdge>), NoMemory>
+    requires edits { FitsList held.now edits.now }
+    requires knows { Knows held.now rows.now }
+    requires editing { FitsEdits held.now editing.old }
+    ensures held { IfOk result (λ _. IsHierarchy held.now) }
+    ensures touched { IfOk result (λ made. NumbersTouchedBySome held.now edits.now.edits
+        (numbers_of made.1.items)) }
+    ensures resettled { IfOk result (λ made. IsResettledAll held.now edits.now.edits
+        (hierarchy_with_all held.now edits.now.edits made.1.items)) }
+    ensures sound { IfOk result
+        (λ made. IsHierarchy (hierarchy_with_all held.now edits.now.edits made.1.items)) }
+    ensures spelled { IfOk result (λ made. Spells (sealed made.0.items)
+        (hierarchy_with_all held.now edits.now.edits made.1.items)) }
+    ensures editing { IfOk result (λ made. FitsEdits
+        (hierarchy_with_all held.now edits.now.edits made.1.items) editing.new) }
+    ensures kept { OnErr result (FitsEdits held.now editing.new) }
+{
+    fill_edit_room(alloc, held, editing)?;
+    let Some(room) = editing else { unreachable!() };
+    let Ok(made) = repack_all_held(alloc, held, rows, edits, room) else {
+        drop(editing.take());
+        return Err(NoMemory);
+    };
+    Ok(made)
+}
+
+// The same in room that is there.
+fn repack_all_held(
+    alloc: Global,
+    held: &HeldFile,
+    rows: &[Row],
+    edits: &EditList,
+    room: &mut EditRoom,
+) -> Result<(Vec<u8>, Vec<TouchedEdge>), NoMemory>
+    requires edits { FitsList held.now edits.now }
+    requires knows { Knows held.now rows.now }
+    requires room { HasEditRoom held.now room.old }
+    ensures held { IfOk result (λ _. IsHierarchy held.now) }
+    ensures touched { IfOk result (λ made. NumbersTouchedBySome held.now edits.now.edits
+        (numbers_of made.1.items)) }
+    ensures resettled { IfOk result (λ made. IsResettledAll held.now edits.now.edits
+        (hierarchy_with_all held.now edits.now.edits made.1.items)) }
+    ensures sound { IfOk result
+        (λ made. IsHierarchy (hierarchy_with_all held.now edits.now.edits made.1.items)) }
+    ensures spelled { IfOk result (λ made. Spells (sealed made.0.items)
+        (hierarchy_with_all held.now edits.now.edits made.1.items)) }
+    ensures room { IfOk result (λ made. HasEditRoom
+        (hierarchy_with_all held.now edits.now.edits made.1.items) room.new) }
+{
+    let lists = touch_all_held(alloc, held, rows, edits, room)?;
+    let bytes = held.repacked(alloc, Edits::All(edits), lists.as_slice())?;
+    Ok((bytes, lists))
+}
+
+// The edges that some edits of a list touch, with their lists after all of them; these rows say what is so of the hierarchy. The
+// room fits the hierarchy after them. What edits learned is let go of, so that there is room to pack.
+fn touch_all_held(
+    alloc: Global,
+    held: &HeldFile,
+    rows: &[Row],
+    edits: &EditList,
+    room: &mut EditRoom,
+) -> Result<Vec<TouchedEdge>, NoMemory>
+    requires edits { FitsList held.now edits.now }
+    requires knows { Knows held.now rows.now }
+    requires room { HasEditRoom held.now room.old }
+    ensures held { IsHierarchy held.now }
+    ensures touched { IfOk result
+        (λ lists. NumbersTouchedBySome held.now edits.now.edits (numbers_of lists.items)) }
+    ensures resettled { IfOk result (λ lists. IsResettledAll held.now edits.now.edits
+        (hierarchy_with_all held.now edits.now.edits lists.items)) }
+    ensures sound { IfOk result
+        (λ lists. IsHierarchy (hierarchy_with_all held.now edits.now.edits lists.items)) }
+    ensures room { IfOk result (λ lists. HasEditRoom
+        (hierarchy_with_all held.now edits.now.edits lists.items) room.new) }
+{
+    drop(room.learned.take());
+    let view = held.view();
+    let graph = held.graph();
+    let ways = RecalledWays::new(&view, graph, rows);
+    let customized = held.customized();
+    touch_all(alloc, &ways, edits, graph, &room.arcs, customized)
 }

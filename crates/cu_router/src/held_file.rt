@@ -2,24 +2,23 @@
 
 ghost use Rattle.std.specs.Prelude.{◌≡◌, ◌≤◌, ◌<◌, All, IfOk, IsTrue, length, true};
 ghost use Rattle.std.specs.List.Sorted.{IsStrictlyIncreasing};
-ghost use Rattle.cu_model.specs.Edits.{IsEditInRange};
 ghost use Rattle.cu_edits.specs.Settling.{numbers_of};
+ghost use Rattle.cu_edits.specs.Together.{FitEdits, edits_of};
 ghost use Rattle.cu_elimtree.specs.SweepArcs.{parents_in};
 ghost use Rattle.cu_interval.specs.declared.ways.TouchedEdge.{TouchedEdge};
 ghost use Rattle.cu_interval.specs.Hierarchies.{HierarchyValue, IsBuilt, IsHierarchy, graph_of};
-ghost use Rattle.cu_interval.specs.Replacing.{hierarchy_with};
-ghost use Rattle.cu_interval.specs.Touching.{NumbersTouched};
 ghost use Rattle.cu_pack.specs.Checks.{Spells, sealed};
 ghost use Rattle.cu_pack.specs.Reading.{decoded};
+ghost use Rattle.cu_resettled.specs.ResettlingAll.{NumbersTouchedBySome, hierarchy_with_all};
 ghost use Rattle.cu_router.specs.Changes.{IsChange, KnowsCustomized};
 ghost use Rattle.cu_router.specs.Steps.Holding.{IsKnown, IsKnownBut, StaysLed, TellsShort};
 ghost use Rattle.cu_short.specs.Shortness.{NeverLong};
 
 use cu_chordal::Chordal;
-use cu_edits::CustomizedEdges;
+use cu_edits::{CustomizedEdges, EditedRoads, Edits};
 use cu_elimtree::Tree;
 use cu_interval::{TouchedEdge, Ways};
-use cu_model::{Edit, NoMemory};
+use cu_model::NoMemory;
 use cu_pack::{PackedView, chordal_of, repack_touched, seal};
 use cu_short::RoadCounts;
 use std::alloc::Global;
@@ -149,24 +148,26 @@ impl HeldFile {
         }
     }
 
-    /// The packed bytes, but for their digest, of the hierarchy after an edit that resettles the lists of these edges. Nothing is
-    /// changed over to them yet.
+    /// The packed bytes, but for their digest, of the hierarchy after edits that together resettle the lists of these edges. Nothing
+    /// is changed over to them yet.
     pub fn repacked(
         &self,
         alloc: Global,
-        edit: &Edit,
+        edits: Edits<'_>,
         lists: &[TouchedEdge],
     ) -> Result<Vec<u8>, NoMemory>
-        requires range { IsEditInRange self.now.network edit.now }
-        requires touched { NumbersTouched self.now edit.now (numbers_of lists.now) }
-        requires sound { IsHierarchy (hierarchy_with self.now edit.now lists.now) }
-        ensures spelled { IfOk result
-            (λ bytes. Spells (sealed bytes.items) (hierarchy_with self.now edit.now lists.now)) }
+        requires edits { FitEdits self.now.network edits }
+        requires touched { NumbersTouchedBySome self.now (edits_of edits) (numbers_of lists.now) }
+        requires sound { IsHierarchy (hierarchy_with_all self.now (edits_of edits) lists.now) }
+        ensures spelled { IfOk result (λ bytes. Spells (sealed bytes.items)
+            (hierarchy_with_all self.now (edits_of edits.entry) lists.now)) }
     {
-        repack_touched(alloc, &self.view(), edit, lists)
+        let view = self.view();
+        let roads = EditedRoads::of(&view, edits);
+        repack_touched(alloc, &view, &roads, lists)
     }
 
-    /// Holds the hierarchy after an edit, which resettled the lists of these edges, by its packed bytes but for their digest. Where
+    /// Holds the hierarchy after edits, which together resettled the lists of these edges, by its packed bytes but for their digest. Where
     /// it was known that no walk is too long, this is asked again of the lists of these edges alone; once one has too many roads it
     /// is known no more. Takes no memory.
     pub fn change_over(&mut self, bytes: Vec<u8>, lists: &[TouchedEdge])

@@ -1,31 +1,35 @@
 //! What a script is answered from: the packed bytes of a hierarchy, and the room that queries and edits need beside them.
 
-ghost use Rattle.std.specs.Prelude.{◌≡◌, ◌≤◌, ◌<◌, ◌-◌, ◌^◌, ℕ, [], All, IfErr, IfOk, IfSome, List, OnErr, OnOk, length};
+ghost use Rattle.std.specs.Prelude.{◌≡◌, ◌≤◌, ◌<◌, ◌-◌, ◌^◌, ◌∷◌, ◌++◌, ℕ, [], All, IfErr, IfOk, IfSome, List, OnErr, OnOk, length};
 ghost use Rattle.cu_io.specs.Sinks.{Wrote};
 ghost use Rattle.cu_model.specs.declared.limits.TheConstants.{DAY};
 ghost use Rattle.cu_model.specs.Edits.{IsEditInRange};
+ghost use Rattle.cu_model.specs.Networks.{IsNetwork};
 ghost use Rattle.cu_chordal.specs.declared.graph.TheConstants.{MAX_EDGES};
 ghost use Rattle.cu_interval.specs.Hierarchies.{HierarchyValue, IsBuilt, IsHierarchy};
 ghost use Rattle.cu_interval.specs.Touching.{NumbersTouched};
+ghost use Rattle.cu_resettled.specs.ResettlingAll.{edited_all};
+ghost use Rattle.cu_edits.specs.EditLists.{CountsTouched, FitsList};
 ghost use Rattle.cu_pack.specs.Checks.{Spells};
 ghost use Rattle.cu_reach.specs.Departures.{latest_by};
 ghost use Rattle.cu_reach.specs.ReachTexts.{reach_reply, table_reply};
 ghost use Rattle.cu_recall.specs.Rooms.{Fits};
 ghost use Rattle.cu_router.specs.Answers.{FindsArrival, IsHeldAnswer, IsHeldDrive, IsHeldWaits};
 ghost use Rattle.cu_router.specs.Days.{IsHeldDay};
-ghost use Rattle.cu_router.specs.Edited.{IsEdited};
+ghost use Rattle.cu_router.specs.Edited.{IsEdited, IsEditedAll};
 ghost use Rattle.cu_router.specs.Reaches.{IsHeldLatestReply};
 ghost use Rattle.cu_router.specs.Swept.{swept_drive, swept_reply, swept_waits};
 ghost use Rattle.cu_router.specs.Working.{FitsBusy, edges_left};
 
 use crate::busy::Busy;
 use crate::days::find_day;
-use crate::edit_room::{EditRoom, edit_held, fill_edit_room};
+use crate::edit_room::{EditRoom, add_held, edit_all_held, edit_held, fill_edit_room};
 use crate::held_file::HeldFile;
 use crate::query_room::QueryRoom;
 use crate::working::{begin_held, finish, give_back, plan_held, settle_next};
 use cu_arrival::Arrival;
 use cu_day::DayAsked;
+use cu_edits::{EditList, Edits};
 use cu_interval::Ways;
 use cu_io::{Sink, SinkFailed};
 use cu_model::{Edit, NoMemory, Query, Roads};
@@ -242,6 +246,44 @@ impl Router {
         Ok(lists.len())
     }
 
+    /// A list of edits that are to be made together, with none in it yet.
+    pub fn begin_edits(&self, alloc: Global) -> Result<EditList, NoMemory>
+        ensures none { IfOk result (λ edits. edits.edits ≡ []) }
+        ensures fits { IfOk result (FitsList self.now) }
+    {
+        EditList::new(alloc, &self.held.view())
+    }
+
+    /// Adds an edit to a list of edits, behind the others, and answers how many edges it touches over the network as they leave it.
+    /// Its numbers are in range. Nothing changes of what is held; where memory runs out the list is as before.
+    pub fn add_edit(&self, alloc: Global, edits: &mut EditList, edit: Edit) -> Result<u32, NoMemory>
+        requires edits { FitsList self.now edits.old }
+        requires range { IsEditInRange (edited_all self.now.network edits.old.edits) edit }
+        ensures fits { FitsList self.now edits.new }
+        ensures made { IfOk result (λ count. edits.new.edits ≡ edits.old.edits ++ edit ∷ []) }
+        ensures count { IfOk result
+            (CountsTouched self.now (edited_all self.now.network edits.old.edits) edit) }
+        ensures sound { IfOk result
+            (λ count. IsNetwork (edited_all self.now.network edits.new.edits)) }
+        ensures kept { OnErr result (edits.new ≡ edits.old) }
+    {
+        add_held(alloc, &self.held, edits, edit)
+    }
+
+    /// Makes all edits of a list: each edge that some of them touches is settled once, and the file is packed once. Where memory
+    /// runs out nothing has changed.
+    pub fn edit_all(&mut self, alloc: Global, edits: &EditList) -> Result<(), NoMemory>
+        requires edits { FitsList self.old edits.now }
+        ensures edited { OnOk result (IsEditedAll self.old edits.now.edits self.new) }
+        ensures kept { OnErr result (self.new ≡ self.old) }
+    {
+        let rows = self.queries.rows();
+        let (bytes, lists) = edit_all_held(alloc, &self.held, rows, edits, &mut self.editing)?;
+        self.held.change_over(bytes, lists.as_slice());
+        self.queries.forget();
+        Ok(())
+    }
+
     /// The edges that an edit touches, whose numbers are in range, by rising number. Nothing changes of what is held.
     pub fn plan(&mut self, alloc: Global, edit: &Edit) -> Result<Vec<u32>, NoMemory>
         requires range { IsEditInRange self.old.network edit.now }
@@ -315,7 +357,10 @@ impl Router {
         let Ok(()) = fill_edit_room(alloc, &self.held, &mut self.editing) else {
             return Err(busy);
         };
-        let Ok(bytes) = self.held.repacked(alloc, &busy.edit, busy.papers.lists()) else {
+        let Ok(bytes) = self
+            .held
+            .repacked(alloc, Edits::One(&busy.edit), busy.papers.lists())
+        else {
             return Err(busy);
         };
         let Some(room) = &mut self.editing else {

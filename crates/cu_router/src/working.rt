@@ -1,6 +1,6 @@
 //! The steps of an edit in work over a held file.
 
-ghost use Rattle.std.specs.Prelude.{◌≡◌, ◌≤◌, ◌-◌, [], IfOk, IfSome, OnErr, length};
+ghost use Rattle.std.specs.Prelude.{◌≡◌, ◌≤◌, ◌-◌, [], List, IfOk, IfSome, OnErr, length};
 ghost use Rattle.cu_model.specs.declared.roads.Edit.{Edit};
 ghost use Rattle.cu_model.specs.Edits.{IsEditInRange};
 ghost use Rattle.cu_chordal.specs.declared.graph.TheConstants.{MAX_EDGES};
@@ -163,7 +163,7 @@ pub(crate) fn finish(
 
 /// Gives what is known of the hierarchy before an edit that isn't made back to the room for edits, if there is one. Takes no memory.
 pub(crate) fn give_back(editing: &mut Option<EditRoom>, settler: PausedSettler)
-    ensures { (h : HierarchyValue) (edit : Edit) → FitsPaused h edit settler
+    ensures { (h : HierarchyValue) (edits : List Edit) → FitsPaused h edits settler
         → FitsEdits h editing.old → FitsEdits h editing.new }
 {
     if let Some(room) = editing {

@@ -6,6 +6,7 @@ pub mod WaitingSwept
 pub mod Questions
 pub mod Replies
 pub mod Waiting
+pub mod AtOnce
 pub mod Held
 pub mod Kept
 pub mod Sessions

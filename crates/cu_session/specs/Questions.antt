@@ -2,7 +2,6 @@
 use Rattle.std.specs.Prelude.{ℕ, Bool, false, true, List, [], ◌∷◌, ◌==◌, ◌≡◌, ◌⊎◌, Result, Ok, Err, codes, length, if◌then◌else◌}
 use Rattle.cu_model.specs.declared.queries.Query.{Query}
 use Rattle.cu_model.specs.declared.queries.QueryRefusal.{QueryRefusal}
-use Rattle.cu_model.specs.declared.queries.QueryRefusal.TheVariants as query
 use Rattle.cu_model.specs.declared.roads.Edit.{Edit}
 use Rattle.cu_model.specs.Answers.{IsAnswer, arrive_text}
 use Rattle.cu_model.specs.Networks.{NetworkValue}
@@ -14,7 +13,6 @@ use Rattle.cu_day.specs.declared.lines.DayAsked.{DayAsked}
 use Rattle.cu_day.specs.declared.lines.DayRefusal.{DayRefusal}
 use Rattle.cu_day.specs.DayLines.{day_of}
 use Rattle.cu_script.specs.declared.lines.EditRefusal.{EditRefusal}
-use Rattle.cu_script.specs.declared.lines.EditRefusal.TheVariants as edit
 use Rattle.cu_script.specs.EditLines.{edit_of}
 use Rattle.cu_day.specs.DayAnswers.{IsDayAnswer}
 use Rattle.cu_interval.specs.Hierarchies.{HierarchyValue}

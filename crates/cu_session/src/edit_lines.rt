@@ -5,14 +5,19 @@ ghost use Rattle.cu_io.specs.Sinks.{Wrote, WroteLine};
 ghost use Rattle.cu_script.specs.EditLines.{edit_of};
 ghost use Rattle.cu_model.specs.declared.roads.Edit.{Edit};
 ghost use Rattle.cu_router.specs.Edited.{IsEdited};
-ghost use Rattle.cu_session.specs.Held.{IsDoneReplyTo, IsHeldReplyTo, edit_asked_of};
+ghost use Rattle.cu_interval.specs.Hierarchies.{IsHierarchy};
+ghost use Rattle.cu_resettled.specs.ResettlingAll.{edited_all};
+ghost use Rattle.cu_edits.specs.EditLists.{FitsList};
+ghost use Rattle.cu_session.specs.AtOnce.{IsSaidOf};
+ghost use Rattle.cu_session.specs.Held.{IsHeldReplyTo, edit_asked_of};
 ghost use Rattle.cu_session.specs.Questions.{asked_by_edit};
 ghost use Rattle.cu_session.specs.Refusals.{edit_check_words};
 ghost use Rattle.cu_session.specs.Scripts.{line_limit};
-ghost use Rattle.cu_session.specs.Steps.Turns.{AnswersEdit};
+ghost use Rattle.cu_session.specs.Steps.Planning.{said_text};
 
+use crate::editing::Said;
 use crate::refusals::put_piece_refusal;
-use crate::stops::SessionStop;
+use cu_edits::EditList;
 use cu_io::{Sink, SinkFailed, end_line, put_all, put_number};
 use cu_model::{NoMemory, Roads};
 use cu_router::Router;
@@ -40,51 +45,56 @@ pub(crate) fn put_edit_reply<K: Sink>(
     }
 }
 
-// Answers the text of a line of edits, ends the reply by a line feed and flushes the sink; the edit is made before. Where memory
-// runs out for it nothing is made or written.
-pub(crate) fn answer_edit<K: Sink>(
+// Adds the edit of the text of a line to a list, if it is one, and tells what is said of it. Where memory runs out the list is as
+// before.
+pub(crate) fn plan_edit(
     alloc: Global,
-    router: &mut Router,
+    router: &Router,
+    edits: &mut EditList,
     line: &[u8],
-    sink: &mut K,
-) -> Result<(), SessionStop>
+) -> Result<Said, NoMemory>
     requires few { length line.now ≤ line_limit }
-    ensures edit { AnswersEdit router.old router.new
-        (λ reply. IsDoneReplyTo router.old (edit_asked_of router.old line.now) reply router.new)
-        result (K.state sink.old) (K.state sink.new) }
+    requires edits { FitsList router.now edits.old }
+    ensures fits { FitsList router.now edits.new }
+    ensures said { IfOk result (λ said. (made : List Edit)
+        × IsSaidOf (edited_all router.now.network edits.old.edits) router.now.order
+        (edit_asked_of router.now line.now) (said_text said) made
+        × (edits.new.edits ≡ edits.old.edits ++ made)) }
 {
     let view = router.view();
     let arcs = view.arcs();
     let profiles = view.profiles();
     match check_edit(line, arcs, profiles) {
-        Ok(checked) => answer_edited(alloc, router, checked, sink),
-        Err(refusal) => {
-            answer_refused(refusal, sink)?;
-            Ok(())
-        }
+        Ok(checked) => plan_checked(alloc, router, edits, checked),
+        Err(refusal) => Ok(Said::Refused(refusal)),
     }
 }
 
-// Makes the edit of a line of edits, and answers the line.
-fn answer_edited<K: Sink>(
+// Adds the edit of a line to a list, and tells how many edges it touches over the network as those before it leave it.
+fn plan_checked(
     alloc: Global,
-    router: &mut Router,
+    router: &Router,
+    edits: &mut EditList,
     checked: EditLine<'_>,
-    sink: &mut K,
-) -> Result<(), SessionStop>
-    requires arcs { checked.arcs ≡ length router.old.network.arcs }
-    requires profiles { checked.profiles ≡ length router.old.network.profiles }
-    ensures edit { AnswersEdit router.old router.new (λ reply. IsDoneReplyTo router.old
-        (asked_by_edit (edit_of checked.entry.arcs checked.entry.profiles checked.entry.line)) reply
-        router.new) result (K.state sink.old) (K.state sink.new) }
+) -> Result<Said, NoMemory>
+    requires arcs { checked.arcs ≡ length router.now.network.arcs }
+    requires profiles { checked.profiles ≡ length router.now.network.profiles }
+    requires sound { IsHierarchy router.now }
+    requires edits { FitsList router.now edits.old }
+    ensures fits { FitsList router.now edits.new }
+    ensures said { IfOk result (λ said. (made : List Edit)
+        × IsSaidOf (edited_all router.now.network edits.old.edits) router.now.order
+        (asked_by_edit (edit_of checked.entry.arcs checked.entry.profiles checked.entry.line))
+        (said_text said) made
+        × (edits.new.edits ≡ edits.old.edits ++ made)) }
 {
-    let count = make_edit(alloc, router, checked)?;
-    answer_done(count, sink)?;
-    Ok(())
+    let edit = checked.take(alloc)?;
+    let count = router.add_edit(alloc, edits, edit)?;
+    Ok(Said::Done(count))
 }
 
 // Writes the line of an edit that was made and touches so many edges.
-fn answer_done<K: Sink>(count: usize, sink: &mut K) -> Result<(), SinkFailed>
+pub(crate) fn answer_done<K: Sink>(count: usize, sink: &mut K) -> Result<(), SinkFailed>
     ensures wrote { WroteLine (K.state sink.old) (K.state sink.new) result
         (codes "done " ++ decimal count) }
 {
@@ -93,7 +103,7 @@ fn answer_done<K: Sink>(count: usize, sink: &mut K) -> Result<(), SinkFailed>
 }
 
 // Writes the line of an edit that fails a check.
-fn answer_refused<K: Sink>(refusal: EditRefusal, sink: &mut K) -> Result<(), SinkFailed>
+pub(crate) fn answer_refused<K: Sink>(refusal: EditRefusal, sink: &mut K) -> Result<(), SinkFailed>
     ensures wrote { WroteLine (K.state sink.old) (K.state sink.new) result
         (codes "refused: " ++ edit_check_words refusal) }
 {

@@ -1,22 +1,30 @@
-//! A text of edits, made line by line.
+//! A text of edits, made together, and answered line by line.
 
-ghost use Rattle.std.specs.Prelude.{◌≡◌, ◌∷◌, ◌<◌, ◌==◌, position, length};
+ghost use Rattle.std.specs.Prelude.{◌≡◌, ◌∷◌, ◌++◌, ◌<◌, ◌==◌, List, IfOk, position, length};
 ghost use Rattle.cu_io.specs.Lines.{lines_of, without_return};
-ghost use Rattle.cu_session.specs.Held.{IsDoneReply};
+ghost use Rattle.cu_io.specs.Sinks.{WroteLine};
+ghost use Rattle.cu_model.specs.declared.roads.Edit.{Edit};
+ghost use Rattle.cu_resettled.specs.ResettlingAll.{edited_all};
+ghost use Rattle.cu_edits.specs.EditLists.{FitsList};
+ghost use Rattle.cu_session.specs.AtOnce.{AreSaid, IsSaid};
 ghost use Rattle.cu_session.specs.Sessions.{EndsEdits, stop_of};
-ghost use Rattle.cu_session.specs.Steps.Turns.{AnswersEdit};
+ghost use Rattle.cu_session.specs.Steps.Planning.{WritesText, said_text, said_texts};
 
 use crate::answering::LINE_LIMIT;
-use crate::edit_lines::answer_edit;
+use crate::edit_lines::{answer_done, answer_refused, plan_edit};
 use crate::stops::SessionStop;
-use cu_io::{Sink, put_line};
+use cu_edits::EditList;
+use cu_io::{Sink, SinkFailed, put_line};
+use cu_model::NoMemory;
 use cu_progress::{Progress, Silent, Stage, Telling};
 use cu_router::Router;
+use cu_script::EditRefusal;
 use std::alloc::Global;
 
-/// Makes the edits of a text in a hierarchy, and writes the reply to each line before the next is made. A query line is refused,
-/// as it is no edit line. Where memory runs out at a line, the lines before it were answered and made, and it is not; where the
-/// sink fails in the reply to one, those up to it were made. How much of the text is made is told as it goes.
+/// Makes the edits of a text in a hierarchy, all of them together, and then writes the replies to its lines: each is that of the
+/// network as the edits before it leave it, and each edge that some of them touches is settled once. A query line is refused, as
+/// it is no edit line. Where memory runs out nothing is made or written; where the sink fails in the reply to a line, all were
+/// made. How much of the text is read is told as it goes.
 pub fn answer_edits_telling<K: Sink, P: Progress>(
     alloc: Global,
     router: &mut Router,
@@ -27,20 +35,13 @@ pub fn answer_edits_telling<K: Sink, P: Progress>(
     ensures ended { EndsEdits router.old router.new text.now (stop_of result)
         (K.state sink.old) (K.state sink.new) }
 {
-    let mut telling = Telling::begin(progress, Stage::Editing, text.len() as u64);
-    let mut rest = text;
-    'lines: while !rest.is_empty() {
-        let (line, behind) = cut_line(rest);
-        answer_edit_line(alloc, router, line, sink)?;
-        telling.add((line.len() as u64).saturating_add(1));
-        rest = behind;
-    }
+    let (edits, said) = plan_edits(alloc, router, text, progress)?;
+    router.edit_all(alloc, &edits)?;
+    put_all_said(&said, sink)?;
     Ok(())
 }
 
-/// Makes the edits of a text in a hierarchy, and writes the reply to each line before the next is made. A query line is refused,
-/// as it is no edit line. Where memory runs out at a line, the lines before it were answered and made, and it is not; where the
-/// sink fails in the reply to one, those up to it were made.
+/// [`answer_edits_telling`], which tells nothing.
 pub fn answer_edits<K: Sink>(
     alloc: Global,
     router: &mut Router,
@@ -53,22 +54,78 @@ pub fn answer_edits<K: Sink>(
     answer_edits_telling(alloc, router, text, sink, &mut Silent)
 }
 
-// Makes the edit of a line, and writes the reply.
-fn answer_edit_line<K: Sink>(
+/// What is said of a line of edits.
+#[derive(Clone, Copy)]
+pub(crate) enum Said {
+    /// It is longer than a line may be.
+    Long,
+    /// It fails a check.
+    Refused(EditRefusal),
+    /// Its edit is made, and touches so many edges.
+    Done(u32),
+}
+
+// The edits of the lines of a text, in turn, and what is said of each line. None is made yet.
+fn plan_edits<P: Progress>(
     alloc: Global,
-    router: &mut Router,
+    router: &Router,
+    text: &[u8],
+    progress: &mut P,
+) -> Result<(EditList, Vec<Said>), NoMemory>
+    ensures fits { IfOk result (λ (edits, said). FitsList router.now edits) }
+    ensures said { IfOk result (λ (edits, said). AreSaid router.now.network router.now.order
+        (lines_of text.now) (said_texts said.items) edits.edits) }
+{
+    let mut telling = Telling::begin(progress, Stage::Editing, text.len() as u64);
+    let mut edits = router.begin_edits(alloc)?;
+    let mut said = Vec::new(alloc);
+    let mut rest = text;
+    'lines: while !rest.is_empty() {
+        let (line, behind) = cut_line(rest);
+        said.push(plan_line(alloc, router, &mut edits, line)?)?;
+        telling.add((line.len() as u64).saturating_add(1));
+        rest = behind;
+    }
+    Ok((edits, said))
+}
+
+// Adds the edit of a line to a list, if it is one, and tells what is said of the line.
+fn plan_line(
+    alloc: Global,
+    router: &Router,
+    edits: &mut EditList,
     line: &[u8],
-    sink: &mut K,
-) -> Result<(), SessionStop>
-    ensures edit { AnswersEdit router.old router.new
-        (λ reply. IsDoneReply router.old line.now reply router.new)
-        result (K.state sink.old) (K.state sink.new) }
+) -> Result<Said, NoMemory>
+    requires edits { FitsList router.now edits.old }
+    ensures fits { FitsList router.now edits.new }
+    ensures said { IfOk result (λ said. (made : List Edit)
+        × IsSaid (edited_all router.now.network edits.old.edits) router.now.order line.now
+        (said_text said) made × (edits.new.edits ≡ edits.old.edits ++ made)) }
 {
     if line.len() > LINE_LIMIT as usize {
-        put_line(sink, b"refused: long")?;
-        return Ok(());
+        return Ok(Said::Long);
     }
-    answer_edit(alloc, router, trim_return(line), sink)
+    plan_edit(alloc, router, edits, trim_return(line))
+}
+
+// Writes what is said of all lines, each ended by a line feed.
+fn put_all_said<K: Sink>(said: &[Said], sink: &mut K) -> Result<(), SinkFailed>
+    ensures wrote { WritesText result (said_texts said.now) (K.state sink.old) (K.state sink.new) }
+{
+    for one in said {
+        put_said(*one, sink)?;
+    }
+    Ok(())
+}
+
+fn put_said<K: Sink>(said: Said, sink: &mut K) -> Result<(), SinkFailed>
+    ensures wrote { WroteLine (K.state sink.old) (K.state sink.new) result (said_text said) }
+{
+    match said {
+        Said::Long => put_line(sink, b"refused: long"),
+        Said::Refused(refusal) => answer_refused(refusal, sink),
+        Said::Done(count) => answer_done(count as usize, sink),
+    }
 }
 
 // The first line of a text, without its line feed, and what stands behind it.

@@ -5,6 +5,7 @@ ghost use Rattle.cu_model.specs.Edits.{IsEditInRange};
 ghost use Rattle.cu_interval.specs.Replacing.{hierarchy_with};
 
 use cu_chordal::{Chordal, Ends};
+use cu_edits::{EditedRoads, Edits};
 use cu_interval::{BoundedWays, Dir, Entry, TouchedEdge, Way, Ways};
 use cu_model::{Edit, Order, Piece, Roads, Rule};
 use cu_pack::{PackedView, chordal_of, order_of, repack, repack_unsealed, seal};
@@ -251,8 +252,9 @@ fn answers_unsealed(rt: &impl Abort, alloc: Global, view: &PackedView<'_>) -> Re
     let _edges = view.edges();
     let edit = first_road_again(view);
     let lists: [TouchedEdge; 0] = [];
-    let whole = repack(alloc, view, &edit, &lists)?;
-    let mut unsealed = repack_unsealed(alloc, view, &edit, &lists)?;
+    let roads = EditedRoads::of(view, Edits::One(&edit));
+    let whole = repack(alloc, view, &roads, &lists)?;
+    let mut unsealed = repack_unsealed(alloc, view, &roads, &lists)?;
     assert!(rt; unsealed.as_slice() != whole.as_slice());
     let later = PackedView::adopt_unsealed(&unsealed);
     is_arrival(rt, &later, 28_800, 29_100);

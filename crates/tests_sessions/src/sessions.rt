@@ -91,6 +91,52 @@ fn edits_are_the_same_where_edges_are_known(rt: HostRuntime) -> Result<(), Fail>
     Ok(())
 }
 
+// Files of edits of several lines. Profiles are set twice; a road gets another profile before that is set, and behind it; roads
+// are closed and opened; the last line undoes the first; some lines are refused.
+const MANY: [&str; 6] = [
+    "s,0,0,travel,200\na,2,0\ns,0,0,travel,60\n",
+    "a,0,1\ns,1,0,travel,30\ns,0,0,travel,90\n",
+    "a,1,0\na,1,2\ns,2,0,travel,10,3600,travel,20\na,1,1\n",
+    "s,9,0,travel,1\na,0,2\ns,2,0,closed,0\nq,0,2,0\ns,2,0,travel,5\na,0,0\n",
+    "s,2,0,closed,0\na,0,2\na,1,2\n",
+    "q,0,2,0\na,3,0\n",
+];
+
+// The file after one line, and its reply behind the others.
+fn after_line(
+    alloc: Global,
+    file: Vec<u8>,
+    line: &str,
+    said: &mut Vec<u8>,
+) -> Result<Vec<u8>, Fail> {
+    let _view = PackedView::open(alloc, &file)?;
+    let (reply, after) = edited(alloc, Router::new(alloc, file)?, line)?;
+    said.extend_from_slice(&reply)?;
+    Ok(after)
+}
+
+// The replies to each line as a file of its own, and the file after them.
+fn in_turn(alloc: Global, text: &str) -> Result<(Vec<u8>, Vec<u8>), Fail> {
+    let mut file = packed(alloc, RUSH_HOUR)?;
+    let mut said = Vec::new(alloc);
+    for line in text.lines() {
+        file = after_line(alloc, file, line, &mut said)?;
+    }
+    Ok((said, file))
+}
+
+#[test]
+fn lines_together_leave_what_they_leave_in_turn(rt: HostRuntime) -> Result<(), Fail> {
+    let alloc = rt.alloc();
+    for text in MANY {
+        let (said, file) = edited(alloc, Router::new(alloc, packed(alloc, RUSH_HOUR)?)?, text)?;
+        let (turns, last) = in_turn(alloc, text)?;
+        assert!(rt; said.as_slice() == turns.as_slice(), "{text}");
+        assert!(rt; file.as_slice() == last.as_slice(), "{text}");
+    }
+    Ok(())
+}
+
 // Changes by which the least bound of both lists of an edge, which stand from a place on, is this one.
 fn push_bounds(changes: &mut Vec<(usize, u8)>, place: usize, bound: u64) -> Result<(), Fail> {
     for (index, byte) in bound.to_le_bytes().iter().enumerate() {

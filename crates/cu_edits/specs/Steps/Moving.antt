@@ -14,7 +14,6 @@ use Rattle.cu_interval.specs.declared.ways.Way.TheVariants.{Road, Via}
 use Rattle.cu_interval.specs.Hierarchies.{HierarchyValue, end_of, list_number, list_of, start_of}
 use Rattle.cu_interval.specs.Resettling.{IsResettledList, least_in, rebuilt, value_by}
 use Rattle.cu_interval.specs.Shortcuts.{AreHalfEdges}
-use Rattle.cu_interval.specs.Touching.{IsChanged}
 use Rattle.cu_runs.specs.PackedRuns.{IsPackedFunction}
 use Rattle.cu_customize.specs.declared.pulling.SettledRuns.{SettledRuns}
 use Rattle.cu_edits.specs.declared.new_list.Outcome.{Outcome}
@@ -22,6 +21,7 @@ use Rattle.cu_edits.specs.declared.new_list.Outcome.TheVariants.{Stands, Moves}
 use Rattle.cu_edits.specs.declared.new_list.NewList.{NewList}
 use Rattle.cu_edits.specs.Settling.{IsFinal, SettlingValue, settled_so_far}
 use Rattle.cu_edits.specs.Steps.Frames.{IsFramed, LeadsOver}
+use Rattle.cu_resettled.specs.ResettlingAll.{IsChangedBySome}
 
 -- for each list 0, or one more than where its function after the edit stands; and these functions
 pub record MovedValue : Type 0 where
@@ -42,8 +42,8 @@ abbrev pub HalvesAre : (ℕ → Dir → Type 0) → List Ends → Ends → Dir �
 HalvesAre Good edges ends dir middle = (first second : ℕ) → AreHalfEdges edges ends dir middle first second → Good first Down × Good second Up
 
 -- a way is as it was: its road isn't changed, or both its halves aren't moved
-abbrev pub IsUnmovedWay : NetworkValue → Edit → List Ends → MovedValue → Ends → Dir → Way → Type 0
-IsUnmovedWay g edit edges moved ends dir (Road a) = IsChanged g edit a → ⊥
+abbrev pub IsUnmovedWay : NetworkValue → List Edit → List Ends → MovedValue → Ends → Dir → Way → Type 0
+IsUnmovedWay g edit edges moved ends dir (Road a) = IsChangedBySome g edit a → ⊥
 IsUnmovedWay g edit edges moved ends dir (Via m) = HalvesAre (IsUnmoved moved) edges ends dir m
 
 -- the lists that stand: of edges that won't change any more, and not moved
@@ -69,24 +69,24 @@ pub record IsNewList (s : SettlingValue) (moved : MovedValue) (edge : ℕ) (dir 
   pub outcome : (ends : Ends) → slice_get s.before.edges edge ≡ Some ends → IsOutcome s moved edge dir ends list.ways list.outcome
 
 -- the list of an edge in a direction may stand: it is marked, no road of it is changed, and no half of a way by a middle was moved
-pub record MayStand (h : HierarchyValue) (edit : Edit) (arcs : List (List ℕ)) (marks : List Bool) (moved : MovedValue) (edge : ℕ) (dir : Dir) : Type 0 where
+pub record MayStand (h : HierarchyValue) (edit : List Edit) (arcs : List (List ℕ)) (marks : List Bool) (moved : MovedValue) (edge : ℕ) (dir : Dir) : Type 0 where
   pub marked : slice_get marks edge ≡ Some true
-  pub roads : (list : List ℕ) → slice_get arcs (list_number edge dir) ≡ Some list → All (λ a. IsChanged h.network edit a → ⊥) list
+  pub roads : (list : List ℕ) → slice_get arcs (list_number edge dir) ≡ Some list → All (λ a. IsChangedBySome h.network edit a → ⊥) list
   pub halves : (ends : Ends) → slice_get h.edges edge ≡ Some ends → (middle : ℕ) → HalvesAre (IsUnmoved moved) h.edges ends dir middle
 
 -- the ways of the list of an edge in a direction before the edit are as they were
-abbrev pub AreWaysUnmoved : HierarchyValue → Edit → MovedValue → ℕ → Dir → Type 0
+abbrev pub AreWaysUnmoved : HierarchyValue → List Edit → MovedValue → ℕ → Dir → Type 0
 AreWaysUnmoved h edit moved edge dir = (ends : Ends) → slice_get h.edges edge ≡ Some ends
     → All (λ (entry : Entry). IsUnmovedWay h.network edit h.edges moved ends dir entry.way) (list_of h edge dir)
 
 -- the list of an edge in a direction is marked, and its ways are as they were
-pub record KeepsWays (h : HierarchyValue) (edit : Edit) (marks : List Bool) (moved : MovedValue) (edge : ℕ) (dir : Dir) : Type 0 where
+pub record KeepsWays (h : HierarchyValue) (edit : List Edit) (marks : List Bool) (moved : MovedValue) (edge : ℕ) (dir : Dir) : Type 0 where
   pub marked : slice_get marks edge ≡ Some true
   pub ways : AreWaysUnmoved h edit moved edge dir
 
 -- what became of a list that was settled: it stands where its ways are those of before and are as they were, else it has the function that
 -- settling gave
-abbrev pub IsOutcomeOf : HierarchyValue → Edit → MovedValue → ℕ → Dir → SettledRuns → Outcome → Type 0
+abbrev pub IsOutcomeOf : HierarchyValue → List Edit → MovedValue → ℕ → Dir → SettledRuns → Outcome → Type 0
 IsOutcomeOf h edit moved edge dir settled Stands = (settled.ways ≡ list_of h edge dir) × AreWaysUnmoved h edit moved edge dir
 IsOutcomeOf h edit moved edge dir settled (Moves function) = function ≡ settled.function
 

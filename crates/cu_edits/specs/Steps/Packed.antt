@@ -52,7 +52,7 @@ IsWayAtHand moved packed edges ends dir (Via m) = HalvesAre (IsAtHand moved pack
 
 -- the halves of candidates of the list of an edge in a direction are at hand: of all; or, where the list was the best that could be made and its
 -- ways are as they were, of these ways and of those by a middle of which a half was moved
-abbrev pub AreCandidatesAtHand : HierarchyValue → Edit → List Bool → MovedValue → PackedValue → ℕ → Dir → Type 0
+abbrev pub AreCandidatesAtHand : HierarchyValue → List Edit → List Bool → MovedValue → PackedValue → ℕ → Dir → Type 0
 AreCandidatesAtHand h edit marks moved packed edge dir =
     ((ends : Ends) → slice_get h.edges edge ≡ Some ends → (middle : ℕ) → HalvesAre (IsAtHand moved packed) h.edges ends dir middle)
     ⊎ (KeepsWays h edit marks moved edge dir

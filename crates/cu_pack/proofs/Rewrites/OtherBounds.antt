@@ -1,23 +1,22 @@
--- The bounds of lists that an edit leaves.
+-- The bounds of lists that edits leave.
 use Rattle.std.proofs.Common.{◌≡◌, ◌<◌, ◌∙◌, ℕ, List, ap, length, map, All}
 use Rattle.std.specs.Prelude.{slice_index}
 use Rattle.std.specs.List.Sorted.{IsStrictlyIncreasing}
 use Rattle.std.proofs.lemmas.Option.{get_or_from_slice_get}
-use Rattle.cu_model.specs.declared.roads.Edit.{Edit}
+use Rattle.cu_model.specs.Networks.{NetworkValue}
 use Rattle.cu_interval.specs.declared.ways.TouchedEdge.{TouchedEdge}
 use Rattle.cu_interval.specs.Hierarchies.{HierarchyValue, list_number}
 use Rattle.cu_interval.specs.LeastBounds.{least_bound}
-use Rattle.cu_interval.specs.Replacing.{hierarchy_with}
 use Rattle.cu_bounds.specs.KeptBounds.{bounds_of}
-use Rattle.cu_pack.specs.Repacking.{KeepsOtherBounds}
+use Rattle.cu_pack.specs.Repacking.{KeepsOtherBounds, with_roads}
 use Rattle.cu_pack.specs.Steps.Renewing.{AreOthersRight}
 use Rattle.cu_pack.proofs.Numbering.PairedLists.{bound_there, bounds_count}
 
--- the bounds of the hierarchy before the edit are right for all other edges
-pub others_right : (h : HierarchyValue) (edit : Edit) (lists : List TouchedEdge) (bounds : List ℕ) → bounds ≡ bounds_of h
+-- the bounds of the hierarchy before are right for all other edges
+pub others_right : (h : HierarchyValue) (g : NetworkValue) (lists : List TouchedEdge) (bounds : List ℕ) → bounds ≡ bounds_of h
     → IsStrictlyIncreasing (map (λ (touched : TouchedEdge). touched.edge) lists) → All (λ (touched : TouchedEdge). touched.edge < length h.edges) lists
-    → KeepsOtherBounds h edit lists → AreOthersRight (hierarchy_with h edit lists) bounds lists
-others_right h edit lists bounds all rising edges stays = record {
+    → KeepsOtherBounds h g lists → AreOthersRight (with_roads h g lists) bounds lists
+others_right h g lists bounds all rising edges stays = record {
   rising = rising;
   edges = edges;
   long = ap length all ∙ bounds_count h;

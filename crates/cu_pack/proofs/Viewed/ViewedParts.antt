@@ -26,16 +26,6 @@ module _ (bytes : List ℕ) (h : HierarchyValue) (f : SpellsSections bytes h) wh
       placed bytes h f (λ (k : Counts). slice_range bytes 52 (arcs_at k) ≡ order_section h)
       (sym (part_then bytes 52 (rank_of_at c) (arcs_at c) (flat_map short h.order.node_at) (flat_map short h.order.rank_of) (omega arith) (omega arith) (sym nodes) (sym ranks)))
 
-  pub profiles_part : slice_range bytes (profile_starts_at (counts_in bytes)) (edge_starts_at (counts_in bytes)) ≡ profiles_section h
-  profiles_part =
-      let c : Counts = counts_of f.version h in
-      let first = flat_map long (starts_from 0 h.network.profiles) in
-      let second = flat_map (flat_map piece_bytes) h.network.profiles in
-      let starts = stretch_of bytes (profile_starts_at c) (pieces_at c) first (profile_starts_stand bytes h f) (omega (arith, profile_starts_long h f.sound)) in
-      let pieces = stretch_of bytes (pieces_at c) (edge_starts_at c) second (pieces_stand bytes h f) (omega (arith, pieces_long h f.sound)) in
-      placed bytes h f (λ (k : Counts). slice_range bytes (profile_starts_at k) (edge_starts_at k) ≡ profiles_section h)
-      (sym (part_then bytes (profile_starts_at c) (pieces_at c) (edge_starts_at c) first second (omega arith) (omega arith) (sym starts) (sym pieces)))
-
   pub edges_part : slice_range bytes (edge_starts_at (counts_in bytes)) (way_starts_at (counts_in bytes)) ≡ edges_section h
   edges_part =
       let c : Counts = counts_of f.version h in
@@ -67,17 +57,6 @@ module _ (bytes : List ℕ) (h : HierarchyValue) (f : SpellsSections bytes h) wh
 
   module _ (a b : ℕ) (order : a ≤ b) where
     -- stretches of sections
-    pub arcs_part : b ≤ length h.network.arcs → slice_range bytes (arcs_at (counts_in bytes) + 12 * a) (arcs_at (counts_in bytes) + 12 * b) ≡ flat_map arc_bytes (slice_range h.network.arcs a b)
-    arcs_part inside =
-        placed bytes h f (λ (k : Counts). slice_range bytes (arcs_at k + 12 * a) (arcs_at k + 12 * b) ≡ flat_map arc_bytes (slice_range h.network.arcs a b))
-        (stretch_even arc_bytes bytes (arcs_at (counts_of f.version h)) h.network.arcs (arcs_stand bytes h f) a b order 12 arc_long inside)
-
-    pub profile_starts_part : b ≤ suc (length h.network.profiles)
-        → slice_range bytes (profile_starts_at (counts_in bytes) + 8 * a) (profile_starts_at (counts_in bytes) + 8 * b) ≡ flat_map long (slice_range (starts_from 0 h.network.profiles) a b)
-    profile_starts_part inside =
-        let starts = starts_from 0 h.network.profiles in
-        placed bytes h f (λ (k : Counts). slice_range bytes (profile_starts_at k + 8 * a) (profile_starts_at k + 8 * b) ≡ flat_map long (slice_range starts a b))
-        (stretch_even long bytes (profile_starts_at (counts_of f.version h)) starts (profile_starts_stand bytes h f) a b order 8 (λ n. refl) (omega (arith, inside, starts_long 0 h.network.profiles)))
 
     pub way_starts_part : b ≤ suc (length h.lists)
         → slice_range bytes (way_starts_at (counts_in bytes) + 8 * a) (way_starts_at (counts_in bytes) + 8 * b) ≡ flat_map long (slice_range (starts_from 0 h.lists) a b)
@@ -85,12 +64,6 @@ module _ (bytes : List ℕ) (h : HierarchyValue) (f : SpellsSections bytes h) wh
         let starts = starts_from 0 h.lists in
         placed bytes h f (λ (k : Counts). slice_range bytes (way_starts_at k + 8 * a) (way_starts_at k + 8 * b) ≡ flat_map long (slice_range starts a b))
         (stretch_even long bytes (way_starts_at (counts_of f.version h)) starts (way_starts_stand bytes h f) a b order 8 (λ n. refl) (omega (arith, inside, starts_long 0 h.lists)))
-
-    pub pieces_part : (first end : ℕ) → first ≡ total (take a h.network.profiles) → end ≡ total (take b h.network.profiles)
-        → slice_range bytes (pieces_at (counts_in bytes) + 12 * first) (pieces_at (counts_in bytes) + 12 * end) ≡ flat_map (flat_map piece_bytes) (slice_range h.network.profiles a b)
-    pieces_part first end first_is end_is =
-        placed bytes h f (λ (k : Counts). slice_range bytes (pieces_at k + 12 * first) (pieces_at k + 12 * end) ≡ flat_map (flat_map piece_bytes) (slice_range h.network.profiles a b))
-        (stretch_lists piece_bytes piece_long bytes (pieces_at (counts_of f.version h)) h.network.profiles (pieces_stand bytes h f) a b first end order first_is end_is)
 
     pub entries_part : (first end : ℕ) → first ≡ total (take a h.lists) → end ≡ total (take b h.lists)
         → slice_range bytes (entries_at (counts_in bytes) + 12 * first) (entries_at (counts_in bytes) + 12 * end) ≡ flat_map (flat_map entry_bytes) (slice_range h.lists a b)

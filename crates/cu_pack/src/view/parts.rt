@@ -3,7 +3,7 @@
 ghost use Rattle.std.specs.Prelude.{◌≡◌, ◌≤◌, ◌*◌, length, slice_range, suc, take};
 ghost use Rattle.std.specs.List.{flat_map};
 ghost use Rattle.cu_interval.specs.Hierarchies.{IsHierarchy};
-ghost use Rattle.cu_pack.specs.Spelling.{arc_bytes, edges_section, entry_bytes, long, order_section, piece_bytes, profiles_section, starts_from, total};
+ghost use Rattle.cu_pack.specs.Spelling.{edges_section, entry_bytes, long, order_section, starts_from, total};
 
 use crate::view::PackedView;
 
@@ -14,60 +14,6 @@ impl<'a> PackedView<'a> {
     {
         let layout = self.sections.layout();
         self.sections.between(layout.node_at, layout.arcs)
-    }
-
-    /// The roads from a number on, up to another.
-    pub(crate) fn arcs_part(&self, start: u32, end: u32) -> &'a [u8]
-        requires order { start ≤ end }
-        requires inside { end ≤ length self.now.network.arcs }
-        ensures part { result.now
-            ≡ flat_map arc_bytes (slice_range self.now.network.arcs start end) }
-    {
-        let arcs = self.sections.layout().arcs;
-        self.sections
-            .between(arcs + 12 * u64::from(start), arcs + 12 * u64::from(end))
-    }
-
-    /// How many pieces are before each profile, and in all; and the pieces.
-    pub(crate) fn profiles_part(&self) -> &'a [u8]
-        ensures part { result.now ≡ profiles_section self.now }
-    {
-        let layout = self.sections.layout();
-        self.sections
-            .between(layout.profile_starts, layout.edge_starts)
-    }
-
-    /// How many pieces are before a profile; at the number of profiles, how many there are in all.
-    pub(crate) fn profile_start(&self, profile: u32) -> u64
-        requires inside { profile ≤ length self.now.network.profiles }
-        ensures start { result ≡ total (take profile self.now.network.profiles) }
-    {
-        self.sections.profile_start(profile)
-    }
-
-    /// How many pieces are before each profile, from one on, up to another.
-    pub(crate) fn profile_starts_part(&self, start: u32, end: u32) -> &'a [u8]
-        requires order { start ≤ end }
-        requires inside { end ≤ suc (length self.now.network.profiles) }
-        ensures part { result.now
-            ≡ flat_map long (slice_range (starts_from 0 self.now.network.profiles) start end) }
-    {
-        let starts = self.sections.layout().profile_starts;
-        self.sections
-            .between(starts + 8 * u64::from(start), starts + 8 * u64::from(end))
-    }
-
-    /// The pieces of the profiles from a number on, up to another.
-    pub(crate) fn pieces_part(&self, start: u32, end: u32) -> &'a [u8]
-        requires order { start ≤ end }
-        requires inside { end ≤ length self.now.network.profiles }
-        ensures part { result.now
-            ≡ flat_map (flat_map piece_bytes) (slice_range self.now.network.profiles start end) }
-    {
-        let pieces = self.sections.layout().pieces;
-        let first = pieces + 12 * self.profile_start(start);
-        self.sections
-            .between(first, pieces + 12 * self.profile_start(end))
     }
 
     /// How many edges are before each rank, and in all; and the higher rank of each.

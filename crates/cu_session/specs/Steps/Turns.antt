@@ -1,16 +1,11 @@
 -- A script that is being answered.
-use Rattle.std.specs.Prelude.{ℕ, List, [], ◌++◌, ◌+◌, ◌<◌, IfSome, ◌-◌, ◌≡◌, ◌≤◌, Bool, true, false, Some, None, Result, Ok, Err, length}
+use Rattle.std.specs.Prelude.{ℕ, List, [], ◌+◌, ◌<◌, IfSome, ◌-◌, ◌≡◌, ◌≤◌, Bool, true, false, Some, None, Result, Ok, Err, length}
 use Rattle.cu_io.specs.LineReading.{ReaderState}
-use Rattle.cu_io.specs.Lines.{lines_of}
 use Rattle.cu_io.specs.Steps.Cuts.{IsCut}
-use Rattle.cu_io.specs.Sinks.{SinkState, WroteLine}
-use Rattle.cu_io.specs.declared.sink.SinkFailed.{SinkFailed}
+use Rattle.cu_io.specs.Sinks.{SinkState}
 use Rattle.cu_io.specs.Sources.{SourceState}
 use Rattle.cu_io.specs.Transfers.{Appends, Takes}
-use Rattle.cu_interval.specs.Hierarchies.{HierarchyValue}
 use Rattle.cu_session.specs.declared.stops.SessionStop.{SessionStop}
-use Rattle.cu_session.specs.declared.stops.SessionStop.TheVariants as stop
-use Rattle.cu_session.specs.Held.{AreDone}
 use Rattle.cu_session.specs.Scripts.{AreReplied, IsLineReply, line_limit}
 use Rattle.cu_session.specs.Sessions.{EndsLines, IsFlushed, line_bytes, take_limit}
 
@@ -54,22 +49,3 @@ TakesTurn {State} Replies held next result reader after source left sink now =
 -- how many bytes are left to be handed out, at most
 abbrev pub left_to_read : ReaderState → ℕ
 left_to_read reader = (reader.take_limit - reader.taken) + length reader.held
-
--- A line of edits was answered: this reply is right and was written; or the sink failed in it; or there was no memory for the edit,
--- and nothing was made or written.
-abbrev pub AnswersEdit : HierarchyValue → HierarchyValue → (List ℕ → Type 0) → Result (Unit {0}) SessionStop → SinkState → SinkState → Type 0
-AnswersEdit held next Right (Ok value) sink now = (reply : List ℕ) × Right reply × WroteLine {T = Unit {0}} {E = SinkFailed} sink now (Ok tt) reply
-AnswersEdit held next Right (Err stop.Sink) sink now = (reply : List ℕ) × Right reply × ((failed : SinkFailed) × WroteLine {T = Unit {0}} {E = SinkFailed} sink now (Err failed) reply)
-AnswersEdit held next Right (Err stop.NoMemory) sink now = (next ≡ held) × (now ≡ sink)
-AnswersEdit held next Right (Err _) sink now = ⊥
-
--- The first lines of a text were answered and made, by which the first hierarchy became the one held now; and this is left of the text.
-pub record Edits (before held : HierarchyValue) (text rest : List ℕ) (sink_before sink : SinkState) : Type 0 where
-  pub lines : List (List ℕ)
-  pub output : List ℕ
-  pub cut : lines_of text ≡ lines ++ lines_of rest
-  pub done : AreDone before lines output held
-  pub appends : Appends sink_before.written sink.written output
-  pub flushed : IsFlushed sink_before sink
-  pub quiet : sink.faults ≡ sink_before.faults
-  pub rises : sink_before.flushed ≤ sink.flushed

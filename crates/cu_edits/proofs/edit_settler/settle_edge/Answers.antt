@@ -1,5 +1,4 @@
 use Rattle.std.proofs.Common.{◌∙◌, ap, refl}
-use Rattle.cu_model.specs.Edits.{edited}
 use Rattle.cu_model.specs.Networks.{NetworkValue}
 use Rattle.cu_interval.specs.declared.ways.Dir.TheVariants.{Up, Down}
 use Rattle.cu_interval.specs.declared.ways.TouchedEdge.{TouchedEdge}
@@ -7,6 +6,7 @@ use Rattle.cu_edits.specs.declared.edge_functions.EdgeFunctions.{EdgeFunctions}
 use Rattle.cu_edits.specs.Steps.Known.{KnownValue, functions_of}
 use Rattle.cu_edits.proofs.SettlingArcs.{asks_list, settled_both, settled_over}
 use Rattle.cu_edits.proofs.edit_settler.settle_edge.Goals as goal
+use Rattle.cu_resettled.specs.ResettlingAll.{edited_all}
 
 pub settle-requires-clause-edge : goal.settle-requires-clause-edge
 settle-requires-clause-edge g c =
@@ -67,7 +67,7 @@ settle-requires-2-clause-halves g c =
 pub returns : goal.returns
 returns g c =
     let p = c.args.parts.now in
-    let asked = functions_of (record { network = edited p.before.network p.edit; known = c.args.known.now }) in
+    let asked = functions_of (record { network = edited_all p.before.network p.edit; known = c.args.known.now }) in
     let of : NetworkValue → KnownValue = λ n. record { network = n; known = c.args.known.now } in
     let meant = ap functions_of (c.of-functions.ensures ∙ ap of c.edited_roads-roads.ensures.roads) in
     let lists : TouchedEdge = record { edge = c.args.edge; up = c.in_ok-up.up.ways; down = c.in_ok-down.down.ways } in

@@ -1,6 +1,5 @@
 use Rattle.std.proofs.Common.{◌≡◌, ◌*◌, ◌∙◌, List, Option, ap, length, subst, sym}
 use Rattle.std.specs.Prelude.{IfSome}
-use Rattle.cu_model.specs.Edits.{edited}
 use Rattle.cu_arrival.specs.declared.runs.Run.{Run}
 use Rattle.cu_chordal.specs.declared.graph.Ends.{Ends}
 use Rattle.cu_customize.specs.declared.pulling.SettledRuns.{SettledRuns}
@@ -12,6 +11,7 @@ use Rattle.cu_edits.specs.Steps.Parts.{settling_over}
 use Rattle.cu_edits.proofs.AtHand.{same_edges}
 use Rattle.cu_edits.proofs.PackedNext.{list_settled, packed_learnt}
 use Rattle.cu_edits.proofs.settling_packed.settle_list.Goals as goal
+use Rattle.cu_resettled.specs.ResettlingAll.{edited_all}
 
 pub settle_runs-requires-clause-functions : goal.settle_runs-requires-clause-functions
 settle_runs-requires-clause-functions g c =
@@ -26,7 +26,7 @@ returns-in-Some-clause-list g c done holds asked =
     let learnt = c.learn_candidates.new.packed in
     let s = settling_over c.args.parts.now done in
     let IsFound : List (Option (List Run)) → SettledRuns → Type 0 =
-    λ fs. IsPackedList h.edges c.args.parts.now.arcs (kept_state (edited h.network c.args.parts.now.edit) fs) c.args.edge c.args.dir in
+    λ fs. IsPackedList h.edges c.args.parts.now.arcs (kept_state (edited_all h.network c.args.parts.now.edit) fs) c.args.edge c.args.dir in
     let meant : c.over-functions.result ≡ layered learnt.functions moved.places moved.functions =
     c.over-functions.ensures ∙ ap (λ (fs : List (Option (List Run))). layered fs moved.places moved.functions) c.functions.ensures in
     let found = subst (λ (o : Option SettledRuns). IfSome o (IsFound c.over-functions.result)) c.in-Some.is c.in_ok-settle_runs.ensures in

@@ -1,6 +1,5 @@
 use Rattle.std.proofs.Common.{◌≡◌, ◌<◌, ◌*◌, ◌∙◌, ℕ, List, Some, ap, length, refl, subst, sym}
 use Rattle.std.specs.Prelude.{slice_get}
-use Rattle.cu_model.specs.Edits.{edited}
 use Rattle.cu_chordal.specs.declared.graph.Ends.{Ends}
 use Rattle.cu_chordal.specs.Graphs.{ChordalValue}
 use Rattle.cu_interval.specs.Hierarchies.{IsHierarchyOf, list_number}
@@ -11,6 +10,7 @@ use Rattle.cu_edits.proofs.AtHand.{same_edges}
 use Rattle.cu_edits.proofs.SettlingArcs.{arcs_sound}
 use Rattle.cu_edits.proofs.PackedNext.{if_some, list_by}
 use Rattle.cu_edits.proofs.settling_packed.settle_runs.Goals as goal
+use Rattle.cu_resettled.specs.ResettlingAll.{edited_all}
 
 pub settle-requires-clause-edge : goal.settle-requires-clause-edge
 settle-requires-clause-edge g c = subst (λ (k : ChordalValue). c.args.edge < length k.edges) (sym c.graph-graph.ensures.same) c.requires.edge
@@ -38,7 +38,7 @@ returns g c =
     let h = c.args.parts.now.before in
     let edit = c.args.parts.now.edit in
     let of = subst (λ (k : ChordalValue). IsHierarchyOf k h) (sym c.graph-graph.ensures.same) c.graph-graph.ensures.fit.0.hierarchy in
-    if_some c.in_ok-found.found (IsPackedList h.edges c.args.parts.now.arcs (kept_state (edited h.network edit) c.args.functions) c.args.edge c.args.dir) (λ (found : SettledRuns) is.
-    subst (λ (lists : List (List ℕ)). IsPackedList h.edges lists (kept_state (edited h.network edit) c.args.functions) c.args.edge c.args.dir found) c.edge_arcs-arcs.ensures.same
-    (list_by h c.graph-graph.result.now of c.edge_arcs-arcs.result.now c.edited_roads-roads.result (edited h.network edit) c.edited_roads-roads.ensures.roads c.args.functions
+    if_some c.in_ok-found.found (IsPackedList h.edges c.args.parts.now.arcs (kept_state (edited_all h.network edit) c.args.functions) c.args.edge c.args.dir) (λ (found : SettledRuns) is.
+    subst (λ (lists : List (List ℕ)). IsPackedList h.edges lists (kept_state (edited_all h.network edit) c.args.functions) c.args.edge c.args.dir found) c.edge_arcs-arcs.ensures.same
+    (list_by h c.graph-graph.result.now of c.edge_arcs-arcs.result.now c.edited_roads-roads.result (edited_all h.network edit) c.edited_roads-roads.ensures.roads c.args.functions
     c.args.functions refl c.args.edge c.args.dir c.in_ok-found.found found is c.in_ok-found.ensures.ways c.in_ok-found.ensures.function))

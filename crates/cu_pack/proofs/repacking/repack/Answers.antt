@@ -3,7 +3,7 @@ use Rattle.cu_pack.proofs.Read.Bodies.{sealed_in_place}
 use Rattle.cu_pack.proofs.repacking.repack.Goals as goal
 
 pub returns : goal.returns
-returns c =
+returns g c =
     let bytes = c.in_ok-bytes.bytes in
     let part = c.as_mut_slice in
     record {

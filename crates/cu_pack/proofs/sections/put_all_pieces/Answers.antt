@@ -6,9 +6,9 @@ use Rattle.cu_pack.proofs.Numbering.Totals.{pieces_there}
 use Rattle.cu_pack.proofs.sections.put_all_pieces.Goals as goal
 
 pub loop-profile-preserved : goal.loop-profile-preserved
-loop-profile-preserved c =
-    let inside : c.loop-profile.profile < length c.args.network.now.profiles = omega arith in
-    let there = pieces_there c.args.network.now c.loop-profile.profile inside in
-    put_more (flat_map piece_bytes) c.args.network.now.profiles c.loop-profile.profile (pieces_of c.args.network.now c.loop-profile.profile)
+loop-profile-preserved g c =
+    let inside : c.loop-profile.profile < length (g.R.Roads.network c.args.roads.now).profiles = omega arith in
+    let there = pieces_there (g.R.Roads.network c.args.roads.now) c.loop-profile.profile inside in
+    put_more (flat_map piece_bytes) (g.R.Roads.network c.args.roads.now).profiles c.loop-profile.profile (pieces_of (g.R.Roads.network c.args.roads.now) c.loop-profile.profile)
     c.args.bytes.now.items c.loop-profile.bytes.items c.put_pieces.new.bytes.items
     there c.loop-profile.invariant c.in_ok-put_pieces.ensures

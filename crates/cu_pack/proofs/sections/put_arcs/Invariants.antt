@@ -4,4 +4,4 @@ use Rattle.cu_pack.specs.Spelling.{arc_bytes}
 use Rattle.cu_pack.proofs.sections.put_arcs.Given as goal
 
 abbrev pub invariant-loop-arc : goal.invariant-loop-arc
-invariant-loop-arc l = l.bytes.items ≡ l.fn.bytes.items ++ flat_map arc_bytes (take l.arc l.network.arcs)
+invariant-loop-arc g l = l.bytes.items ≡ l.fn.bytes.items ++ flat_map arc_bytes (take l.arc (g.R.Roads.network l.roads).arcs)

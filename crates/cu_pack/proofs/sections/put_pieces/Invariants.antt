@@ -5,4 +5,4 @@ use Rattle.cu_pack.specs.Spelling.{piece_bytes}
 use Rattle.cu_pack.proofs.sections.put_pieces.Given as goal
 
 abbrev pub invariant-loop-index : goal.invariant-loop-index
-invariant-loop-index l = l.bytes.items ≡ l.fn.bytes.items ++ flat_map piece_bytes (take l.index (pieces_of l.network l.profile))
+invariant-loop-index g l = l.bytes.items ≡ l.fn.bytes.items ++ flat_map piece_bytes (take l.index (pieces_of (g.R.Roads.network l.roads) l.profile))

@@ -7,8 +7,8 @@ use Rattle.cu_pack.proofs.Numbering.Totals.{pieces_in_limit, pieces_there, total
 use Rattle.cu_pack.proofs.sections.put_profile_starts.Goals as goal
 
 pub overflow_add-start : goal.overflow_add-start
-overflow_add-start c =
-    let net = c.args.network.now in
+overflow_add-start g c =
+    let net = g.R.Roads.network c.args.roads.now in
     let profile = c.loop-profile.profile in
     let there = pieces_there net profile (omega arith) in
     let within = total_within net.profiles profile (pieces_of net profile) there in
@@ -16,8 +16,8 @@ overflow_add-start c =
     omega (arith, within, limit, c.loop-profile.invariant.start, c.pieces.ensures.count, c.from-start.ensures)
 
 pub loop-profile-preserved : goal.loop-profile-preserved
-loop-profile-preserved c =
-    let net = c.args.network.now in
+loop-profile-preserved g c =
+    let net = g.R.Roads.network c.args.roads.now in
     let profile = c.loop-profile.profile in
     let there = pieces_there net profile (omega arith) in
     let more = total_more net.profiles profile (pieces_of net profile) there in
@@ -31,8 +31,8 @@ loop-profile-preserved c =
     }
 
 pub returns : goal.returns
-returns c =
-    let net = c.args.network.now in
+returns g c =
+    let net = g.R.Roads.network c.args.roads.now in
     let whole = c.args.bytes.now.items ++ flat_map long (starts_from 0 net.profiles) in
     on_ok_weaker c.put_long-2.result
     (λ e. start_last net.profiles c.loop-profile.profile c.loop-profile.start c.loop-profile.bytes.items c.put_long-2.new.bytes.items whole c.loop-profile.invariant.put e (omega arith))

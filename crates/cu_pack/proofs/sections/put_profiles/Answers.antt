@@ -3,4 +3,4 @@ use Rattle.std.proofs.lemmas.Result.{IfOk-equal}
 use Rattle.cu_pack.proofs.sections.put_profiles.Goals as goal
 
 pub returns : goal.returns
-returns c = search (rules, IfOk-equal, append_assoc)
+returns g c = search (rules, IfOk-equal, append_assoc)

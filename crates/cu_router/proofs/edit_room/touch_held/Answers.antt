@@ -1,10 +1,12 @@
-use Rattle.std.proofs.Common.{◌∙◌, subst, sym}
+use Rattle.std.proofs.Common.{◌∷◌, ◌∙◌, [], subst, sym}
 use Rattle.std.specs.Prelude.{IfOk, IfSome}
+use Rattle.std.proofs.lemmas.Result.{IfOk-weaker}
 use Rattle.cu_edits.specs.declared.recustomizing.Touched.{Touched}
 use Rattle.cu_edits.specs.Customized.{AreCustomized}
 use Rattle.cu_edits.specs.Learned.{ArePackedOf}
 use Rattle.cu_interval.specs.Hierarchies.{HierarchyValue}
 use Rattle.cu_interval.specs.Replacing.{hierarchy_with}
+use Rattle.cu_resettled.proofs.TouchedBySome.{all_of_one}
 use Rattle.cu_recall.specs.Spans.{Knows}
 use Rattle.cu_router.specs.declared.edit_room.EditRoom.{EditRoom}
 use Rattle.cu_router.specs.Steps.Rooms.{HasEditRoom}
@@ -30,6 +32,7 @@ returns-clause-room c =
     let before = c.args.room.now in
     let after : EditRoom = record { arcs = before.arcs; buckets = c.touch_over.new.buckets; learned = c.touch_over.new.learned } in
     let fits = subst (λ (h : HierarchyValue). HasEditRoom h before) (sym same) c.requires.room in
-    let touched = room_touched c.new-ways.result c.args.edit c.touch_over.result (λ (touched : Touched). touched.lists.items) before after.buckets after.learned
-    c.touch_over.ensures.resettled c.touch_over.ensures.learned fits c.touch_over.ensures.ranks c.touch_over.ensures.edges in
+    let touched = room_touched c.new-ways.result (c.args.edit ∷ []) c.touch_over.result (λ (touched : Touched). touched.lists.items) before after.buckets after.learned
+    (IfOk-weaker c.touch_over.result _ _ (λ touched one. all_of_one c.new-ways.result (hierarchy_with c.new-ways.result c.args.edit touched.lists.items) c.args.edit one) c.touch_over.ensures.resettled)
+    c.touch_over.ensures.learned fits c.touch_over.ensures.ranks c.touch_over.ensures.edges in
     subst (λ (h : HierarchyValue). IfOk c.touch_over.result (λ (touched : Touched). HasEditRoom (hierarchy_with h c.args.edit touched.lists.items) after)) same touched

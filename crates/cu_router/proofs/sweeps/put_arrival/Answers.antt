@@ -1,4 +1,4 @@
-use Rattle.std.proofs.Common.{◌++◌, true, append_assoc, decimal, sym}
+use Rattle.std.proofs.Common.{◌++◌, true, append_assoc, decimal}
 use Rattle.cu_io.proofs.Appending.{wrote_then, wrote_stops, wrote_same}
 use Rattle.cu_drive.specs.RoadTexts.{driven_text}
 use Rattle.cu_sweep.specs.Desks.{roads_of}

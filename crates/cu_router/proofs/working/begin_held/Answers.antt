@@ -1,8 +1,10 @@
-use Rattle.std.proofs.Common.{◌∙◌, ap, subst, sym}
+use Rattle.std.proofs.Common.{◌∷◌, ◌∙◌, [], ap, subst, sym}
 use Rattle.cu_edits.specs.Customized.{AreCustomized}
 use Rattle.cu_edits.specs.InWork.{InWorkValue}
 use Rattle.cu_edits.specs.Settling.{SettlingValue}
 use Rattle.cu_interval.specs.Hierarchies.{HierarchyValue}
+use Rattle.cu_resettled.specs.ResettlingAll.{NumbersTouchedBySome}
+use Rattle.cu_resettled.proofs.TouchedBySome.{numbers_of_one}
 use Rattle.cu_router.proofs.WorkingLaws.{busy_of}
 use Rattle.cu_router.proofs.working.begin_held.Goals as goal
 
@@ -10,6 +12,15 @@ pub over-requires-clause-customized : goal.over-requires-clause-customized
 over-requires-clause-customized c =
     subst (λ (h : HierarchyValue). AreCustomized h c.marks-marks.result.now) (sym c.view-view.ensures.same)
     (subst (AreCustomized c.args.held.now) (sym c.marks-marks.ensures) c.customized.ensures.customized)
+
+pub begin-requires-clause-touched : goal.begin-requires-clause-touched
+begin-requires-clause-touched c =
+    let held = c.args.held.now in
+    let edit = c.args.edit in
+    let edges = c.args.edges.items in
+    let one = (numbers_of_one held edit edges).0 c.requires.touched in
+    subst (λ (s : SettlingValue). NumbersTouchedBySome s.before s.edit edges) (sym (c.make_room.ensures.same ∙ c.in_ok-settler.ensures))
+    (subst (λ (h : HierarchyValue). NumbersTouchedBySome h (edit ∷ []) edges) (sym c.view-view.ensures.same) one)
 
 pub returns-clause-fits : goal.returns-clause-fits
 returns-clause-fits c =

@@ -1,4 +1,4 @@
-use Rattle.std.proofs.Common.{◌∙◌, List, ap, refl, subst, sym}
+use Rattle.std.proofs.Common.{◌∷◌, ◌∙◌, List, [], ap, refl, subst, sym}
 use Rattle.std.specs.Prelude.{IfSome}
 use Rattle.cu_edits.specs.Customized.{AreCustomized}
 use Rattle.cu_edits.specs.Learned.{ArePackedOf}
@@ -10,7 +10,7 @@ use Rattle.cu_interval.specs.Hierarchies.{HierarchyValue}
 use Rattle.cu_interval.specs.Replacing.{hierarchy_with}
 use Rattle.cu_recall.specs.Spans.{Knows}
 use Rattle.cu_router.proofs.RoomLaws.{edits_after}
-use Rattle.cu_router.proofs.WorkingLaws.{busy_state, ready_all, ready_resettled}
+use Rattle.cu_router.proofs.WorkingLaws.{busy_state, ready_all, ready_together}
 use Rattle.cu_router.proofs.working.finish.Goals as goal
 
 pub new-ways-requires-clause-knows : goal.new-ways-requires-clause-knows
@@ -25,7 +25,7 @@ resume-settler-requires-clause-customized c =
 pub resume-settler-requires-clause-fits : goal.resume-settler-requires-clause-fits
 resume-settler-requires-clause-fits c =
     let same = c.new-ways.ensures.view ∙ c.view-view.ensures.same in
-    subst (λ (h : HierarchyValue). FitsPaused h c.args.busy.edit c.args.busy.settler) (sym same) c.requires.fits.fits
+    subst (λ (h : HierarchyValue). FitsPaused h (c.args.busy.edit ∷ []) c.args.busy.settler) (sym same) c.requires.fits.fits
 
 pub into_learned-requires : goal.into_learned-requires
 into_learned-requires c =
@@ -42,5 +42,5 @@ returns-clause-room c =
     let settler = c.resume-settler.ensures ∙ ap (λ (h : HierarchyValue). busy_state h busy) same in
     let settled = subst (λ (s : SettlingValue). IfSome c.into_learned.result (ArePackedOf (settled_so_far s))) settler c.into_learned.ensures in
     let learned = subst (λ (lists : List TouchedEdge). IfSome c.into_learned.result (ArePackedOf (hierarchy_with held busy.edit lists))) (sym c.requires.fits.lists) settled in
-    edits_after held (hierarchy_with held busy.edit busy.papers.lists) busy.edit (ready_resettled held busy c.requires.fits c.requires.none) c.args.room.now c.args.room.now.buckets
+    edits_after held (hierarchy_with held busy.edit busy.papers.lists) (busy.edit ∷ []) (ready_together held busy c.requires.fits c.requires.none) c.args.room.now c.args.room.now.buckets
     c.into_learned.result c.requires.room refl refl learned

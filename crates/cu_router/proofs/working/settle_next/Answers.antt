@@ -1,4 +1,4 @@
-use Rattle.std.proofs.Common.{◌∙◌, ap, subst, sym}
+use Rattle.std.proofs.Common.{◌∷◌, ◌∙◌, [], ap, subst, sym}
 use Rattle.cu_edits.specs.Customized.{AreCustomized}
 use Rattle.cu_edits.specs.InWork.{InWorkValue}
 use Rattle.cu_edits.specs.Paused.{FitsPaused}
@@ -20,7 +20,7 @@ resume-settler-requires-clause-customized c =
 pub resume-settler-requires-clause-fits : goal.resume-settler-requires-clause-fits
 resume-settler-requires-clause-fits c =
     let same = c.new-ways.ensures.view ∙ c.view-view.ensures.same in
-    subst (λ (h : HierarchyValue). FitsPaused h c.args.busy.edit c.args.busy.settler) (sym same) c.requires.fits.fits
+    subst (λ (h : HierarchyValue). FitsPaused h (c.args.busy.edit ∷ []) c.args.busy.settler) (sym same) c.requires.fits.fits
 
 pub returns-clause-fits : goal.returns-clause-fits
 returns-clause-fits c =

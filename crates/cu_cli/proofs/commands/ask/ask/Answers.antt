@@ -31,7 +31,9 @@ returns-in_err-bytes g c =
     rw (err_is c.from_residual.result c.in_err-bytes.field-0.0 c.from_residual.ensures.1)
     (record {
       works = ask_works name
-          (script_unread _ _ _ _ (EndsAsk name) c.in_err-bytes.field-0.0 stopped.loads stopped.before (opening_unread (g.H.Shelf.state c.args.shelf.now) (g.H.Shelf.state c.open_file.new.shelf) name c.in_err-bytes.field-0.0 stopped.err) (λ work ends. inr (c.in_err-bytes.field-0.0, stopped.err, ends)));
+          (script_unread _ _ _ _ (EndsAsk name) c.in_err-bytes.field-0.0 stopped.loads stopped.before
+          (opening_unread (g.H.Shelf.state c.args.shelf.now) (g.H.Shelf.state c.open_file.new.shelf) name c.in_err-bytes.field-0.0 stopped.err)
+          (λ work ends. inr (c.in_err-bytes.field-0.0, stopped.err, ends)));
     })
 
 pub answer_script-requires : goal.answer_script-requires

@@ -35,7 +35,9 @@ returns-in_err-bytes g c =
     rw (err_is c.from_residual.result c.in_err-bytes.field-0.0 c.from_residual.ensures.1)
     (record {
       works = serve_works tables order
-          (script_unread _ _ _ _ (EndsServe tables order) c.in_err-bytes.field-0.0 stopped.loads stopped.before (preparing_unread (g.H.Shelf.state c.args.shelf.now) (g.H.Shelf.state c.pack_tables.new.shelf) tables order c.in_err-bytes.field-0.0 stopped.err) (λ work ends. inr (c.in_err-bytes.field-0.0, stopped.err, ends)));
+          (script_unread _ _ _ _ (EndsServe tables order) c.in_err-bytes.field-0.0 stopped.loads stopped.before
+          (preparing_unread (g.H.Shelf.state c.args.shelf.now) (g.H.Shelf.state c.pack_tables.new.shelf) tables order c.in_err-bytes.field-0.0 stopped.err)
+          (λ work ends. inr (c.in_err-bytes.field-0.0, stopped.err, ends)));
     })
 
 pub answer_built-requires : goal.answer_built-requires

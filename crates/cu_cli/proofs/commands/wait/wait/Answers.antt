@@ -27,7 +27,9 @@ returns-in_err-packed g c =
     rw (err_is c.from_residual.result c.in_err-packed.field-0.0 c.from_residual.ensures.1)
     (record {
       works = wait_works tables order
-          (script_unread _ _ _ _ (EndsWait tables order) c.in_err-packed.field-0.0 stopped.loads stopped.before (waiting_unread (g.H.Shelf.state c.args.shelf.now) (g.H.Shelf.state c.pack_measured.new.shelf) tables order c.in_err-packed.field-0.0 stopped.err) (λ work ends. inr (c.in_err-packed.field-0.0, stopped.err, ends)));
+          (script_unread _ _ _ _ (EndsWait tables order) c.in_err-packed.field-0.0 stopped.loads stopped.before
+          (waiting_unread (g.H.Shelf.state c.args.shelf.now) (g.H.Shelf.state c.pack_measured.new.shelf) tables order c.in_err-packed.field-0.0 stopped.err)
+          (λ work ends. inr (c.in_err-packed.field-0.0, stopped.err, ends)));
     })
 
 pub answer_waiting-requires : goal.answer_waiting-requires

@@ -3,4 +3,4 @@ use Rattle.cu_edits.specs.Steps.Parts.{FitTogether}
 use Rattle.cu_edits.proofs.edit_parts.EditParts.edges.Goals as goal
 
 pub returns-clause-fit : goal.returns-clause-fit
-returns-clause-fit g c = subst FitTogether c.self.view_is c.self.invariant
+returns-clause-fit g c = subst FitTogether c.self.view_is c.self.invariant.0

@@ -11,7 +11,7 @@ pub learn-requires-clause-edge : goal.learn-requires-clause-edge
 learn-requires-clause-edge g c =
     let inside = c.self.inside in
     let h = g.W.Ways.hierarchy inside.ways.now in
-    subst (λ (es : List Ends). c.args.edge < length es) (same_edges h inside.graph.now c.self.invariant.0.hierarchy)
+    subst (λ (es : List Ends). c.args.edge < length es) (same_edges h inside.graph.now c.self.invariant.0.0.hierarchy)
     (subst (λ (p : PartsValue). c.args.edge < length p.graph.edges) (sym c.self.view_is) c.requires.edge)
 
 pub learn-requires-clause-size : goal.learn-requires-clause-size

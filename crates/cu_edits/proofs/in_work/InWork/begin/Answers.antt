@@ -1,4 +1,4 @@
-use Rattle.std.proofs.Common.{◌≡◌, ◌∙◌, ap, subst, sym}
+use Rattle.std.proofs.Common.{◌∙◌, ap, subst, sym}
 use Rattle.cu_edits.specs.InWork.{IsInWork, PapersValue, in_work_of}
 use Rattle.cu_edits.proofs.InWorkLaws.{in_work_none}
 use Rattle.cu_edits.proofs.in_work.InWork.begin.Goals as goal

@@ -1,5 +1,4 @@
 use Rattle.std.proofs.Common.{◌∙◌, ap, subst, sym}
-use Rattle.cu_unpack.specs.RebuiltRuns.{PackedValue}
 use Rattle.cu_edits.specs.Learned.{ArePackedOf}
 use Rattle.cu_edits.specs.Paused.{PausedValue}
 use Rattle.cu_edits.proofs.PausedLaws.{nothing_earlier, packed_earlier}

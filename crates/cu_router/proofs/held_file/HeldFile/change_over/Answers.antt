@@ -2,7 +2,7 @@ use Rattle.std.proofs.Common.{◌<◌, ◌∙◌, ℕ, Bool, List, ap, false, le
 use Rattle.cu_edits.specs.Settling.{numbers_of}
 use Rattle.cu_interval.specs.declared.ways.TouchedEdge.{TouchedEdge}
 use Rattle.cu_interval.specs.Hierarchies.{HierarchyValue}
-use Rattle.cu_interval.specs.Replacing.{hierarchy_with}
+use Rattle.cu_resettled.specs.ResettlingAll.{hierarchy_with_all}
 use Rattle.cu_pack.specs.Checks.{Spells, sealed}
 use Rattle.cu_pack.specs.Reading.{decoded}
 use Rattle.cu_pack.proofs.Viewed.Views.{said_again}
@@ -15,7 +15,7 @@ pub adopt-requires : goal.adopt-requires
 adopt-requires c =
     let change = c.requires.change in record {
       spelled = subst (λ (bs : List ℕ). Spells (sealed bs) (decoded (sealed bs))) (sym c.deref.ensures.value)
-          (said_again (sealed c.args.bytes.items) (hierarchy_with c.args.self.now change.edit c.args.lists.now) change.spelled);
+          (said_again (sealed c.args.bytes.items) (hierarchy_with_all c.args.self.now change.edits c.args.lists.now) change.spelled);
     }
 
 pub renew-requires : goal.renew-requires
@@ -39,7 +39,7 @@ mark-requires c =
     let h = decoded (sealed c.self.inside.bytes.items) in
     let change = subst (λ (g : HierarchyValue). IsChange g c.args.bytes.items lists) (sym c.self.view_is) c.requires.change in
     record {
-      edges = subst (λ (count : ℕ). All (λ (touched : TouchedEdge). touched.edge < count) lists) (sym c.self.invariant.0.knows.long) (touched_below h change.edit lists change.touched);
+      edges = subst (λ (count : ℕ). All (λ (touched : TouchedEdge). touched.edge < count) lists) (sym c.self.invariant.0.knows.long) (touched_below h change.edits lists change.touched);
     }
 
 pub invariant_of-self : goal.invariant_of-self

@@ -1,24 +1,40 @@
-use Rattle.std.proofs.Common.{◌<◌, length, subst, sym, All}
+use Rattle.std.proofs.Common.{◌<◌, ◌∙◌, length, ap, subst, sym, All}
 use Rattle.cu_interval.specs.declared.ways.TouchedEdge.{TouchedEdge}
 use Rattle.cu_interval.specs.Hierarchies.{HierarchyValue, IsHierarchy}
-use Rattle.cu_interval.specs.Replacing.{hierarchy_with}
+use Rattle.cu_model.specs.Networks.{IsNetwork, NetworkValue}
+use Rattle.cu_resettled.specs.ResettlingAll.{edited_all, hierarchy_with_all}
+use Rattle.cu_resettled.proofs.ResettledThere.{nodes_all}
+use Rattle.cu_edits.specs.Together.{FitEdits, edits_of}
 use Rattle.cu_edits.proofs.BoundsStay.{untouched_bound}
-use Rattle.cu_pack.specs.Repacking.{KeepsOtherBounds}
+use Rattle.cu_pack.specs.Repacking.{KeepsOtherBounds, with_roads}
 use Rattle.cu_router.proofs.HeldLaws.{touched_below}
 use Rattle.cu_router.proofs.held_file.HeldFile.repacked.Goals as goal
 
+pub of-roads-requires-clause-fits : goal.of-roads-requires-clause-fits
+of-roads-requires-clause-fits c = subst (λ (h : HierarchyValue). FitEdits h.network c.args.edits) (sym c.view-view.ensures.same) c.requires.edits
+
+pub of-roads-requires-clause-sound : goal.of-roads-requires-clause-sound
+of-roads-requires-clause-sound c =
+    subst (λ (h : HierarchyValue). IsNetwork (edited_all h.network (edits_of c.args.edits))) (sym c.view-view.ensures.same) c.requires.sound.network
+
+pub repack_touched-requires-clause-nodes : goal.repack_touched-requires-clause-nodes
+repack_touched-requires-clause-nodes c =
+    ap (λ (n : NetworkValue). n.nodes) c.of-roads.ensures ∙ nodes_all c.view-view.result.network (edits_of c.args.edits)
+
 pub repack_touched-requires-clause-edges : goal.repack_touched-requires-clause-edges
 repack_touched-requires-clause-edges c =
-    subst (λ (h : HierarchyValue). All (λ (touched : TouchedEdge). touched.edge < length h.edges) c.args.lists.now) (sym c.view.ensures.same)
-    (touched_below c.args.self.now c.args.edit.now c.args.lists.now c.requires.touched)
+    subst (λ (h : HierarchyValue). All (λ (touched : TouchedEdge). touched.edge < length h.edges) c.args.lists.now) (sym c.view-view.ensures.same)
+    (touched_below c.args.self.now (edits_of c.args.edits) c.args.lists.now c.requires.touched)
 
 pub repack_touched-requires-clause-sound : goal.repack_touched-requires-clause-sound
 repack_touched-requires-clause-sound c =
-    subst (λ (h : HierarchyValue). IsHierarchy (hierarchy_with h c.args.edit.now c.args.lists.now)) (sym c.view.ensures.same) c.requires.sound
+    subst (λ (n : NetworkValue). IsHierarchy (with_roads c.view-view.result n c.args.lists.now)) (sym c.of-roads.ensures)
+    (subst (λ (h : HierarchyValue). IsHierarchy (hierarchy_with_all h (edits_of c.args.edits) c.args.lists.now)) (sym c.view-view.ensures.same) c.requires.sound)
 
 pub repack_touched-requires-clause-stays : goal.repack_touched-requires-clause-stays
 repack_touched-requires-clause-stays c =
-    let edit = c.args.edit.now in
+    let edits = edits_of c.args.edits in
     let lists = c.args.lists.now in
-    subst (λ (h : HierarchyValue). KeepsOtherBounds h edit lists) (sym c.view.ensures.same)
-    (untouched_bound c.args.self.now c.view.ensures.sound edit lists c.requires.touched)
+    subst (λ (n : NetworkValue). KeepsOtherBounds c.view-view.result n lists) (sym c.of-roads.ensures)
+    (subst (λ (h : HierarchyValue). KeepsOtherBounds h (edited_all h.network edits) lists) (sym c.view-view.ensures.same)
+    (untouched_bound c.args.self.now c.view-view.ensures.sound edits lists c.requires.touched))

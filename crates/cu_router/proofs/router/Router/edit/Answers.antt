@@ -1,12 +1,11 @@
-use Rattle.std.proofs.Common.{◌≡◌, ◌∙◌, List, ap, length, subst, sym}
-use Rattle.cu_model.specs.declared.roads.Edit.{Edit}
+use Rattle.std.proofs.Common.{◌≡◌, ◌∷◌, ◌∙◌, List, [], ap, length, subst, sym}
 use Rattle.cu_model.specs.Edits.{IsEditInRange}
 use Rattle.cu_edits.specs.Settling.{numbers_of}
 use Rattle.cu_interval.specs.declared.ways.TouchedEdge.{TouchedEdge}
 use Rattle.cu_interval.specs.Hierarchies.{HierarchyValue}
 use Rattle.cu_interval.specs.Replacing.{hierarchy_with}
-use Rattle.cu_interval.specs.Resettling.{IsResettled}
-use Rattle.cu_interval.specs.Touching.{NumbersTouched}
+use Rattle.cu_resettled.specs.ResettlingAll.{IsResettledAll, NumbersTouchedBySome}
+use Rattle.cu_resettled.proofs.TouchedBySome.{all_of_one, numbers_of_one}
 use Rattle.cu_pack.specs.Checks.{Spells, sealed}
 use Rattle.cu_recall.specs.Rooms.{Fits}
 use Rattle.cu_router.specs.Edited.{IsEdited}
@@ -26,11 +25,12 @@ change_over-requires c =
     let touched = c.in_ok-bytes.ensures in
     record {
       change = record {
-        edit = edit;
-        range = subst (λ (h : HierarchyValue). IsEditInRange h.network edit) (sym c.self.view_is) c.requires.range;
+        edits = edit ∷ [];
         spelled = subst (λ (l : List TouchedEdge). Spells bytes (hierarchy_with held edit l)) same touched.spelled;
-        resettled = subst (λ (l : List TouchedEdge). IsResettled held edit (hierarchy_with held edit l)) same touched.resettled;
-        touched = subst (λ (l : List TouchedEdge). NumbersTouched held edit (numbers_of l)) same touched.touched;
+        resettled = subst (λ (l : List TouchedEdge). IsResettledAll held (edit ∷ []) (hierarchy_with held edit l)) same
+            (all_of_one held (hierarchy_with held edit c.in_ok-bytes.touched.lists.items) edit touched.resettled);
+        touched = subst (λ (l : List TouchedEdge). NumbersTouchedBySome held (edit ∷ []) (numbers_of l)) same
+            ((numbers_of_one held edit (numbers_of c.in_ok-bytes.touched.lists.items)).0 touched.touched);
       };
     }
 
@@ -43,7 +43,7 @@ invariant_of-self-2 c =
     let spells = c.in_ok-bytes.ensures.spelled in
     let new = hierarchy_with held edit lists in
     let same : c.change_over.new.self ≡ new = c.change_over.ensures.changed new spells in
-    let fits = fits_after held new edit c.in_ok-bytes.ensures.resettled c.self.inside.queries c.forget.new.self c.self.invariant.0
+    let fits = fits_after held new (edit ∷ []) (all_of_one held new edit c.in_ok-bytes.ensures.resettled) c.self.inside.queries c.forget.new.self c.self.invariant.0
     c.forget.ensures.nodes c.forget.ensures.lists (c.forget.ensures.knows new) (c.forget.ensures.downs new) in
     let nodes : length c.self.inside.reaches ≡ new.network.nodes = c.self.invariant.2 ∙ sym (sym fits.nodes ∙ c.forget.ensures.nodes ∙ c.self.invariant.0.nodes) in (
       subst (λ (h : HierarchyValue). Fits h c.forget.new.self) (sym same) fits,

@@ -1,10 +1,11 @@
-use Rattle.std.proofs.Common.{◌≡◌, ◌∙◌, List, ap, length, subst, sym}
+use Rattle.std.proofs.Common.{◌≡◌, ◌∷◌, ◌∙◌, List, [], ap, length, subst, sym}
 use Rattle.cu_edits.specs.InWork.{PapersValue}
 use Rattle.cu_edits.specs.Settling.{numbers_of}
 use Rattle.cu_interval.specs.declared.ways.TouchedEdge.{TouchedEdge}
 use Rattle.cu_interval.specs.Hierarchies.{HierarchyValue, IsHierarchy}
 use Rattle.cu_interval.specs.Replacing.{hierarchy_with}
-use Rattle.cu_interval.specs.Touching.{NumbersTouched}
+use Rattle.cu_resettled.specs.ResettlingAll.{NumbersTouchedBySome}
+use Rattle.cu_resettled.proofs.TouchedBySome.{numbers_of_one}
 use Rattle.cu_pack.specs.Checks.{Spells, sealed}
 use Rattle.cu_recall.specs.Rooms.{Fits}
 use Rattle.cu_router.specs.Changes.{IsChange}
@@ -12,11 +13,11 @@ use Rattle.cu_router.specs.Edited.{IsEdited}
 use Rattle.cu_router.specs.Working.{FitsBusy}
 use Rattle.cu_router.specs.Steps.Rooms.{FitsEdits, HasEditRoom}
 use Rattle.cu_router.proofs.RoomLaws.{fits_after}
-use Rattle.cu_router.proofs.WorkingLaws.{ready_change, ready_made, ready_range, ready_resettled, ready_sound, ready_touched}
+use Rattle.cu_router.proofs.WorkingLaws.{ready_change, ready_made, ready_range, ready_sound, ready_together, ready_touched}
 use Rattle.cu_router.proofs.router.Router.publish.Goals as goal
 
-pub repacked-requires-clause-range : goal.repacked-requires-clause-range
-repacked-requires-clause-range c =
+pub repacked-requires-clause-edits : goal.repacked-requires-clause-edits
+repacked-requires-clause-edits c =
     let fits = subst (λ (h : HierarchyValue). FitsBusy h c.args.busy) (sym c.self.view_is) c.requires.fits in
     ready_range c.self.inside.held c.args.busy fits c.requires.none
 
@@ -25,7 +26,8 @@ repacked-requires-clause-touched c =
     let held = c.self.inside.held in
     let busy = c.args.busy in
     let fits = subst (λ (h : HierarchyValue). FitsBusy h busy) (sym c.self.view_is) c.requires.fits in
-    subst (λ (lists : List TouchedEdge). NumbersTouched held busy.edit (numbers_of lists)) (sym c.lists.ensures) (ready_touched held busy fits c.requires.none)
+    subst (λ (lists : List TouchedEdge). NumbersTouchedBySome held (busy.edit ∷ []) (numbers_of lists)) (sym c.lists.ensures)
+    ((numbers_of_one held busy.edit (numbers_of busy.papers.lists)).0 (ready_touched held busy fits c.requires.none))
 
 pub repacked-requires-clause-sound : goal.repacked-requires-clause-sound
 repacked-requires-clause-sound c =
@@ -59,7 +61,7 @@ invariant_of-self-2 c =
     let fits = subst (λ (h : HierarchyValue). FitsBusy h busy) (sym c.self.view_is) c.requires.fits in
     let spelled = subst (λ (lists : List TouchedEdge). Spells (sealed bytes) (hierarchy_with held busy.edit lists)) c.lists.ensures c.in-Ok-repacked.ensures.spelled in
     let same : c.change_over.new.self ≡ new = c.change_over.ensures.changed new spelled in
-    let queries = fits_after held new busy.edit (ready_resettled held busy fits c.requires.none) c.self.inside.queries c.forget.new.self c.self.invariant.0
+    let queries = fits_after held new (busy.edit ∷ []) (ready_together held busy fits c.requires.none) c.self.inside.queries c.forget.new.self c.self.invariant.0
     c.forget.ensures.nodes c.forget.ensures.lists (c.forget.ensures.knows new) (c.forget.ensures.downs new) in
     let nodes : length c.self.inside.reaches ≡ new.network.nodes = c.self.invariant.2 ∙ sym (sym queries.nodes ∙ c.forget.ensures.nodes ∙ c.self.invariant.0.nodes) in (
       subst (λ (h : HierarchyValue). Fits h c.forget.new.self) (sym same) queries,
