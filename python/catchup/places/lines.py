@@ -105,6 +105,11 @@ class Lines:
         """Whether a road is one of a roundabout."""
         return bool(self._numbers[1][road])
 
+    @cached_property
+    def several(self) -> frozenset[int]:
+        """The roads whose name isn't the same all along."""
+        return frozenset(self._names.several(self.metres).tolist())
+
     def length(self, road: int) -> float:
         """A road's metres."""
         return float(self._numbers[2][road])
@@ -206,10 +211,15 @@ class Lines:
         name = self._names.only(road, self.length(road))
         if name is not None:
             return [Stretch(*name, begin, end, self.cut(part))]
+        found = self._spans(road) if part[1:] == _WHOLE else self._spans_between(road, begin, end)
+        return [Stretch(name, ref, low, high, self.cut((road, low, high))) for name, ref, low, high in found]
+
+    def _spans(self, road: int) -> list[tuple[str, str, float, float]]:
+        """The names of a road, with the shares of it between which they hold."""
         found: list[tuple[str, str, float, float]] = []
-        at, whole = begin, float(self.metres[road]) or 1.0
+        at, whole = 0.0, float(self.metres[road]) or 1.0
         for span in self._names.of(road):
-            low, high = max(span.from_metres / whole, at), min(span.to_metres / whole, end)
+            low, high = max(span.from_metres / whole, at), min(span.to_metres / whole, 1.0)
             if high - low <= _LEAST:
                 continue
             if low - at > _LEAST:
@@ -218,11 +228,19 @@ class Lines:
                 low = at
             found.append((span.name, span.ref, low, high))
             at = high
-        if not found or end - at > _LEAST:
-            found.append(("", "", at, end))
+        if not found or 1.0 - at > _LEAST:
+            found.append(("", "", at, 1.0))
         else:
-            found[-1] = (*found[-1][:3], end)
-        return [Stretch(name, ref, low, high, self.cut((road, low, high))) for name, ref, low, high in found]
+            found[-1] = (*found[-1][:3], 1.0)
+        return found
+
+    def _spans_between(self, road: int, begin: float, end: float) -> list[tuple[str, str, float, float]]:
+        """The same between two shares of a road: that which holds most of what is too short for any."""
+        its = [(min(high, end) - max(low, begin), name, ref, min(high, end))
+               for name, ref, low, high, _ in self.stretches((road, *_WHOLE))]
+        found = [each for each in its if each[0] > _LEAST] or [max(its, key=lambda each: each[0])]
+        bounds = [begin, *[high for _, _, _, high in found[:-1]], end]
+        return [(name, ref, low, high) for (_, name, ref, _), low, high in zip(found, bounds, bounds[1:])]
 
 
 def parts_of(roads: Sequence[int], begin: float, end: float) -> list[Part]:
