@@ -2,35 +2,30 @@
 
 from __future__ import annotations
 
-from typing import Generic, TypeVar
+from collections.abc import Callable
+from typing import TypeVar
 
 Key = TypeVar("Key")
 Value = TypeVar("Value")
 
 
-class Kept(Generic[Key, Value]):
-    """The values of some keys: at least the `most` that were put or found last, and at most twice as many.
+class Kept(dict[Key, Value]):
+    """The values of some keys, each made when it is first looked up: at least the `most` that were looked up last are
+    there, and at most twice as many.
 
-    They are in two halves. When the new half is full it becomes the old one, whose values go but for those that are
-    asked for meanwhile. So what many ask for stays, and nobody waits until all of it is made again. new: the new half,
-    for whoever looks up many at once; what isn't there may still be found.
+    They are in two halves. When this dictionary is full it becomes the old half, whose values go but for those that are
+    looked up meanwhile. So what many ask for stays, and nobody waits until all of it is made again.
     """
 
-    def __init__(self, most: int) -> None:
-        self.most = most
-        self.new: dict[Key, Value] = {}
+    def __init__(self, most: int, make: Callable[[Key], Value]) -> None:
+        super().__init__()
+        self._most, self._make = most, make
         self._old: dict[Key, Value] = {}
 
-    def find(self, key: Key) -> Value | None:
-        """The value of a key, None where there is none any more."""
-        found = self.new.get(key)
-        if found is None and (found := self._old.get(key)) is not None:
-            self.put(key, found)
-        return found
-
-    def put(self, key: Key, value: Value) -> Value:
-        """Keeps a value, and answers it."""
-        if len(self.new) >= self.most:
-            self._old, self.new = self.new, {}
-        self.new[key] = value
+    def __missing__(self, key: Key) -> Value:
+        value = self._old[key] if key in self._old else self._make(key)
+        if len(self) >= self._most:
+            self._old = dict(self)
+            self.clear()
+        self[key] = value
         return value

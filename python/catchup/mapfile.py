@@ -185,6 +185,14 @@ class RoadNames:
             return None
         return self.texts[text[row]]
 
+    def several(self, metres: Floats) -> Ints:
+        """The roads, of so many metres each, for which `only` is None: int64[s]."""
+        count = np.diff(self.first)
+        one = np.flatnonzero(count == 1)
+        row = self.first[one]
+        is_part = (self.begin[row] > _NEAR) | (self.end[row] < metres[one] - _NEAR)
+        return np.union1d(np.flatnonzero(count > 1), one[is_part])
+
     def of(self, road: int) -> list[Span]:
         """The named parts of a road, in driving order."""
         rows = range(int(self.first[road]), int(self.first[road + 1]))

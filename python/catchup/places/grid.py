@@ -12,6 +12,8 @@ from catchup.geometry import EARTH
 
 Shorts = NDArray[np.int32]
 Floats = NDArray[np.float64]
+Point = tuple[float, float, float]
+Span = tuple[int, int]
 
 CELL: Final = 100.0
 """Metres of a cell's side, where that doesn't make too many cells."""
@@ -19,8 +21,8 @@ CELL: Final = 100.0
 _MOST_CELLS: Final = 8.0
 """Cells for each point, at most."""
 
-_FEW_ROWS: Final = 16
-"""Rows that are taken one by one, which is faster."""
+_TURNS: Final = (-2 * math.pi, 0.0, 2 * math.pi)
+"""A longitude is told by several numbers: one of them may be near a cell's."""
 
 _MORE: Final = 1.0 + 1e-9
 """By how much a distance is taken longer, since numbers are rounded."""
@@ -30,7 +32,8 @@ class Grid:
     """Points on the ball of the earth, float64[p, 3] in metres from its middle, by rows of cells.
 
     Row r has the latitudes from south + r * high on, and its cells, columns of them, the longitudes from west + c * wide
-    on, in radians. _things: int32[p], the points, those of a cell behind one another; _first: int64[rows * columns + 1].
+    on, in radians. order: int32[p], the points, those of a cell behind one another; _first: int64[rows * columns + 1],
+    where those of each cell begin there.
     """
 
     def __init__(self, points: Floats) -> None:
@@ -46,13 +49,16 @@ class Grid:
         row = np.minimum((lat - self._south) / self._high, self._rows - 1).astype(np.int64)
         column = np.minimum((lon - self._west) / self._wide, self._columns - 1).astype(np.int64)
         cell = row * self._columns + column
-        self._things = np.argsort(cell, kind="stable").astype(np.int32)
-        self._first = np.zeros(self._rows * self._columns + 1, dtype=np.int64)
-        np.cumsum(np.bincount(cell, minlength=self._rows * self._columns), out=self._first[1:])
+        self.order: Shorts = np.argsort(cell, kind="stable").astype(np.int32)
+        first = np.zeros(self._rows * self._columns + 1, dtype=np.int64)
+        np.cumsum(np.bincount(cell, minlength=self._rows * self._columns), out=first[1:])
+        # A few are looked up at a time, for which numpy's arrays are slow.
+        self._first = first.data
 
-    def near(self, at: Floats, radius: float) -> Shorts:
-        """All points within a radius, in metres straight through the ball, of another one, and some farther ones."""
-        x, y, z = at.tolist()
+    def near(self, at: Point, radius: float) -> list[Span]:
+        """The points within a radius, in metres straight through the ball, of another one, and some farther ones: spans
+        of `order`."""
+        x, y, z = at
         lon, lat = math.atan2(y, x), math.asin(min(max(z / EARTH, -1.0), 1.0))
         # The angle that is seen from the ball's middle.
         angle = 2 * math.asin(min(radius / (2 * EARTH) * _MORE, 1.0)) + 1e-12
@@ -63,30 +69,18 @@ class Grid:
             aside = math.asin(min(math.sin(min(angle, math.pi / 2)) / math.cos(lat) * _MORE, 1.0)) + 1e-12
         bottom = max(math.floor((low - self._south) / self._high), 0)
         top = min(math.floor((high - self._south) / self._high), self._rows - 1)
-        if bottom > top:
-            return np.empty(0, dtype=np.int32)
         if aside >= math.pi:
             return self._in_columns(bottom, top, 0, self._columns - 1)
-        found = [self._in_columns(bottom, top, *columns) for turn in (-2 * math.pi, 0.0, 2 * math.pi)
-                 if (columns := self._columns_of(lon + turn - aside, lon + turn + aside)) is not None]
-        return found[0] if len(found) == 1 else np.concatenate(found or [np.empty(0, dtype=np.int32)])
-
-    def _columns_of(self, west: float, east: float) -> tuple[int, int] | None:
-        """The first and the last column between two longitudes; None where there is none."""
-        first = max(math.floor((west - self._west) / self._wide), 0)
-        last = min(math.floor((east - self._west) / self._wide), self._columns - 1)
-        return (first, last) if first <= last else None
-
-    def _in_columns(self, bottom: int, top: int, left: int, right: int) -> Shorts:
-        """The points in a rectangle of cells: those of a row's cells stand behind one another."""
-        things, firsts, columns = self._things, self._first, self._columns
-        if top - bottom < _FEW_ROWS:
-            return np.concatenate([
-                things[firsts[at + left]:firsts[at + right + 1]]
-                for at in range(bottom * columns, top * columns + 1, columns)])
-        rows = np.arange(bottom, top + 1) * columns
-        first, behind = firsts[rows + left], firsts[rows + (right + 1)]
-        sizes = behind - first
-        ends = sizes.cumsum()
-        found: Shorts = things[np.arange(ends[-1]) + np.repeat(first - ends + sizes, sizes)]
+        found: list[Span] = []
+        for turn in _TURNS:
+            left = max(math.floor((lon + turn - aside - self._west) / self._wide), 0)
+            right = min(math.floor((lon + turn + aside - self._west) / self._wide), self._columns - 1)
+            if left <= right:
+                found += self._in_columns(bottom, top, left, right)
         return found
+
+    def _in_columns(self, bottom: int, top: int, left: int, right: int) -> list[Span]:
+        """The points in a rectangle of cells: those of a row's cells stand behind one another."""
+        first, columns = self._first, self._columns
+        return [(first[row + left], first[row + right + 1])
+                for row in range(bottom * columns, (top + 1) * columns, columns)]

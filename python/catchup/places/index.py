@@ -8,13 +8,15 @@ the cells of a grid: whatever is nearer than some distance has the middle of a p
 from __future__ import annotations
 
 import math
+import struct
+from collections.abc import Sequence
 from dataclasses import dataclass
 
 import numpy as np
 from numpy.typing import NDArray
 
 from catchup.geometry import EARTH
-from catchup.places.grid import Grid
+from catchup.places.grid import Grid, Point
 from catchup.places.streets import Streets
 from catchup.places.values import Place
 
@@ -25,11 +27,20 @@ PIECE = 80.0
 """Metres of the longest piece of a segment."""
 
 _FIRST_LOOK = 150.0
+_FIRST_LOOK_AT_ONE = 60.0
 _FARTHER = 2.0
 _FARTHEST = 2 * EARTH
 _SAME = 1e-6
 """Metres that make no difference."""
+_FEW = 64
+"""Pieces up to which one after the other is faster than all at once."""
+_PIECE = struct.Struct("=10d")
+"""A piece: where it begins, the step to its end, 1 / its square, how much of its segment lies before it and in it, and
+the segment."""
 _SUM = np.ones(3)
+
+Near = tuple[float, int, float]
+"""A piece that is near: the square of its distance, its segment, and how much of that lies before the nearest point."""
 
 
 @dataclass(frozen=True, slots=True)
@@ -53,18 +64,14 @@ def on_ball(places: Floats) -> Floats:
     return points
 
 
-def _one_on_ball(place: Place) -> Floats:
+def _one_on_ball(place: Place) -> Point:
     lon, lat = math.radians(place[0]), math.radians(place[1])
     flat = EARTH * math.cos(lat)
-    return np.array((flat * math.cos(lon), flat * math.sin(lon), EARTH * math.sin(lat)))
+    return flat * math.cos(lon), flat * math.sin(lon), EARTH * math.sin(lat)
 
 
 class Index:
-    """Finds the nearest points of streets.
-
-    Of p pieces: _segment: int32[p]; _pieces: float64[p, 9], where each begins, the step to its end, 1 / its square, and
-    how much of its segment lies before it and in it.
-    """
+    """Finds the nearest points of streets. _pieces: the pieces, as _PIECE has them, in the order of the grid."""
 
     def __init__(self, streets: Streets) -> None:
         self._street = streets.segment_street
@@ -74,16 +81,17 @@ class Index:
         segment = np.flatnonzero(~ends)
         step = points[segment + 1] - points[segment]
         count = np.maximum(np.ceil(np.sqrt(np.einsum("ij,ij->i", step, step)) / PIECE), 1.0).astype(np.int64)
-        self._segment = np.repeat(segment, count).astype(np.int32)
-        rank = np.arange(len(self._segment)) - np.repeat(np.cumsum(count) - count, count)
-        self._pieces = np.empty((len(self._segment), 9))
+        pieces = np.empty((int(count.sum()), 10))
+        pieces[:, 9] = segments = np.repeat(segment, count)
+        rank = np.arange(len(pieces)) - np.repeat(np.cumsum(count) - count, count)
         width = np.repeat(1.0 / count, count)
         steps = np.repeat(step / count[:, None], count, axis=0)
-        self._pieces[:, :3] = points[self._segment] + rank[:, None] * steps
-        self._pieces[:, 3:6] = steps
-        self._pieces[:, 6] = 1.0 / np.maximum(np.einsum("ij,ij->i", steps, steps), _SAME * _SAME)
-        self._pieces[:, 7], self._pieces[:, 8] = rank * width, width
-        self._grid = Grid(self._pieces[:, :3] + steps / 2)
+        pieces[:, :3] = points[segments] + rank[:, None] * steps
+        pieces[:, 3:6] = steps
+        pieces[:, 6] = 1.0 / np.maximum(np.einsum("ij,ij->i", steps, steps), _SAME * _SAME)
+        pieces[:, 7], pieces[:, 8] = rank * width, width
+        self._grid = Grid(pieces[:, :3] + steps / 2)
+        self._pieces = memoryview(pieces[self._grid.order].tobytes())
 
     def nearest(self, place: Place, number: int, limit: float) -> Found:
         """At least `number` of the nearest streets, and all that are as near as these; fewer where there are no more
@@ -91,9 +99,9 @@ class Index:
         at = _one_on_ball(place)
         radius = min(_FIRST_LOOK, limit)
         while True:
-            pieces, part, square = self._look(at, radius)
+            square, segment, part = _all_near(at, self._look(at, radius))
             near = (square <= radius * radius).nonzero()[0]
-            found = self._found(pieces[near], part[near], np.sqrt(square[near]))
+            found = self._found(segment[near], part[near], np.sqrt(square[near]))
             if len(found.street) >= number or radius >= limit or radius >= _FARTHEST:
                 return found
             radius = min(_FARTHER * radius, limit)
@@ -102,43 +110,72 @@ class Index:
         """The nearest street, on it the segment, and how much of that lies before the nearest point; then others that
         are just as near. None where there is none within `limit` metres."""
         at = _one_on_ball(place)
-        radius, least = min(_FIRST_LOOK, limit), math.inf
+        radius, least = min(_FIRST_LOOK_AT_ONE, limit), math.inf
         while True:
-            pieces, part, square = self._look(at, radius)
-            if len(pieces):
-                row = int(square.argmin())
-                least = math.sqrt(square[row])
+            near = _nearest(at, self._look(at, radius))
+            if near:
+                least = math.sqrt(near[0][0])
                 if least <= radius:
-                    break
+                    return self._each_once(near)
             if radius >= limit or radius >= _FARTHEST:
                 return []
             radius = min(_FARTHER * radius, least + _SAME, limit)
-        near = (square <= (least + _SAME) ** 2).nonzero()[0]
-        if len(near) > 1:
-            found = self._found(pieces[near], part[near], np.sqrt(square[near]))
-            return list(zip(found.street.tolist(), found.segment.tolist(), found.part.tolist()))
-        piece = int(pieces[row])
-        segment = int(self._segment[piece])
-        share = float(self._pieces[piece, 7] + part[row] * self._pieces[piece, 8])
-        return [(int(self._street[segment]), segment, share)]
 
-    def _look(self, at: Floats, radius: float) -> tuple[Shorts, Floats, Floats]:
-        """All pieces that come as near as a radius to a point on the ball, and some others: how much of each lies
-        before its nearest point, and the square of how far that is."""
-        pieces = self._grid.near(at, radius + PIECE / 2)
-        rows = self._pieces.take(pieces, 0)
-        step = rows[:, 3:6]
-        away = at - rows[:, :3]
-        part = np.minimum(np.maximum((away * step) @ _SUM * rows[:, 6], 0.0), 1.0)
-        away -= part[:, None] * step
-        return pieces, part, np.square(away) @ _SUM
+    def _look(self, at: Point, radius: float) -> bytes:
+        """All pieces that come as near as a radius to a point on the ball, and some others."""
+        pieces, size = self._pieces, _PIECE.size
+        return b"".join([pieces[begin * size:end * size] for begin, end in self._grid.near(at, radius + PIECE / 2)])
 
-    def _found(self, pieces: Shorts, part: Floats, metres: Floats) -> Found:
+    def _each_once(self, near: Sequence[Near]) -> list[tuple[int, int, float]]:
+        """Each street of the nearest pieces, the nearest first; of equally near ones that of the lowest number, and of
+        its points the first."""
+        if len(near) == 1:
+            [(_, segment, part)] = near
+            return [(self._street.item(segment), segment, part)]
+        ranked = sorted([(round(math.sqrt(square) / _SAME), self._street.item(segment), segment, part)
+                         for square, segment, part in near])
+        found: dict[int, tuple[int, int, float]] = {}
+        for _, street, segment, part in ranked:
+            found.setdefault(street, (street, segment, part))
+        return list(found.values())
+
+    def _found(self, segment: Shorts, part: Floats, metres: Floats) -> Found:
         """The nearest point of each street; of equally near ones, as at a junction, that of the lowest number first."""
-        segment = self._segment[pieces]
-        part = self._pieces[pieces, 7] + part * self._pieces[pieces, 8]
         street = self._street[segment]
         order = np.lexsort(np.stack((part, segment, street, np.round(metres, 6))))
         _, firsts = np.unique(street[order], return_index=True)
         order = order[np.sort(firsts)]
         return Found(street[order], segment[order], part[order], metres[order])
+
+
+def _all_near(at: Point, pieces: bytes) -> tuple[Floats, Shorts, Floats]:
+    """Of each piece the square of how far it is from a point on the ball, its segment, and how much of that lies before
+    its nearest point."""
+    rows = np.frombuffer(pieces).reshape(-1, 10)
+    step = rows[:, 3:6]
+    away = np.array(at) - rows[:, :3]
+    part = np.minimum(np.maximum((away * step) @ _SUM * rows[:, 6], 0.0), 1.0)
+    away -= part[:, None] * step
+    return np.square(away) @ _SUM, rows[:, 9].astype(np.int32), rows[:, 7] + part * rows[:, 8]
+
+
+def _nearest(at: Point, pieces: bytes) -> list[Near]:
+    """The nearest of some pieces, and all that are as near, but for what makes no difference; the nearest first."""
+    if len(pieces) > _FEW * _PIECE.size:
+        square, segment, part = _all_near(at, pieces)
+        near = (square <= (math.sqrt(square.min()) + _SAME) ** 2).nonzero()[0]
+        return sorted(zip(square[near].tolist(), segment[near].tolist(), part[near].tolist()))
+    found: list[Near] = []
+    x, y, z = at
+    most = math.inf
+    for east, north, up, dx, dy, dz, inverse, before, width, segment in _PIECE.iter_unpack(pieces):
+        # As _all_near has it.
+        u, v, w = x - east, y - north, z - up
+        part = (u * dx + v * dy + w * dz) * inverse
+        part = 0.0 if part < 0.0 else 1.0 if part > 1.0 else part
+        u, v, w = u - part * dx, v - part * dy, w - part * dz
+        square = u * u + v * v + w * w
+        if square <= most:
+            found.append((square, int(segment), before + part * width))
+            most = min((math.sqrt(square) + _SAME) ** 2, most)
+    return sorted([each for each in found if each[0] <= most])

@@ -43,6 +43,8 @@ class Snapper:
         corner = node_places[self._nodes.things[self._nodes.first[:-1]]]
         self._spot = np.unique(corner, axis=0, return_inverse=True)[1].astype(np.int32)
         self._junctions = Grouped.by(self._spot, int(self._spot.max(initial=-1)) + 1)
+        # Of one place at a time, for which numpy's arrays are slow.
+        self._points, self._along, self._forward = streets.places.data, streets.share.data, streets.is_forward.data
         (west, south), (east, north) = (edge(streets.places, axis=0).tolist() for edge in (np.min, np.max))
         self.box: tuple[float, float, float, float] = west, south, east, north
 
@@ -160,22 +162,23 @@ class Snapper:
 
     def _snap(self, place: Place, street: int, segment: int, part: float, roads: list[int] | None) -> Snap:
         """The point of a street, of which these roads count; where all do, at its end all roads that meet there do."""
-        streets = self._streets
-        (x, y), (u, v) = streets.places[segment:segment + 2].tolist()
-        begin, end = streets.share[segment:segment + 2].tolist()
-        point = (x + (u - x) * part, y + (v - y) * part)
-        share = begin + (end - begin) * part
+        streets, along, places = self._streets, self._along, self._points
+        x, y = places[segment, 0], places[segment, 1]
+        begin = along[segment]
+        point = (x + (places[segment + 1, 0] - x) * part, y + (places[segment + 1, 1] - y) * part)
+        share = begin + (along[segment + 1] - begin) * part
         metres, lead = streets.metres.item(street), streets.lead.item(street)
         if share * metres <= _AT_END or (1.0 - share) * metres <= _AT_END:
             share = 0.0 if share * metres <= _AT_END else 1.0
-            x, y = streets.places[streets.first[street + int(share)] - int(share)].tolist()
-            point = x, y
+            end = streets.first.item(street + int(share)) - int(share)
+            point = places[end, 0], places[end, 1]
         if share in (0.0, 1.0) and roads is None:
             node = self._ends.head[lead] if share else self._ends.tail[lead]
             through = self._through(self._junctions[int(self._spot[self._ends.junction[node]])].tolist())
         else:
+            forward = self._forward
             of = streets.roads[street].tolist() if roads is None else roads
-            through = [(road, share if streets.is_forward[road] else 1.0 - share) for road in of]
+            through = [(road, share if forward[road] else 1.0 - share) for road in of]
         name, ref = self._lines.name_at(lead, share)
         return Snap(place, point, metres_between(place, point), street, share, tuple(through), name, ref)
 
@@ -194,8 +197,9 @@ def check_place(place: Place) -> None:
 
 def metres_between(one: Place, other: Place) -> float:
     """The distance of two places, as geometry.metres has it."""
-    x1, y1, x2, y2 = (math.radians(value) for value in (*one, *other))
-    half = math.sin((y2 - y1) / 2) ** 2 + math.cos(y1) * math.cos(y2) * math.sin((x2 - x1) / 2) ** 2
+    y1, y2 = math.radians(one[1]), math.radians(other[1])
+    half = (math.sin((y2 - y1) / 2) ** 2
+            + math.cos(y1) * math.cos(y2) * math.sin((math.radians(other[0]) - math.radians(one[0])) / 2) ** 2)
     return 2 * geometry.EARTH * math.asin(math.sqrt(min(half, 1.0)))
 
 

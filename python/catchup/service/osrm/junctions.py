@@ -56,15 +56,14 @@ class Junctions:
             array("h", of.tobytes()) for of in (rank[:len(ends.tail)], rank[len(ends.tail):]))
         self._junction, self._first, self._arms = ends.junction, first, (arms % 360).astype(np.int16)
         self._from = Grouped.by(ends.tail, len(ends.junction))
-        self._streets, self._lines = ground.streets, ground.lines
-        self._kept: Kept[int, Crossing] = Kept(MOST_KEPT // 2)
+        self._places, self._lines = ground.snapper.node_places, ground.lines
+        self._kept: Kept[int, Crossing] = Kept(MOST_KEPT // 2, self._made)
 
     def at_end(self, road: int) -> Crossing:
         """What is where a road ends."""
-        node = self.head[road]
-        return self._kept.find(node) or self._kept.put(node, self._made(node, self._streets.line(road)[-1].tolist()))
+        return self._kept[self.head[road]]
 
-    def _made(self, node: int, place: list[float]) -> Crossing:
+    def _made(self, node: int) -> Crossing:
         junction = int(self._junction[node])
         arms: list[int] = self._arms[self._first[junction]:self._first[junction + 1]].tolist()
         roads = [(self.leaves_by[road], self.leaves[road], self._lines.kind(road))
@@ -73,7 +72,7 @@ class Junctions:
         for arm, _, _ in roads:
             entries[arm] = "true"
         return Crossing(arms, roads, f'"entry":[{",".join(entries)}],"bearings":[{",".join(map(str, arms))}],'
-                        f'"location":{point(place)}')
+                        f'"location":{point(self._places[node].tolist())}')
 
 
 def directions_of(streets: Streets) -> tuple[Shorts, Shorts]:

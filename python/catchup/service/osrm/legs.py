@@ -34,9 +34,14 @@ class Leg:
         return [row.stretch for row in self.rows]
 
     @cached_property
+    def far(self) -> list[float]:
+        """The metres of each stretch."""
+        return [row.metres for row in self.rows]
+
+    @cached_property
     def metres(self) -> float:
         """How long it is."""
-        return sum([row.metres for row in self.rows])
+        return sum(self.far)
 
     def line(self) -> Floats:
         """Its places, float64[n, 2]."""

@@ -1,7 +1,7 @@
 """The rows of drives: of each stretch what is told of it, and of the passage into it, with texts that are ready.
 
 Most of a request's time would go into these, road by road, and drives share most of their roads. So the row of a whole
-road behind another one is kept, under a number of both.
+road behind another one is kept, and so are the texts of steps over several of them.
 """
 
 from __future__ import annotations
@@ -9,16 +9,17 @@ from __future__ import annotations
 from collections.abc import Sequence
 from dataclasses import dataclass
 from itertools import pairwise
-from typing import Final, cast
+from typing import Final
 
 from catchup.kept import Kept
 from catchup.places.drives import Drive
+from catchup.places.lines import Part
 from catchup.service.osrm.lines import FORMS
 from catchup.service.osrm.stretches import Stretch, Stretches
 from catchup.service.osrm.turns import NOTHING, Turn, Turns, turning_round
 
-MOST_KEPT: Final = 65_536               # rows that are kept, in each form of lines
-SPAN: Final = 1 << 32                   # above any road's number
+MOST_KEPT: Final = 131_072              # rows that are kept, in each form of lines
+MOST_STEPS: Final = 32_768              # steps over several rows, in each form of lines
 UNSURE: Final = 1e-5                    # of a tenth of a metre: by how much sums of metres may be off
 
 
@@ -30,7 +31,8 @@ class Row:
     rest, metres, called: those of the stretch, of which so many are looked at that one step less counts. kind, passed,
     has_others, sides, intersection: those of the passage into it. told: where something is told, the text of a step
     that begins here; `head` of its letters go up to the first of its intersections. is_ready: whether the text of a
-    step along this stretch alone stands there up to its seconds, and not its head alone.
+    step along this stretch alone stands there up to its seconds, and not its head alone. more: the rows of the other
+    stretches of its road that are driven behind it.
     """
 
     stretch: Stretch
@@ -45,36 +47,33 @@ class Row:
     has_others: bool
     sides: str
     intersection: str
+    more: tuple[Row, ...] = ()
 
 
 class Rows:
-    """The rows of a network's drives in one form of lines; where no turns are given nothing is told of passages."""
+    """The rows of a network's drives in one form of lines; where no turns are given nothing is told of passages.
+
+    steps: of some rows, behind one another, that one step leads along: its text up to its seconds; empty where its
+    metres may be rounded in two ways.
+    """
 
     def __init__(self, stretches: Stretches, turns: Turns | None, form: str) -> None:
         self._stretches, self._turns, self._form = stretches, turns, form
-        self._kept: Kept[int, Row] = Kept(MOST_KEPT // 2)
-        # The few roads with several names.
-        self._several: Kept[int, list[Row]] = Kept(MOST_KEPT // 2)
+        self._whole: Kept[tuple[int, int], Row] = Kept(MOST_KEPT // 2, self._made_whole)
+        self.form = FORMS[form]
+        self.steps: Kept[tuple[Row, ...], str] = Kept(MOST_STEPS // 2, self._step)
 
     def of_drive(self, drive: Drive) -> tuple[list[Row], Sequence[float]]:
         """The rows of a drive, one at least, and the seconds at which each stretch is entered; the last one is left as
         the drive arrives."""
-        roads = drive.roads
+        roads, stop, several = drive.roads, drive.stop, self._stretches.several
         if not roads:
             return [self.row(None, self._stretches.still(drive, self._form))], [drive.depart]
-        by_road = [None, *map(self._kept.new.get, keys_of(roads))]
-        if drive.stop < 1.0:
-            # It is driven in part.
-            by_road[-1] = None
-        several: dict[int, list[Row]] = {}
-        for at in [at for at, row in enumerate(by_road) if row is None]:
-            before = by_road[at - 1] if at else None
-            found = self._of_road(drive, at, before.stretch if before is not None else None)
-            by_road[at] = found[-1]
-            if len(found) > 1:
-                several[at] = found
-        rows = cast(list[Row], by_road)
-        return spread(rows, several, drive)
+        rows = [self._made(None, (roads[0], drive.begin, stop if len(roads) == 1 else 1.0)),
+                *map(self._whole.__getitem__, pairwise(roads))]
+        if stop < 1.0 and len(roads) > 1:
+            rows[-1] = self._up_to(rows[-1], last_of(rows[-2]).stretch, stop)
+        return (rows, drive.seconds) if several.isdisjoint(roads) else spread(rows, drive)
 
     def row(self, before: Stretch | None, stretch: Stretch) -> Row:
         """The row of a stretch behind another one, or as the first one."""
@@ -90,49 +89,71 @@ class Rows:
     def row_of(self, turn: Turn, stretch: Stretch) -> Row:
         """The row of a stretch into which a passage leads."""
         metres, told = stretch.metres, turn.head
-        # A step is as long as a difference of sums says, which may be rounded otherwise than the metres themselves
-        # where these are halfway between two tenths.
-        is_ready = bool(told) and stretch.is_whole and abs(10 * metres % 1 - 0.5) > UNSURE
+        is_ready = bool(told) and stretch.is_whole and not is_unsure(metres)
         if is_ready:
-            told = f'{told}],"geometry":{FORMS[self._form].line(stretch.line)},"distance":{metres:.1f},"duration":'
+            told = f'{told}{self._line_told(stretch.line, metres)}'
         return Row(stretch, stretch.rest, metres, stretch.name or stretch.ref, turn.kind, told, len(turn.head),
                    is_ready, turn.passed, turn.has_others, turn.sides, turn.intersection)
 
-    def _of_road(self, drive: Drive, at: int, before: Stretch | None) -> list[Row]:
-        """The rows of one of a drive's roads, which isn't there at once."""
-        stretches, road, last = self._stretches, drive.roads[at], len(drive.roads) - 1
-        begin, stop = drive.begin if at == 0 else 0.0, drive.stop if at == last else 1.0
-        if begin > 0.0 or stop < 1.0:
-            return self._made(before, stretches.of_part((road, begin, stop), self._form))
-        if at == 0:
-            return self._made(before, stretches.of_road(road, self._form))
-        [key] = keys_of(drive.roads[at - 1:at + 1])
-        kept = self._kept.find(key)
-        if kept is not None:
-            return [kept]
-        found = self._several.find(key) or self._made(before, stretches.of_road(road, self._form))
-        if len(found) > 1:
-            return self._several.put(key, found)
-        return [self._kept.put(key, found[0])]
+    def begun(self, head: str, rows: Sequence[Row], metres: float) -> str:
+        """The text of a step along some rows up to its seconds, from that up to the first of its intersections."""
+        passed, rest = "".join([row.passed for row in rows[1:]]), "".join([row.rest for row in rows[1:]])
+        return f"{head}{passed}{self._line_told(rows[0].stretch.line + rest, metres)}"
 
-    def _made(self, before: Stretch | None, stretches: Sequence[Stretch]) -> list[Row]:
-        return [self.row(before, stretches[0]), *[self.row(one, other) for one, other in pairwise(stretches)]]
+    def _line_told(self, line: str, metres: float) -> str:
+        """The text of a step from its last intersection on up to its seconds."""
+        form = self.form
+        return f'],"geometry":{form.opens}{line}{form.closes},"distance":{metres:.1f},"duration":'
+
+    def _step(self, rows: tuple[Row, ...]) -> str:
+        metres = sum([row.metres for row in rows])
+        return "" if is_unsure(metres) else self.begun(rows[0].told[:rows[0].head], rows, metres)
+
+    def _made_whole(self, roads: tuple[int, int]) -> Row:
+        """The row of a whole road behind another one."""
+        before, road = roads
+        return self._made(self._stretches.of_road(before, self._form)[-1], (road, 0.0, 1.0))
+
+    def _made(self, before: Stretch | None, part: Part) -> Row:
+        """The row of a part of a road."""
+        if part[1:] == (0.0, 1.0):
+            stretches = self._stretches.of_road(part[0], self._form)
+        else:
+            stretches = self._stretches.of_part(part, self._form)
+        row = self.row(before, stretches[0])
+        if len(stretches) > 1:
+            row.more = tuple([self.row(one, other) for one, other in pairwise(stretches)])
+        return row
+
+    def _up_to(self, whole: Row, before: Stretch, stop: float) -> Row:
+        """The row of a road that is driven up to a share of its metres, from that of the whole road."""
+        part = whole.stretch.road, 0.0, stop
+        if whole.more:
+            return self._made(before, part)
+        [stretch] = self._stretches.of_part(part, self._form)
+        return Row(stretch, stretch.rest, stretch.metres, whole.called, whole.kind, whole.told[:whole.head], whole.head,
+                   False, whole.passed, whole.has_others, whole.sides, whole.intersection)
 
 
-def keys_of(roads: Sequence[int]) -> list[int]:
-    """The number of each road behind another one."""
-    return [SPAN * before + road for before, road in pairwise(roads)]
+def is_unsure(metres: float) -> bool:
+    """Whether metres are halfway between two tenths: a step is as long as a difference of sums says, which may be
+    rounded otherwise than these then."""
+    return abs(10 * metres % 1 - 0.5) <= UNSURE
 
 
-def spread(rows: list[Row], several: dict[int, list[Row]], drive: Drive) -> tuple[list[Row], Sequence[float]]:
+def last_of(row: Row) -> Row:
+    """The last row of a road."""
+    return row.more[-1] if row.more else row
+
+
+def spread(rows: list[Row], drive: Drive) -> tuple[list[Row], Sequence[float]]:
     """The rows of a drive, some of whose roads have several, and when each stretch is entered."""
-    if not several:
-        return rows, drive.seconds
     seconds: list[float] = [*drive.seconds, drive.arrive]
     # From the end on, so that what comes before stays in its place.
-    for at in sorted(several, reverse=True):
-        seconds[at:at + 1] = entered([row.stretch for row in several[at]], seconds[at], seconds[at + 1])
-        rows[at:at + 1] = several[at]
+    for at in reversed([at for at, row in enumerate(rows) if row.more]):
+        its = [rows[at], *rows[at].more]
+        seconds[at:at + 1] = entered([row.stretch for row in its], seconds[at], seconds[at + 1])
+        rows[at:at + 1] = its
     return rows, seconds[:-1]
 
 

@@ -56,7 +56,7 @@ def route(drives: Sequence[Drive], guide: Guide, asked: AskedRoute) -> list[str]
 
 def leg_told(leg: Leg, guide: Guide, asked: AskedRoute) -> list[str]:
     """A leg, as parts of a text."""
-    steps, summary = steps_told(leg, asked.geometries) if asked.steps else ([], "")
+    steps, summary = steps_told(leg, guide.rows[asked.geometries, True]) if asked.steps else ([], "")
     more = f'"annotation":{annotation(leg, guide, asked.annotations)},' if asked.annotations else ""
     return ['{"steps":[', *steps, f'],"summary":{text(summary)},{more}{sums(leg.arrive - leg.depart, leg.metres)},'
             f'{timed("depart", leg.depart)},{timed("arrive", leg.arrive)}}}']

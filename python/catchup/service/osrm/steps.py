@@ -5,7 +5,6 @@ from __future__ import annotations
 from collections.abc import Mapping, Sequence
 from dataclasses import dataclass
 from itertools import compress, pairwise
-from operator import eq
 
 from catchup.service.osrm.rows import Row
 
@@ -35,14 +34,16 @@ def steps_of(rows: Sequence[Row]) -> Steps:
     kinds = [row.kind for row in rows]
     kinds[0] = ""
     begins = [0, *compress(range(len(rows)), kinds)]
-    called = [rows[at].called for at in begins]
-    # A street that has no name for a while is still the same behind that.
-    needless = {begins[at] for at in compress(range(1, len(begins)), map(eq, called[1:], called))
-                if kinds[begins[at]] == "new name" and rows[begins[at]].stretch.name
-                and rows[begins[at]].stretch.name == rows[begins[at - 1]].stretch.name}
-    if needless:
-        begins = [at for at in begins if at not in needless]
+    if "new name" in kinds:
+        begins = [0, *[at for before, at in pairwise(begins) if not is_needless(rows[before], rows[at])]]
     return Steps(begins, rings_of(rows, begins) if "exit roundabout" in kinds else {})
+
+
+def is_needless(before: Row, row: Row) -> bool:
+    """Whether a step that begins as the one before leads along the same street: one that has no name for a while is
+    still the same behind that."""
+    name = row.stretch.name
+    return row.kind == "new name" and bool(name) and name == before.stretch.name
 
 
 def rings_of(rows: Sequence[Row], begins: Sequence[int]) -> dict[int, Ring]:

@@ -10,7 +10,8 @@ from typing import Final
 from catchup.places import Snap
 from catchup.service.osrm.courses import course, direction, turned
 from catchup.service.osrm.legs import Leg
-from catchup.service.osrm.lines import FORMS, Form, point
+from catchup.service.osrm.lines import Form, point
+from catchup.service.osrm.rows import Rows
 from catchup.service.osrm.steps import Steps, steps_of
 from catchup.service.osrm.texts import sums, text
 from catchup.service.osrm.turns import head_of, modifier_of, sides_told
@@ -19,30 +20,36 @@ ASIDE: Final = (5.0, 300.0)             # metres within which a place lies on a 
 SUMMED: Final = 2                       # streets of a summary
 
 
-def steps_told(leg: Leg, form: str) -> tuple[list[str], str]:
-    """The steps of a leg with its arrival, as parts of a text, and the names of the streets that take longest."""
+def steps_told(leg: Leg, rows: Rows) -> tuple[list[str], str]:
+    """The steps of a leg with its arrival, as parts of a text, and the names of the streets that take longest. rows:
+    those of the network."""
     steps = steps_of(leg.rows)
-    seconds = [leg.depart, *[leg.entered[at] for at in steps.begins[1:]], leg.arrive]
+    seconds = [leg.depart, *map(leg.entered.__getitem__, steps.begins[1:]), leg.arrive]
     takes = [later - second if later > second else 0.0 for second, later in pairwise(seconds)]
-    told = list(chain.from_iterable(zip(begun(leg, steps, FORMS[form]), map(ended, takes))))
-    told.append(arrival(leg, FORMS[form]))
+    told = list(chain.from_iterable(zip(begun(leg, steps, rows), map(ended, takes))))
+    told.append(arrival(leg, rows.form))
     return told, summary_of(leg, steps, takes)
 
 
-def begun(leg: Leg, steps: Steps, form: Form) -> list[str]:
-    """The text of each step up to its seconds. It is ready where a step is along one stretch."""
-    rows, begins, ends = leg.rows, steps.begins, [*steps.begins[1:], len(leg.rows)]
-    told, ready, heads = [rows[at].told for at in begins], [rows[at].is_ready for at in begins], heads_of(leg, steps)
-    for at in heads:
-        ready[at] = False
-    so_far = list(accumulate([row.metres for row in rows], initial=0.0))
-    for at in [at for at, (begin, end) in enumerate(zip(begins, ends)) if not ready[at] or end - begin > 1]:
+def begun(leg: Leg, steps: Steps, rows: Rows) -> list[str]:
+    """The text of each step up to its seconds."""
+    its, begins, ends = leg.rows, steps.begins, [*steps.begins[1:], len(leg.rows)]
+    told, heads = ready(leg, steps, rows), heads_of(leg, steps)
+    so_far = list(accumulate(leg.far, initial=0.0))
+    for at in [at for at, text in enumerate(told) if at in heads or not text]:
         begin, end = begins[at], ends[at]
-        row, others = rows[begin], rows[begin + 1:end]
-        head = heads[at] if at in heads else row.told[:row.head]
-        crossings, more = "".join([other.passed for other in others]), "".join([other.rest for other in others])
-        told[at] = (f'{head}{crossings}],"geometry":{form.opens}{row.stretch.line}{more}{form.closes},'
-                    f'"distance":{so_far[end] - so_far[begin]:.1f},"duration":')
+        head = heads[at] if at in heads else its[begin].told[:its[begin].head]
+        told[at] = rows.begun(head, its[begin:end], so_far[end] - so_far[begin])
+    return told
+
+
+def ready(leg: Leg, steps: Steps, rows: Rows) -> list[str]:
+    """The same where it is ready or kept, and empty texts for others."""
+    its, begins, ends = leg.rows, steps.begins, [*steps.begins[1:], len(leg.rows)]
+    told, last = [its[at].told for at in begins], len(begins) - 1
+    for at in [at for at, (begin, end) in enumerate(zip(begins, ends)) if end - begin > 1 or not its[begin].is_ready]:
+        # At the ends a road is driven in part, mostly, and isn't met again.
+        told[at] = rows.steps[tuple(its[begins[at]:ends[at]])] if 0 < at < last else ""
     return told
 
 

@@ -53,17 +53,21 @@ class Stretch:
 
 class Stretches:
     """The stretches of a network's roads. mode: how one moves on all roads but ferries, and side: on which side of the
-    road, in OSRM's words."""
+    road, in OSRM's words. several: the roads that may have more than one, which are few."""
 
     def __init__(self, lines: Lines, mode: str, side: str) -> None:
         self._lines = lines
+        self.several = lines.several
         self._mode, self._side = mode, side
-        self._kept: dict[str, Kept[int, Its]] = {form: Kept(MOST_KEPT // 2) for form in FORMS}
+        self._kept: dict[str, Kept[int, Its]] = {
+            form: Kept(MOST_KEPT // 2, functools.partial(self._whole, form)) for form in FORMS}
 
     def of_road(self, road: int, form: str) -> Its:
         """The stretches of a whole road, which are kept."""
-        kept = self._kept[form]
-        return kept.find(road) or kept.put(road, self.of_part((road, 0.0, 1.0), form))
+        return self._kept[form][road]
+
+    def _whole(self, form: str, road: int) -> Its:
+        return self.of_part((road, 0.0, 1.0), form)
 
     def of_part(self, part: Part, form: str) -> Its:
         """The stretches of a part of a road."""
