@@ -11,6 +11,8 @@ from collections.abc import Sequence
 from dataclasses import dataclass
 from typing import NamedTuple
 
+import numpy as np
+
 from catchup.clock import DAY
 from catchup.errors import CatchupError
 from catchup.places.ends import Ends, Source, Target
@@ -149,9 +151,9 @@ class Driver:
             roads = list(map(int, said[5:].split()))
             return roads, *self.travel.entered(roads, second)
         day = second // DAY * DAY
-        numbers = list(map(int, said[6:].replace(",", " ").split()))
-        seconds = numbers[1::2] if day == 0 else [entered + day for entered in numbers[1::2]]
-        return numbers[::2], seconds, int(head[7:]) + day
+        # There are many, which the library reads faster.
+        numbers = np.fromstring(said[6:].replace(",", " "), dtype=np.int64, sep=" ")
+        return numbers[::2].tolist(), (numbers[1::2] + day).tolist(), int(head[7:]) + day
 
 
 def roads_of(drives: Sequence[Drive]) -> int:

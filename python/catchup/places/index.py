@@ -162,9 +162,7 @@ def _all_near(at: Point, pieces: bytes) -> tuple[Floats, Shorts, Floats]:
 def _nearest(at: Point, pieces: bytes) -> list[Near]:
     """The nearest of some pieces, and all that are as near, but for what makes no difference; the nearest first."""
     if len(pieces) > _FEW * _PIECE.size:
-        square, segment, part = _all_near(at, pieces)
-        near = (square <= (math.sqrt(square.min()) + _SAME) ** 2).nonzero()[0]
-        return sorted(zip(square[near].tolist(), segment[near].tolist(), part[near].tolist()))
+        return sorted(_nearest_of_many(at, pieces))
     found: list[Near] = []
     x, y, z = at
     most = math.inf
@@ -179,3 +177,9 @@ def _nearest(at: Point, pieces: bytes) -> list[Near]:
             found.append((square, int(segment), before + part * width))
             most = min((math.sqrt(square) + _SAME) ** 2, most)
     return sorted([each for each in found if each[0] <= most])
+
+
+def _nearest_of_many(at: Point, pieces: bytes) -> list[Near]:
+    square, segment, part = _all_near(at, pieces)
+    near = (square <= (math.sqrt(square.min()) + _SAME) ** 2).nonzero()[0]
+    return list(zip(square[near].tolist(), segment[near].tolist(), part[near].tolist()))

@@ -30,6 +30,9 @@ Bools = NDArray[np.bool_]
 Part: TypeAlias = tuple[int, float, float]
 """A road, and the shares of its metres from which and up to which it is driven."""
 
+Named: TypeAlias = tuple[str, str, float, float]
+"""A name and a reference number, and the shares of a road's metres between which they hold."""
+
 DECIMALS = 6
 """Of coordinates in answers: a tenth of a metre."""
 
@@ -189,34 +192,41 @@ class Lines:
 
     def cut(self, part: Part) -> Floats:
         """The coordinates of a part, float64[k, 2]; two equal ones at least."""
+        return self._streets.line(part[0]) if part[1:] == _WHOLE else np.array(self.points(part))
+
+    def points(self, part: Part) -> list[Place]:
+        """The same as a list: roads have few points, for which lists are faster than arrays."""
         road, begin, end = part
-        line = self._streets.line(road)
+        points, shares = self._streets.drawn(road)
         if begin == 0.0 and end == 1.0:
-            return line
-        # Roads have few points, for which lists are faster than arrays.
-        shares, points = self._streets.shares(road).tolist(), line.tolist()
-        inner = points[bisect_right(shares, begin):bisect_left(shares, end)]
-        return np.array([_between(points, shares, bisect_right(shares, begin), begin), *inner,
-                         _between(points, shares, bisect_right(shares, end), end)])
+            return points
+        first = bisect_right(shares, begin)
+        return [_between(points, shares, first, begin), *points[first:bisect_left(shares, end)],
+                _between(points, shares, bisect_right(shares, end), end)]
 
     def stretches(self, part: Part) -> list[Stretch]:
         """The stretches of a part under one name each."""
-        road, begin, end = part
-        if begin != 0.0 or end != 1.0:
+        road = part[0]
+        if part[1:] != _WHOLE:
             return self._named(part)
         return self._stretches.get(road) or _keep(self._stretches, road, self._named(part))
 
     def _named(self, part: Part) -> list[Stretch]:
+        return [Stretch(name, ref, low, high, self.cut((part[0], low, high)))
+                for name, ref, low, high in self.names_along(part)]
+
+    def names_along(self, part: Part) -> list[Named]:
+        """The names along a part of a road, in the order of the drive."""
         road, begin, end = part
         name = self._names.only(road, self.length(road))
         if name is not None:
-            return [Stretch(*name, begin, end, self.cut(part))]
-        found = self._spans(road) if part[1:] == _WHOLE else self._spans_between(road, begin, end)
-        return [Stretch(name, ref, low, high, self.cut((road, low, high))) for name, ref, low, high in found]
+            return [(*name, begin, end)]
+        found = self._names_along(road)
+        return found if part[1:] == _WHOLE else _named_between(found, begin, end)
 
-    def _spans(self, road: int) -> list[tuple[str, str, float, float]]:
-        """The names of a road, with the shares of it between which they hold."""
-        found: list[tuple[str, str, float, float]] = []
+    def _names_along(self, road: int) -> list[Named]:
+        """The names along a whole road."""
+        found: list[Named] = []
         at, whole = 0.0, float(self.metres[road]) or 1.0
         for span in self._names.of(road):
             low, high = max(span.from_metres / whole, at), min(span.to_metres / whole, 1.0)
@@ -234,13 +244,13 @@ class Lines:
             found[-1] = (*found[-1][:3], 1.0)
         return found
 
-    def _spans_between(self, road: int, begin: float, end: float) -> list[tuple[str, str, float, float]]:
-        """The same between two shares of a road: that which holds most of what is too short for any."""
-        its = [(min(high, end) - max(low, begin), name, ref, min(high, end))
-               for name, ref, low, high, _ in self.stretches((road, *_WHOLE))]
-        found = [each for each in its if each[0] > _LEAST] or [max(its, key=lambda each: each[0])]
-        bounds = [begin, *[high for _, _, _, high in found[:-1]], end]
-        return [(name, ref, low, high) for (_, name, ref, _), low, high in zip(found, bounds, bounds[1:])]
+
+def _named_between(names: Sequence[Named], begin: float, end: float) -> list[Named]:
+    """Those of a whole road's names that hold between two shares of it: one at least, however short that is."""
+    its = [(min(high, end) - max(low, begin), name, ref, min(high, end)) for name, ref, low, high in names]
+    found = [each for each in its if each[0] > _LEAST] or [max(its, key=lambda each: each[0])]
+    bounds = [begin, *[high for _, _, _, high in found[:-1]], end]
+    return [(name, ref, low, high) for (_, name, ref, _), low, high in zip(found, bounds, bounds[1:])]
 
 
 def parts_of(roads: Sequence[int], begin: float, end: float) -> list[Part]:

@@ -44,7 +44,7 @@ class Snapper:
         self._spot = np.unique(corner, axis=0, return_inverse=True)[1].astype(np.int32)
         self._junctions = Grouped.by(self._spot, int(self._spot.max(initial=-1)) + 1)
         # Of one place at a time, for which numpy's arrays are slow.
-        self._points, self._along, self._forward = streets.places.data, streets.share.data, streets.is_forward.data
+        self._along, self._forward = streets.share.data, streets.is_forward.data
         (west, south), (east, north) = (edge(streets.places, axis=0).tolist() for edge in (np.min, np.max))
         self.box: tuple[float, float, float, float] = west, south, east, north
 
@@ -162,16 +162,15 @@ class Snapper:
 
     def _snap(self, place: Place, street: int, segment: int, part: float, roads: list[int] | None) -> Snap:
         """The point of a street, of which these roads count; where all do, at its end all roads that meet there do."""
-        streets, along, places = self._streets, self._along, self._points
-        x, y = places[segment, 0], places[segment, 1]
-        begin = along[segment]
-        point = (x + (places[segment + 1, 0] - x) * part, y + (places[segment + 1, 1] - y) * part)
-        share = begin + (along[segment + 1] - begin) * part
+        streets, along = self._streets, self._along
+        (x, y), (u, v) = streets.places[segment:segment + 2].tolist()
+        point = (x + (u - x) * part, y + (v - y) * part)
+        share = along[segment] + (along[segment + 1] - along[segment]) * part
         metres, lead = streets.metres.item(street), streets.lead.item(street)
         if share * metres <= _AT_END or (1.0 - share) * metres <= _AT_END:
             share = 0.0 if share * metres <= _AT_END else 1.0
-            end = streets.first.item(street + int(share)) - int(share)
-            point = places[end, 0], places[end, 1]
+            x, y = streets.places[streets.first[street + int(share)] - int(share)].tolist()
+            point = x, y
         if share in (0.0, 1.0) and roads is None:
             node = self._ends.head[lead] if share else self._ends.tail[lead]
             through = self._through(self._junctions[int(self._spot[self._ends.junction[node]])].tolist())

@@ -14,6 +14,7 @@ from numpy.typing import NDArray
 
 from catchup import geometry
 from catchup.mapfile import MapFile
+from catchup.places.values import Place
 
 Ints = NDArray[np.int64]
 Shorts = NDArray[np.int32]
@@ -93,6 +94,16 @@ class Streets:
         street = of_road[road]
         found = self.share[first[street]:first[street + 1]]
         return found if is_forward[road] else 1.0 - found[::-1]
+
+    def drawn(self, road: int) -> tuple[list[Place], list[float]]:
+        """Both of these as lists."""
+        of_road, first, is_forward = self._numbers
+        street = of_road[road]
+        of = slice(first[street], first[street + 1])
+        points, shares = self.places[of].tolist(), self.share[of].tolist()
+        if is_forward[road]:
+            return points, shares
+        return points[::-1], [1.0 - share for share in reversed(shares)]
 
     @cached_property
     def _numbers(self) -> tuple[memoryview, memoryview, memoryview]:

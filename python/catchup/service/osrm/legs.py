@@ -6,6 +6,7 @@ from __future__ import annotations
 from collections.abc import Sequence
 from dataclasses import dataclass
 from functools import cached_property
+from typing import Final
 
 import numpy as np
 
@@ -14,6 +15,8 @@ from catchup.places.drives import Drive
 from catchup.service.osrm.lines import Floats
 from catchup.service.osrm.rows import Row, Rows
 from catchup.service.osrm.stretches import Stretch
+
+PLACE: Final = 16                       # bytes of a place
 
 
 @dataclass(frozen=True, eq=False)
@@ -45,8 +48,8 @@ class Leg:
 
     def line(self) -> Floats:
         """Its places, float64[n, 2]."""
-        behind = [stretch.behind for stretch in self.stretches]
-        return np.frombuffer(self.stretches[0].places[0].tobytes() + b"".join(behind)).reshape(-1, 2)
+        first, *others = [stretch.drawn for stretch in self.stretches]
+        return np.frombuffer(first + b"".join([drawn[PLACE:] for drawn in others])).reshape(-1, 2)
 
 
 def legs_of(drives: Sequence[Drive], wanted: Sequence[int] | None, rows: Rows) -> list[Leg]:

@@ -31,11 +31,19 @@ class Form(ABC):
 
     opens = closes = '"'
 
-    @abstractmethod
-    def told(self, places: Floats) -> tuple[str, str]:
+    def told(self, places: Sequence[Place]) -> tuple[str, str]:
         """The texts of all places of a line, and of all but the first."""
+        return self._few(places) if len(places) <= FEW else self._many(np.array(places))
 
-    def rest(self, places: Floats) -> str:
+    @abstractmethod
+    def _few(self, places: Sequence[Place]) -> tuple[str, str]:
+        """The same, one place after the other."""
+
+    @abstractmethod
+    def _many(self, places: Floats) -> tuple[str, str]:
+        """The same, all places at once."""
+
+    def rest(self, places: Sequence[Place]) -> str:
         """The text of all places of a line but the first."""
         return self.told(places)[1]
 
@@ -49,7 +57,7 @@ class Form(ABC):
 
     def whole(self, places: Floats) -> str:
         """The JSON of a line."""
-        return self.line(self.told(places)[0])
+        return self.line((self._few(places.tolist()) if len(places) <= FEW else self._many(places))[0])
 
 
 class Polyline(Form):
@@ -63,16 +71,17 @@ class Polyline(Form):
         """The text of a line's first place."""
         return escaped(letters(unit(place[1], self.units)) + letters(unit(place[0], self.units)))
 
-    def told(self, places: Floats) -> tuple[str, str]:
-        if len(places) > FEW:
-            scaled = places[:, ::-1] * self.units
-            # As `unit` has them.
-            whole = np.copysign(np.floor(np.abs(scaled) + 0.5), scaled).astype(np.int64)
-            rest = escaped("".join(map(letters, np.diff(whole, axis=0).ravel().tolist())))
-            return self.first(places[0].tolist()) + rest, rest
+    def _many(self, places: Floats) -> tuple[str, str]:
+        scaled = places[:, ::-1] * self.units
+        # As `unit` has them.
+        whole = np.copysign(np.floor(np.abs(scaled) + 0.5), scaled).astype(np.int64)
+        rest = escaped("".join(map(letters, np.diff(whole, axis=0).ravel().tolist())))
+        return self.first(places[0].tolist()) + rest, rest
+
+    def _few(self, places: Sequence[Place]) -> tuple[str, str]:
         units, texts = self.units, []
         v = u = 0
-        for lon, lat in places.tolist():
+        for lon, lat in places:
             # As `unit` has them.
             y, x = int(lat * units + (0.5 if lat > 0.0 else -0.5)), int(lon * units + (0.5 if lon > 0.0 else -0.5))
             texts.append(letters(y - v) + letters(x - u))
@@ -89,10 +98,13 @@ class GeoJson(Form):
 
     opens, closes = '{"type":"LineString","coordinates":[', "]}"
 
-    def told(self, places: Floats) -> tuple[str, str]:
-        rest = (places_text(places[1:]) if len(places) > FEW
-                else "".join([f",{point(place)}" for place in places[1:].tolist()]))
+    def _many(self, places: Floats) -> tuple[str, str]:
+        rest = places_text(places[1:])
         return point(places[0].tolist()) + rest, rest
+
+    def _few(self, places: Sequence[Place]) -> tuple[str, str]:
+        rest = "".join([f",{point(place)}" for place in places[1:]])
+        return point(places[0]) + rest, rest
 
     def single(self, place: Place) -> str:
         return self.line(f"{point(place)},{point(place)}")

@@ -53,15 +53,15 @@ class Row:
 class Rows:
     """The rows of a network's drives in one form of lines; where no turns are given nothing is told of passages.
 
-    steps: of some rows, behind one another, that one step leads along: its text up to its seconds; empty where its
-    metres may be rounded in two ways.
+    steps: of some rows, behind one another, that one step leads along: its text up to its seconds, or up to its metres
+    where these may be rounded in two ways; and whether that is so.
     """
 
     def __init__(self, stretches: Stretches, turns: Turns | None, form: str) -> None:
         self._stretches, self._turns, self._form = stretches, turns, form
         self._whole: Kept[tuple[int, int], Row] = Kept(MOST_KEPT // 2, self._made_whole)
         self.form = FORMS[form]
-        self.steps: Kept[tuple[Row, ...], str] = Kept(MOST_STEPS // 2, self._step)
+        self.steps: Kept[tuple[Row, ...], tuple[str, bool]] = Kept(MOST_STEPS // 2, self._step)
 
     def of_drive(self, drive: Drive) -> tuple[list[Row], Sequence[float]]:
         """The rows of a drive, one at least, and the seconds at which each stretch is entered; the last one is left as
@@ -91,23 +91,23 @@ class Rows:
         metres, told = stretch.metres, turn.head
         is_ready = bool(told) and stretch.is_whole and not is_unsure(metres)
         if is_ready:
-            told = f'{told}{self._line_told(stretch.line, metres)}'
+            told = f"{self._line_told(told, stretch.line)}{far_told(metres)}"
         return Row(stretch, stretch.rest, metres, stretch.name or stretch.ref, turn.kind, told, len(turn.head),
                    is_ready, turn.passed, turn.has_others, turn.sides, turn.intersection)
 
-    def begun(self, head: str, rows: Sequence[Row], metres: float) -> str:
-        """The text of a step along some rows up to its seconds, from that up to the first of its intersections."""
+    def begun(self, head: str, rows: Sequence[Row]) -> str:
+        """The text of a step along some rows up to its metres, from that up to the first of its intersections."""
         passed, rest = "".join([row.passed for row in rows[1:]]), "".join([row.rest for row in rows[1:]])
-        return f"{head}{passed}{self._line_told(rows[0].stretch.line + rest, metres)}"
+        return self._line_told(head + passed, rows[0].stretch.line + rest)
 
-    def _line_told(self, line: str, metres: float) -> str:
-        """The text of a step from its last intersection on up to its seconds."""
+    def _line_told(self, before: str, line: str) -> str:
+        """The text of a step up to its metres, from that up to the last of its intersections."""
         form = self.form
-        return f'],"geometry":{form.opens}{line}{form.closes},"distance":{metres:.1f},"duration":'
+        return f'{before}],"geometry":{form.opens}{line}{form.closes},"distance":'
 
-    def _step(self, rows: tuple[Row, ...]) -> str:
-        metres = sum([row.metres for row in rows])
-        return "" if is_unsure(metres) else self.begun(rows[0].told[:rows[0].head], rows, metres)
+    def _step(self, rows: tuple[Row, ...]) -> tuple[str, bool]:
+        text, metres = self.begun(rows[0].told[:rows[0].head], rows), sum([row.metres for row in rows])
+        return (text, True) if is_unsure(metres) else (text + far_told(metres), False)
 
     def _made_whole(self, roads: tuple[int, int]) -> Row:
         """The row of a whole road behind another one."""
@@ -139,6 +139,11 @@ def is_unsure(metres: float) -> bool:
     """Whether metres are halfway between two tenths: a step is as long as a difference of sums says, which may be
     rounded otherwise than these then."""
     return abs(10 * metres % 1 - 0.5) <= UNSURE
+
+
+def far_told(metres: float) -> str:
+    """The text of a step from its metres on up to its seconds."""
+    return f'{metres:.1f},"duration":'
 
 
 def last_of(row: Row) -> Row:

@@ -3,7 +3,7 @@
 from __future__ import annotations
 
 import functools
-from collections.abc import Sequence
+from collections.abc import Mapping, Sequence
 from itertools import accumulate, chain, pairwise
 from typing import Final
 
@@ -11,7 +11,7 @@ from catchup.places import Snap
 from catchup.service.osrm.courses import course, direction, turned
 from catchup.service.osrm.legs import Leg
 from catchup.service.osrm.lines import Form, point
-from catchup.service.osrm.rows import Rows
+from catchup.service.osrm.rows import Rows, far_told
 from catchup.service.osrm.steps import Steps, steps_of
 from catchup.service.osrm.texts import sums, text
 from catchup.service.osrm.turns import head_of, modifier_of, sides_told
@@ -33,24 +33,25 @@ def steps_told(leg: Leg, rows: Rows) -> tuple[list[str], str]:
 
 def begun(leg: Leg, steps: Steps, rows: Rows) -> list[str]:
     """The text of each step up to its seconds."""
-    its, begins, ends = leg.rows, steps.begins, [*steps.begins[1:], len(leg.rows)]
-    told, heads = ready(leg, steps, rows), heads_of(leg, steps)
-    so_far = list(accumulate(leg.far, initial=0.0))
-    for at in [at for at, text in enumerate(told) if at in heads or not text]:
-        begin, end = begins[at], ends[at]
-        head = heads[at] if at in heads else its[begin].told[:its[begin].head]
-        told[at] = rows.begun(head, its[begin:end], so_far[end] - so_far[begin])
+    its, begins, heads, so_far = leg.rows, steps.begins, heads_of(leg, steps), list(accumulate(leg.far, initial=0.0))
+    told = [its[at].told for at in begins]
+    for at, begin, end in unready(leg, steps, heads):
+        if at in heads or end == len(its):
+            # At the ends a road is driven in part, mostly, and isn't met again.
+            row = its[begin]
+            text, is_unsure = rows.begun(heads.get(at) or row.told[:row.head], its[begin:end]), True
+        else:
+            text, is_unsure = rows.steps[tuple(its[begin:end])]
+        told[at] = text + far_told(so_far[end] - so_far[begin]) if is_unsure else text
     return told
 
 
-def ready(leg: Leg, steps: Steps, rows: Rows) -> list[str]:
-    """The same where it is ready or kept, and empty texts for others."""
-    its, begins, ends = leg.rows, steps.begins, [*steps.begins[1:], len(leg.rows)]
-    told, last = [its[at].told for at in begins], len(begins) - 1
-    for at in [at for at, (begin, end) in enumerate(zip(begins, ends)) if end - begin > 1 or not its[begin].is_ready]:
-        # At the ends a road is driven in part, mostly, and isn't met again.
-        told[at] = rows.steps[tuple(its[begins[at]:ends[at]])] if 0 < at < last else ""
-    return told
+def unready(leg: Leg, steps: Steps, heads: Mapping[int, str]) -> list[tuple[int, int, int]]:
+    """The steps whose texts aren't ready, by their numbers, each with its first row and that behind its last: those
+    over several rows, and those with heads of their own."""
+    rows, begins = leg.rows, steps.begins
+    return [(at, begin, end) for at, (begin, end) in enumerate(pairwise([*begins, len(rows)]))
+            if end - begin > 1 or not rows[begin].is_ready or at in heads]
 
 
 @functools.lru_cache(maxsize=65_536)

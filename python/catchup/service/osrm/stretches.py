@@ -6,16 +6,18 @@ Drives share most of their roads, so what is told of a whole road is kept.
 from __future__ import annotations
 
 import functools
+from array import array
+from collections.abc import Sequence
 from dataclasses import dataclass
+from itertools import chain
 from typing import Final
 
 import numpy as np
 
 from catchup.kept import Kept
 from catchup.places.drives import Drive
-from catchup.places.lines import Lines, Part
-from catchup.places.lines import Stretch as Named
-from catchup.service.osrm.lines import FORMS, Floats, point
+from catchup.places.lines import Lines, Named, Part
+from catchup.service.osrm.lines import FORMS, Floats, Place, point
 from catchup.service.osrm.texts import text
 
 MOST_KEPT: Final = 65_536               # roads whose stretches are kept, in each form of lines
@@ -28,9 +30,8 @@ class Stretch:
     """A part of a road under one name, as it is driven. Nobody changes one: it isn't frozen since that would take much
     of the time of making it.
 
-    low, high: the shares of the road's metres at which it begins and ends. places: float64[k, 2], longitude and
-    latitude in degrees, two at least. behind: the bytes of all places but the first. at: its first place as JSON.
-    line, rest: the texts of its places, and of all but the first, in the form of lines that was asked for. street:
+    low, high: the shares of the road's metres at which it begins and ends. drawn: the bytes of its places. at: its
+    first place as JSON. line, rest: the texts of its places, and of all but the first, in the form of lines that was asked for. street:
     OSRM's members of a step that tell which street it is. is_whole: whether all of its road is driven.
     """
 
@@ -42,13 +43,17 @@ class Stretch:
     low: float
     high: float
     metres: float
-    places: Floats
-    behind: bytes
+    drawn: bytes
     at: str
     line: str
     rest: str
     street: str
     is_whole: bool
+
+    @property
+    def places(self) -> Floats:
+        """Its places, float64[k, 2], longitude and latitude in degrees; two at least."""
+        return np.frombuffer(self.drawn).reshape(-1, 2)
 
 
 class Stretches:
@@ -71,25 +76,25 @@ class Stretches:
 
     def of_part(self, part: Part, form: str) -> Its:
         """The stretches of a part of a road."""
-        road, begin, end = part
-        is_whole = begin == 0.0 and end == 1.0
-        return tuple([self._one(road, stretch, is_whole, form) for stretch in self._lines.stretches(part)])
+        return tuple([self._one(part, named, self._lines.points((part[0], *named[2:])), form)
+                      for named in self._lines.names_along(part)])
 
     def still(self, drive: Drive, form: str) -> Stretch:
         """The stretch of a drive between two places that are one."""
         snap = drive.start
         road, share = snap.roads[0]
-        places = np.array([snap.point, drive.end.point])
-        return self._one(road, Named(snap.name, snap.ref, share, share, places), False, form)
+        return self._one((road, share, share), (snap.name, snap.ref, share, share), [snap.point, drive.end.point], form)
 
-    def _one(self, road: int, of: Named, is_whole: bool, form: str) -> Stretch:
-        name, ref, low, high, places = of
-        lines, begin = self._lines, places[0].tolist()
+    def _one(self, part: Part, named: Named, points: Sequence[Place], form: str) -> Stretch:
+        """A stretch of a part of a road, from its name and its places."""
+        road, (name, ref, low, high) = part[0], named
+        lines = self._lines
         kind, metres = lines.kind(road), (high - low) * lines.length(road)
-        line, rest = FORMS[form].told(places)
+        line, rest = FORMS[form].told(points)
         street = street_told(name, ref, "ferry" if kind == "ferry" else self._mode, self._side)
-        return Stretch(road, name, ref, kind, lines.is_roundabout(road), low, high, metres, places,
-                       places[1:].tobytes(), point(begin), line, rest, street, is_whole)
+        return Stretch(road, name, ref, kind, lines.is_roundabout(road), low, high, metres,
+                       array("d", chain.from_iterable(points)).tobytes(), point(points[0]), line, rest, street,
+                       part[1] == 0.0 and part[2] == 1.0)
 
 
 @functools.lru_cache(maxsize=65_536)
