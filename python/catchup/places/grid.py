@@ -24,6 +24,9 @@ _MOST_CELLS: Final = 8.0
 _TURNS: Final = (-2 * math.pi, 0.0, 2 * math.pi)
 """A longitude is told by several numbers: one of them may be near a cell's."""
 
+_FAR: Final = 2.0
+"""Radians of longitude: what lies within one of a place on the other side of 180 degrees is farther east or west."""
+
 _MORE: Final = 1.0 + 1e-9
 """By how much a distance is taken longer, since numbers are rounded."""
 
@@ -52,6 +55,8 @@ class Grid:
         self.order: Shorts = np.argsort(cell, kind="stable").astype(np.int32)
         first = np.zeros(self._rows * self._columns + 1, dtype=np.int64)
         np.cumsum(np.bincount(cell, minlength=self._rows * self._columns), out=first[1:])
+        # Most maps lie far from where longitudes begin again.
+        self._turns = (0.0,) if -_FAR <= self._west <= self._west + width <= _FAR else _TURNS
         # A few are looked up at a time, for which numpy's arrays are slow.
         self._first = first.data
 
@@ -72,7 +77,7 @@ class Grid:
         if aside >= math.pi:
             return self._in_columns(bottom, top, 0, self._columns - 1)
         found: list[Span] = []
-        for turn in _TURNS:
+        for turn in self._turns if aside < 1.0 else _TURNS:
             left = max(math.floor((lon + turn - aside - self._west) / self._wide), 0)
             right = min(math.floor((lon + turn + aside - self._west) / self._wide), self._columns - 1)
             if left <= right:

@@ -42,6 +42,7 @@ ASIDE: Final = 16                       # of each sort, one of so many connectio
 LARGE_PAGES: Final = "glibc.malloc.hugetlb=1"   # as the launcher has them
 SHARED_MEMORY: Final = "/dev/shm"
 STUCK_SECONDS: Final = 20               # after which a worker that gives no sign is ended
+COLLECTED: Final = 20_000, 20, 100      # a request makes hundreds of things, few of which are in cycles
 SWITCH_SECONDS: Final = 0.001           # after which a thread that works lets the loop go on
 DRAIN_PAUSE: Final = 0.02
 GRACE_SECONDS: Final = 0.5              # for requests that are on their way as the service ends
@@ -95,6 +96,7 @@ class DrainingServer(Server):  # type: ignore[misc]
         # What is there now stays: it needn't be looked through for what is no longer used, which takes its time.
         gc.collect()
         gc.freeze()
+        gc.set_threshold(*COLLECTED)
         sys.setswitchinterval(SWITCH_SECONDS)
         crowd = self.worker.crowd
         self.acceptors = [

@@ -67,7 +67,7 @@ def nodes_of(stretch: Stretch, guide: Guide) -> list[int]:
     numbers = guide.nodes.of(stretch.road, len(line))
     if len(line) == len(stretch.places):
         return numbers
-    away = np.abs(stretch.places[:, None, :] - line).sum(axis=2)
+    away = np.abs(np.array(stretch.places)[:, None, :] - line).sum(axis=2)
     return [numbers[at] for at in np.argmin(away, axis=1).tolist()]
 
 

@@ -31,11 +31,11 @@ STEPS: Final = 8                        # that it takes to look for a place
 AT_ONCE: Final = 16                     # drives of a table of distances that are asked for at once
 
 
-def nearest(asked: AskedNearest, placed: Placed, guide: Guide) -> str:
-    """The nearest streets of a place."""
+def nearest(asked: AskedNearest, placed: Placed, guide: Guide) -> Sequence[str]:
+    """The nearest streets of a place, as members of an object in parts of a text."""
     found = snapped(asked, placed, guide) if asked.number == 1 else near(asked, 0, placed, asked.number)
     told = [waypoint(snap, guide, with_hint=asked.generate_hints, more=nodes_at(snap, guide)) for snap in found]
-    return f'"waypoints":[{",".join(told)}]'
+    return '"waypoints":[', ",".join(told), "]"
 
 
 def nodes_at(snap: Snap, guide: Guide) -> str:
@@ -88,15 +88,15 @@ def advice(place: Place, placed: Placed) -> str:
 # ---- routes ----
 
 
-async def drive(asked: AskedRoute, placed: Placed, guide: Guide, now: int) -> str:
-    """A route over places. now: the second of the day that is meant where none is said."""
+async def drive(asked: AskedRoute, placed: Placed, guide: Guide, now: int) -> Sequence[str]:
+    """A route over places, in the same way. now: the second of the day that is meant where none is said."""
     snaps = await beside(STEPS * len(asked.places), snapped, asked, placed, guide)
     driven = await drives(asked, snaps, placed, now)
     told = ['"routes":[', *await beside(roads_of(driven), route, driven, guide, asked), "]"]
     if not asked.skip_waypoints:
         kept = snaps if asked.waypoints is None else [snaps[at] for at in sorted(set(asked.waypoints))]
         told.append(f',"waypoints":{waypoints(kept, guide, asked)}')
-    return "".join(told)
+    return told
 
 
 async def drives(asked: AskedRoute, snaps: Sequence[Snap], placed: Placed, now: int) -> list[Drive]:
@@ -118,8 +118,8 @@ async def drives(asked: AskedRoute, snaps: Sequence[Snap], placed: Placed, now: 
 # ---- tables ----
 
 
-async def table(asked: AskedTable, placed: Placed, guide: Guide, now: int) -> str:
-    """A table between places."""
+async def table(asked: AskedTable, placed: Placed, guide: Guide, now: int) -> Sequence[str]:
+    """A table between places, in the same way."""
     snaps = await beside(STEPS * len(asked.places), snapped, asked, placed, guide)
     sources = snaps if asked.sources is None else [snaps[at] for at in asked.sources]
     targets = snaps if asked.destinations is None else [snaps[at] for at in asked.destinations]
@@ -146,7 +146,7 @@ async def table(asked: AskedTable, placed: Placed, guide: Guide, now: int) -> st
     if not asked.skip_waypoints:
         for name, each in (("sources", sources), ("destinations", targets)):
             told.append(f'"{name}":{await beside(len(each), waypoints, each, guide, asked)}')
-    return ",".join(told)
+    return [",".join(told)]
 
 
 async def distances(sources: Sequence[Snap], targets: Sequence[Snap], depart: int, placed: Placed) -> Floats:

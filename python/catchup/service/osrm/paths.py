@@ -3,7 +3,7 @@
 from __future__ import annotations
 
 import json
-from collections.abc import Callable
+from collections.abc import Callable, Sequence
 from dataclasses import dataclass, field
 from typing import TYPE_CHECKING, Any, Final
 
@@ -62,7 +62,8 @@ class Osrm:
             hint = f": {refusal.hint}" if refusal.hint else ""
             code = CODES.get(refusal.status, "InvalidValue")
             return told(refusal.status, {"code": code, "message": f"{refusal.error}{hint}"}, version, refusal.headers)
-        return Answer(200, f'{{"code":"Ok","data_version":"{version}",{members}}}'.encode("ascii"), version)
+        body = "".join(['{"code":"Ok","data_version":"', version, '",', *members, "}"])
+        return Answer(200, body.encode("ascii"), version)
 
     def placed(self, profile: str) -> Placed:
         """The places of a profile's network. Raises Fault."""
@@ -75,16 +76,17 @@ class Osrm:
                         "catchup-import made")
         return found
 
-    async def members(self, asked: AskedNearest | AskedRoute | AskedTable, placed: Placed) -> str:
-        """What a service answers, as members of a JSON object."""
+    async def members(self, asked: AskedNearest | AskedRoute | AskedTable, placed: Placed) -> Sequence[str]:
+        """What a service answers, as members of a JSON object, in parts of a text."""
         # Only a service with maps needs what these need.
         from catchup.service.osrm import answers, guide
 
         found = guide.guide_of(placed.places.ground)
+        now = self.now() if asked.depart is None else asked.depart
         if isinstance(asked, AskedRoute):
-            return await answers.drive(asked, placed, found, self.now())
+            return await answers.drive(asked, placed, found, now)
         if isinstance(asked, AskedTable):
-            return await answers.table(asked, placed, found, self.now())
+            return await answers.table(asked, placed, found, now)
         return answers.nearest(asked, placed, found)
 
 

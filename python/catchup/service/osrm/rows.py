@@ -20,6 +20,7 @@ from catchup.service.osrm.turns import NOTHING, Turn, Turns, turning_round
 
 MOST_KEPT: Final = 131_072              # rows that are kept, in each form of lines
 MOST_STEPS: Final = 32_768              # steps over several rows, in each form of lines
+ROAD_BITS: Final = 32                   # of any road's number
 UNSURE: Final = 1e-5                    # of a tenth of a metre: by how much sums of metres may be off
 
 
@@ -59,7 +60,7 @@ class Rows:
 
     def __init__(self, stretches: Stretches, turns: Turns | None, form: str) -> None:
         self._stretches, self._turns, self._form = stretches, turns, form
-        self._whole: Kept[tuple[int, int], Row] = Kept(MOST_KEPT // 2, self._made_whole)
+        self._whole: Kept[int, Row] = Kept(MOST_KEPT // 2, self._made_whole)
         self.form = FORMS[form]
         self.steps: Kept[tuple[Row, ...], tuple[str, bool]] = Kept(MOST_STEPS // 2, self._step)
 
@@ -70,7 +71,7 @@ class Rows:
         if not roads:
             return [self.row(None, self._stretches.still(drive, self._form))], [drive.depart]
         rows = [self._made(None, (roads[0], drive.begin, stop if len(roads) == 1 else 1.0)),
-                *map(self._whole.__getitem__, pairwise(roads))]
+                *map(self._whole.__getitem__, [before << ROAD_BITS | road for before, road in pairwise(roads)])]
         if stop < 1.0 and len(roads) > 1:
             rows[-1] = self._up_to(rows[-1], last_of(rows[-2]).stretch, stop)
         return (rows, drive.seconds) if several.isdisjoint(roads) else spread(rows, drive)
@@ -109,17 +110,14 @@ class Rows:
         text, metres = self.begun(rows[0].told[:rows[0].head], rows), sum([row.metres for row in rows])
         return (text, True) if is_unsure(metres) else (text + far_told(metres), False)
 
-    def _made_whole(self, roads: tuple[int, int]) -> Row:
-        """The row of a whole road behind another one."""
-        before, road = roads
+    def _made_whole(self, roads: int) -> Row:
+        """The row of a whole road behind another one, from a number of both."""
+        before, road = divmod(roads, 1 << ROAD_BITS)
         return self._made(self._stretches.of_road(before, self._form)[-1], (road, 0.0, 1.0))
 
     def _made(self, before: Stretch | None, part: Part) -> Row:
         """The row of a part of a road."""
-        if part[1:] == (0.0, 1.0):
-            stretches = self._stretches.of_road(part[0], self._form)
-        else:
-            stretches = self._stretches.of_part(part, self._form)
+        stretches = self._stretches.of_part(part, self._form)
         row = self.row(before, stretches[0])
         if len(stretches) > 1:
             row.more = tuple([self.row(one, other) for one, other in pairwise(stretches)])
@@ -127,10 +125,9 @@ class Rows:
 
     def _up_to(self, whole: Row, before: Stretch, stop: float) -> Row:
         """The row of a road that is driven up to a share of its metres, from that of the whole road."""
-        part = whole.stretch.road, 0.0, stop
         if whole.more:
-            return self._made(before, part)
-        [stretch] = self._stretches.of_part(part, self._form)
+            return self._made(before, (whole.stretch.road, 0.0, stop))
+        stretch = self._stretches.cut(whole.stretch, 0.0, stop, self._form)
         return Row(stretch, stretch.rest, stretch.metres, whole.called, whole.kind, whole.told[:whole.head], whole.head,
                    False, whole.passed, whole.has_others, whole.sides, whole.intersection)
 

@@ -80,7 +80,7 @@ def overview_of(legs: Sequence[Leg], asked: AskedRoute) -> list[str]:
 
 def joint(before: Leg, after: Leg, form: Form) -> str:
     """What a line has between two legs: nothing, where one begins at the very place where the other ends."""
-    ends, begins = before.rows[-1].stretch.places[-1].tolist(), after.rows[0].stretch.places[0].tolist()
+    ends, begins = before.rows[-1].stretch.places[-1], after.rows[0].stretch.places[0]
     return "" if form.single(ends) == form.single(begins) else form.rest([ends, begins])
 
 

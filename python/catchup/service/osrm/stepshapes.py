@@ -85,8 +85,9 @@ def departure(leg: Leg) -> str:
 def arrival(leg: Leg, form: Form) -> str:
     """The last step of a leg."""
     stretch = leg.rows[-1].stretch
-    place = stretch.places[-1].tolist()
-    before, at = course(stretch.places, at_end=True), point(place)
+    places = stretch.places
+    place = places[-1]
+    before, at = course(places, at_end=True), point(place)
     sides = sides_told(side_of(leg.end, before, is_start=False), at, before, 0)
     back = f'{{"in":0,"entry":[true],"bearings":[{(before + 180) % 360}],"location":{at}}}'
     head = head_of(stretch.street, f'"type":"arrive",{sides}', back)

@@ -7,17 +7,15 @@ from __future__ import annotations
 
 import functools
 from array import array
-from collections.abc import Sequence
+from collections.abc import Iterable, Sequence
 from dataclasses import dataclass
 from itertools import chain
 from typing import Final
 
-import numpy as np
-
 from catchup.kept import Kept
 from catchup.places.drives import Drive
 from catchup.places.lines import Lines, Named, Part
-from catchup.service.osrm.lines import FORMS, Floats, Place, point
+from catchup.service.osrm.lines import FORMS, Place, point
 from catchup.service.osrm.texts import text
 
 MOST_KEPT: Final = 65_536               # roads whose stretches are kept, in each form of lines
@@ -51,9 +49,10 @@ class Stretch:
     is_whole: bool
 
     @property
-    def places(self) -> Floats:
-        """Its places, float64[k, 2], longitude and latitude in degrees; two at least."""
-        return np.frombuffer(self.drawn).reshape(-1, 2)
+    def places(self) -> list[Place]:
+        """Its places, two at least."""
+        numbers = memoryview(self.drawn).cast("d").tolist()
+        return list(zip(numbers[::2], numbers[1::2]))
 
 
 class Stretches:
@@ -72,10 +71,25 @@ class Stretches:
         return self._kept[form][road]
 
     def _whole(self, form: str, road: int) -> Its:
-        return self.of_part((road, 0.0, 1.0), form)
+        return self._along((road, 0.0, 1.0), form)
 
     def of_part(self, part: Part, form: str) -> Its:
         """The stretches of a part of a road."""
+        road, begin, end = part
+        whole = self.of_road(road, form)
+        if begin == 0.0 and end == 1.0:
+            return whole
+        return self._along(part, form) if len(whole) > 1 else (self.cut(whole[0], begin, end, form),)
+
+    def cut(self, whole: Stretch, low: float, high: float, form: str) -> Stretch:
+        """The part of a road's only stretch between two shares of its metres."""
+        points = self._lines.points((whole.road, low, high))
+        line, rest = FORMS[form].told(points)
+        return Stretch(whole.road, whole.name, whole.ref, whole.kind, whole.is_ring, low, high,
+                       (high - low) * self._lines.length(whole.road), drawn(points), point(points[0]), line, rest,
+                       whole.street, False)
+
+    def _along(self, part: Part, form: str) -> Its:
         return tuple([self._one(part, named, self._lines.points((part[0], *named[2:])), form)
                       for named in self._lines.names_along(part)])
 
@@ -92,9 +106,13 @@ class Stretches:
         kind, metres = lines.kind(road), (high - low) * lines.length(road)
         line, rest = FORMS[form].told(points)
         street = street_told(name, ref, "ferry" if kind == "ferry" else self._mode, self._side)
-        return Stretch(road, name, ref, kind, lines.is_roundabout(road), low, high, metres,
-                       array("d", chain.from_iterable(points)).tobytes(), point(points[0]), line, rest, street,
-                       part[1] == 0.0 and part[2] == 1.0)
+        return Stretch(road, name, ref, kind, lines.is_roundabout(road), low, high, metres, drawn(points),
+                       point(points[0]), line, rest, street, part[1] == 0.0 and part[2] == 1.0)
+
+
+def drawn(points: Iterable[Place]) -> bytes:
+    """The bytes of places, longitude and latitude in degrees of each, float64."""
+    return array("d", chain.from_iterable(points)).tobytes()
 
 
 @functools.lru_cache(maxsize=65_536)
