@@ -106,7 +106,7 @@ class Driver:
         # Who begins between two seconds might arrive as early as who begins at the later one.
         late = [at for at, ((source, _), reply) in enumerate(zip(pairs, replies))
                 if reply and source.part > 0.0 and self._may_wait(source, reply)]
-        later = dict(zip(late, await self._said([pairs[at] for at in late], 1, ask)))
+        later = dict(zip(late, await self._said([pairs[at] for at in late], 1, ask))) if late else {}
         ways: list[_Way] = []
         for at, ((source, node), reply) in enumerate(zip(pairs, replies)):
             if reply:

@@ -32,6 +32,8 @@ _FARTHER = 2.0
 _FARTHEST = 2 * EARTH
 _SAME = 1e-6
 """Metres that make no difference."""
+_MORE = 2e-6
+"""By which share of itself and of 1 a square is taken larger, at least, where its root is by _SAME."""
 _FEW = 64
 """Pieces up to which one after the other is faster than all at once."""
 _PIECE = struct.Struct("=10d")
@@ -165,7 +167,7 @@ def _nearest(at: Point, pieces: bytes) -> list[Near]:
         return sorted(_nearest_of_many(at, pieces))
     found: list[Near] = []
     x, y, z = at
-    most = math.inf
+    least = most = math.inf
     for east, north, up, dx, dy, dz, inverse, before, width, segment in _PIECE.iter_unpack(pieces):
         # As _all_near has it.
         u, v, w = x - east, y - north, z - up
@@ -175,7 +177,10 @@ def _nearest(at: Point, pieces: bytes) -> list[Near]:
         square = u * u + v * v + w * w
         if square <= most:
             found.append((square, int(segment), before + part * width))
-            most = min((math.sqrt(square) + _SAME) ** 2, most)
+            if square < least:
+                # Somewhat more than counts as just as near.
+                least, most = square, square + _MORE * (square + 1.0)
+    most = (math.sqrt(least) + _SAME) ** 2
     return sorted([each for each in found if each[0] <= most])
 
 

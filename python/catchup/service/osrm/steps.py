@@ -35,16 +35,15 @@ def steps_of(rows: Sequence[Row]) -> Steps:
     kinds[0] = ""
     begins = [0, *compress(range(len(rows)), kinds)]
     if "new name" in kinds:
-        begins = [0, *[at for before, at in pairwise(begins)
-                       if kinds[at] != "new name" or not is_same(rows[before], rows[at])]]
+        begins = [0, *[at for before, at in pairwise(begins) if rows[before].called != rows[at].called
+                       or not is_needless(rows[before], rows[at])]]
     return Steps(begins, rings_of(rows, begins) if "exit roundabout" in kinds else {})
 
 
-def is_same(before: Row, row: Row) -> bool:
-    """Whether a step that begins as the one before leads along the same street: one that has no name for a while is
+def is_needless(before: Row, row: Row) -> bool:
+    """Whether a step needn't begin behind another one on a street of the same name: one that has no name for a while is
     still the same behind that."""
-    name = row.stretch.name
-    return bool(name) and name == before.stretch.name
+    return row.kind == "new name" and bool(row.stretch.name) and row.stretch.name == before.stretch.name
 
 
 def rings_of(rows: Sequence[Row], begins: Sequence[int]) -> dict[int, Ring]:
