@@ -68,10 +68,15 @@ def check_leg(leg: dict[str, Any]) -> None:
             sum(leg["annotation"][name]), abs=0.01 * len(leg["annotation"][name]) + 0.1)
 
 
+def address_of(places: list[str], depart: int) -> str:
+    """The address of a route of which all is told."""
+    return (f"/route/v1/car/{';'.join(places)}?depart={depart}&steps=true&annotations=true&geometries=geojson"
+            "&overview=full")
+
+
 def check_route(town: Town, places: list[str], depart: int) -> bool:
     """Whether there is a route; that it is as it must be, and as the drives are that it is made of."""
-    status, told = town.ask(f"/route/v1/car/{';'.join(places)}?depart={depart}&steps=true&annotations=true"
-                            "&geometries=geojson&overview=full")
+    status, told = town.ask(address_of(places, depart))
     if status != 200:
         assert (status, told["code"]) == (400, "NoRoute")
         return False
@@ -91,13 +96,26 @@ def check_route(town: Town, places: list[str], depart: int) -> bool:
     return True
 
 
+def somewhere(town: Town, draw: random.Random) -> str:
+    """A place on a map, or at the very end of one of its roads."""
+    west, south, east, north = town.places.box
+    lon, lat = draw.uniform(west, east), draw.uniform(south, north)
+    if draw.random() < 0.3:
+        lon, lat = town.places.lines.place(draw.randrange(len(town.places.lines.metres)), 1 - 1e-5)
+    return f"{lon:.6f},{lat:.6f}"
+
+
 @pytest.mark.parametrize("seed", [1, 2])
 @pytest.mark.parametrize("theme", THEMES)
 def test_routes_of_random_towns(tmp_path: Path, theme: str, seed: int) -> None:
     draw = random.Random(f"{theme} {seed}")
     with town(THEMES[theme](seed), tmp_path) as found:
-        west, south, east, north = found.places.ground.snapper.box or (0.0, 0.0, 0.0, 0.0)
-        driven = sum(check_route(found, [
-            f"{draw.uniform(west, east):.6f},{draw.uniform(south, north):.6f}" for _ in range(draw.choice((2, 2, 3)))],
-            draw.randrange(86_400)) for _ in range(ROUTES))
+        asked = [([somewhere(found, draw) for _ in range(draw.choice((2, 2, 3)))], draw.randrange(86_400))
+                 for _ in range(ROUTES)]
+        driven = sum(check_route(found, *each) for each in asked)
+        told = [found.ask(address_of(*each)) for each in asked]
+        # What is told doesn't depend on what was asked before.
+        vars(found.places.ground).pop("osrm_guide")
+        for at in draw.sample(range(len(asked)), len(asked)):
+            assert found.ask(address_of(*asked[at])) == told[at]
     assert driven > ROUTES / 4

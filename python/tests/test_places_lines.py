@@ -12,11 +12,14 @@ import pytest
 from placed import DAY, Town, made_town
 
 from catchup import geometry
+from catchup.mapfile import RoadNames
 from catchup.places import Ask, NoRoute, Piece
 from catchup.places.bands import bands
 from catchup.places.drives import Drive
 from catchup.places.legs import leg_of
+from catchup.places.lines import Lines
 from catchup.places.reach import Reached
+from catchup.places.streets import Streets
 
 
 @pytest.fixture(scope="module")
@@ -98,6 +101,38 @@ def test_pieces_have_one_name_each(made: Town, drives: list[Drive]) -> None:
             assert piece.metres == pytest.approx(metres_of(piece), abs=0.1)
         if not drive.roads:
             assert [(piece.metres, len(piece.coordinates)) for piece in leg.pieces] == [(0.0, 2)]
+
+
+def named(lines: Lines, streets: Streets, draw: random.Random) -> Lines:
+    """The same lines with other names: up to three along each road."""
+    rows: list[tuple[float, float]] = []
+    first = [0]
+    for metres in lines.metres.tolist():
+        cuts = sorted(draw.choice([draw.random(), 0.0, 1.0, 0.5]) * metres for _ in range(draw.choice([0, 2, 4, 6])))
+        rows += zip(cuts[::2], cuts[1::2])
+        first.append(len(rows))
+    begin, end = np.array(rows).T
+    text = np.array([draw.randrange(4) for _ in rows], dtype=np.int32)
+    names = RoadNames(np.array(first), begin, end, text, [("A", ""), ("B", "7"), ("", "8"), ("C", "")])
+    kind, kinds = lines.kinds
+    return Lines(streets, names, lines.metres, kind, kinds, np.zeros(len(kind), dtype=bool))
+
+
+def test_parts_have_the_names_of_whole_roads(made: Town) -> None:
+    draw = random.Random(3)
+    lines = named(made.places.lines, made.places.ground.streets, draw)
+    whole = {road: lines.names_along((road, 0.0, 1.0)) for road in range(len(lines.metres))}
+    assert len(whole) > len(lines.several) > 50
+    for road, names in whole.items():
+        assert len(names) == 1 or road in lines.several
+        low, high = sorted(draw.choice([draw.random(), 1e-6, 1.0 - 1e-6, 0.0, 1.0]) for _ in range(2))
+        found = lines.names_along((road, low, high))
+        assert (found[0][2], found[-1][3]) == (low, high)
+        assert all(before[3] == after[2] for before, after in zip(found, found[1:]))
+        left = iter([name[:2] for name in names])
+        assert all(name[:2] in left for name in found)
+        for end, at in ((0, 0.0), (-1, 1.0 - 1e-6)):
+            assert [name[:2] for name in lines.names_along((road, at, at + 1e-6))] == [names[end][:2]]
 
 
 def test_bands_hold_the_roads_and_one_another(made: Town) -> None:
