@@ -153,9 +153,7 @@ class Driver:
         day = second // DAY * DAY
         # There are many, which the library reads faster.
         numbers = np.fromstring(said[6:].replace(",", " "), dtype=np.int64, sep=" ")
-        if day:
-            numbers[1::2] += day
-        return numbers[::2].tolist(), numbers[1::2].tolist(), int(head[7:]) + day
+        return numbers[::2].tolist(), (numbers[1::2] + day).tolist(), int(head[7:]) + day
 
 
 def roads_of(drives: Sequence[Drive]) -> int:
