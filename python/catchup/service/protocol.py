@@ -49,7 +49,7 @@ Address = tuple[Any, ...]
 
 
 def has_plain_ends(head: bytes) -> bool:
-    """Whether all ends of lines are CR LF, and there is no NUL: then nothing is found by BAD_ENDS, which takes longer."""
+    """Whether all ends of lines are CR LF, and there is no NUL: then BAD_ENDS, which takes longer, finds nothing."""
     ends = head.count(b"\r\n")
     return ends == head.count(b"\n") == head.count(b"\r") and b"\0" not in head
 
