@@ -35,8 +35,8 @@ class Grid:
     """Points on the ball of the earth, float64[p, 3] in metres from its middle, by rows of cells.
 
     Row r has the latitudes from south + r * high on, and its cells, columns of them, the longitudes from
-    west + c * wide on, in radians. order: int32[p], the points, those of a cell behind one another; _first: int64[rows * columns + 1],
-    where those of each cell begin there.
+    west + c * wide on, in radians. order: int32[p], the points, those of a cell behind one another; _first:
+    int64[rows * columns + 1], where those of each cell begin there.
     """
 
     def __init__(self, points: Floats) -> None:

@@ -28,10 +28,10 @@ class Stretch:
     """A part of a road under one name, as it is driven. Nobody changes one: it isn't frozen since that would take much
     of the time of making it.
 
-    low, high: the shares of the road's metres at which it begins and ends. drawn: the bytes of its places, float64[k, 2].
-    at: its first place as JSON. line, rest: the texts of its places, and of all but the first, in the form of lines that
-    was asked for. street: OSRM's members of a step that tell which street it is. is_whole: whether all of its road is
-    driven.
+    low, high: the shares of the road's metres at which it begins and ends. drawn: the bytes of its places, float64 of
+    longitude and latitude each. at: its first place as JSON. line, rest: the texts of its places, and of all but the
+    first, in the form of lines that was asked for. street: OSRM's members of a step that tell which street it is.
+    is_whole: whether all of its road is driven.
     """
 
     road: int
