@@ -4,6 +4,7 @@ from __future__ import annotations
 
 import asyncio
 import contextlib
+import ctypes
 import gc
 import logging
 import os
@@ -11,6 +12,7 @@ import resource
 import shutil
 import signal
 import socket
+import struct
 import sys
 import time
 from collections.abc import Callable
@@ -48,6 +50,8 @@ DRAIN_PAUSE: Final = 0.02
 GRACE_SECONDS: Final = 0.5              # for requests that are on their way as the service ends
 START_PAUSE: Final = 0.1
 END_SECONDS: Final = 0.3                # for a worker to go away behind its last second
+SO_ATTACH_FILTER: Final = 26            # of Linux; Python has no name for it
+LET_NOTHING_IN: Final = struct.pack("=HBBI", 6, 0, 0, 0)   # the one instruction of a filter that drops every packet
 ASK_SECONDS: Final = 0.5                # after which workers are asked again to end: one that has just begun missed it
 LEFT_TO_THE_ARBITER: Final = (
     signal.SIGINT, signal.SIGHUP, signal.SIGQUIT, signal.SIGUSR1, signal.SIGUSR2, signal.SIGWINCH)
@@ -202,7 +206,10 @@ if HAS_GUNICORN:
         files."""
 
         def stop(self, graceful: bool = True) -> None:
-            """Asks the workers to end, and ends those that don't in time."""
+            """Asks the workers to end, and ends those that don't in time. From then on nobody connects, so that whoever
+            has connected before is taken: else the last worker to close would cut off who came meanwhile."""
+            for listener in self.LISTENERS:
+                let_nobody_connect(listener)
             close_sockets(self.LISTENERS, False)
             self.LISTENERS: list[Any] = []
             began = asked = time.monotonic()
@@ -307,6 +314,14 @@ def address_of(listener: socket.socket) -> str:
     """Where a socket listens, as an address of the web."""
     host, port = listener.getsockname()[:2]
     return f"http://{f'[{host}]' if ':' in host else host}:{port}/"
+
+
+def let_nobody_connect(listener: Any) -> None:
+    """Lets a listening socket drop what comes of those that haven't connected yet; those that have may still be taken.
+    Where the system has no such filter, all stays as it was."""
+    instruction = ctypes.create_string_buffer(LET_NOTHING_IN, len(LET_NOTHING_IN))
+    with contextlib.suppress(OSError):
+        listener.setsockopt(socket.SOL_SOCKET, SO_ATTACH_FILTER, struct.pack("@HP", 1, ctypes.addressof(instruction)))
 
 
 def tell_ready(address: str) -> None:
