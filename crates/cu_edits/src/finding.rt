@@ -2,12 +2,13 @@
 
 ghost use Rattle.std.specs.Prelude.{◌≡◌, ◌≤◌, ◌<◌, All, IfOk, OnOk, length};
 ghost use Rattle.cu_chordal.specs.declared.graph.TheConstants.{MAX_EDGES};
+ghost use Rattle.cu_chordal.specs.Graphs.{FindsEdge, IsChordal};
 ghost use Rattle.cu_interval.specs.Hierarchies.{IsHierarchyOf};
 ghost use Rattle.cu_edits.specs.Steps.Found.{AddsFound, AreTouchedFrom, IsOfSome, LeadsTo, Reaches, joined_to};
 ghost use Rattle.cu_edits.specs.Steps.Spreading.{IsBetween, IsOfRoad};
 
 use crate::found_edges::FoundEdges;
-use cu_chordal::Chordal;
+use cu_chordal::{Chordal, Ends};
 use cu_interval::Ways;
 use cu_model::NoMemory;
 use std::alloc::Global;
@@ -129,8 +130,21 @@ fn find_between(
         (AddsFound (IsBetween graph.now.edges first second) found.old.found found.new.found) }
     ensures edges { found.new.edges ≡ found.old.edges }
 {
-    match graph.edge(first.min(second), first.max(second)) {
+    let near = found.behind_last();
+    match edge_near(graph, near, first.min(second), first.max(second)) {
         Some(edge) => found.add(edge),
         None => Ok(()),
     }
+}
+
+// The edge between two ranks, if there is one. It is looked for at a number first where it may be.
+fn edge_near(graph: &Chordal, near: u32, low: u32, high: u32) -> Option<u32>
+    requires low { low < graph.now.ranks }
+    ensures found { FindsEdge graph.now.edges low high result }
+    ensures sound { IsChordal graph.now }
+{
+    if near < graph.edges() && graph.ends(near) == (Ends { low, high }) {
+        return Some(near);
+    }
+    graph.edge(low, high)
 }

@@ -13,6 +13,8 @@ use std::marker::Model;
 pub(crate) struct FoundEdges {
     marks: Vec<bool>,
     found: Vec<u32>,
+    // The edge that was found last, maybe not for the first time.
+    last: u32,
 }
 
 impl Model for FoundEdges {
@@ -37,6 +39,7 @@ impl FoundEdges {
         Ok(FoundEdges {
             marks: vec![in alloc; false; edges as usize]?,
             found: Vec::new(alloc),
+            last: 0,
         })
     }
 
@@ -49,12 +52,18 @@ impl FoundEdges {
         &self.found
     }
 
+    /// The number behind that of the edge found last, which is often the next to be found. Takes no memory.
+    pub(crate) fn behind_last(&self) -> u32 {
+        self.last.saturating_add(1)
+    }
+
     /// An edge, below the number of edges, is found, if it wasn't. Where memory runs out it isn't.
     pub(crate) fn add(&mut self, edge: u32) -> Result<(), NoMemory>
         requires edge { edge < self.old.edges }
         ensures added { OnOk result (AddsFound (λ e. e ≡ edge) self.old.found self.new.found) }
         ensures edges { self.new.edges ≡ self.old.edges }
     {
+        self.last = edge;
         if self.marks[edge as usize] {
             return Ok(());
         }

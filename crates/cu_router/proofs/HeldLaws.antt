@@ -92,6 +92,11 @@ touched_below h edits lists numbers k d lt =
     let (ends, at, is) = (numbers.exact (get_or (map number lists) k 0)).0 has in
     subst (λ (edge : ℕ). edge < length h.edges) here (slice_get_within h.edges _ ends at)
 
+-- an edit leaves the edges as they are
+pub edges_stay : (old : HierarchyValue) (bytes : List ℕ) (lists : List TouchedEdge) → IsChange old bytes lists
+    → length old.edges ≡ length (decoded (sealed bytes)).edges
+edges_stay old bytes lists change = sym (ap (λ (h : HierarchyValue). length h.edges) (decoded_is (sealed bytes) _ change.spelled))
+
 -- what is held after a change
 pub changed_over : (old : HierarchyValue) (before bytes : List ℕ) (had : Bool) (graph : ChordalValue) (parents : List (Option ℕ)) (marks : List Bool) (lists : List TouchedEdge)
     → HoldsFile old before had graph parents marks → IsChange old bytes lists → HoldsFile (decoded (sealed bytes)) bytes false graph parents (marked marks lists)

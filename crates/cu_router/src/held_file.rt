@@ -13,6 +13,7 @@ ghost use Rattle.cu_resettled.specs.ResettlingAll.{NumbersTouchedBySome, hierarc
 ghost use Rattle.cu_router.specs.Changes.{IsChange, KnowsCustomized};
 ghost use Rattle.cu_router.specs.Steps.Holding.{IsKnown, IsKnownBut, StaysLed, TellsShort};
 ghost use Rattle.cu_short.specs.Shortness.{NeverLong};
+ghost use Rattle.cu_sweep.specs.Near.{AreNear};
 
 use cu_chordal::Chordal;
 use cu_edits::{CustomizedEdges, EditedRoads, Edits};
@@ -21,11 +22,12 @@ use cu_interval::{TouchedEdge, Ways};
 use cu_model::NoMemory;
 use cu_pack::{PackedView, chordal_of, repack_touched, seal};
 use cu_short::RoadCounts;
+use cu_sweep::NearBounds;
 use std::alloc::Global;
 use std::marker::Model;
 
-/// The packed bytes of a hierarchy, built or not, with its graph, its tree, and which of its edges are known to be customized.
-/// Contracts see the hierarchy.
+/// The packed bytes of a hierarchy, built or not, with its graph, its tree, the least bounds of its lists in eight bytes an edge,
+/// and which of its edges are known to be customized. Contracts see the hierarchy.
 #[derive(Drop)]
 pub struct HeldFile {
     // The packed file, but that its last 32 bytes need not be its digest: an edit writes none.
@@ -33,6 +35,7 @@ pub struct HeldFile {
     has_digest: bool,
     graph: Chordal,
     tree: Tree,
+    bounds: NearBounds,
     customized: CustomizedEdges,
     known: Known,
 }
@@ -50,6 +53,7 @@ impl Model for HeldFile {
     ghost use Rattle.cu_pack.specs.Checks.{sealed};
     ghost use Rattle.cu_pack.specs.Reading.{decoded};
     ghost use Rattle.cu_router.specs.Steps.Holding.{HoldsFile, IsKnown};
+    ghost use Rattle.cu_sweep.specs.Near.{AreNear};
 
     ghost Value = { HierarchyValue };
 
@@ -57,7 +61,8 @@ impl Model for HeldFile {
 
     ghost invariant = { λ file. HoldsFile (decoded (sealed file.bytes.items)) file.bytes.items
         file.has_digest file.graph file.tree file.customized
-        × IsKnown (decoded (sealed file.bytes.items)) file.known };
+        × IsKnown (decoded (sealed file.bytes.items)) file.known
+        × AreNear (decoded (sealed file.bytes.items)) file.bounds };
 }
 
 impl HeldFile {
@@ -97,12 +102,13 @@ impl HeldFile {
         requires walks { (h : HierarchyValue) → Spells bytes.items h → IsKnown h known }
         ensures held { IfOk result (λ file. Spells bytes.items file) }
     {
-        let (graph, tree) = graph_and_tree(alloc, &PackedView::adopt(&bytes))?;
+        let (graph, tree, bounds) = beside(alloc, &PackedView::adopt(&bytes))?;
         Ok(HeldFile {
             bytes,
             has_digest: true,
             graph,
             tree,
+            bounds,
             customized,
             known,
         })
@@ -128,6 +134,13 @@ impl HeldFile {
         ensures { result.now ≡ parents_in (graph_of self.now) }
     {
         &self.tree
+    }
+
+    /// The least bounds of its lists. Takes no memory.
+    pub fn bounds(&self) -> &NearBounds
+        ensures { AreNear self.now result.now }
+    {
+        &self.bounds
     }
 
     /// Which of its edges are known to be customized. Takes no memory.
@@ -175,6 +188,7 @@ impl HeldFile {
         ensures changed { (h : HierarchyValue) → Spells (sealed bytes.items) h → self.new ≡ h }
     {
         self.known.renew(&adopt(&bytes), lists);
+        self.bounds.renew(&adopt(&bytes));
         self.bytes = bytes;
         self.has_digest = false;
         self.customized.mark(lists);
@@ -223,14 +237,16 @@ fn with_digest(bytes: Vec<u8>, has_digest: bool) -> Vec<u8>
     bytes
 }
 
-// The graph of a hierarchy, and its elimination tree.
-fn graph_and_tree(alloc: Global, view: &PackedView<'_>) -> Result<(Chordal, Tree), NoMemory>
+// The graph of a hierarchy, its elimination tree, and the least bounds of its lists.
+fn beside(alloc: Global, view: &PackedView<'_>) -> Result<(Chordal, Tree, NearBounds), NoMemory>
     ensures graph { IfOk result (λ made. made.0 ≡ graph_of view.now) }
     ensures tree { IfOk result (λ made. made.1 ≡ parents_in (graph_of view.now)) }
+    ensures bounds { IfOk result (λ made. AreNear view.now made.2) }
 {
     let graph = chordal_of(alloc, view)?;
     let tree = Tree::of(alloc, &graph)?;
-    Ok((graph, tree))
+    let bounds = NearBounds::of(alloc, view)?;
+    Ok((graph, tree, bounds))
 }
 
 // What is known of the walks of the hierarchy that these bytes are the packed file of, once it is asked.

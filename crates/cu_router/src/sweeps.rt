@@ -17,7 +17,7 @@ use cu_interval::Relaxer;
 use cu_io::{Sink, SinkFailed, put_all, put_number};
 use cu_model::NoMemory;
 use cu_reach::put_damage;
-use cu_sweep::{Found, Outlook, Question, SweepDesk, led_query, query, route_by};
+use cu_sweep::{Found, Ground, Outlook, Question, SweepDesk, led_query, query, route_by};
 use cu_unpack::Walker;
 use std::alloc::Global;
 use std::marker::Model;
@@ -83,7 +83,12 @@ impl Sweeps {
         let graph = held.graph();
         let desk = &mut self.desk;
         if held.is_led() {
-            return led_query(tree, graph, desk, &mut self.outlook, relaxer, question);
+            let ground = Ground {
+                tree,
+                graph,
+                bounds: held.bounds(),
+            };
+            return led_query(ground, desk, &mut self.outlook, relaxer, question);
         }
         let Question { from, to, second } = question;
         query(tree, graph, desk, relaxer, from, to, second)

@@ -124,7 +124,8 @@ pub record IsNextLink (h : HierarchyValue) (n : ℕ) (labels : List (Option ℕ)
   pub within : next ≤ 2 * n
   pub arriving : AreArriving h (calls_over n labels place next edge)
 
-pub route_next : (h : HierarchyValue) (text : Bool → Call → List ℕ) (n : ℕ) (labels : List (Option ℕ)) (before after : List (Option (ℕ × ℕ))) (end place : ℕ) (first : Bool) (a b : SinkState) (next edge : ℕ)
+pub route_next : (h : HierarchyValue) (text : Bool → Call → List ℕ) (n : ℕ) (labels : List (Option ℕ))
+    (before after : List (Option (ℕ × ℕ))) (end place : ℕ) (first : Bool) (a b : SinkState) (next edge : ℕ)
     → Rises n before → end ≤ 2 * n
     → AreArriving h (calls_found n labels before end) → IsOnRoute text n labels before after end place first a b → link_at after place ≡ Some (next, edge) → IsNextLink h n labels place next edge end
 route_next h text n labels before after end place first a b next edge rises le arriving w e =

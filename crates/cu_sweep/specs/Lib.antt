@@ -9,3 +9,4 @@ pub mod Outlooks
 pub mod ArcsOnce
 pub mod LedCalls
 pub mod Steps
+pub mod Near

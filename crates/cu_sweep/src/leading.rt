@@ -8,6 +8,7 @@ ghost use Rattle.cu_short.specs.Shortness.{NeverLong};
 ghost use Rattle.cu_sweep.specs.declared.finding.Found.TheVariants.{Arrive};
 ghost use Rattle.cu_sweep.specs.Answers.{IsLeastWhereBuilt, IsReal};
 ghost use Rattle.cu_sweep.specs.Desks.{HoldsFound};
+ghost use Rattle.cu_sweep.specs.Near.{AreNear};
 ghost use Rattle.cu_sweep.specs.LedCalls.{AddsLed, AddsSome};
 ghost use Rattle.cu_sweep.specs.Outlooks.{IsAhead};
 ghost use Rattle.cu_sweep.specs.Sweeps.{found};
@@ -18,6 +19,7 @@ use crate::desk::SweepDesk;
 use crate::driving::drive_way;
 use crate::finding::Found;
 use crate::labels::Labels;
+use crate::near_bounds::NearBounds;
 use crate::outlook::Outlook;
 use crate::querying::{Question, climb, query};
 use crate::timing::InTime;
@@ -26,24 +28,32 @@ use cu_elimtree::Tree;
 use cu_interval::Relaxer;
 use cu_links::Chain;
 
+/// The graph of a hierarchy, its tree, and the least bounds of its lists.
+#[derive(Clone, Copy)]
+pub struct Ground<'a> {
+    pub tree: &'a Tree,
+    pub graph: &'a Chordal,
+    pub bounds: &'a NearBounds,
+}
+
 /// [`query`] over a hierarchy none of whose walks is too long: it finds the same, and leaves the same walk on the desk, but makes
 /// only calls that may still be in time for the end, as long as a way that is driven first is met; else it is [`query`]. All of
 /// its calls are over sweep arcs, upwards of the start and downwards of the end: along the way, and then of each sweep in its
 /// order. The outlook was made for as many nodes as the desk. Takes no memory.
 pub fn led_query<R: Relaxer>(
-    tree: &Tree,
-    graph: &Chordal,
+    ground: Ground<'_>,
     desk: &mut SweepDesk,
     outlook: &mut Outlook,
     relaxer: &mut R,
     question: Question,
 ) -> Found
-    requires ranks { (question.from < graph.now.ranks) × (question.to < graph.now.ranks) }
+    requires ranks { (question.from < ground.graph.now.ranks) × (question.to < ground.graph.now.ranks) }
     requires second { question.second < DAY }
-    requires tree { tree.now ≡ parents_in graph.now }
-    requires desk { desk.old.nodes ≡ graph.now.ranks }
-    requires outlook { outlook.old.nodes ≡ graph.now.ranks }
-    requires graph { IsHierarchyOf graph.now (R.hierarchy relaxer.old) }
+    requires tree { ground.tree.now ≡ parents_in ground.graph.now }
+    requires desk { desk.old.nodes ≡ ground.graph.now.ranks }
+    requires outlook { outlook.old.nodes ≡ ground.graph.now.ranks }
+    requires graph { IsHierarchyOf ground.graph.now (R.hierarchy relaxer.old) }
+    requires bounds { AreNear (R.hierarchy relaxer.old) ground.bounds.now }
     requires short { NeverLong (R.hierarchy relaxer.old) }
     ensures found { result ≡ found (R.hierarchy relaxer.old)
         question.from question.to question.second }
@@ -59,7 +69,12 @@ pub fn led_query<R: Relaxer>(
     ensures real { IsReal (R.hierarchy relaxer.old)
         question.from question.to question.second desk.new.calls result }
 {
-    outlook.look(tree, graph, &mut desk.path, relaxer, question);
+    let Ground {
+        tree,
+        graph,
+        bounds,
+    } = ground;
+    outlook.look_near(tree, graph, &mut desk.path, bounds, question);
     query_along(tree, graph, desk, outlook, relaxer, question)
 }
 

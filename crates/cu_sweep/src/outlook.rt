@@ -2,10 +2,14 @@
 
 ghost use Rattle.std.specs.Prelude.{◌≡◌, ◌<◌, IfOk, length};
 ghost use Rattle.cu_elimtree.specs.SweepArcs.{parents_in};
-ghost use Rattle.cu_interval.specs.Hierarchies.{IsHierarchyOf};
-ghost use Rattle.cu_sweep.specs.Outlooks.{IsAhead};
+ghost use Rattle.cu_chordal.specs.Graphs.{IsChordal};
+ghost use Rattle.cu_interval.specs.Hierarchies.{HierarchyValue, IsHierarchyOf, graph_of};
+ghost use Rattle.cu_sweep.specs.Near.{AreNear};
+ghost use Rattle.cu_sweep.specs.Outlooks.{FallsBy, IsAhead};
 
+use crate::bounding::{Bounds, RelaxerBounds};
 use crate::looking::{look_back, look_up, start_up};
+use crate::near_bounds::NearBounds;
 use crate::querying::{Question, climb};
 use crate::timing::InTime;
 use cu_chordal::Chordal;
@@ -79,12 +83,57 @@ impl Outlook {
         ensures ahead { IsAhead (R.hierarchy relaxer.now) question.from question.to
             self.new.up self.new.down }
     {
+        let bounds = RelaxerBounds { relaxer };
+        self.look_by(tree, graph, path, &bounds, question);
+    }
+
+    /// The same by bounds in memory. There are as many as edges.
+    pub fn look_near(
+        &mut self,
+        tree: &Tree,
+        graph: &Chordal,
+        path: &mut [u32],
+        bounds: &NearBounds,
+        question: Question,
+    )
+        requires ranks { (question.from < graph.now.ranks) × (question.to < graph.now.ranks) }
+        requires tree { tree.now ≡ parents_in graph.now }
+        requires graph { IsChordal graph.now }
+        requires edges { length bounds.now.ups ≡ length graph.now.edges }
+        requires nodes { self.old.nodes ≡ graph.now.ranks }
+        requires path { length path.old ≡ graph.now.ranks }
+        ensures nodes { self.new.nodes ≡ self.old.nodes }
+        ensures ahead { (h : HierarchyValue) → graph.now ≡ graph_of h → AreNear h bounds.now
+            → IsAhead h question.from question.to self.new.up self.new.down }
+    {
+        self.look_by(tree, graph, path, bounds, question);
+    }
+
+    // The same by any bounds.
+    fn look_by<B: Bounds>(
+        &mut self,
+        tree: &Tree,
+        graph: &Chordal,
+        path: &mut [u32],
+        bounds: &B,
+        question: Question,
+    )
+        requires ranks { (question.from < graph.now.ranks) × (question.to < graph.now.ranks) }
+        requires tree { tree.now ≡ parents_in graph.now }
+        requires graph { IsChordal graph.now }
+        requires edges { B.count bounds.now ≡ length graph.now.edges }
+        requires nodes { self.old.nodes ≡ graph.now.ranks }
+        requires path { length path.old ≡ graph.now.ranks }
+        ensures nodes { self.new.nodes ≡ self.old.nodes }
+        ensures ahead { FallsBy (B.bounds bounds.now) graph.now question.from question.to
+            self.new.up self.new.down }
+    {
         look_back(
             tree,
             graph,
             &mut self.down,
             &mut self.down_next,
-            relaxer,
+            bounds,
             question,
         );
         start_up(tree, &self.down, &mut self.up, question);
@@ -93,7 +142,7 @@ impl Outlook {
             graph,
             &mut self.up,
             &mut self.up_next,
-            relaxer,
+            bounds,
             &path[..count],
         );
     }

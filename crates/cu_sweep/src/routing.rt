@@ -77,38 +77,39 @@ impl Labels<Chain> {
         ensures stays { W.hierarchy walker.new ≡ W.hierarchy walker.old }
         ensures quiet { W.calls walker.new ≡ W.calls walker.old }
     {
-        let nodes = self.nodes();
-        write_chain(
-            nodes,
-            &self.seconds,
-            &mut self.chain,
-            end,
-            walker,
-            form,
-            sink,
-        )
+        let reached = Reached {
+            nodes: self.nodes(),
+            seconds: &self.seconds,
+        };
+        write_chain(reached, &mut self.chain, end, walker, form, sink)
     }
+}
+
+// When the places of so many nodes are reached, upwards and then downwards.
+#[derive(Clone, Copy)]
+struct Reached<'a> {
+    nodes: u32,
+    seconds: &'a [Option<u64>],
 }
 
 // The same, in places for labels and links.
 fn write_chain<W: Walker, P: WalkForm, K: Sink>(
-    nodes: u32,
-    labels: &[Option<u64>],
+    reached: Reached<'_>,
     chain: &mut Chain,
     end: u32,
     walker: &mut W,
     form: &P,
     sink: &mut K,
 ) -> Result<(), SinkFailed>
-    requires ready { IsChainReady nodes labels.now chain.old }
-    requires end { end ≤ 2 * nodes }
+    requires ready { IsChainReady reached.nodes reached.seconds.now chain.old }
+    requires end { end ≤ 2 * reached.nodes }
     requires unturned { chain.old.turned ≡ false }
     requires arriving { AreArriving (W.hierarchy walker.old)
-        (calls_found nodes labels.now chain.old.links end) }
+        (calls_found reached.nodes reached.seconds.now chain.old.links end) }
     ensures wrote { Wrote (K.state sink.old) (K.state sink.new) result
         (routed_text (call_text (P.text form.now) (W.hierarchy walker.old)) true
-        (calls_found nodes labels.now chain.old.links end)) }
-    ensures ready { IsChainReady nodes labels.now chain.new }
+        (calls_found reached.entry.nodes reached.entry.seconds.now chain.old.links end)) }
+    ensures ready { IsChainReady reached.entry.nodes reached.entry.seconds.now chain.new }
     ensures turned { chain.new.turned ≡ true }
     ensures stays { W.hierarchy walker.new ≡ W.hierarchy walker.old }
     ensures quiet { W.calls walker.new ≡ W.calls walker.old }
@@ -116,7 +117,7 @@ fn write_chain<W: Walker, P: WalkForm, K: Sink>(
     let mut place = chain.reverse_from(end);
     let mut first = true;
     'links: while let Some((next, edge)) = chain.follow(place) {
-        let call = call_of(nodes, labels, place, next, edge);
+        let call = call_of(reached, place, next, edge);
         first = write_some(call, first, walker, form, sink)?;
         place = next;
     }
@@ -124,13 +125,13 @@ fn write_chain<W: Walker, P: WalkForm, K: Sink>(
 }
 
 // The call of a link between two places, at the second of the place that it comes from.
-fn call_of(nodes: u32, labels: &[Option<u64>], from: u32, place: u32, edge: u64) -> Option<Call>
-    requires from { from < length labels.now }
+fn call_of(reached: Reached<'_>, from: u32, place: u32, edge: u64) -> Option<Call>
+    requires from { from < length reached.seconds.now }
     requires edge { edge < MAX_EDGES }
-    ensures { calls_of_some result ≡ calls_over nodes labels.now from place edge }
+    ensures { calls_of_some result ≡ calls_over reached.entry.nodes reached.entry.seconds.now from place edge }
 {
-    let dir = direction(nodes, from, place)?;
-    let second = labels[from as usize]?;
+    let dir = direction(reached.nodes, from, place)?;
+    let second = reached.seconds[from as usize]?;
     Some(Call {
         edge: edge as u32,
         dir,

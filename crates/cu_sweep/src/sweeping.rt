@@ -1,6 +1,6 @@
 //! The sweeps over the ancestors of a query's start and end, in places for labels and links.
 
-ghost use Rattle.std.specs.Prelude.{◌≡◌, ◌≤◌, ◌<◌, ◌+◌, ◌*◌, ◌^◌, ◌++◌, ◌∷◌, [], ℕ, List, Some, None, false, length, slice_set};
+ghost use Rattle.std.specs.Prelude.{◌≡◌, ◌≤◌, ◌<◌, ◌+◌, ◌*◌, ◌^◌, ◌++◌, ◌∷◌, [], ℕ, List, Some, None, All, false, length, slice_index_or, slice_set};
 ghost use Rattle.cu_links.specs.Chains.{IsOnChainTo};
 ghost use Rattle.std.specs.List.{Contains};
 ghost use Rattle.cu_chordal.specs.Graphs.{HasEdge};
@@ -106,22 +106,42 @@ pub(crate) fn relax_down<R: Relaxer, L: Limits, K: Linking>(
 {
     let nodes = graph.ranks();
     begin_down(labels, chain, nodes, rank);
-    let mut edge = graph.first_edge(rank);
+    let first = graph.first_edge(rank);
     let highers = graph.up(rank);
-    'edges: for higher in highers {
+    let mut place = next_reached(labels, highers, nodes, 0);
+    'edges: while place < highers.len() {
         let leg = Leg {
-            edge,
+            edge: first + place as u32,
             dir: Dir::Down,
-            from: nodes + *higher,
+            from: nodes + highers[place],
             into: nodes + rank,
         };
         let long = relax_into(labels, chain, relaxer, limits, leg);
         if long.is_some() {
             return long;
         }
-        edge += 1;
+        place = next_reached(labels, highers, nodes, place + 1);
     }
     None
+}
+
+// The place of the first neighbour, from a place on, that has a downward label; how many they are where there is none.
+fn next_reached(labels: &[Option<u64>], highers: &[u32], nodes: u32, start: usize) -> usize
+    requires places { All (λ higher. nodes + higher < length labels.now) highers.now }
+    requires start { start ≤ length highers.now }
+    ensures onward { start ≤ result }
+    ensures within { result ≤ length highers.now }
+    ensures passed { (k : ℕ) → start ≤ k → k < result
+        → second_at labels.now (nodes + slice_index_or highers.now k 0) ≡ None }
+{
+    let mut place = start;
+    'edges: while place < highers.len() {
+        if labels[nodes as usize + highers[place] as usize].is_some() {
+            return place;
+        }
+        place += 1;
+    }
+    place
 }
 
 // A downward label begins as the upward one, without a call of its own.

@@ -19,6 +19,9 @@ use cu_runs::{DayFunction, Windows};
 use std::alloc::Global;
 use std::marker::Model;
 
+// How many higher neighbours are many: from a lower end with fewer a function is compared too seldom to be bounded.
+const MANY: u32 = 5;
+
 /// Functions of lists as packed runs, by list number: rebuilt from their ways, or put in. Contracts see which lists are
 /// known, and their functions.
 #[derive(Drop)]
@@ -38,7 +41,8 @@ impl Model for PackedFunctions {
 
 impl PackedFunctions {
     /// Room for the functions of so many edges, at most [`MAX_EDGES`], in both directions. None is known. Those that
-    /// are asked for are bounded in these windows of the day, so that settling by them compares less.
+    /// are asked for, and may be halves of many candidates, are bounded in these windows of the day, so that settling by
+    /// them compares less.
     pub fn new(alloc: Global, edges: u32, windows: Windows) -> Result<PackedFunctions, NoMemory>
         requires edges { edges ≤ MAX_EDGES }
         ensures size { IfOk result (λ packed. IsSized edges packed) }
@@ -102,9 +106,32 @@ impl PackedFunctions {
         if !learn_asked(alloc, ways, &mut self.table, &mut self.room, shortcut)? {
             return Ok(false);
         }
-        self.table.find_bounds(alloc, shortcut, self.windows)?;
+        if is_below_many(ways, edge) {
+            self.table.find_bounds(alloc, shortcut, self.windows)?;
+        }
         Ok(true)
     }
+}
+
+// Has the lower end of an edge many higher neighbours, so that its lists may be halves of many candidates? The edges with
+// one lower end follow each other.
+fn is_below_many<W: Ways>(ways: &W, edge: u32) -> bool
+    requires edge { edge < length (W.hierarchy ways.now).edges }
+{
+    let low = ways.ends(edge).low;
+    'firsts: for back in 0..MANY {
+        let first = edge.saturating_sub(back);
+        let last = first.saturating_add(MANY - 1);
+        if is_of_low(ways, first, low) && is_of_low(ways, last, low) {
+            return true;
+        }
+    }
+    false
+}
+
+// Has an edge this lower end? One that isn't there hasn't.
+fn is_of_low<W: Ways>(ways: &W, edge: u32, low: u32) -> bool {
+    edge < ways.edges() && ways.ends(edge).low == low
 }
 
 // Learns the list of a shortcut, unless it is known, and those that it needs. False where a way takes longer than

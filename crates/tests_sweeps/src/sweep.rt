@@ -15,7 +15,7 @@ use cu_model::{DAY, Roads};
 use cu_pack::{PackedView, chordal_of};
 use cu_samples::{RUSH_HOUR, packed};
 use cu_short::RoadCounts;
-use cu_sweep::{Found, Outlook, Question, SweepDesk, led_query, query, route};
+use cu_sweep::{Found, Ground, NearBounds, Outlook, Question, SweepDesk, led_query, query, route};
 use cu_unpack::{Listed, Unpacker, Work};
 use std::alloc::Global;
 use std::process::Abort;
@@ -124,9 +124,14 @@ fn ask_led(
         let Asked { from, to, second } = asked;
         let mut outlook = Outlook::new(alloc, 3)?;
         let mut unpacker = Unpacker::new(swept.view, Work::new(alloc, 3)?);
+        let bounds = NearBounds::of(alloc, swept.view)?;
+        let ground = Ground {
+            tree: swept.tree,
+            graph: swept.graph,
+            bounds: &bounds,
+        };
         let found = led_query(
-            swept.tree,
-            swept.graph,
+            ground,
             desk,
             &mut outlook,
             &mut unpacker,

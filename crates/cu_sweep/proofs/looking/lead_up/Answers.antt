@@ -1,115 +1,127 @@
-use Rattle.std.proofs.Common.{◌≡◌, ◌≤◌, ◌<◌, ◌+◌, ◌∙◌, ℕ, Some, length, length-set, min, List, sym, ap, refl, subst, arith, inl, inr, get_or}
-use Rattle.std.specs.Prelude.{slice_get, slice_set}
+use Rattle.std.proofs.Common.{◌≡◌, ◌≤◌, ◌<◌, ◌+◌, ◌∙◌, ℕ, length, length-set, List, sym, ap, subst, arith, inl, inr, get_or}
+use Rattle.std.specs.Prelude.{All, slice_set}
 use Rattle.std.proofs.lemmas.Bool.{cases_lt}
-use Rattle.std.proofs.lemmas.Option.{slice_get-get_or}
-use Rattle.cu_chordal.specs.Graphs.{ChordalValue, first_edge_of, up_of}
+use Rattle.cu_chordal.specs.Graphs.{first_edge_of, up_of}
 use Rattle.cu_interval.specs.declared.ways.Dir.TheVariants.{Down}
-use Rattle.cu_interval.specs.LeastBounds.{least_bound}
 use Rattle.cu_sweep.specs.Outlooks.{ahead_at}
 use Rattle.cu_sweep.proofs.Lowering.{lowered_here, lowered_less, lowered_near, lowered_other}
-use Rattle.cu_sweep.proofs.Neighbours.{edge_place, row_edge}
+use Rattle.cu_sweep.proofs.Neighbours.{edge_place, edges_within, neighbour_at, neighbours_within, row_edge}
 use Rattle.cu_sweep.proofs.looking.lead_up.Goals as goal
 
-pub least-requires : goal.least-requires
-least-requires g c =
-    let h = g.R.Relaxer.hierarchy c.args.relaxer.now in
-    let i = c.edges.invariant in
-    let k = c.edges.higher-index in
-    let highers = c.up-highers.result.now in
-    let lt : k < length highers = omega arith in
-    let y = get_or highers k 0 in
-    let at : slice_get (up_of h.edges c.args.rank) k ≡ Some y = subst (λ (xs : List ℕ). slice_get xs k ≡ Some y) i.highers (slice_get-get_or highers k 0 lt) in
-    let facts = row_edge h c.requires.graph.1 c.args.rank k y at in
-    record { edge = subst (λ (m : ℕ). m < length h.edges) (sym i.edge) facts.1 }
+pub next_nearer-place-requires-clause-edges : goal.next_nearer-place-requires-clause-edges
+next_nearer-place-requires-clause-edges g c =
+    let graph = c.args.graph.now in
+    let first : c.first_edge-first.result ≡ first_edge_of graph.edges c.args.rank = c.first_edge-first.ensures.count in
+    let all : c.up-highers.result.now ≡ up_of graph.edges c.args.rank = c.up-highers.ensures.exact in
+    let count = c.requires.edges in
+    λ k lt. let within = edges_within graph c.requires.graph c.args.rank c.up-highers.result.now all k lt in omega (arith, count, first, within)
 
-pub bounds-ahead-place : goal.bounds-ahead-place
-bounds-ahead-place g c =
-    let h = g.R.Relaxer.hierarchy c.args.relaxer.now in
-    let i = c.edges.invariant in
-    let k = c.edges.higher-index in
-    let highers = c.up-highers.result.now in
-    let lt : k < length highers = omega arith in
-    let y = get_or highers k 0 in
-    let at : slice_get (up_of h.edges c.args.rank) k ≡ Some y = subst (λ (xs : List ℕ). slice_get xs k ≡ Some y) i.highers (slice_get-get_or highers k 0 lt) in
-    let within = (row_edge h c.requires.graph.1 c.args.rank k y at).3 in
-    let places = c.requires.places in
-    let long = i.places in
-    let ranks : c.args.graph.now.ranks ≡ h.network.nodes = ap (λ (v : ChordalValue). v.ranks) c.requires.graph.0 in
-    omega (arith, within, places, long, ranks)
+pub next_nearer-place-requires-clause-places : goal.next_nearer-place-requires-clause-places
+next_nearer-place-requires-clause-places g c =
+    let graph = c.args.graph.now in
+    let all : c.up-highers.result.now ≡ up_of graph.edges c.args.rank = c.up-highers.ensures.exact in
+    subst (λ (n : ℕ). All (λ y. y < n) c.up-highers.result.now) (sym c.requires.places)
+    (neighbours_within graph c.requires.graph c.args.rank c.up-highers.result.now all)
 
-pub bounds-ahead-place-in-edges : goal.bounds-ahead-place-in-edges
-bounds-ahead-place-in-edges g c =
-    let h = g.R.Relaxer.hierarchy c.args.relaxer.now in
-    let i = c.edges.invariant in
-    let k = c.edges.higher-index in
-    let highers = c.up-highers.result.now in
-    let lt : k < length highers = omega arith in
-    let y = get_or highers k 0 in
-    let at : slice_get (up_of h.edges c.args.rank) k ≡ Some y = subst (λ (xs : List ℕ). slice_get xs k ≡ Some y) i.highers (slice_get-get_or highers k 0 lt) in
-    let within = (row_edge h c.requires.graph.1 c.args.rank k y at).3 in
-    let places = c.requires.places in
-    let long = i.places in
-    let ranks : c.args.graph.now.ranks ≡ h.network.nodes = ap (λ (v : ChordalValue). v.ranks) c.requires.graph.0 in
-    omega (arith, within, places, long, ranks)
+pub bound-requires : goal.bound-requires
+bound-requires g c =
+    let graph = c.args.graph.now in
+    let first : c.first_edge-first.result ≡ first_edge_of graph.edges c.args.rank = c.first_edge-first.ensures.count in
+    let all : c.up-highers.result.now ≡ up_of graph.edges c.args.rank = c.up-highers.ensures.exact in
+    let within = edges_within graph c.requires.graph c.args.rank c.up-highers.result.now all c.edges.place (omega arith) in
+    let count = c.requires.edges in
+    record { edge = omega (arith, count, first, within) }
+
+pub next_nearer-place-requires-in-edges-clause-edges : goal.next_nearer-place-requires-in-edges-clause-edges
+next_nearer-place-requires-in-edges-clause-edges g c =
+    let graph = c.args.graph.now in
+    let first : c.first_edge-first.result ≡ first_edge_of graph.edges c.args.rank = c.first_edge-first.ensures.count in
+    let all : c.up-highers.result.now ≡ up_of graph.edges c.args.rank = c.up-highers.ensures.exact in
+    let count = c.requires.edges in
+    λ k lt. let within = edges_within graph c.requires.graph c.args.rank c.up-highers.result.now all k lt in omega (arith, count, first, within)
+
+pub next_nearer-place-requires-in-edges-clause-places : goal.next_nearer-place-requires-in-edges-clause-places
+next_nearer-place-requires-in-edges-clause-places g c =
+    let graph = c.args.graph.now in
+    let all : c.up-highers.result.now ≡ up_of graph.edges c.args.rank = c.up-highers.ensures.exact in
+    let y = get_or c.up-highers.result.now c.edges.place 0 in
+    let long : length (slice_set c.edges.ahead y (ahead_at c.args.ahead.now c.args.rank + c.bound.result)) ≡ graph.ranks =
+    length-set c.edges.ahead y (ahead_at c.args.ahead.now c.args.rank + c.bound.result) ∙ c.edges.invariant.places ∙ c.requires.places in
+    subst (λ (n : ℕ). All (λ y. y < n) c.up-highers.result.now) (sym long)
+    (neighbours_within graph c.requires.graph c.args.rank c.up-highers.result.now all)
 
 pub edges-preserved : goal.edges-preserved
 edges-preserved g c =
-    let h = g.R.Relaxer.hierarchy c.args.relaxer.now in
+    let graph = c.args.graph.now in
     let i = c.edges.invariant in
-    let k = c.edges.higher-index in
+    let k = c.edges.place in
     let x = c.args.rank in
     let highers = c.up-highers.result.now in
+    let first = first_edge_of graph.edges x in
+    let e : c.first_edge-first.result ≡ first = c.first_edge-first.ensures.count in
+    let all : highers ≡ up_of graph.edges x = c.up-highers.ensures.exact in
     let lt : k < length highers = omega arith in
     let y = get_or highers k 0 in
-    let at : slice_get (up_of h.edges x) k ≡ Some y = subst (λ (xs : List ℕ). slice_get xs k ≡ Some y) i.highers (slice_get-get_or highers k 0 lt) in
-    let facts = row_edge h c.requires.graph.1 x k y at in
+    let facts = row_edge graph c.requires.graph x k y (neighbour_at graph c.requires.graph x highers all k 0 lt) in
     let up = facts.2 in
     let within = facts.3 in
     let places = c.requires.places in
     let long = i.places in
-    let ranks : c.args.graph.now.ranks ≡ h.network.nodes = ap (λ (v : ChordalValue). v.ranks) c.requires.graph.0 in
     let ahead = c.edges.ahead in
-    let inside : y < length ahead = omega (arith, within, places, long, ranks) in
-    let first = first_edge_of h.edges x in
-    let e = i.edge in
-    let own = i.own in
-    let bound : c.least.result ≡ least_bound h (first + k) Down = c.least.ensures.bound ∙ ap (λ (m : ℕ). least_bound h m Down) e in
-    let is : c.min.result ≡ min (ahead_at ahead y) (ahead_at c.args.ahead.now x + c.least.result) = c.min.ensures in
-    let le : c.min.result ≤ ahead_at ahead y = omega (arith, is) in
-    let new = slice_set ahead y c.min.result in
+    let inside : y < length ahead = omega (arith, within, places, long) in
+    let own = ahead_at c.args.ahead.now x in
+    let bound = g.B.Bounds.bounds c.args.bounds.now in
+    let over = own + c.bound.result in
+    let is : c.bound.result ≡ bound (first + k) Down = c.bound.ensures.bound ∙ ap (λ (m : ℕ). bound (m + k) Down) e in
+    let nearer = i.nearer lt in
+    let le : over ≤ ahead_at ahead y = omega (arith, nearer, is) in
+    let new = slice_set ahead y over in
+    let call = c.next_nearer-place-in-edges.ensures in
+    let last = c.next_nearer-place-in-edges.result in
     record {
-      highers = i.highers;
-      edge = omega (arith, e);
-      own = refl;
-      places = length-set ahead y c.min.result ∙ i.places;
-      nexts = c.keep.ensures.places ∙ i.nexts;
-      near = lowered_near ahead y c.min.result le inside i.near;
-      less = λ z. let a = lowered_less ahead y c.min.result le inside z in let b = i.less z in omega (arith, a, b);
-      kept = λ z low. lowered_other ahead y c.min.result le inside z (λ same. absurd (omega (arith, same, low, up))) ∙ i.kept z low;
+      within = call.within;
+      places = length-set ahead y over ∙ i.places;
+      nexts = length-set c.edges.next y _ ∙ i.nexts;
+      near = lowered_near ahead y over le inside i.near;
+      less = λ z. let a = lowered_less ahead y over le inside z in let b = i.less z in omega (arith, a, b);
+      kept = λ z low. lowered_other ahead y over le inside z (λ is. absurd (omega (arith, is, low, up))) ∙ i.kept z low;
       each = λ j less.
           elim (cases_lt j k) [
             | inl before ↦
-                let a = lowered_less ahead y c.min.result le inside (get_or highers j 0) in
+                let a = lowered_less ahead y over le inside (get_or highers j 0) in
                 let b = i.each j before in
                 omega (arith, a, b)
-            | inr last ↦
-                let same : j ≡ k = omega (arith, less, last) in
-                let here = lowered_here ahead y c.min.result le inside in
-                subst (λ (m : ℕ). ahead_at new (get_or highers m 0) ≤ least_bound h (first + m) Down + ahead_at c.args.ahead.now x) (sym same) (omega (arith, here, is, bound))
+            | inr from ↦
+                elim (cases_lt k j) [
+                  | inl behind ↦
+                      let a = call.passed j (omega (arith, behind)) less in
+                      let b : bound (c.first_edge-first.result + j) Down ≡ bound (first + j) Down = ap (λ (m : ℕ). bound (m + j) Down) e in
+                      omega (arith, a, b)
+                  | inr to ↦
+                      let last_is : j ≡ k = omega (arith, from, to) in
+                      let here = lowered_here ahead y over le inside in
+                      subst (λ (m : ℕ). ahead_at new (get_or highers m 0) ≤ bound (first + m) Down + own) (sym last_is) (omega (arith, here, is))
+                ]
           ];
+      nearer = λ less.
+          let a = call.nearer less in
+          let b : bound (c.first_edge-first.result + last) Down ≡ bound (first + last) Down = ap (λ (m : ℕ). bound (m + last) Down) e in
+          omega (arith, a, b);
     }
 
 pub returns-clause-each : goal.returns-clause-each
 returns-clause-each g c =
-    let h = g.R.Relaxer.hierarchy c.args.relaxer.now in
+    let graph = c.args.graph.now in
     let i = c.edges.invariant in
     let highers = c.up-highers.result.now in
     let x = c.args.rank in
+    let all : highers ≡ up_of graph.edges x = c.up-highers.ensures.exact in
     let own = i.kept x (omega arith) in
+    let bound = g.B.Bounds.bounds c.args.bounds.now in
     λ y edge e.
-    let (k, lt, at, is, up) = edge_place h c.requires.graph.1 x y edge e in
-    let inside : k < length highers = subst (λ (xs : List ℕ). k < length xs) (sym i.highers) lt in
+    let (k, lt, at, is, up) = edge_place graph c.requires.graph x y edge e in
+    let inside : k < length highers = subst (λ (xs : List ℕ). k < length xs) (sym all) lt in
     let le = i.each k (omega (arith, inside)) in
-    let there : get_or highers k 0 ≡ y = ap (λ (xs : List ℕ). get_or xs k 0) i.highers ∙ at in
-    subst (λ (m : ℕ). ahead_at c.edges.ahead y ≤ least_bound h m Down + ahead_at c.edges.ahead x) (sym is)
-    (subst (λ (z : ℕ). ahead_at c.edges.ahead z ≤ least_bound h (first_edge_of h.edges x + k) Down + ahead_at c.edges.ahead x) there (omega (arith, le, own)))
+    let there : get_or highers k 0 ≡ y = ap (λ (xs : List ℕ). get_or xs k 0) all ∙ at in
+    subst (λ (m : ℕ). ahead_at c.edges.ahead y ≤ bound m Down + ahead_at c.edges.ahead x) (sym is)
+    (subst (λ (z : ℕ). ahead_at c.edges.ahead z ≤ bound (first_edge_of graph.edges x + k) Down + ahead_at c.edges.ahead x) there (omega (arith, le, own)))

@@ -9,7 +9,6 @@ use Rattle.cu_elimtree.specs.Trees.{ancestors_of}
 use Rattle.cu_elimtree.proofs.Climbing.{yielded_first}
 use Rattle.cu_interval.specs.declared.ways.Dir.TheVariants.{Down}
 use Rattle.cu_interval.specs.Hierarchies.{number_from}
-use Rattle.cu_interval.specs.LeastBounds.{least_bound}
 use Rattle.cu_sweep.specs.Outlooks.{ahead_at}
 use Rattle.cu_sweep.proofs.Ascending.{ancestor_above, before_below}
 use Rattle.cu_sweep.proofs.Passing.{tree_long}
@@ -35,7 +34,8 @@ lead_up-requires-clause-rank g c =
 
 pub ranks-preserved : goal.ranks-preserved
 ranks-preserved g c =
-    let h = g.R.Relaxer.hierarchy c.args.relaxer.now in
+    let graph = c.args.graph.now in
+    let bound = g.B.Bounds.bounds c.args.bounds.now in
     let i = c.ranks.invariant in
     let x = c.in-Some.rank in
     let before = c.ranks.yielded in
@@ -68,8 +68,8 @@ ranks-preserved g c =
             | inr last ↦
                 elim (member_cases x [] z last) [
                   | inl is ↦
-                      let at : number_from 0 h.edges x y ≡ Some edge = subst (λ (r : ℕ). number_from 0 h.edges r y ≡ Some edge) (sym is) e in
-                      subst (λ (r : ℕ). ahead_at new y ≤ least_bound h edge Down + ahead_at new r) is (call.each y edge at)
+                      let at : number_from 0 graph.edges x y ≡ Some edge = subst (λ (r : ℕ). number_from 0 graph.edges r y ≡ Some edge) (sym is) e in
+                      subst (λ (r : ℕ). ahead_at new y ≤ bound edge Down + ahead_at new r) is (call.each y edge at)
                   | inr none ↦ absurd (none_in_nil z none)
                 ]
           ];

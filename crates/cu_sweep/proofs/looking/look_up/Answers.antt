@@ -3,7 +3,6 @@ use Rattle.std.specs.Prelude.{slice_set}
 use Rattle.std.specs.List.{Contains}
 use Rattle.cu_interval.specs.declared.ways.Dir.TheVariants.{Up}
 use Rattle.cu_interval.specs.Hierarchies.{number_from}
-use Rattle.cu_interval.specs.LeastBounds.{least_bound}
 use Rattle.cu_sweep.specs.Outlooks.{ahead_at}
 use Rattle.cu_sweep.proofs.Ascending.{behind_cases}
 use Rattle.cu_sweep.proofs.Lowering.{lowered_here, lowered_less, lowered_near, lowered_other}
@@ -12,7 +11,8 @@ use Rattle.cu_sweep.proofs.looking.look_up.Goals as goal
 
 pub ranks-preserved : goal.ranks-preserved
 ranks-preserved g c =
-    let h = g.R.Relaxer.hierarchy c.args.relaxer.now in
+    let graph = c.args.graph.now in
+    let bound = g.B.Bounds.bounds c.args.bounds.now in
     let i = c.ranks.invariant in
     let path = c.args.path.now in
     let k = c.ranks.left - 1 in
@@ -35,21 +35,21 @@ ranks-preserved g c =
       near = lowered_near ahead x least le inside i.near;
       less = λ y. let a = lowered_less ahead x least le inside y in let b = i.less y in omega (arith, a, b);
       climb = λ z y edge m e.
-          let (place, _, _, _, up) = edge_place h c.requires.graph.1 z y edge e in
+          let (place, _, _, _, up) = edge_place graph c.requires.graph z y edge e in
           elim (behind_cases path k z lt c.requires.rising m) [
             | inl same ↦
-                let at : number_from 0 h.edges x y ≡ Some edge = subst (λ (r : ℕ). number_from 0 h.edges r y ≡ Some edge) same e in
+                let at : number_from 0 graph.edges x y ≡ Some edge = subst (λ (r : ℕ). number_from 0 graph.edges r y ≡ Some edge) same e in
                 let here = lowered_here ahead x least le inside in
                 let other = lowered_other ahead x least le inside y (λ is. absurd (omega (arith, is, same, up))) in
-                let bound = call.each y edge at in
-                subst (λ (r : ℕ). ahead_at new r ≤ least_bound h edge Up + ahead_at new y) (sym same) (omega (arith, here, other, bound))
+                let less = call.each y edge at in
+                subst (λ (r : ℕ). ahead_at new r ≤ bound edge Up + ahead_at new y) (sym same) (omega (arith, here, other, less))
             | inr more ↦
                 let above = more.1 in
                 let here = lowered_other ahead x least le inside z (λ is. absurd (omega (arith, is, above))) in
                 let other = lowered_other ahead x least le inside y (λ is. absurd (omega (arith, is, above, up))) in
                 let member = subst (λ (n : ℕ). Contains (drop n path) z) (sym next) more.0 in
-                let bound = i.climb z y edge member e in
-                omega (arith, here, other, bound)
+                let less = i.climb z y edge member e in
+                omega (arith, here, other, less)
           ];
     }
 

@@ -16,91 +16,174 @@ reverse_from-place-requires-clause-place g c = let places = c.requires.ready.pla
 
 pub links-init : goal.links-init
 links-init g c =
+    let text = call_text (g.P.WalkForm.text c.args.form.now) (g.W.Relaxer.hierarchy c.args.walker.now) in
+    let nodes = c.args.reached.nodes in
+    let seconds = c.args.reached.seconds.now in
     let before = c.args.chain.now.links in
     let after = c.reverse_from-place.new.self.links in
     let rises = c.requires.ready.rises c.requires.unturned in
+    let end = c.args.end in
+    let a = g.K.Sink.state c.args.sink.now in
     let place = c.reverse_from-place.result in
     let chain = c.reverse_from-place.ensures.chain in
-    let begun = begun_within c.args.nodes before after c.args.end place rises c.requires.end chain in
+    let begun = begun_within nodes before after end place rises c.requires.end chain in
     record {
       stays = refl;
       quiet = refl;
       within = begun.1;
       few = begun.0;
-      on = route_begun (call_text (g.P.WalkForm.text c.args.form.now) (g.W.Relaxer.hierarchy c.args.walker.now)) c.args.nodes c.args.labels.now before after c.args.end place (g.K.Sink.state c.args.sink.now) rises c.requires.end chain;
+      on = route_begun text nodes seconds before after end place a rises c.requires.end chain;
     }
 
 pub follow-requires-clause-place : goal.follow-requires-clause-place
-follow-requires-clause-place g c = let places = c.requires.ready.places chain_keeps in omega (arith, c.links.invariant.within, places, c.reverse_from-place.ensures.places)
+follow-requires-clause-place g c =
+    let places = c.requires.ready.places chain_keeps in
+    omega (arith, c.links.invariant.within, places, c.reverse_from-place.ensures.places)
 
 pub call_of-call-requires-clause-from : goal.call_of-call-requires-clause-from
 call_of-call-requires-clause-from g c = omega (arith, c.links.invariant.within, c.requires.ready.long)
 
 pub call_of-call-requires-clause-edge : goal.call_of-call-requires-clause-edge
 call_of-call-requires-clause-edge g c =
-    let link : link_at c.reverse_from-place.new.self.links c.links.place ≡ Some (c.in-Some.next, c.in-Some.edge) = search rules in
-    (route_next (g.W.Relaxer.hierarchy c.args.walker.now) (call_text (g.P.WalkForm.text c.args.form.now) (g.W.Relaxer.hierarchy c.args.walker.now)) c.args.nodes c.args.labels.now c.args.chain.now.links c.reverse_from-place.new.self.links c.args.end c.links.place c.links.first
-    (g.K.Sink.state c.args.sink.now) (g.K.Sink.state c.links.sink) c.in-Some.next c.in-Some.edge
-    (c.requires.ready.rises c.requires.unturned) c.requires.end c.requires.arriving c.links.invariant.on link).small
+    let text = call_text (g.P.WalkForm.text c.args.form.now) (g.W.Relaxer.hierarchy c.args.walker.now) in
+    let nodes = c.args.reached.nodes in
+    let seconds = c.args.reached.seconds.now in
+    let before = c.args.chain.now.links in
+    let after = c.reverse_from-place.new.self.links in
+    let rises = c.requires.ready.rises c.requires.unturned in
+    let end = c.args.end in
+    let a = g.K.Sink.state c.args.sink.now in
+    let h = g.W.Relaxer.hierarchy c.args.walker.now in
+    let place = c.links.place in
+    let first = c.links.first in
+    let b = g.K.Sink.state c.links.sink in
+    let next = c.in-Some.next in
+    let edge = c.in-Some.edge in
+    let on = c.links.invariant.on in
+    let link : link_at after place ≡ Some (next, edge) = search rules in
+    let step = route_next h text nodes seconds before after end place first a b next edge rises c.requires.end
+    c.requires.arriving on link in
+    step.small
 
 pub write_some-requires : goal.write_some-requires
 write_some-requires g c =
-    let link : link_at c.reverse_from-place.new.self.links c.links.place ≡ Some (c.in-Some.next, c.in-Some.edge) = search rules in
-    let next = route_next (g.W.Relaxer.hierarchy c.args.walker.now) (call_text (g.P.WalkForm.text c.args.form.now) (g.W.Relaxer.hierarchy c.args.walker.now)) c.args.nodes c.args.labels.now c.args.chain.now.links c.reverse_from-place.new.self.links c.args.end c.links.place c.links.first
-    (g.K.Sink.state c.args.sink.now) (g.K.Sink.state c.links.sink) c.in-Some.next c.in-Some.edge
-    (c.requires.ready.rises c.requires.unturned) c.requires.end c.requires.arriving c.links.invariant.on link in
-    record {
-      arriving = subst (λ (h : HierarchyValue). AreArriving h (calls_of_some c.call_of-call.result)) (sym c.links.invariant.stays)
-          (subst (AreArriving (g.W.Relaxer.hierarchy c.args.walker.now)) (sym c.call_of-call.ensures) next.arriving);
-    }
+    let text = call_text (g.P.WalkForm.text c.args.form.now) (g.W.Relaxer.hierarchy c.args.walker.now) in
+    let nodes = c.args.reached.nodes in
+    let seconds = c.args.reached.seconds.now in
+    let before = c.args.chain.now.links in
+    let after = c.reverse_from-place.new.self.links in
+    let rises = c.requires.ready.rises c.requires.unturned in
+    let end = c.args.end in
+    let a = g.K.Sink.state c.args.sink.now in
+    let h = g.W.Relaxer.hierarchy c.args.walker.now in
+    let place = c.links.place in
+    let first = c.links.first in
+    let b = g.K.Sink.state c.links.sink in
+    let next = c.in-Some.next in
+    let edge = c.in-Some.edge in
+    let on = c.links.invariant.on in
+    let link : link_at after place ≡ Some (next, edge) = search rules in
+    let step = route_next h text nodes seconds before after end place first a b next edge rises c.requires.end
+    c.requires.arriving on link in
+    let call = calls_of_some c.call_of-call.result in
+    let arriving : AreArriving h call = subst (AreArriving h) (sym c.call_of-call.ensures) step.arriving in
+    record { arriving = subst (λ (v : HierarchyValue). AreArriving v call) (sym c.links.invariant.stays) arriving }
 
 pub returns-in_err-first-clause-wrote : goal.returns-in_err-first-clause-wrote
 returns-in_err-first-clause-wrote g c =
-    let link : link_at c.reverse_from-place.new.self.links c.links.place ≡ Some (c.in-Some.next, c.in-Some.edge) = search rules in
-    let fault = c.in_err-first.field-0.0 in
+    let text = call_text (g.P.WalkForm.text c.args.form.now) (g.W.Relaxer.hierarchy c.args.walker.now) in
+    let nodes = c.args.reached.nodes in
+    let seconds = c.args.reached.seconds.now in
+    let before = c.args.chain.now.links in
+    let after = c.reverse_from-place.new.self.links in
+    let rises = c.requires.ready.rises c.requires.unturned in
+    let end = c.args.end in
     let a = g.K.Sink.state c.args.sink.now in
+    let h = g.W.Relaxer.hierarchy c.args.walker.now in
+    let place = c.links.place in
+    let first = c.links.first in
     let b = g.K.Sink.state c.links.sink in
+    let next = c.in-Some.next in
+    let edge = c.in-Some.edge in
+    let on = c.links.invariant.on in
+    let link : link_at after place ≡ Some (next, edge) = search rules in
+    let fault = c.in_err-first.field-0.0 in
     let d = g.K.Sink.state c.write_some.new.sink in
     let call = c.call_of-call.result in
-    let wrote = subst (λ (h : HierarchyValue). Wrote {T = Bool} {E = SinkFailed} b d (Err fault)
-    (routed_text (call_text (g.P.WalkForm.text c.args.form.now) h) c.links.first (calls_of_some call))) c.links.invariant.stays c.in_err-first.ensures.wrote in
-    route_stops (call_text (g.P.WalkForm.text c.args.form.now) (g.W.Relaxer.hierarchy c.args.walker.now)) c.args.nodes c.args.labels.now c.args.chain.now.links c.reverse_from-place.new.self.links c.args.end c.links.place c.links.first
-    a b d c.in-Some.next c.in-Some.edge call SinkFailed fault c.from_residual.result c.links.invariant.on link c.call_of-call.ensures wrote c.from_residual.ensures.0
+    let wrote = subst (λ (v : HierarchyValue). Wrote {T = Bool} {E = SinkFailed} b d (Err fault)
+    (routed_text (call_text (g.P.WalkForm.text c.args.form.now) v) first (calls_of_some call)))
+    c.links.invariant.stays c.in_err-first.ensures.wrote in
+    route_stops text nodes seconds before after end place first a b d next edge call SinkFailed fault
+    c.from_residual.result on link c.call_of-call.ensures wrote c.from_residual.ensures.0
 
 pub links-smaller : goal.links-smaller
 links-smaller g c =
-    let link : link_at c.reverse_from-place.new.self.links c.links.place ≡ Some (c.in-Some.next, c.in-Some.edge) = search rules in
-    let next = route_next (g.W.Relaxer.hierarchy c.args.walker.now) (call_text (g.P.WalkForm.text c.args.form.now) (g.W.Relaxer.hierarchy c.args.walker.now)) c.args.nodes c.args.labels.now c.args.chain.now.links c.reverse_from-place.new.self.links c.args.end c.links.place c.links.first
-    (g.K.Sink.state c.args.sink.now) (g.K.Sink.state c.links.sink) c.in-Some.next c.in-Some.edge
-    (c.requires.ready.rises c.requires.unturned) c.requires.end c.requires.arriving c.links.invariant.on link in
-    omega (arith, next.up, next.few)
+    let text = call_text (g.P.WalkForm.text c.args.form.now) (g.W.Relaxer.hierarchy c.args.walker.now) in
+    let nodes = c.args.reached.nodes in
+    let seconds = c.args.reached.seconds.now in
+    let before = c.args.chain.now.links in
+    let after = c.reverse_from-place.new.self.links in
+    let rises = c.requires.ready.rises c.requires.unturned in
+    let end = c.args.end in
+    let a = g.K.Sink.state c.args.sink.now in
+    let h = g.W.Relaxer.hierarchy c.args.walker.now in
+    let place = c.links.place in
+    let first = c.links.first in
+    let b = g.K.Sink.state c.links.sink in
+    let next = c.in-Some.next in
+    let edge = c.in-Some.edge in
+    let on = c.links.invariant.on in
+    let link : link_at after place ≡ Some (next, edge) = search rules in
+    let step = route_next h text nodes seconds before after end place first a b next edge rises c.requires.end
+    c.requires.arriving on link in
+    omega (arith, step.up, step.few)
 
 pub links-preserved : goal.links-preserved
 links-preserved g c =
-    let h = g.W.Relaxer.hierarchy c.args.walker.now in
-    let link : link_at c.reverse_from-place.new.self.links c.links.place ≡ Some (c.in-Some.next, c.in-Some.edge) = search rules in
-    let next = route_next h (call_text (g.P.WalkForm.text c.args.form.now) (g.W.Relaxer.hierarchy c.args.walker.now)) c.args.nodes c.args.labels.now c.args.chain.now.links c.reverse_from-place.new.self.links c.args.end c.links.place c.links.first
-    (g.K.Sink.state c.args.sink.now) (g.K.Sink.state c.links.sink) c.in-Some.next c.in-Some.edge
-    (c.requires.ready.rises c.requires.unturned) c.requires.end c.requires.arriving c.links.invariant.on link in
+    let text = call_text (g.P.WalkForm.text c.args.form.now) (g.W.Relaxer.hierarchy c.args.walker.now) in
+    let nodes = c.args.reached.nodes in
+    let seconds = c.args.reached.seconds.now in
+    let before = c.args.chain.now.links in
+    let after = c.reverse_from-place.new.self.links in
+    let rises = c.requires.ready.rises c.requires.unturned in
+    let end = c.args.end in
     let a = g.K.Sink.state c.args.sink.now in
+    let h = g.W.Relaxer.hierarchy c.args.walker.now in
+    let place = c.links.place in
+    let first = c.links.first in
     let b = g.K.Sink.state c.links.sink in
+    let next = c.in-Some.next in
+    let edge = c.in-Some.edge in
+    let on = c.links.invariant.on in
+    let link : link_at after place ≡ Some (next, edge) = search rules in
+    let step = route_next h text nodes seconds before after end place first a b next edge rises c.requires.end
+    c.requires.arriving on link in
     let d = g.K.Sink.state c.write_some.new.sink in
     let call = c.call_of-call.result in
     let still = c.in_ok-first.first in
     let wrote = subst (λ (v : HierarchyValue). Wrote {T = Bool} {E = SinkFailed} b d (Ok still)
-    (routed_text (call_text (g.P.WalkForm.text c.args.form.now) v) c.links.first (calls_of_some call))) c.links.invariant.stays c.in_ok-first.ensures.wrote in
-    let is = c.in_ok-first.ensures.first in
+    (routed_text (call_text (g.P.WalkForm.text c.args.form.now) v) first (calls_of_some call)))
+    c.links.invariant.stays c.in_ok-first.ensures.wrote in
     record {
       stays = c.write_some.ensures.stays ∙ c.links.invariant.stays;
       quiet = c.write_some.ensures.quiet ∙ c.links.invariant.quiet;
-      within = next.within;
-      few = next.few;
-      on = route_on (call_text (g.P.WalkForm.text c.args.form.now) (g.W.Relaxer.hierarchy c.args.walker.now)) c.args.nodes c.args.labels.now c.args.chain.now.links c.reverse_from-place.new.self.links c.args.end c.links.place c.links.first
-          a b d c.in-Some.next c.in-Some.edge call still SinkFailed c.links.invariant.on link c.call_of-call.ensures wrote is;
+      within = step.within;
+      few = step.few;
+      on = route_on text nodes seconds before after end place first a b d next edge call still SinkFailed
+          on link c.call_of-call.ensures wrote c.in_ok-first.ensures.first;
     }
 
 pub returns-clause-wrote : goal.returns-clause-wrote
 returns-clause-wrote g c =
-    let none : link_at c.reverse_from-place.new.self.links c.links.place ≡ None = sym c.follow.ensures ∙ c.in_default.is in
-    wrote_ok (route_over (call_text (g.P.WalkForm.text c.args.form.now) (g.W.Relaxer.hierarchy c.args.walker.now)) c.args.nodes c.args.labels.now c.args.chain.now.links c.reverse_from-place.new.self.links c.args.end c.links.place c.links.first
-    (g.K.Sink.state c.args.sink.now) (g.K.Sink.state c.links.sink) c.links.invariant.on none)
+    let text = call_text (g.P.WalkForm.text c.args.form.now) (g.W.Relaxer.hierarchy c.args.walker.now) in
+    let nodes = c.args.reached.nodes in
+    let seconds = c.args.reached.seconds.now in
+    let before = c.args.chain.now.links in
+    let after = c.reverse_from-place.new.self.links in
+    let rises = c.requires.ready.rises c.requires.unturned in
+    let end = c.args.end in
+    let a = g.K.Sink.state c.args.sink.now in
+    let place = c.links.place in
+    let b = g.K.Sink.state c.links.sink in
+    let none : link_at after place ≡ None = sym c.follow.ensures ∙ c.in_default.is in
+    wrote_ok (route_over text nodes seconds before after end place c.links.first a b c.links.invariant.on none)

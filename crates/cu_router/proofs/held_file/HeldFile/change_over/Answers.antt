@@ -6,9 +6,10 @@ use Rattle.cu_resettled.specs.ResettlingAll.{hierarchy_with_all}
 use Rattle.cu_pack.specs.Checks.{Spells, sealed}
 use Rattle.cu_pack.specs.Reading.{decoded}
 use Rattle.cu_pack.proofs.Viewed.Views.{said_again}
+use Rattle.cu_sweep.specs.Near.{AreNear}
 use Rattle.cu_router.specs.Changes.{IsChange}
 use Rattle.cu_router.specs.Steps.Holding.{HoldsFile, IsKnown, IsKnownBut}
-use Rattle.cu_router.proofs.HeldLaws.{change_below, changed_over, decoded_is, known_over, touched_below}
+use Rattle.cu_router.proofs.HeldLaws.{change_below, changed_over, decoded_is, edges_stay, known_over, touched_below}
 use Rattle.cu_router.proofs.held_file.HeldFile.change_over.Goals as goal
 
 pub adopt-requires : goal.adopt-requires
@@ -33,6 +34,24 @@ renew-requires c =
           (known_over h bytes lists inside.known c.self.invariant.0.spelled.sound change c.self.invariant.1);
     }
 
+pub adopt-requires-2 : goal.adopt-requires-2
+adopt-requires-2 c = record {
+  spelled = subst (λ (bs : List ℕ). Spells (sealed bs) (decoded (sealed bs))) (sym c.deref-2.ensures.value)
+      (said_again (sealed c.args.bytes.items) _ c.requires.change.spelled);
+}
+
+pub renew-requires-2 : goal.renew-requires-2
+renew-requires-2 c =
+    let lists = c.args.lists.now in
+    let inside = c.self.inside in
+    let bytes = c.args.bytes.items in
+    let h = decoded (sealed inside.bytes.items) in
+    let change = subst (λ (g : HierarchyValue). IsChange g bytes lists) (sym c.self.view_is) c.requires.change in
+    let same = sym (c.adopt-2.ensures.same ∙ ap (λ (bs : List ℕ). decoded (sealed bs)) c.deref-2.ensures.value) in
+    record {
+      edges = c.self.invariant.2.up.0 ∙ edges_stay h bytes lists change ∙ ap (λ (g : HierarchyValue). length g.edges) same;
+    }
+
 pub mark-requires : goal.mark-requires
 mark-requires c =
     let lists = c.args.lists.now in
@@ -52,6 +71,8 @@ invariant_of-self c =
       subst (λ (marks : List Bool). HoldsFile (decoded (sealed bytes)) bytes false inside.graph inside.tree marks) (sym c.mark.ensures)
           (changed_over h inside.bytes.items bytes inside.has_digest inside.graph inside.tree inside.customized c.args.lists.now c.self.invariant.0 change),
       subst (λ (g : HierarchyValue). IsKnown g c.renew.new.self) same c.renew.ensures.known,
+      subst (λ (g : HierarchyValue). AreNear g c.renew-2.new.self)
+          (c.adopt-2.ensures.same ∙ ap (λ (bs : List ℕ). decoded (sealed bs)) c.deref-2.ensures.value) c.renew-2.ensures,
     )
 
 pub returns : goal.returns

@@ -1,8 +1,10 @@
-use Rattle.std.proofs.Common.{ℕ, List, subst, true}
+use Rattle.std.proofs.Common.{ℕ, List, subst, sym, true}
 use Rattle.cu_pack.specs.Checks.{Spells, sealed}
 use Rattle.cu_pack.specs.Reading.{decoded}
 use Rattle.cu_pack.proofs.Read.Bodies.{spelled_sealed}
-use Rattle.cu_router.proofs.HeldLaws.{held_new, sealed_spells, spells_sealed}
+use Rattle.cu_interval.specs.Hierarchies.{HierarchyValue}
+use Rattle.cu_sweep.specs.Near.{AreNear}
+use Rattle.cu_router.proofs.HeldLaws.{decoded_is, held_new, sealed_spells, spells_sealed}
 use Rattle.cu_router.proofs.held_file.HeldFile.knowing.Goals as goal
 
 pub invariant_of-result : goal.invariant_of-result
@@ -17,7 +19,11 @@ invariant_of-result c =
       tree = c.in_ok-graph.ensures.tree;
       knows = c.requires.known h spells;
     }) in
-    (holds, c.requires.walks (decoded (sealed bytes)) (spells_sealed bytes h spells))
+    let said = sym (decoded_is (sealed bytes) h (sealed_spells bytes h spells)) in (
+      holds,
+      c.requires.walks (decoded (sealed bytes)) (spells_sealed bytes h spells),
+      subst (λ (g : HierarchyValue). AreNear g c.in_ok-graph.bounds) said c.in_ok-graph.ensures.bounds,
+    )
 
 pub returns : goal.returns
 returns c =
