@@ -38,7 +38,14 @@ STAGES = {
     "ask": ["reading files", "checking the packed file"],
     "verify": ["reading files", "checking the packed file", "settling shortcuts", "comparing"],
     "migrate": ["reading files", "checking the packed file", "storing"],
-    "edit": ["reading files", "checking the packed file", "making edits", "packing", "storing"],
+    "edit": [
+        "reading files",
+        "checking the packed file",
+        "making edits",
+        "settling shortcuts",
+        "packing",
+        "storing",
+    ],
     "wait": [
         "reading files",
         "converting measured times",
@@ -123,6 +130,20 @@ def test_one_line_written_over_on_a_terminal(program: Path, tmp_path: Path) -> N
     assert "\rcatchup: storing\x1b[K" in shown
     env["CATCHUP_PROGRESS"] = "0"
     assert on_terminal(program, words("order", tmp_path), env) == ("", "ordered 159\n")
+
+
+def test_settled_shortcuts_of_edits_are_counted_on_a_terminal(program: Path, tmp_path: Path) -> None:
+    names = [str(tmp_path / name) for name in ("nodes.csv", "roads.csv", "profiles.csv")]
+    packed, edits = str(tmp_path / "grid.cu"), tmp_path / "edits.txt"
+    subprocess.run([program, "make", "7", "40", "40", *names], check=True, capture_output=True)
+    subprocess.run([program, "build", *names, "dissect", packed], check=True, capture_output=True)
+    edits.write_text("".join(f"s,{profile},0,travel,{70 + profile}\n" for profile in range(64)))
+    env = {name: value for name, value in os.environ.items() if name != "CATCHUP_PROGRESS"}
+    shown, output = on_terminal(program, ["edit", packed, str(edits), str(tmp_path / "edited.cu")], env)
+    assert output.count("done ") == 64 and output.splitlines()[-1].startswith("stored ")
+    percents = [int(one) for one in re.findall(r"settling shortcuts, (\d+) %, \d+ s left", shown)]
+    assert len(percents) > 1 and percents == sorted(percents) and percents[-1] <= 100
+    assert shown.endswith("\r\x1b[K"), "the line is taken away before the last line is said"
 
 
 def test_a_refused_table_is_told_as_ever(program: Path, tmp_path: Path) -> None:

@@ -24,6 +24,7 @@ use Rattle.cu_edits.specs.Steps.Found.{AreTouchedFrom}
 use Rattle.cu_edits.specs.Steps.Known.{IsEditSound}
 use Rattle.cu_edits.proofs.EditedLists.{arcs_all, profiles_all}
 use Rattle.cu_edits.proofs.Planned.{changed_within}
+use Rattle.cu_edits.proofs.ListLaws.{get_front}
 
 pub range_more : (g : NetworkValue) (edits : List Edit) (edit : Edit) → AreInRange g edits → IsEditInRange (edited_all g edits) edit → AreInRange g (edits ++ edit ∷ [])
 range_more g [] edit range one = (one, tt)
@@ -34,11 +35,6 @@ sound_more [] edit sound one = (one, tt)
 sound_more (first ∷ edits) edit sound one = (sound.0, sound_more edits edit sound.1 one)
 
 -- items of a list with one more
-get_front : {X : Type 0} (xs : List X) (y x : X) (i : ℕ) → slice_get xs i ≡ Some x → slice_get (xs ++ y ∷ []) i ≡ Some x
-get_front [] y x i at = absurd (cc at)
-get_front (z ∷ zs) y x zero at = at
-get_front (z ∷ zs) y x (suc i) at = get_front zs y x i at
-
 get_last : {X : Type 0} (xs : List X) (y : X) → slice_get (xs ++ y ∷ []) (length xs) ≡ Some y
 get_last [] y = refl
 get_last (x ∷ xs) y = get_last xs y

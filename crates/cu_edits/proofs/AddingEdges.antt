@@ -17,6 +17,7 @@ use Rattle.cu_links.proofs.Held.{same_rank}
 use Rattle.cu_interval.specs.Hierarchies.{HierarchyValue}
 use Rattle.cu_interval.proofs.Lookups.{one_number}
 use Rattle.cu_edits.specs.Steps.Spreading.{Adds, AreBucketsOf, IsAbove, IsAdded, IsBetween, IsLowEnd, IsOfProfile, IsOfRoad}
+use Rattle.cu_edits.proofs.ListLaws.{either}
 
 -- no edge is added
 pub adds_none : (edges : List Ends) (IsNew : ℕ → Type 0) (buckets : BucketsValue) → ((e : ℕ) → IsNew e → ⊥) → Adds edges IsNew buckets buckets
@@ -64,10 +65,6 @@ buckets_of_added graph IsNew old new fit adds = record {
     | inr a ↦ subst (IsLowEnd graph.edges e) (same_rank a.rank rank (slice_get new.states e) a.held held) a.low
   ];
 }
-
-either : {A B C : Type 0} → A ⊎ B → (A → C) → (B → C) → C
-either (inl a) f g = f a
-either (inr b) f g = g b
 
 -- some edges and then others
 pub adds_then : (edges : List Ends) (IsFirst IsSecond : ℕ → Type 0) (old mid new : BucketsValue) → Adds edges IsFirst old mid → Adds edges IsSecond mid new

@@ -21,6 +21,7 @@ use Rattle.cu_edits.specs.EditLists.{AreByProfile, EditListValue, FitsNetwork, H
 use Rattle.cu_edits.specs.Steps.Adding.{AreFirstProfiles, AreMoved, assigned_by}
 use Rattle.cu_edits.specs.Steps.Found.{AddsDriven}
 use Rattle.cu_edits.proofs.EditedLists.{arcs_all}
+use Rattle.cu_edits.proofs.ListLaws.{either}
 
 -- the first roads
 pub profiles_none : (g : NetworkValue) → AreFirstProfiles g 0 [] []
@@ -131,10 +132,6 @@ moved_stays assigned moved arc inside are = record {
 -- of some roads those with a profile were added, one after the other
 abbrev pub AddsFirst : NetworkValue → ℕ → List ℕ → ℕ → List ℕ → List ℕ → Type 0
 AddsFirst g profile some count old now = (arc : ℕ) → Contains now arc ↔ (Contains old arc ⊎ ((i : ℕ) × (i < count) × (get_or some i 0 ≡ arc) × HasProfile g profile arc))
-
-either : {A B C : Type 0} → A ⊎ B → (A → C) → (B → C) → C
-either (inl a) f g = f a
-either (inr b) f g = g b
 
 pub adds_first_none : (g : NetworkValue) (profile : ℕ) (some old : List ℕ) → AddsFirst g profile some 0 old old
 adds_first_none g profile some old arc = ((λ c. inl c), λ e. either e (λ c. c) (λ t. absurd (omega (arith, t.1))))

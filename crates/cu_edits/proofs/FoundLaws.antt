@@ -1,5 +1,5 @@
 -- Edges found one after the other.
-use Rattle.std.proofs.Common.{◌≡◌, ◌≢◌, ◌<◌, ◌+◌, ◌∙◌, ◌⊎◌, ℕ, Bool, true, false, zero, suc, List, [], ◌∷◌, ◌++◌, Some, refl, ap, sym, subst, arith, inl, inr, length, get_or}
+use Rattle.std.proofs.Common.{◌≡◌, ◌≢◌, ◌<◌, ◌+◌, ◌∙◌, ◌⊎◌, ℕ, Bool, true, false, List, [], ◌∷◌, ◌++◌, Some, refl, ap, sym, subst, arith, inl, inr, length, get_or}
 use Rattle.std.specs.Prelude.{◌↔◌, All, max, min, replicate, slice_get, slice_set}
 use Rattle.std.specs.List.{Contains}
 use Rattle.std.proofs.lemmas.Bool.{cases_eq}
@@ -17,6 +17,7 @@ use Rattle.cu_interval.proofs.ArcLists.{links_same}
 use Rattle.cu_interval.proofs.Lookups.{one_number}
 use Rattle.cu_edits.specs.Steps.Found.{AddsFound, AreMarked, IsOfSome, LeadsTo, joined_to}
 use Rattle.cu_edits.specs.Steps.Spreading.{IsBetween, IsOfRoad}
+use Rattle.cu_edits.proofs.ListLaws.{either, get_front}
 
 -- none was found
 pub marked_none : (edges : ℕ) → AreMarked (replicate edges false) []
@@ -57,11 +58,6 @@ marked_more marks found edge are inside off = record {
       ]);
 }
 
-get_front : (xs : List ℕ) (y x i : ℕ) → slice_get xs i ≡ Some x → slice_get (xs ++ y ∷ []) i ≡ Some x
-get_front [] y x i at = absurd (cc at)
-get_front (z ∷ zs) y x zero at = at
-get_front (z ∷ zs) y x (suc i) at = get_front zs y x i at
-
 pub adds_one : (found : List ℕ) (edge : ℕ) → AddsFound (λ e. e ≡ edge) found (found ++ edge ∷ [])
 adds_one found edge = record {
   kept = λ i e at. get_front found edge e i at;
@@ -97,10 +93,6 @@ found_as IsNew IsNamed old now same adds = record {
 
 pub stays_found : (IsNew : ℕ → Type 0) (old now : List ℕ) → AddsFound IsNew old now → (e : ℕ) → Contains old e → Contains now e
 stays_found IsNew old now adds e c = let (i, at) = place_of old e c in member_at now e i (adds.kept i e at)
-
-either : {A B C : Type 0} → A ⊎ B → (A → C) → (B → C) → C
-either (inl a) f g = f a
-either (inr b) f g = g b
 
 pub found_then : (IsFirst IsSecond : ℕ → Type 0) (old mid now : List ℕ) → AddsFound IsFirst old mid → AddsFound IsSecond mid now
     → AddsFound (λ e. IsFirst e ⊎ IsSecond e) old now

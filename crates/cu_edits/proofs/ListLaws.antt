@@ -1,5 +1,5 @@
 -- A list of edits: none at first, what it says of a road and of a profile, and its touched edges in turn.
-use Rattle.std.proofs.Common.{◌≡◌, ◌≤◌, ◌<◌, ◌+◌, ◌∙◌, ℕ, zero, suc, Bool, true, false, List, [], ◌∷◌, ◌++◌, Option, Some, None, refl, ap, sym, subst, arith, inl, inr, length}
+use Rattle.std.proofs.Common.{◌≡◌, ◌≤◌, ◌<◌, ◌+◌, ◌∙◌, ◌⊎◌, ℕ, zero, suc, Bool, true, false, List, [], ◌∷◌, ◌++◌, Option, Some, None, refl, ap, sym, subst, arith, inl, inr, length}
 use Rattle.std.specs.Prelude.{◌↔◌, IsTrue, replicate, slice_get}
 use Rattle.std.specs.Borrow.{Bor}
 use Rattle.std.specs.List.{AllPairs, Contains}
@@ -210,3 +210,14 @@ touched_all h list count edges all first fits = record {
         (first.exact edge).1 (omega (arith, inside, long, all), at ∙ ap (λ (m : Bool). Some m) set),
   );
 }
+
+-- what stood in a list stands there once one more is behind it
+pub get_front : {X : Type 0} (xs : List X) (y x : X) (i : ℕ) → slice_get xs i ≡ Some x → slice_get (xs ++ y ∷ []) i ≡ Some x
+get_front [] y x i at = absurd (cc at)
+get_front (z ∷ zs) y x zero at = at
+get_front (z ∷ zs) y x (suc i) at = get_front zs y x i at
+
+-- either of two leads there
+pub either : {A B C : Type 0} → A ⊎ B → (A → C) → (B → C) → C
+either (inl a) f g = f a
+either (inr b) f g = g b

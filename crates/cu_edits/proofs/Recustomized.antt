@@ -2,9 +2,7 @@
 use Rattle.std.proofs.Common.{◌≡◌, ◌≤◌, ◌<◌, ◌+◌, ◌∙◌, ℕ, List, [], ◌∷◌, ◌++◌, Some, ap, refl, sym, subst, arith, length, get_or}
 use Rattle.std.specs.Prelude.{slice_get}
 use Rattle.std.specs.List.{Contains}
-use Rattle.std.specs.List.Sorted.{IsPermutation}
 use Rattle.std.proofs.lemmas.List.{length-map, length_push, map-append}
-use Rattle.std.proofs.lemmas.List.Sorted.{Contains-permutation, IsPermutation-map, IsPermutation-refl, IsPermutation-sym}
 use Rattle.std.proofs.lemmas.Option.{slice_get-get_or}
 use Rattle.cu_model.specs.declared.roads.Edit.{Edit}
 use Rattle.cu_interval.specs.declared.ways.TouchedEdge.{TouchedEdge}
@@ -100,7 +98,7 @@ module _ (h : HierarchyValue) (edit : List Edit) (edges : List ℕ) (touched : N
 -- all touched edges were settled
 pub record IsRecustomized (h : HierarchyValue) (edit : List Edit) (s : SettlingValue) (lists : List TouchedEdge) : Type 0 where
   pub touched : NumbersTouchedBySome h edit (numbers_of lists)
-  pub settled : IsPermutation s.settled lists
+  pub settled : s.settled ≡ lists
   pub resettled : IsResettledAll h edit (hierarchy_with_all h edit lists)
   pub sound : IsHierarchy (hierarchy_with_all h edit lists)
   pub same : settled_so_far s ≡ hierarchy_with_all h edit lists
@@ -113,16 +111,15 @@ recustomized_all h edit edges touched index lists s first done range sets =
     let all : AllSettled settled = λ e is. subst (λ (xs : List ℕ). Contains xs e) (sym whole) ((touched.exact e).1 is) in
     record {
       touched = subst (NumbersTouchedBySome h edit) (sym whole) touched;
-      settled = subst (λ (x : SettlingValue). IsPermutation x.settled lists) (sym first.state) (IsPermutation-refl lists);
+      settled = ap (λ (x : SettlingValue). x.settled) first.state;
       resettled = all_resettled settled first.are all;
       sound = all_sound settled first.are all (edited_networks h.network edit first.are.sound.network range sets);
       same = ap settled_so_far first.state;
     }
 
 -- so each of them is among those that the settler settled
-pub all_settled : (h : HierarchyValue) (edit : List Edit) (s : SettlingValue) (lists : List TouchedEdge) → NumbersTouchedBySome h edit (numbers_of lists) → IsPermutation s.settled lists
+pub all_settled : (h : HierarchyValue) (edit : List Edit) (s : SettlingValue) (lists : List TouchedEdge) → NumbersTouchedBySome h edit (numbers_of lists) → s.settled ≡ lists
     → s.before ≡ h → s.edit ≡ edit → (edge : ℕ) → IsTouchedEdgeBySome s.before s.edit edge → IsSettled s edge
 all_settled h edit s lists numbers moved before same edge touched =
     let there : IsTouchedEdgeBySome h edit edge = subst (λ (e : List Edit). IsTouchedEdgeBySome h e edge) same (subst (λ (x : HierarchyValue). IsTouchedEdgeBySome x s.edit edge) before touched) in
-    let back = IsPermutation-sym (numbers_of s.settled) (numbers_of lists) (IsPermutation-map (λ (t : TouchedEdge). t.edge) s.settled lists moved) in
-    Contains-permutation (numbers_of lists) (numbers_of s.settled) edge back ((numbers.exact edge).1 there)
+    subst (λ (xs : List TouchedEdge). Contains (numbers_of xs) edge) (sym moved) ((numbers.exact edge).1 there)

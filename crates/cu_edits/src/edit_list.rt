@@ -178,7 +178,7 @@ impl EditList {
     }
 
     /// The edges that an edit touches which changes these roads, over the network as edits left it. The graph is that of the
-    /// hierarchy. Takes no more of the list than room, which is as before.
+    /// hierarchy. Contracts see the same list before and after: it lends its room alone.
     pub(crate) fn touched_from<W: Ways>(
         &mut self,
         alloc: Global,

@@ -92,7 +92,7 @@ impl<'a, W: Ways> EditParts<'a, W> {
         }
     }
 
-    /// The ways before the editss.
+    /// The ways before the edits.
     pub fn ways(&self) -> &'a W {
         self.ways
     }

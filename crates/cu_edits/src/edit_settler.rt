@@ -17,6 +17,7 @@ ghost use Rattle.cu_edits.specs.Steps.Known.{HasFunctions, functions_of};
 ghost use Rattle.cu_edits.specs.Steps.Parts.{FitTogether, settling_over};
 
 use crate::copied_lists::push_copy;
+use crate::customized::CustomizedEdges;
 use crate::edge_functions::{EdgeFunctions, KnownFunctions, know};
 use crate::edit_list::EditList;
 use crate::edit_parts::EditParts;
@@ -107,27 +108,26 @@ impl<'a, W: Ways> EditSettler<'a, W> {
         Ok(EditSettler::of_parts(alloc, parts, learned))
     }
 
-    /// The same for all edits of a list.
+    /// A settler that settled none yet, for all edits of a list, where edges with a mark are known to be customized.
     pub fn over_all(
         alloc: Global,
         ways: &'a W,
         edits: &'a EditList,
         graph: &'a Chordal,
         arcs: &'a EdgeArcs,
-        customized: &'a [bool],
-        learned: Option<Learned>,
+        customized: &'a CustomizedEdges,
     ) -> EditSettler<'a, W>
         requires edits { FitsNetwork (W.hierarchy ways.now).network edits.now }
         requires graph { IsHierarchyOf graph.now (W.hierarchy ways.now) }
         requires arcs { AreEdgeArcs (W.hierarchy ways.now).network (W.hierarchy ways.now).order
             graph.now.edges arcs.now }
         requires customized { AreCustomized (W.hierarchy ways.now) customized.now }
-        requires learned { IfSome learned (ArePackedOf (W.hierarchy ways.now)) }
         ensures { result
             ≡ record { before = W.hierarchy ways.now; edit = edits.now.edits; settled = [] } }
     {
-        let parts = EditParts::of(ways, Edits::All(edits), graph, arcs, customized);
-        EditSettler::of_parts(alloc, parts, learned)
+        let marks = customized.marks();
+        let parts = EditParts::of(ways, Edits::All(edits), graph, arcs, marks);
+        EditSettler::of_parts(alloc, parts, None)
     }
 
     // A settler over these parts that settled none yet.

@@ -14,12 +14,16 @@
 //! and an edit keeps those that are and adds those that it settles; [`Learned`] has functions of lists (`specs/Learned.antt`),
 //! and an edit puts the new ones in the place of those of lists that it moved.
 //!
+//! Many edits are made at once by a list of them ([`EditList`], `specs/EditLists.antt`; [`Edits`] is one or such a list).
+//! [`plan_all`] adds one behind the others, and tells how many edges it touches; [`EditList::touched`] answers the edges that some
+//! of them touch, and [`recustomize_all`] settles each of these once.
+//!
 //! [`InWork`] makes an edit one touched edge a step (`specs/InWork.antt`), so that others may read the hierarchy in between:
 //! [`plan`] gives it its edges. A settler borrows what it settles over; [`EditSettler::pause`] lets go of that between two steps
 //! and [`EditSettler::resume`] takes it again (`specs/Paused.antt`), while [`WorkPapers`] keep the rest.
 //! [`PausedSettler::into_earlier`] gives back what was learned of the hierarchy before an edit that isn't made.
 //!
-//! It stands on `cu_model`, `cu_links`, `cu_arrival`, `cu_runs`, `cu_chordal`, `cu_interval`, `cu_customize`, `cu_unpack`, and on
+//! It stands on `cu_progress`, `cu_model`, `cu_links`, `cu_arrival`, `cu_runs`, `cu_chordal`, `cu_interval`, `cu_customize`, `cu_unpack`, and on
 //! `cu_resettled` for its laws. Private are how touched edges spread, what an edit is settled over, and what a settler holds;
 //! `specs/Steps` is cited by private functions alone.
 #![tactic(auto)]
@@ -62,7 +66,7 @@ pub use in_work::InWork;
 pub use learned::Learned;
 pub use paused::PausedSettler;
 pub use planning::plan_all;
-pub use recustomizing::{Touched, recustomize, recustomize_all, touch, touch_all, touch_over};
+pub use recustomizing::{Touched, recustomize, recustomize_all, touch, touch_over};
 pub use settler::Settler;
 pub use touching::plan;
 pub use work_papers::WorkPapers;

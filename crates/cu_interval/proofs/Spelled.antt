@@ -31,11 +31,11 @@ spelled_from least e (f ∷ es) le all turns =
           subst (λ (j : ℕ). Turns (get_or (e ∷ f ∷ es) (suc k) d) (get_or (e ∷ f ∷ es) j d)) same (turns (suc k) d (omega (arith, h)))),
     )
 
-tail_spelled : (least : ℕ) (e : Entry) (es : List Entry) → IsSpelledFrom least (e ∷ es) → IsSpelledFrom (suc e.from) es
+pub tail_spelled : (least : ℕ) (e : Entry) (es : List Entry) → IsSpelledFrom least (e ∷ es) → IsSpelledFrom (suc e.from) es
 tail_spelled least e [] h = tt
 tail_spelled least e (f ∷ es) h = h.3
 
-from_day : (least : ℕ) (e : Entry) (es : List Entry) → IsSpelledFrom least (e ∷ es) → (least ≤ e.from) × (e.from < day)
+pub from_day : (least : ℕ) (e : Entry) (es : List Entry) → IsSpelledFrom least (e ∷ es) → (least ≤ e.from) × (e.from < day)
 from_day least e [] h = h
 from_day least e (f ∷ es) h = (h.0, h.1)
 
@@ -54,7 +54,7 @@ shown es s o e = ap (option_map (λ (entry : Entry). entry.way)) e
 here : (least s : ℕ) (e : Entry) (es : List Entry) → IsSpelledFrom least (e ∷ es) → e.from ≤ s → entry_in es s ≡ None → way_in (e ∷ es) s ≡ Some e.way
 here least s e es h le none = shown (e ∷ es) s (Some e) (rw (none, le_test e.from s le) refl)
 
-head_at : (least : ℕ) (e : Entry) (es : List Entry) → IsSpelledFrom least (e ∷ es) → way_in (e ∷ es) e.from ≡ Some e.way
+pub head_at : (least : ℕ) (e : Entry) (es : List Entry) → IsSpelledFrom least (e ∷ es) → way_in (e ∷ es) e.from ≡ Some e.way
 head_at least e es h = here least e.from e es h (omega arith) (none_before (suc e.from) e.from es (tail_spelled least e es h) (omega arith))
 
 -- before the second entry begins, the first is in force
@@ -70,7 +70,7 @@ second_of x None w e = cc e
 second_of x (Some v) w e = refl
 
 -- from the second entry on, the first says nothing
-beyond : (s : ℕ) (e g : Entry) (es : List Entry) → g.from ≤ s → way_in (e ∷ g ∷ es) s ≡ way_in (g ∷ es) s
+pub beyond : (s : ℕ) (e g : Entry) (es : List Entry) → g.from ≤ s → way_in (e ∷ g ∷ es) s ≡ way_in (g ∷ es) s
 beyond s e g es le =
     let w = later_some g (entry_in es s) in
     let is : entry_in (g ∷ es) s ≡ Some w.0 = rw (le_test g.from s le) w.1 in

@@ -11,7 +11,6 @@ pub mod ResettledBuilt
 pub mod ResettledOnce
 pub mod ResettledInTurn
 pub mod FirstThere
-mod SpelledFronts
 pub mod RunsThere
 pub mod ListThere
 pub mod ResettledThere

@@ -14,7 +14,7 @@ use Rattle.cu_interval.specs.declared.ways.Way.TheVariants.{Road, Via}
 use Rattle.cu_interval.specs.declared.ways.Entry.{Entry}
 use Rattle.cu_interval.specs.WayLists.{IsFirstEarliest, IsRunsOf, IsWayList, Turns, entry_in, way_in}
 use Rattle.cu_interval.proofs.Spelled.{IsSpelledFrom, entries_rise}
-use Rattle.cu_resettled.proofs.SpelledFronts.{beyond, from_day, head_at, tail_spelled}
+use Rattle.cu_interval.proofs.Spelled.{beyond, from_day, head_at, tail_spelled}
 
 way_decided : (v w : Way) → Decided (v ≡ w)
 way_decided (Road a) (Road b) = elim (cases_eq a b) [ inl same ↦ inl (ap (λ (k : ℕ). Road k) same) | inr other ↦ inr (λ e. other (cc e)) ]

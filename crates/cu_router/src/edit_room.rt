@@ -17,11 +17,14 @@ ghost use Rattle.cu_router.specs.Steps.Rooms.{FitsEdits, HasEditRoom};
 
 use crate::held_file::HeldFile;
 use cu_chordal::Chordal;
-use cu_edits::{EditList, Edits, Learned, Touched, plan_all, touch_all, touch_over};
+use cu_edits::{
+    EditList, EditSettler, Edits, Learned, Touched, plan_all, recustomize_all, touch_over,
+};
 use cu_interval::{EdgeArcs, TouchedEdge, Ways};
 use cu_links::RankBuckets;
 use cu_model::{Edit, NoMemory, Roads};
 use cu_pack::{PackedView, order_of};
+use cu_progress::{Progress, Stage, begin};
 use cu_recall::{RecalledWays, Row};
 use std::alloc::Global;
 
@@ -201,12 +204,13 @@ pub(crate) fn add_held(
 /// The edges that some edits of a list touch, each settled once, with their lists after all of them, and the packed bytes, but for
 /// their digest, of the hierarchy after them; these rows say what is so of the one before. The room for edits fits the hierarchy
 /// after them, and is made if there is none; where memory runs out it is let go of.
-pub(crate) fn edit_all_held(
+pub(crate) fn edit_all_held<P: Progress>(
     alloc: Global,
     held: &HeldFile,
     rows: &[Row],
     edits: &EditList,
     editing: &mut Option<EditRoom>,
+    progress: &mut P,
 ) -> Result<(Vec<u8>, Vec<TouchedEdge>), NoMemory>
     requires edits { FitsList held.now edits.now }
     requires knows { Knows held.now rows.now }
@@ -226,7 +230,7 @@ pub(crate) fn edit_all_held(
 {
     fill_edit_room(alloc, held, editing)?;
     let Some(room) = editing else { unreachable!() };
-    let Ok(made) = repack_all_held(alloc, held, rows, edits, room) else {
+    let Ok(made) = repack_all_held(alloc, held, rows, edits, room, progress) else {
         drop(editing.take());
         return Err(NoMemory);
     };
@@ -234,12 +238,13 @@ pub(crate) fn edit_all_held(
 }
 
 // The same in room that is there.
-fn repack_all_held(
+fn repack_all_held<P: Progress>(
     alloc: Global,
     held: &HeldFile,
     rows: &[Row],
     edits: &EditList,
     room: &mut EditRoom,
+    progress: &mut P,
 ) -> Result<(Vec<u8>, Vec<TouchedEdge>), NoMemory>
     requires edits { FitsList held.now edits.now }
     requires knows { Knows held.now rows.now }
@@ -256,19 +261,21 @@ fn repack_all_held(
     ensures room { IfOk result (λ made. HasEditRoom
         (hierarchy_with_all held.now edits.now.edits made.1.items) room.new) }
 {
-    let lists = touch_all_held(alloc, held, rows, edits, room)?;
+    let lists = touch_all_held(alloc, held, rows, edits, room, progress)?;
+    begin(progress, Stage::Packing);
     let bytes = held.repacked(alloc, Edits::All(edits), lists.as_slice())?;
     Ok((bytes, lists))
 }
 
 // The edges that some edits of a list touch, with their lists after all of them; these rows say what is so of the hierarchy. The
 // room fits the hierarchy after them. What edits learned is let go of, so that there is room to pack.
-fn touch_all_held(
+fn touch_all_held<P: Progress>(
     alloc: Global,
     held: &HeldFile,
     rows: &[Row],
     edits: &EditList,
     room: &mut EditRoom,
+    progress: &mut P,
 ) -> Result<Vec<TouchedEdge>, NoMemory>
     requires edits { FitsList held.now edits.now }
     requires knows { Knows held.now rows.now }
@@ -288,5 +295,9 @@ fn touch_all_held(
     let graph = held.graph();
     let ways = RecalledWays::new(&view, graph, rows);
     let customized = held.customized();
-    touch_all(alloc, &ways, edits, graph, &room.arcs, customized)
+    let edges = edits.touched(alloc, graph.edges())?;
+    let mut settler = EditSettler::over_all(alloc, &ways, edits, graph, &room.arcs, customized);
+    let lists = recustomize_all(alloc, &edges, &mut settler, progress);
+    drop(settler);
+    lists
 }

@@ -34,6 +34,7 @@ use cu_interval::Ways;
 use cu_io::{Sink, SinkFailed};
 use cu_model::{Edit, NoMemory, Query, Roads};
 use cu_pack::PackedView;
+use cu_progress::Progress;
 use cu_reach::{LatestAsked, ReachAsked, ReachDesk, TableAsked};
 use cu_wait::MeasuredProfile;
 use std::alloc::Global;
@@ -271,14 +272,20 @@ impl Router {
     }
 
     /// Makes all edits of a list: each edge that some of them touches is settled once, and the file is packed once. Where memory
-    /// runs out nothing has changed.
-    pub fn edit_all(&mut self, alloc: Global, edits: &EditList) -> Result<(), NoMemory>
+    /// runs out nothing has changed. How many of the edges are settled is told as it goes.
+    pub fn edit_all<P: Progress>(
+        &mut self,
+        alloc: Global,
+        edits: &EditList,
+        progress: &mut P,
+    ) -> Result<(), NoMemory>
         requires edits { FitsList self.old edits.now }
         ensures edited { OnOk result (IsEditedAll self.old edits.now.edits self.new) }
         ensures kept { OnErr result (self.new ≡ self.old) }
     {
         let rows = self.queries.rows();
-        let (bytes, lists) = edit_all_held(alloc, &self.held, rows, edits, &mut self.editing)?;
+        let editing = &mut self.editing;
+        let (bytes, lists) = edit_all_held(alloc, &self.held, rows, edits, editing, progress)?;
         self.held.change_over(bytes, lists.as_slice());
         self.queries.forget();
         Ok(())

@@ -16,7 +16,7 @@ use crate::stops::SessionStop;
 use cu_edits::EditList;
 use cu_io::{Sink, SinkFailed, put_line};
 use cu_model::NoMemory;
-use cu_progress::{Progress, Silent, Stage, Telling};
+use cu_progress::{Progress, Silent, Stage, Telling, begin};
 use cu_router::Router;
 use cu_script::EditRefusal;
 use std::alloc::Global;
@@ -24,7 +24,7 @@ use std::alloc::Global;
 /// Makes the edits of a text in a hierarchy, all of them together, and then writes the replies to its lines: each is that of the
 /// network as the edits before it leave it, and each edge that some of them touches is settled once. A query line is refused, as
 /// it is no edit line. Where memory runs out nothing is made or written; where the sink fails in the reply to a line, all were
-/// made. How much of the text is read is told as it goes.
+/// made. How much of the text is read, and how many edges are settled, is told as it goes.
 pub fn answer_edits_telling<K: Sink, P: Progress>(
     alloc: Global,
     router: &mut Router,
@@ -36,7 +36,8 @@ pub fn answer_edits_telling<K: Sink, P: Progress>(
         (K.state sink.old) (K.state sink.new) }
 {
     let (edits, said) = plan_edits(alloc, router, text, progress)?;
-    router.edit_all(alloc, &edits)?;
+    router.edit_all(alloc, &edits, progress)?;
+    begin(progress, Stage::Done);
     put_all_said(&said, sink)?;
     Ok(())
 }

@@ -55,7 +55,6 @@ pub fn edit<H: Shelf, K: Sink, P: Progress>(
     let file = open_edited(alloc, asked.hierarchy, asked.edits, shelf, progress)?;
     let mut router = Router::new(alloc, file.hierarchy)?;
     let answered = answer_edits_telling(alloc, &mut router, &file.edits, sink, progress);
-    begin(progress, Stage::Packing);
     let packed = router.into_file();
     answered?;
     let bytes = packed.as_slice();

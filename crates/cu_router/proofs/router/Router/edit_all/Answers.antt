@@ -12,13 +12,13 @@ use Rattle.cu_router.proofs.RoomLaws.{edits_made, fits_after}
 use Rattle.cu_router.proofs.router.Router.edit_all.Goals as goal
 
 pub edit_all_held-requires-clause-knows : goal.edit_all_held-requires-clause-knows
-edit_all_held-requires-clause-knows c = c.rows-rows.ensures.knows c.self.inside.held c.self.invariant.0.knows
+edit_all_held-requires-clause-knows g c = c.rows-rows.ensures.knows c.self.inside.held c.self.invariant.0.knows
 
 pub edit_all_held-requires-clause-edits : goal.edit_all_held-requires-clause-edits
-edit_all_held-requires-clause-edits c = subst (λ (h : HierarchyValue). FitsList h c.args.edits.now) (sym c.self.view_is) c.requires.edits
+edit_all_held-requires-clause-edits g c = subst (λ (h : HierarchyValue). FitsList h c.args.edits.now) (sym c.self.view_is) c.requires.edits
 
 pub change_over-requires : goal.change_over-requires
-change_over-requires c =
+change_over-requires g c =
     let held = c.self.inside.held in
     let edits = c.args.edits.now.edits in
     let bytes = sealed c.in_ok-bytes.bytes.items in
@@ -34,7 +34,7 @@ change_over-requires c =
     }
 
 pub invariant_of-self-2 : goal.invariant_of-self-2
-invariant_of-self-2 c =
+invariant_of-self-2 g c =
     let held = c.self.inside.held in
     let edits = c.args.edits.now.edits in
     let new = hierarchy_with_all held edits c.in_ok-bytes.lists.items in
@@ -48,7 +48,7 @@ invariant_of-self-2 c =
     )
 
 pub returns-clause-edited : goal.returns-clause-edited
-returns-clause-edited c =
+returns-clause-edited g c =
     let held = c.self.inside.held in
     let edits = c.args.edits.now.edits in
     let lists = c.in_ok-bytes.lists.items in
