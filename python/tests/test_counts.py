@@ -91,11 +91,11 @@ def next_reaches() -> list[str]:
 @pytest.mark.parametrize(
     ("lines", "usual"),
     [
-        (queries(400), 81_800),
-        (days(), 2_129_600),
-        (days() * 3, 1_560_300),
-        (reaches(), 849_400),
-        (next_reaches(), 677_100),
+        (queries(400), 72_800),
+        (days(), 2_121_800),
+        (days() * 3, 1_567_100),
+        (reaches(), 910_400),
+        (next_reaches(), 737_900),
     ],
     ids=["queries", "days", "days-again", "reaches", "next-reaches"],
 )
@@ -107,4 +107,4 @@ def test_answers_take_no_more(small: Opened, lines: list[str], usual: int) -> No
 def test_far_queries_take_no_more(large: Opened) -> None:
     """The further apart the ends are, the more a query spares that is led to its end."""
     a_line = large.count_a_line(queries(100, LARGE - 10))
-    assert a_line <= MORE * 299_100, f"{a_line:.0f} instructions a line"
+    assert a_line <= MORE * 253_700, f"{a_line:.0f} instructions a line"
