@@ -4,7 +4,6 @@ from __future__ import annotations
 
 import asyncio
 import contextlib
-import ctypes
 import gc
 import logging
 import os
@@ -12,7 +11,6 @@ import resource
 import shutil
 import signal
 import socket
-import struct
 import sys
 import time
 from collections.abc import Callable
@@ -24,8 +22,11 @@ from uvicorn.server import Server
 
 from catchup.errors import Failure
 from catchup.program import Child, find_program, run_program
+from catchup.service import packed
 from catchup.service.accepting import UNUSED, Acceptor, Address, Counts
 from catchup.service.app import Front, make_app
+from catchup.service.ending import (
+    LATE_SECONDS, UNASKED_SECONDS, Asked, answer_left, last_answer, let_nobody_connect)
 from catchup.service.limits import DRAIN_SECONDS, LAST_SECONDS, MOST_CONNECTIONS
 from catchup.service.metrics import Figures, Metrics
 from catchup.service.notes import make_folder
@@ -50,9 +51,7 @@ DRAIN_PAUSE: Final = 0.02
 GRACE_SECONDS: Final = 0.5              # for requests that are on their way as the service ends
 START_PAUSE: Final = 0.1
 END_SECONDS: Final = 0.3                # for a worker to go away behind its last second
-SO_ATTACH_FILTER: Final = 26            # of Linux; Python has no name for it
-LET_NOTHING_IN: Final = struct.pack("=HBBI", 6, 0, 0, 0)   # the one instruction of a filter that drops every packet
-ASK_SECONDS: Final = 0.5                # after which workers are asked again to end: one that has just begun missed it
+THE_END: Final = (signal.SIGTERM, signal.SIGINT, signal.SIGQUIT)
 LEFT_TO_THE_ARBITER: Final = (
     signal.SIGINT, signal.SIGHUP, signal.SIGQUIT, signal.SIGUSR1, signal.SIGUSR2, signal.SIGWINCH)
 UVICORN: Final[dict[str, Any]] = {
@@ -78,6 +77,7 @@ class Setting:
     folder: Path
     shared: Shared
     counts: Counts
+    asked: Asked
     figures: Figures
 
 
@@ -86,10 +86,25 @@ class DrainingServer(Server):  # type: ignore[misc]
 
     worker: Worker
     slot: int
+    asked_at: float | None = None       # when a signal asked for the end
+
+    def handle_exit(self, sig: int, frame: Any) -> None:
+        """A signal asks for the end."""
+        self.asked_at = self.asked_at or time.monotonic()
+        self.should_exit = True
+
+    async def on_tick(self, counter: int) -> bool:
+        """Whether the end begins: once the main process has asked for it too, which lets nobody connect before, or
+        where it doesn't since this worker alone is to end."""
+        is_asked = await super().on_tick(counter)
+        return is_asked and (Setting.asked.is_asked(self.slot) or self.asked_at is None
+                             or time.monotonic() > self.asked_at + UNASKED_SECONDS)
 
     async def startup(self, sockets: list[socket.socket] | None = None) -> None:
         """Opens the files, and takes clients from then on. Where the end is asked for meanwhile, nothing is waited
         for."""
+        # From now on the server takes it.
+        signal.pthread_sigmask(signal.SIG_UNBLOCK, {signal.SIGTERM})
         starting = asyncio.create_task(self.worker.start())
         while not starting.done() and not self.should_exit:
             await asyncio.wait({starting}, timeout=START_PAUSE)
@@ -117,6 +132,9 @@ class DrainingServer(Server):  # type: ignore[misc]
         """Takes no more connections, answers what is in work, and ends what isn't ready in time."""
         worker, began = self.worker, asyncio.get_running_loop().time()
         worker.is_ending = worker.crowd.is_ending = True
+        if not HAS_GUNICORN:
+            for listener in sockets or ():
+                let_nobody_connect(listener)
         for each in self.acceptors:
             each.close()
         # A request that is on its way is answered too, and told that the connection ends.
@@ -188,12 +206,11 @@ if HAS_GUNICORN:
             os._exit(0)
 
         def init_signals(self) -> None:
-            super().init_signals()
-            # Signals to all processes are for the arbiter; nobody who asks for a reload wants requests broken off.
+            # Those of the arbiter's processes. Not even for a moment may one end this worker that isn't meant for it:
+            # nobody who asks for a reload wants requests broken off.
+            signal.signal(signal.SIGCHLD, signal.SIG_DFL)
             for number in LEFT_TO_THE_ARBITER:
                 signal.signal(number, signal.SIG_IGN)
-            # Until the server itself takes it.
-            signal.signal(signal.SIGTERM, lambda *_: sys.exit(0))
 
     async def serve_sockets(worker: Any) -> None:
         for each in worker.sockets:
@@ -205,21 +222,54 @@ if HAS_GUNICORN:
         """gunicorn's arbiter, but an interrupt lets requests in work come to their end, and a reload needs good
         files."""
 
-        def stop(self, graceful: bool = True) -> None:
-            """Asks the workers to end, and ends those that don't in time. From then on nobody connects, so that whoever
-            has connected before is taken: else the last worker to close would cut off who came meanwhile."""
+        began: float | None = None      # when the end began
+
+        def signal(self, sig: int, frame: Any) -> None:
+            """Takes note of a signal. That of the end goes before all others, and is for the workers too, whatever is
+            in work here."""
+            # A worker begins with the arbiter's ways.
+            if os.getpid() != self.pid:
+                return
+            if sig not in THE_END:
+                super().signal(sig, frame)
+                return
+            self.ask_all()
+            self.SIG_QUEUE.insert(0, sig)
+            self.wakeup()
+
+        def spawn_worker(self) -> None:
+            """Starts a worker. It has to take a request to end as soon as it can, so that waits until then."""
+            signal.pthread_sigmask(signal.SIG_BLOCK, {signal.SIGTERM})
+            super().spawn_worker()
+            signal.pthread_sigmask(signal.SIG_UNBLOCK, {signal.SIGTERM})
+
+        def ask_all(self) -> None:
+            """Lets nobody connect any more, and asks all workers to end."""
+            self.began = self.began or time.monotonic()
             for listener in self.LISTENERS:
                 let_nobody_connect(listener)
+            Setting.asked.ask_all()
+            self.kill_workers(signal.SIGTERM)
+
+        def kill_worker(self, pid: int, sig: int) -> None:
+            """Sends a worker a signal, and lets it know from whom that is."""
+            if sig == signal.SIGTERM and pid in self.WORKERS:
+                Setting.asked.ask(self.WORKERS[pid].slot)
+            super().kill_worker(pid, sig)
+
+        def stop(self, graceful: bool = True) -> None:
+            """Asks the workers to end, and ends those that don't in time. Whoever has connected, and isn't taken by
+            then, is answered here."""
+            self.ask_all()
+            assert self.began is not None
+            while self.WORKERS and time.monotonic() < self.began + LAST_SECONDS + END_SECONDS:
+                time.sleep(DRAIN_PAUSE)
+            self.kill_workers(signal.SIGKILL)
+            time.sleep(max(self.began + LATE_SECONDS - time.monotonic(), 0))
+            for listener in self.LISTENERS:
+                answer_left(listener, last_answer(last_version()))
             close_sockets(self.LISTENERS, False)
             self.LISTENERS: list[Any] = []
-            began = asked = time.monotonic()
-            self.kill_workers(signal.SIGTERM)
-            while self.WORKERS and time.monotonic() < began + LAST_SECONDS + END_SECONDS:
-                time.sleep(DRAIN_PAUSE)
-                if time.monotonic() > asked + ASK_SECONDS:
-                    asked = time.monotonic()
-                    self.kill_workers(signal.SIGTERM)
-            self.kill_workers(signal.SIGKILL)
 
         def manage_workers(self) -> None:
             """Starts workers where there are too few, over the files that the others serve."""
@@ -265,7 +315,8 @@ if HAS_GUNICORN:
             except Failure as problem:
                 tell(f"nothing is reloaded: {problem}")
                 return
-            super().handle_hup()
+            if self.began is None:
+                super().handle_hup()
 
     class Service(BaseApplication):  # type: ignore[misc]
         """gunicorn's application: what it is told in place of a file of settings."""
@@ -302,6 +353,7 @@ def take_slot(_: object, worker: Any) -> None:
     worker.slot = Setting.counts.take_slot()
     # Two that start behind one another get two.
     Setting.counts.cells[worker.slot] = 0
+    Setting.asked.begin(worker.slot)
 
 
 def let_go(_: object, worker: Any) -> None:
@@ -316,12 +368,13 @@ def address_of(listener: socket.socket) -> str:
     return f"http://{f'[{host}]' if ':' in host else host}:{port}/"
 
 
-def let_nobody_connect(listener: Any) -> None:
-    """Lets a listening socket drop what comes of those that haven't connected yet; those that have may still be taken.
-    Where the system has no such filter, all stays as it was."""
-    instruction = ctypes.create_string_buffer(LET_NOTHING_IN, len(LET_NOTHING_IN))
-    with contextlib.suppress(OSError):
-        listener.setsockopt(socket.SOL_SOCKET, SO_ATTACH_FILTER, struct.pack("@HP", 1, ctypes.addressof(instruction)))
+def last_version() -> str:
+    """The version that is served of the first file."""
+    kept = next(iter(Setting.shared.kept.values()))
+    kept.follow()
+    with contextlib.suppress(packed.NotPacked, OSError):
+        return packed.read_digest(kept.descriptor)[:packed.SHORT]
+    return ""
 
 
 def tell_ready(address: str) -> None:
@@ -391,6 +444,7 @@ def start(options: Options) -> None:
     Setting.options = options
     Setting.shared = Shared(draw_networks(options), streets_of(options), open_places(options), {}, allow_files())
     Setting.counts = Counts()
+    Setting.asked = Asked()
     Setting.figures = Figures()
     listener = listen(options)
     logging.raiseExceptions = False
@@ -406,6 +460,8 @@ def start(options: Options) -> None:
         else:
             tell("gunicorn isn't installed: one worker serves, and nobody starts it again where it dies")
             tell_ready(address_of(listener))
+            # Nobody else asks it to end.
+            Setting.asked.ask_all()
             asyncio.run(serve([listener], Setting.counts.take_slot()))
     finally:
         if os.getpid() == main:

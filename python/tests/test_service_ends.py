@@ -1,0 +1,213 @@
+"""How a service ends while clients go on connecting: whoever has connected gets an answer, whichever process is asked to
+end, and when."""
+
+from __future__ import annotations
+
+import os
+import re
+import signal
+import socket
+import subprocess
+import threading
+import time
+from collections.abc import Callable, Iterator
+from contextlib import contextmanager
+from pathlib import Path
+
+import pytest
+from serving import HTTP, SECONDS, Service, is_there, read_all, wait_for
+
+ending = pytest.importorskip("catchup.service.ending")
+
+REQUEST = b"GET /route?from=5&to=151&depart=28800 HTTP/1.1\r\nHost: localhost\r\n\r\n"
+ANSWERS = "HTTP/1.1 200", "HTTP/1.1 503"
+END_SECONDS = 10.0
+MANY = 24                               # clients at once
+APART = 0.3                             # seconds between the signals to some processes and to the others
+
+
+def ask_until_refused(port: int, found: list[str], is_over: threading.Event) -> None:
+    """Asks for routes, each on a connection of its own, until nobody may connect, and notes what comes of each."""
+    while not is_over.is_set():
+        try:
+            client = socket.create_connection(("127.0.0.1", port), timeout=SECONDS)
+        except ConnectionRefusedError:
+            found.append("refused")
+            return
+        with client:
+            try:
+                client.sendall(REQUEST)
+                found.append(client.recv(12).decode() or "closed")
+            except OSError as problem:
+                found.append(str(problem))
+
+
+@contextmanager
+def clients_of(port: int) -> Iterator[list[str]]:
+    """What comes of the requests of many clients. They go on until they are refused, or to the end."""
+    found: list[str] = []
+    is_over = threading.Event()
+    clients = [threading.Thread(target=ask_until_refused, args=(port, found, is_over)) for _ in range(MANY)]
+    for client in clients:
+        client.start()
+    try:
+        yield found
+    finally:
+        is_over.set()
+        for client in clients:
+            client.join()
+
+
+def end_all(service: Service) -> None:
+    """Asks all processes at once."""
+    os.killpg(service.process.pid, signal.SIGTERM)
+
+
+def end_workers_first(service: Service) -> None:
+    """As a kill of many processes goes: the main process comes last."""
+    for worker in service.workers():
+        os.kill(worker, signal.SIGTERM)
+    time.sleep(APART)
+    service.process.send_signal(signal.SIGTERM)
+
+
+def end_main_first(service: Service) -> None:
+    workers = service.workers()
+    service.process.send_signal(signal.SIGTERM)
+    time.sleep(APART)
+    for worker in filter(is_there, workers):
+        os.kill(worker, signal.SIGTERM)
+
+
+def end_beside_a_reload(service: Service) -> None:
+    """While workers are started anew, some haven't begun to serve and others are about to end."""
+    service.process.send_signal(signal.SIGHUP)
+    time.sleep(APART)
+    os.killpg(service.process.pid, signal.SIGTERM)
+
+
+WAYS = [end_all, end_workers_first, end_main_first, end_beside_a_reload]
+
+
+def check_end(file: Path, end: Callable[[Service], None]) -> None:
+    """Ends a service under clients: each that connected was answered, and the service went in time."""
+    with Service(file, workers=3) as service:
+        with clients_of(service.port) as found:
+            assert wait_for(lambda: len(found) > 4 * MANY)
+            began = time.monotonic()
+            end(service)
+            assert service.process.wait(SECONDS) == 0
+            assert time.monotonic() - began < END_SECONDS + APART
+        assert set(found) <= {*ANSWERS, "refused"}, {each: found.count(each) for each in set(found)}
+        assert service.process.communicate() == ("", "")
+
+
+@pytest.mark.parametrize("end", WAYS)
+def test_whoever_has_connected_is_answered_at_the_end(town: Path, end: Callable[[Service], None]) -> None:
+    for _ in range(2):
+        check_end(town, end)
+
+
+@pytest.mark.long
+@pytest.mark.parametrize("end", WAYS)
+def test_whoever_has_connected_is_answered_at_many_ends(town: Path, end: Callable[[Service], None]) -> None:
+    for _ in range(20):
+        check_end(town, end)
+
+
+def test_a_worker_that_is_ended_alone_cuts_off_nobody(town: Path) -> None:
+    """Nor does it keep anybody from the others, or from the one that is started in its place."""
+    with Service(town, workers=2) as service, clients_of(service.port) as found:
+        for worker in service.workers():
+            assert wait_for(lambda: len(found) > 2 * MANY)
+            began = time.monotonic()
+            os.kill(worker, signal.SIGTERM)
+            assert wait_for(lambda: is_there(worker), lambda there: not there) is False
+            assert time.monotonic() - began < END_SECONDS
+            assert wait_for(lambda: len(service.children()), lambda many: many == 4) == 4
+            found.clear()
+            assert wait_for(lambda: len(found) > 2 * MANY)
+            assert set(found) == {ANSWERS[0]}
+        # From now on no worker is left that was there at first, and still everybody may connect.
+        assert service.get("/health")["status"] == "ok"
+        many = len(found)
+        assert wait_for(lambda: len(found) > many + 2 * MANY) and set(found) == {ANSWERS[0]}
+
+
+@pytest.mark.parametrize("to_all", [False, True])
+def test_whoever_comes_before_the_workers_is_answered(town: Path, to_all: bool) -> None:
+    """It listens before its workers have opened the file, and may end by then."""
+    for pause in (0.0, 0.1, 0.2, 0.4):
+        process = subprocess.Popen([HTTP, "--port", "0", "--workers", "2", town], stdout=subprocess.PIPE,
+                                   stderr=subprocess.PIPE, start_new_session=True)
+        assert process.stdout is not None
+        port = int(re.findall(rb":(\d+)/", process.stdout.readline())[0])
+        with clients_of(port) as found:
+            time.sleep(pause)
+            (os.killpg if to_all else os.kill)(process.pid, signal.SIGTERM)
+            assert process.wait(SECONDS) == 0
+        assert set(found) <= {*ANSWERS, "refused"}, {each: found.count(each) for each in set(found)}
+        assert process.communicate() == (b"", b"")
+
+
+# ---- the parts ----
+
+
+@pytest.fixture
+def listener() -> Iterator[socket.socket]:
+    with socket.create_server(("127.0.0.1", 0)) as found:
+        found.settimeout(SECONDS)
+        yield found
+
+
+def test_who_has_begun_to_connect_comes_in_and_nobody_else(listener: socket.socket) -> None:
+    # So a client's last step comes only with the first bytes that it sends.
+    listener.setsockopt(socket.IPPROTO_TCP, socket.TCP_DEFER_ACCEPT, 5)
+    with socket.create_connection(listener.getsockname(), timeout=SECONDS) as early:
+        ending.let_nobody_connect(listener)
+        with pytest.raises(TimeoutError):
+            socket.create_connection(listener.getsockname(), timeout=0.3)
+        early.sendall(b"a")
+        taken, _ = listener.accept()
+        with taken:
+            # Bytes come and go as ever, and so does the end.
+            early.sendall(b"b" * 1_000_000)
+            early.shutdown(socket.SHUT_WR)
+            assert len(read_all(taken)) == 1_000_001
+            taken.sendall(b"c")
+            assert early.recv(2) == b"c"
+
+
+def test_whoever_is_left_is_answered_whatever_was_sent(listener: socket.socket) -> None:
+    answer = ending.last_answer("0123456789ab")
+    head, _, body = answer.partition(b"\r\n\r\n")
+    assert head.startswith(b"HTTP/1.1 503 ") and b"\r\ncontent-length: %d" % len(body) in head
+    assert body == b'{"error":"the service ends","version":"0123456789ab"}'
+    listener.setblocking(False)
+    clients = [socket.create_connection(listener.getsockname(), timeout=SECONDS) for _ in range(5)]
+    silent, asking, large, half, gone = clients
+    asking.sendall(REQUEST)
+    large.setblocking(False)
+    large.send(b"a" * 1_000_000)
+    large.settimeout(SECONDS)
+    half.sendall(REQUEST[:9])
+    half.shutdown(socket.SHUT_WR)
+    gone.close()
+    began = time.monotonic()
+    ending.answer_left(listener, answer)
+    assert time.monotonic() - began < END_SECONDS / 2
+    listener.close()
+    for client in clients[:-1]:
+        with client:
+            assert client.recv(65_536) == answer
+
+
+def test_workers_know_who_is_asked_to_end() -> None:
+    asked = ending.Asked()
+    asked.ask(3)
+    assert [asked.is_asked(slot) for slot in (2, 3)] == [False, True]
+    asked.begin(3)
+    assert not asked.is_asked(3)
+    asked.ask_all()
+    asked.begin(3)
+    assert all(asked.is_asked(slot) for slot in range(256))
