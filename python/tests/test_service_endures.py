@@ -9,6 +9,7 @@ import random
 import re
 import signal
 import subprocess
+import sys
 import threading
 import time
 from concurrent.futures import ThreadPoolExecutor
@@ -16,7 +17,8 @@ from pathlib import Path
 
 import httpx
 import pytest
-from conftest import build
+from conftest import TOP, build
+from scripts import run
 from serving import HTTP, SECONDS, Service, ask_program, children_of, client_of, digest_of, is_there, left_in, wait_for
 
 from catchup.program import run_program
@@ -328,6 +330,18 @@ def test_a_worker_that_hangs_is_replaced(file: Path, monkeypatch: pytest.MonkeyP
         supervisor.ServiceArbiter.murder_workers(arbiter)
         assert len(ended) == wanted
     assert ended == [(17, signal.SIGKILL)]
+
+
+def test_workers_and_children_break_off_nobody(file: Path) -> None:
+    """Nor do they where somebody has chosen how they share the processors."""
+    with Service(file) as service:
+        assert os.sched_getscheduler(service.process.pid) == os.sched_getscheduler(0)
+        found = {os.sched_getscheduler(pid) for pid in (*service.workers(), *service.children())}
+        assert found == {os.SCHED_BATCH}
+    chosen = ("import os; os.sched_setscheduler(0, os.SCHED_IDLE, os.sched_param(0)); "
+              "from catchup.service.process import give_way; give_way(); print(os.sched_getscheduler(0))")
+    ran = run([sys.executable, "-c", chosen], folder=TOP / "python")
+    assert (ran.status, ran.out, ran.err) == (0, f"{os.SCHED_IDLE}\n", "")
 
 
 def test_children_have_no_files_but_their_own(file: Path) -> None:

@@ -1,9 +1,10 @@
 """Connections: how requests are read, one after the other, each with limits of size and of time.
 
-uvicorn's protocol, but for five things. A request is begun only when the one before it is answered, in a later turn of
+uvicorn's protocol, but for six things. A request is begun only when the one before it is answered, in a later turn of
 the loop, so that no client has more than its share however much it sends at once; and but for plain routes, a few of
 all clients in a turn. What is no request is refused in JSON. Heads, bodies, pauses and replies have limits. A body may
 come in chunks, which are read strictly. Who holds much for long is let go where all hold too much.
+A plain route with the headers of the one before it, as nearly all have, isn't read as if they were new.
 """
 
 from __future__ import annotations
@@ -42,6 +43,9 @@ HARMLESS: Final = bytes.maketrans(bytes([*range(1, 9), 11, 12, *range(14, 32), 1
 READ: Final = frozenset([
     b"host", b"origin", b"authorization", b"content-length", b"content-type", b"transfer-encoding", b"expect"])
 NUMBER: Final = re.compile(rb"[0-9]+")
+PLAIN_LINE: Final = re.compile(rb"GET /route\?" + PLAIN_ROUTE.pattern + rb" HTTP/1\.1")
+QUERY_AT: Final = len(b"GET /route?")
+MOST_REMEMBERED: Final = 2_048          # bytes of headers that a connection keeps in mind
 OSRM: Final = re.compile(rb"[A-Z]+ /[A-Za-z0-9]+/v[0-9]+/")
 
 Headers = list[tuple[bytes, bytes]]
@@ -279,6 +283,9 @@ class Connection(HttpToolsProtocol):  # type: ignore[misc]
         self.deadline = self.loop.time() + IDLE_SECONDS
         self.unsent = 0                 # bytes that the client hadn't taken when it was last looked at
         self.read: dict[bytes, bytes] = {}
+        self.lines = b""                # the headers of the request, as they came
+        self.known_lines = b""          # those of a plain route, and what was read of it
+        self.known_scope: dict[str, Any] = {}
 
     # ---- what comes ----
 
@@ -372,8 +379,11 @@ class Connection(HttpToolsProtocol):  # type: ignore[misc]
 
     def take_head(self, head: bytes) -> None:
         """Hands a whole head to the parser, which calls back."""
-        first = head[:head.find(b"\r\n")]
-        if not FIRST_LINE.fullmatch(first):
+        end = head.find(b"\r\n")
+        first, self.lines = head[:end], head[end:]
+        if self.lines == self.known_lines and (plain := PLAIN_LINE.fullmatch(first)) is not None:
+            self.take_known(first[QUERY_AT:-len(b" HTTP/1.1")], plain)
+        elif not FIRST_LINE.fullmatch(first):
             self.refuse_first(first)
         elif not has_plain_ends(head) and BAD_ENDS.search(head[:-4]):
             self.refuse(400, "the request's head has bytes that have no place there")
@@ -389,6 +399,12 @@ class Connection(HttpToolsProtocol):  # type: ignore[misc]
                 # What was refused already may be more than the parser takes.
                 if not self.is_closing:
                     self.refuse(400, "the request's head can't be read")
+
+    def take_known(self, query: bytes, plain: re.Match[bytes]) -> None:
+        """Takes a plain route whose headers are those of one before it."""
+        self.read = self.known_scope["catchup.read"]
+        self.scope = {**self.known_scope, "query_string": query, "catchup.plain": plain}
+        self.start_cycle("1.1")
 
     def refuse_target(self, first: bytes) -> None:
         """Refuses an address that is too long. One of OSRM's has too many places, and is refused in OSRM's words."""
@@ -495,6 +511,8 @@ class Connection(HttpToolsProtocol):  # type: ignore[misc]
         plain = self.scope["catchup.plain"]
         if plain is None or not self.crowd.begin_plain(self.cycle, plain):
             self.crowd.turns.add(self)
+        elif keeps and version == "1.1" and self.body is None and len(self.lines) <= MOST_REMEMBERED:
+            self.known_lines, self.known_scope = self.lines, self.scope
 
     def go(self) -> None:
         """Has the application answer the request."""

@@ -31,7 +31,7 @@ from catchup.service.limits import DRAIN_SECONDS, LAST_SECONDS, MOST_CONNECTIONS
 from catchup.service.metrics import Figures, Metrics
 from catchup.service.notes import make_folder
 from catchup.service.options import Options
-from catchup.service.process import end_with
+from catchup.service.process import end_with, give_way
 from catchup.service.protocol import Connection
 from catchup.service.streets import streets_of
 from catchup.service.tables import draw_networks, open_places
@@ -165,6 +165,7 @@ class DrainingServer(Server):  # type: ignore[misc]
 
 async def serve(sockets: list[socket.socket], slot: int, notify: Any = None, pause: float = 0.0) -> None:
     """Serves in this process until a signal comes."""
+    give_way()
     asyncio.get_running_loop().set_exception_handler(tell_error)
     worker = Worker(Setting.options, Setting.folder, Setting.shared, Metrics(Setting.figures, slot))
     front = Front(worker, make_app(worker))
