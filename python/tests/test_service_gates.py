@@ -12,7 +12,7 @@ from pathlib import Path
 import pytest
 from commands import call, check_refused, run
 from conftest import EXAMPLES
-from serving import HTTP, SECONDS, Service, digest_of, read_all
+from serving import HTTP, SECONDS, Service, digest_of, read_all, wait_for
 
 from catchup.service.gates import Gates
 
@@ -73,6 +73,36 @@ def test_who_may_write(guarded: Service, headers: dict[str, str], wanted: int) -
     assert guarded.client.delete("/edits/none", headers=own).status_code == (404 if wanted == 400 else wanted)
     if wanted == 401:
         assert reply.headers["WWW-Authenticate"] == "Bearer"
+
+
+def status_of_edit(service: Service, token: str) -> int:
+    """What an edit gets that is refused, by a worker that was asked on a connection of its own."""
+    with service.client_of() as client:
+        return client.post("/edits", content="?", headers={"Authorization": f"Bearer {token}"}).status_code
+
+
+def test_a_token_is_changed_by_a_reload_alone(town: Path, tmp_path: Path) -> None:
+    """A worker that is started again has that of the others, whatever has become of the file."""
+    token, other = tmp_path / "token", "another-" + TOKEN
+    token.write_text(TOKEN)
+    with Service(town, "--token", token) as service:
+        said = service.process.stderr
+        assert said is not None
+        for text in ("", other):
+            token.write_text(text)
+            [worker] = service.workers()
+            os.kill(worker, signal.SIGKILL)
+            assert "was terminated due to signal 9" in said.readline()
+            assert status_of_edit(service, TOKEN) == 400 and status_of_edit(service, other) == 401
+        token.write_text("short")
+        service.process.send_signal(signal.SIGHUP)
+        assert "nothing is reloaded: " in said.readline()
+        assert status_of_edit(service, TOKEN) == 400 and status_of_edit(service, "short") == 401
+        token.write_text(other)
+        service.process.send_signal(signal.SIGHUP)
+        assert wait_for(lambda: status_of_edit(service, TOKEN), lambda status: status == 401) == 401
+        assert status_of_edit(service, other) == 400
+        assert service.end() == (0, "", "")
 
 
 def test_pages_of_a_named_origin_may_read(guarded: Service) -> None:

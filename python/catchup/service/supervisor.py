@@ -309,10 +309,7 @@ if HAS_GUNICORN:
             """Starts workers anew, where they could serve."""
             try:
                 check_files(Setting.options)
-                Setting.options.gates()
-                Setting.shared.drawn = draw_networks(Setting.options)
-                Setting.shared.streets = streets_of(Setting.options)
-                Setting.shared.grounds = open_places(Setting.options)
+                Setting.shared = share(Setting.options, Setting.shared.kept, Setting.shared.most)
             except Failure as problem:
                 tell(f"nothing is reloaded: {problem}")
                 return
@@ -436,6 +433,12 @@ def allow_files() -> int:
     return max(min(MOST_CONNECTIONS, (soft - SPARE_FILES) * ASIDE // (ASIDE + 2)), 8)
 
 
+def share(options: Options, kept: dict[Path, Kept], most: int) -> Shared:
+    """What workers have from now on: a token or a table that changes later is read at a reload, and not by a worker that
+    is started again."""
+    return Shared(options.gates(), draw_networks(options), streets_of(options), open_places(options), kept, most)
+
+
 def start(options: Options) -> None:
     """Serves until a signal asks for the end."""
     open_streams()
@@ -443,7 +446,7 @@ def start(options: Options) -> None:
     check_files(options)
     find_at_once(options)
     Setting.options = options
-    Setting.shared = Shared(draw_networks(options), streets_of(options), open_places(options), {}, allow_files())
+    Setting.shared = share(options, {}, allow_files())
     Setting.counts = Counts()
     Setting.asked = Asked()
     Setting.figures = Figures()

@@ -18,6 +18,7 @@ from catchup.service.accepting import Acceptor
 from catchup.service.answers import as_json
 from catchup.service.editor import Editor, Refused
 from catchup.service.errors import Refusal, told_briefly
+from catchup.service.gates import Gates
 from catchup.service.limits import WATCH_SECONDS
 from catchup.service.metrics import Metrics
 from catchup.service.notes import first_to_tell
@@ -37,9 +38,11 @@ if TYPE_CHECKING:
 
 @dataclass(slots=True)
 class Shared:
-    """What the main process has found out of each file, and all workers share: what the page draws, what roads are
-    called, its map's places, and the last version that was served; and how many connections a worker may have."""
+    """What the main process has found out, and all workers share: who gets in; of each file what the page draws, what
+    roads are called, its map's places, and the last version that was served; and how many connections a worker may
+    have."""
 
+    gates: Gates
     drawn: dict[Path, bytes]
     streets: dict[Path, Streets]
     grounds: dict[Path, Places]
@@ -53,7 +56,7 @@ class Worker:
     def __init__(self, options: Options, folder: Path | None, shared: Shared, metrics: Metrics) -> None:
         self.options = options
         self.folder = folder
-        self.gates = options.gates()
+        self.gates = shared.gates
         self.program = str(find_program())
         self.metrics = metrics
         tell_once = functools.partial(first_to_tell, folder)
