@@ -55,7 +55,7 @@ class Counts:
         return taken[0] if taken else SLOTS - 1
 
     def least(self) -> int:
-        """The least count of all workers."""
+        """The least count of all workers; UNUSED where none takes clients."""
         return min(self.cells)
 
 
@@ -191,16 +191,17 @@ class Acceptor:
 
     def tell(self) -> None:
         """Tells the others how many clients there are now."""
-        self.counts.cells[self.slot] = self.many()
+        if not self.is_closed:
+            self.counts.cells[self.slot] = self.many()
 
     def close(self) -> None:
         """Takes those that wait already, and then no more clients."""
         self.is_closed = True
         self.loop.remove_reader(self.listener.fileno())
-        self.counts.cells[self.slot] = UNUSED
         with contextlib.suppress(OSError):
             self.take_all()
         self.listener.close()
+        self.counts.cells[self.slot] = UNUSED
         # None may be taken again by a turn that was asked for before: two connections over one file end the worker.
         for line in self.aside.values():
             while line:

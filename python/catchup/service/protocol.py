@@ -262,6 +262,7 @@ class Connection(HttpToolsProtocol):  # type: ignore[misc]
     """A client's connection."""
 
     cycle: Any
+    scope: Any
     parser: Any
 
     def __init__(self, crowd: Crowd, address: Address, config: Any, server_state: Any) -> None:

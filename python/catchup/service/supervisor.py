@@ -259,14 +259,20 @@ if HAS_GUNICORN:
             super().kill_worker(pid, sig)
 
         def stop(self, graceful: bool = True) -> None:
-            """Asks the workers to end, and ends those that don't in time. Whoever has connected, and isn't taken by
-            then, is answered here."""
+            """Asks the workers to end, and ends those that don't in time."""
             self.ask_all()
             assert self.began is not None
             while self.WORKERS and time.monotonic() < self.began + LAST_SECONDS + END_SECONDS:
                 time.sleep(DRAIN_PAUSE)
+                if time.monotonic() > self.began + LATE_SECONDS and Setting.counts.least() == UNUSED:
+                    # None takes clients any more: whoever comes now needn't wait until their work is done.
+                    self.close_last()
             self.kill_workers(signal.SIGKILL)
             time.sleep(max(self.began + LATE_SECONDS - time.monotonic(), 0))
+            self.close_last()
+
+        def close_last(self) -> None:
+            """Answers whoever has connected and was taken by no worker, and closes."""
             for listener in self.LISTENERS:
                 answer_left(listener, last_answer(last_version()))
             close_sockets(self.LISTENERS, False)
