@@ -11,6 +11,7 @@ from dataclasses import dataclass, field
 
 import pytest
 
+from catchup.service import accepting
 from catchup.service.accepting import Acceptor, Counts, Sort, brings_much, sort_of
 from catchup.service.process import Pipe
 from catchup.service.turns import MOST_HUNG_UP, MOST_LARGE, PIECES, PROMPT, Turns
@@ -81,6 +82,34 @@ def test_clients_that_were_put_aside_are_taken_once_at_the_end(listener: socket.
     assert len(made) == len(set(made)) == 5
     for client in clients:
         client.close()
+
+
+def test_clients_that_were_put_aside_wait_for_no_other(
+        listener: socket.socket, monkeypatch: pytest.MonkeyPatch) -> None:
+    """Nor where there was no time to see that nobody else waits."""
+    made = []
+
+    def make(address: tuple[object, ...]) -> asyncio.Protocol:
+        made.append(address)
+        return asyncio.Protocol()
+
+    def sort_slowly(client: socket.socket) -> Sort:
+        time.sleep(2 * accepting.LOOK_SECONDS)
+        return Sort.HUNG_UP
+
+    async def run() -> int:
+        acceptor = Acceptor(listener, make, Counts(), 0, lambda: 0, 10)
+        for _ in range(100):
+            await asyncio.sleep(0.05)
+            if made:
+                break
+        many = len(made)
+        acceptor.close()
+        return many
+
+    monkeypatch.setattr(accepting, "sort_of", sort_slowly)
+    with socket.create_connection(listener.getsockname()):
+        assert asyncio.run(run()) == 1
 
 
 def test_a_pipe_is_closed_once() -> None:

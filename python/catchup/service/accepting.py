@@ -29,6 +29,7 @@ LEAVE_SECONDS: Final = 0.002            # for which a client is left to others
 LIKE: Final = 16                        # of so many clients one more or less doesn't matter
 LAST: Final = 1_024                     # clients that are taken at most when the worker ends
 FAILED_SECONDS: Final = 0.1             # until another try where no more files may be open
+AGAIN_SECONDS: Final = 0.1              # until another look where clients were put aside
 LOOK_SECONDS: Final = 0.003             # for which one turn looks at clients that wait
 PEEKED: Final = 2_048                   # bytes of a client that are looked at before it is taken
 WELCOMED: Final = 8                     # clients that are taken in one turn
@@ -106,6 +107,7 @@ class Acceptor:
         self.is_closed = False
         self.aside: dict[Sort, deque[Client]] = {Sort.HUNG_UP: deque(), Sort.LARGE: deque()}
         self.is_aside_due = False
+        self.is_look_due = False
         self.is_crowded = False         # more clients may wait than were looked at
         self.tasks: set[asyncio.Task[object]] = set()
         # The system holds so much of each client, and a turn reads no more of one.
@@ -128,7 +130,7 @@ class Acceptor:
                 return
             except OSError:
                 self.pause(FAILED_SECONDS)
-                return
+                break
             client.setblocking(False)
             sort = sort_of(client)
             if sort is Sort.WELCOME:
@@ -139,6 +141,15 @@ class Acceptor:
                 self.aside[sort].append((client, address))
             else:
                 client.close()
+        # Where nobody waits any more the system doesn't tell, and those that were put aside would stay there.
+        if any(self.aside.values()) and not self.is_look_due:
+            self.is_look_due = True
+            self.loop.call_later(AGAIN_SECONDS, self.look_again)
+
+    def look_again(self) -> None:
+        self.is_look_due = False
+        if not self.is_closed and any(self.aside.values()):
+            self.ready()
 
     def leaves(self) -> bool:
         """Whether the next client is left to other workers, since one has fewer than this one."""
