@@ -44,7 +44,8 @@ class Snapper:
         self._spot = np.unique(corner, axis=0, return_inverse=True)[1].astype(np.int32)
         self._junctions = Grouped.by(self._spot, int(self._spot.max(initial=-1)) + 1)
         # Of one place at a time, for which numpy's arrays are slow.
-        self._along, self._forward = streets.share.data, streets.is_forward.data
+        self._along, self._forward, self._points = streets.share.data, streets.is_forward.data, streets.places.data
+        self._metres, self._lead = streets.metres.data, streets.lead.data
         (west, south), (east, north) = (edge(streets.places, axis=0).tolist() for edge in (np.min, np.max))
         self.box: tuple[float, float, float, float] = west, south, east, north
 
@@ -134,7 +135,7 @@ class Snapper:
         """Up to `number` of these streets that go the right way."""
         snaps: list[Snap] = []
         for street, segment, part in zip(found.street.tolist(), found.segment.tolist(), found.part.tolist()):
-            roads = every = self._streets.roads[street].tolist()
+            roads = every = self._streets.roads.listed(street)
             if bearing is not None or curb:
                 roads = self._right_way(place, roads, segment, bearing, curb)
             if roads:
@@ -163,20 +164,20 @@ class Snapper:
     def _snap(self, place: Place, street: int, segment: int, part: float, roads: list[int] | None) -> Snap:
         """The point of a street, of which these roads count; where all do, at its end all roads that meet there do."""
         streets, along = self._streets, self._along
-        (x, y), (u, v) = streets.places[segment:segment + 2].tolist()
+        (x, y), (u, v) = self._points[segment:segment + 2].tolist()
         point = (x + (u - x) * part, y + (v - y) * part)
         share = along[segment] + (along[segment + 1] - along[segment]) * part
-        metres, lead = streets.metres.item(street), streets.lead.item(street)
+        metres, lead = self._metres[street], self._lead[street]
         if share * metres <= _AT_END or (1.0 - share) * metres <= _AT_END:
             share = 0.0 if share * metres <= _AT_END else 1.0
             x, y = streets.places[streets.first[street + int(share)] - int(share)].tolist()
             point = x, y
         if share in (0.0, 1.0) and roads is None:
             node = self._ends.head[lead] if share else self._ends.tail[lead]
-            through = self._through(self._junctions[int(self._spot[self._ends.junction[node]])].tolist())
+            through = self._through(self._junctions.listed(int(self._spot[self._ends.junction[node]])))
         else:
             forward = self._forward
-            of = streets.roads[street].tolist() if roads is None else roads
+            of = streets.roads.listed(street) if roads is None else roads
             through = [(road, share if forward[road] else 1.0 - share) for road in of]
         name, ref = self._lines.name_at(lead, share)
         return Snap(place, point, metres_between(place, point), street, share, tuple(through), name, ref)
@@ -184,7 +185,7 @@ class Snapper:
     def _through(self, junctions: Sequence[int]) -> list[tuple[int, float]]:
         """All roads of some junctions, with 0 where they begin there and 1 where they end there."""
         return sorted((road, share) for junction in junctions
-                      for share, of in ((0.0, self._leaving), (1.0, self._coming)) for road in of[junction].tolist())
+                      for share, of in ((0.0, self._leaving), (1.0, self._coming)) for road in of.listed(junction))
 
 
 def check_place(place: Place) -> None:

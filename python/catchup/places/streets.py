@@ -6,6 +6,7 @@ It is kept once, in the sense of its lowest road. A junction is where streets me
 
 from __future__ import annotations
 
+from bisect import bisect_left
 from dataclasses import dataclass
 from functools import cached_property
 
@@ -39,6 +40,15 @@ class Grouped:
 
     def __getitem__(self, group: int) -> Shorts:
         return self.things[self.first[group]:self.first[group + 1]]
+
+    def listed(self, group: int) -> list[int]:
+        """The same as a list, for who looks up one: numpy takes several times as long."""
+        first, things = self._numbers
+        return things[first[group]:first[group + 1]].tolist()
+
+    @cached_property
+    def _numbers(self) -> tuple[memoryview, memoryview]:
+        return self.first.data, self.things.data
 
 
 @dataclass(eq=False)
@@ -104,6 +114,18 @@ class Streets:
         if is_forward[road]:
             return points, shares
         return points[::-1], [1.0 - share for share in reversed(shares)]
+
+    def behind(self, road: int, share: float) -> tuple[int, int]:
+        """Which of a road's points is the first that lies behind a share of its metres, or there, from 1 on; and how
+        many points it has."""
+        of_road, first, is_forward = self._numbers
+        street, shares = of_road[road], self.share.data
+        begin, end = first[street], first[street + 1]
+        if is_forward[road]:
+            found = bisect_left(shares, share, begin, end) - begin
+        else:
+            found = bisect_left(range(end - begin), share, key=lambda at: 1.0 - shares[end - 1 - at])
+        return min(max(found, 1), end - begin - 1), end - begin
 
     @cached_property
     def _numbers(self) -> tuple[memoryview, memoryview, memoryview]:

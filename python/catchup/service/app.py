@@ -17,7 +17,7 @@ from catchup.service.answers import refusal_answer
 from catchup.service.errors import Refusal
 from catchup.service.gates import PREFLIGHT, READS
 from catchup.service.limits import LONGEST_JSON, MOST_WORDS
-from catchup.service.osrm.paths import KIND, make_router
+from catchup.service.osrm.paths import KIND, Answer, make_router
 from catchup.service.page.paths import router as page_router
 from catchup.service.protocol import Cycle
 from catchup.service.reads import PlainRoute, route_asked
@@ -33,7 +33,8 @@ ROUTERS: Final = (reads.router, edits.router, state.router, page_router)
 JSON_HEADER: Final = (b"content-type", b"application/json")
 VERSION_HEADER: Final = b"catchup-version"
 # These need nothing of the framework, and many are asked.
-OSRM_PATHS: Final = (b"/route/v", b"/table/v", b"/nearest/v")
+NEAREST: Final = b"/nearest/v"
+OSRM_PATHS: Final = (b"/route/v", b"/table/v", NEAREST)
 OSRM_HEADER: Final = (b"content-type", KIND.encode())
 
 
@@ -108,6 +109,22 @@ class Front:
         version.quick.ask_for(plain.line(version), take)
         return True
 
+    def answer_nearest(self, cycle: Cycle) -> bool:
+        """Answers /nearest without a task, since it waits for nothing; False where the request is another one, its Host
+        has to be looked at first, or something went wrong, which is told in the other way."""
+        scope, worker = cycle.scope, self.worker
+        if not scope["raw_path"].startswith(NEAREST) or scope["method"] != "GET":
+            return False
+        read = scope["catchup.read"]
+        if read.get(b"host", b"") not in worker.gates.seen:
+            return False
+        try:
+            told = worker.osrm.answer_nearest(scope["raw_path"], scope["query_string"])
+        except Exception:
+            return False
+        cycle.answer(told.status, osrm_headers(told, worker.gates.shared(read)), told.body)
+        return True
+
     async def __call__(self, scope: Scope, receive: Receive, send: Send) -> None:
         try:
             await self.answer(scope, receive, send)
@@ -126,9 +143,7 @@ class Front:
         shared = worker.gates.shared(read)
         if method == "GET" and scope["raw_path"].startswith(OSRM_PATHS):
             told = await worker.osrm.answer(scope["raw_path"], scope["query_string"])
-            more = encoded({**told.headers, **shared})
-            await send({"type": "http.response.start", "status": told.status,
-                        "headers": [OSRM_HEADER, (VERSION_HEADER, told.version.encode()), *more]})
+            await send({"type": "http.response.start", "status": told.status, "headers": osrm_headers(told, shared)})
             await send({"type": "http.response.body", "body": told.body})
             return
         if method == "OPTIONS" and "Access-Control-Allow-Origin" in shared:
@@ -164,6 +179,11 @@ class Front:
             await response(scope, receive, send)
         except RuntimeError as problem:
             tell(f"an answer was broken off: {problem}")
+
+
+def osrm_headers(told: Answer, shared: dict[str, str]) -> list[tuple[bytes, bytes]]:
+    """The headers of an answer to one of OSRM's addresses."""
+    return [OSRM_HEADER, (VERSION_HEADER, told.version.encode()), *encoded({**told.headers, **shared})]
 
 
 def encoded(headers: dict[str, str]) -> list[tuple[bytes, bytes]]:

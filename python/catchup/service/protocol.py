@@ -80,6 +80,7 @@ class Crowd:
         self.told = told
         self.log = log
         self.begin_plain: BeginPlain = lambda cycle, found: False
+        self.answer_now: Callable[[Cycle], bool] = lambda cycle: False
         self.turns = Turns()
         self.everyone: set[Connection] = set()
         self.waiting: dict[Connection, None] = {}   # those whose clients are waited for, the longest such first
@@ -516,7 +517,9 @@ class Connection(HttpToolsProtocol):  # type: ignore[misc]
             self.known_lines, self.known_scope = self.lines, self.scope
 
     def go(self) -> None:
-        """Has the application answer the request."""
+        """Has the application answer the request, where that isn't done in a quick way, in this turn."""
+        if self.crowd.answer_now(self.cycle):
+            return
         task = self.loop.create_task(self.cycle.run_asgi(self.app))
         task.add_done_callback(self.tasks.discard)
         self.tasks.add(task)

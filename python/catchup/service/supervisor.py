@@ -170,6 +170,7 @@ async def serve(sockets: list[socket.socket], slot: int, notify: Any = None, pau
     worker = Worker(Setting.options, Setting.folder, Setting.shared, Metrics(Setting.figures, slot))
     front = Front(worker, make_app(worker))
     worker.crowd.begin_plain = front.begin_plain
+    worker.crowd.answer_now = front.answer_nearest
     config = Config(front, http=Connection, backlog=BACKLOG, callback_notify=notify, timeout_notify=pause, **UVICORN)
     server = DrainingServer(config)
     server.worker, server.slot = worker, slot

@@ -3,7 +3,7 @@
 from __future__ import annotations
 
 import json
-from collections.abc import Collection
+from collections.abc import Collection, Sequence
 from typing import Final
 
 import numpy as np
@@ -54,14 +54,14 @@ def nodes(leg: Leg, guide: Guide) -> list[int]:
     """The numbers in OpenStreetMap of a leg's places. The first is that of the node before the start, the last that of
     the node behind the end."""
     found = [nodes_of(stretch, guide) for stretch in leg.stretches]
-    told = found[0] + [number for each in found[1:] for number in each[1:]]
+    told = [*found[0], *[number for each in found[1:] for number in each[1:]]]
     first, last = leg.stretches[0], leg.stretches[-1]
     told[0] = around(first.road, first.low, guide)[0]
     told[-1] = around(last.road, last.high, guide)[1]
     return told
 
 
-def nodes_of(stretch: Stretch, guide: Guide) -> list[int]:
+def nodes_of(stretch: Stretch, guide: Guide) -> Sequence[int]:
     """The number of the road's node that is nearest to each place of a stretch."""
     line = guide.ground.streets.line(stretch.road)
     numbers = guide.nodes.of(stretch.road, len(line))
@@ -71,11 +71,10 @@ def nodes_of(stretch: Stretch, guide: Guide) -> list[int]:
     return [numbers[at] for at in np.argmin(away, axis=1).tolist()]
 
 
-def nodes_beside(road: int, share: float, guide: Guide) -> list[int]:
+def nodes_beside(road: int, share: float, guide: Guide) -> Sequence[int]:
     """The numbers in OpenStreetMap of both ends of the segment of a road that has a point."""
-    shares = guide.ground.streets.shares(road)
-    behind = min(max(int(shares.searchsorted(share)), 1), len(shares) - 1)
-    return guide.nodes.of(road, len(shares))[behind - 1:behind + 1]
+    behind, count = guide.ground.streets.behind(road, share)
+    return guide.nodes.of(road, count)[behind - 1:behind + 1]
 
 
 def around(road: int, share: float, guide: Guide) -> tuple[int, int]:

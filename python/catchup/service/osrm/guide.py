@@ -4,14 +4,13 @@ hints, and the numbers of its nodes in OpenStreetMap."""
 from __future__ import annotations
 
 import sqlite3
+import struct
 import threading
+from collections.abc import Mapping, Sequence
 from contextlib import closing
-from collections.abc import Mapping
 from dataclasses import dataclass
 from pathlib import Path
 from typing import Final
-
-import numpy as np
 
 from catchup.errors import Failure
 from catchup.places.places import MAP_FILE, Ground
@@ -23,6 +22,7 @@ from catchup.service.osrm.turns import Turns
 
 _KEPT: Final = "osrm_guide"
 MOST_KEPT: Final = 65_536               # roads whose numbers are kept
+BESIDE: Final = 64                      # roads that are read together: those of near numbers are near one another
 MODES: Final = {"bicycle": "cycling", "foot": "walking"}
 
 
@@ -46,30 +46,31 @@ class NodeNumbers:
         self._turn = threading.Lock()
         self._kept: dict[int, bytes] = {}
 
-    def of(self, road: int, count: int) -> list[int]:
+    def of(self, road: int, count: int) -> Sequence[int]:
         """The numbers of a road's nodes, in the sense of the drive; 0 for each where the map has others by now."""
         blob = self._kept.get(road)
         if blob is None:
             blob = self._keep(road)
-        found: list[int] = np.frombuffer(blob, dtype="<i8").tolist() if len(blob) == 8 * count else [0] * count
-        return found
+        return struct.unpack(f"<{count}q", blob) if len(blob) == 8 * count else [0] * count
 
     def _keep(self, road: int) -> bytes:
-        """What the map has of a road, which is kept; where that is too much, all others go."""
+        """What the map has of a road, which is kept with that of others beside it; where that is too much, all others
+        go."""
         if len(self._kept) >= MOST_KEPT:
             self._kept.clear()
         try:
             with self._turn:
-                found = self._kept[road] = self._read(road)
+                self._kept.update(self._read(road - road % BESIDE))
+                return self._kept.setdefault(road, b"")
         except sqlite3.Error:
-            found = b""
-        return found
+            return b""
 
-    def _read(self, road: int) -> bytes:
+    def _read(self, first: int) -> dict[int, bytes]:
+        """What the map has of some roads beside one another."""
         if self._base is None:
             self._base = sqlite3.connect(f"{self._path.absolute().as_uri()}?mode=ro", uri=True, check_same_thread=False)
-        [blob] = self._base.execute("SELECT osm_nodes FROM road_nodes WHERE road = ?", (road,)).fetchone() or [b""]
-        return bytes(blob)
+        return dict(self._base.execute(
+            "SELECT road, osm_nodes FROM road_nodes WHERE road BETWEEN ? AND ?", (first, first + BESIDE - 1)))
 
 
 def guide_of(ground: Ground) -> Guide:

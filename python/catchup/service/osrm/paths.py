@@ -56,38 +56,63 @@ class Osrm:
             version = placed.version.name
             with placed.version.held():
                 members = await self.members(asked, placed)
-        except Fault as fault:
-            return told(fault.status, fault.told(), version)
-        except Refusal as refusal:
-            hint = f": {refusal.hint}" if refusal.hint else ""
-            code = CODES.get(refusal.status, "InvalidValue")
-            return told(refusal.status, {"code": code, "message": f"{refusal.error}{hint}"}, version, refusal.headers)
-        body = "".join(['{"code":"Ok","data_version":"', version, '",', *members, "}"])
-        return Answer(200, body.encode("ascii"), version)
+        except (Fault, Refusal) as problem:
+            return refused(problem, version)
+        return found(members, version)
+
+    def answer_nearest(self, path: bytes, query: bytes) -> Answer:
+        """The same of an address of /nearest, for which the program is asked nothing, so nobody waits."""
+        from catchup.service.osrm import answers, guide
+
+        version = self.version()
+        try:
+            asked = parse(path, query)
+            assert isinstance(asked, AskedNearest)
+            placed = self.placed(asked.profile)
+            version = placed.version.name
+            members = answers.nearest(asked, placed, guide.guide_of(placed.places.ground))
+        except (Fault, Refusal) as problem:
+            return refused(problem, version)
+        return found(members, version)
 
     def placed(self, profile: str) -> Placed:
         """The places of a profile's network. Raises Fault."""
         try:
-            found = self.find(profile)
+            placed = self.find(profile)
         except Refusal as refusal:
             raise Fault("InvalidValue", refusal.hint or refusal.error) from None
-        if found is None:
+        if placed is None:
             raise Fault("NotImplemented", "the service knows no places: start it with --tables DIR, the folder that "
                         "catchup-import made")
-        return found
+        return placed
 
     async def members(self, asked: AskedNearest | AskedRoute | AskedTable, placed: Placed) -> Sequence[str]:
         """What a service answers, as members of a JSON object, in parts of a text."""
         # Only a service with maps needs what these need.
         from catchup.service.osrm import answers, guide
 
-        found = guide.guide_of(placed.places.ground)
+        ground = guide.guide_of(placed.places.ground)
         now = self.now() if asked.depart is None else asked.depart
         if isinstance(asked, AskedRoute):
-            return await answers.drive(asked, placed, found, now)
+            return await answers.drive(asked, placed, ground, now)
         if isinstance(asked, AskedTable):
-            return await answers.table(asked, placed, found, now)
-        return answers.nearest(asked, placed, found)
+            return await answers.table(asked, placed, ground, now)
+        return answers.nearest(asked, placed, ground)
+
+
+def found(members: Sequence[str], version: str) -> Answer:
+    """An answer that is none of an error."""
+    body = "".join(['{"code":"Ok","data_version":"', version, '",', *members, "}"])
+    return Answer(200, body.encode("ascii"), version)
+
+
+def refused(problem: Fault | Refusal, version: str) -> Answer:
+    """What is answered in place of one."""
+    if isinstance(problem, Fault):
+        return told(problem.status, problem.told(), version)
+    hint = f": {problem.hint}" if problem.hint else ""
+    code = CODES.get(problem.status, "InvalidValue")
+    return told(problem.status, {"code": code, "message": f"{problem.error}{hint}"}, version, problem.headers)
 
 
 def told(status: int, said: dict[str, Any], version: str, headers: dict[str, str] | None = None) -> Answer:
@@ -102,8 +127,8 @@ def make_router(osrm: Osrm) -> APIRouter:
 
     async def answer(request: Request) -> Response:
         """What is answered to an address of OSRM's."""
-        found = await osrm.answer(request.scope["raw_path"], request.scope["query_string"])
-        return Response(found.body, found.status, {**found.headers, "Catchup-Version": found.version}, media_type=KIND)
+        said = await osrm.answer(request.scope["raw_path"], request.scope["query_string"])
+        return Response(said.body, said.status, {**said.headers, "Catchup-Version": said.version}, media_type=KIND)
 
     for service, words in described.SERVICES.items():
         router.get(f"/{service}/v1/{{profile}}/{{coordinates:path}}", name=service, **words)(answer)
