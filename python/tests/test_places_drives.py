@@ -10,7 +10,7 @@ import numpy as np
 import pytest
 from placed import DAY, Town, import_map, made_town, real_map
 
-from catchup.places import Ask, Leg, NoRoute, Places, Snap, TooLate, days, reach
+from catchup.places import Ask, Leg, NoRoute, Places, Snap, TooLate, days, matrix, reach
 from catchup.places.travel import Travel
 from catchup.tables import PROFILES_FILE, read_profiles
 
@@ -139,13 +139,17 @@ def test_each_second_s_best_way_is_one(made: Town) -> None:
     made.ask(compare_ways)
 
 
-def test_a_table_is_its_drives(made: Town) -> None:
+@pytest.mark.parametrize("row", [1, 1_000])
+def test_a_table_is_its_drives(made: Town, row: int, monkeypatch: pytest.MonkeyPatch) -> None:
+    # Later seconds are asked by rows alone, or by single drives alone.
+    monkeypatch.setattr(matrix, "ROW", row)
     draw = random.Random(5)
 
     async def compare_table(ask: Ask) -> None:
         sources, targets = ([made.somewhere(draw) for _ in range(count)] for count in (8, 6))
         targets.append(sources[0])
-        for depart in (draw.randrange(DAY), DAY - 1):
+        # Behind rush hours one may start later and be there as early.
+        for depart in (draw.randrange(DAY), draw.randrange(30_300, 30_600), DAY - 1):
             table = await made.places.table(sources, targets, depart, ask)
             for row, start in zip(table, sources):
                 for takes, end in zip(row, targets):
@@ -155,6 +159,26 @@ def test_a_table_is_its_drives(made: Town) -> None:
         assert (await made.places.table(sources, [], 0, ask)).shape == (8, 0)
 
     made.ask(compare_table)
+
+
+def test_a_table_asks_each_beginning_once(made: Town) -> None:
+    draw = random.Random(6)
+    lines: list[str] = []
+
+    async def count(ask: Ask) -> None:
+        async def asked(said: Sequence[str]) -> Sequence[str]:
+            lines.extend(said)
+            return await ask(said)
+
+        places = [made.somewhere(draw) for _ in range(12)]
+        await made.places.table(places, places, 30_400, asked)
+
+    made.ask(count)
+    rows = [(line.split(",")[1], node) for line in lines if line[0] == "t" for node in line.split(",")[3:][:int(
+        line.split(",")[2])]]
+    assert len(rows) == len(set(rows)) and all(int(line.split(",")[2]) <= matrix.LINE for line in lines if line[0] == "t")
+    singles = [line for line in lines if line[0] == "q"]
+    assert len(singles) == len(set(singles)) < 24 * len(rows)
 
 
 def test_a_reach_has_what_drives_reach(made: Town) -> None:

@@ -1,4 +1,8 @@
-"""Tables of travel between many places, by lines `t`: one row for each beginning, all of one second in one line."""
+"""Tables of travel between many places, by lines `t`: one row for each beginning, all of one second in one line.
+
+Who begins between two seconds may arrive as early as who begins at the first of them. Where the entry that is answered,
+a whole second, hangs on that, the later second is asked too: by lines `q`, or by another row where they would be many.
+"""
 
 from __future__ import annotations
 
@@ -11,12 +15,13 @@ from numpy.typing import NDArray
 from catchup.beside import beside
 from catchup.clock import DAY
 from catchup.errors import CatchupError
-from catchup.places.drives import Driver
+from catchup.places.drives import Driver, arrival, checked
 from catchup.places.ends import Source, Target
 from catchup.places.values import Ask, Snap
 
 Ints = NDArray[np.int64]
 Floats = NDArray[np.float64]
+Bools = NDArray[np.bool_]
 
 MOST_ENTRIES = 1_048_576
 """Of one line `t`."""
@@ -27,22 +32,59 @@ STEPS = 8
 """That it takes to look at the ends of a place."""
 
 TOGETHER = 32_768
-"""Entries that are asked for together, before others get their turn: of a line, and of some short lines."""
+"""Entries that are asked for together, before others get their turn, where each line has one row."""
+
+LINE = 4
+"""Rows of one line: several processes of the program may share in many lines."""
+
+SINGLE = 512
+"""Lines of single drives that are asked for together."""
+
+ROW = 64
+"""Single drives from which on a row of all is the quicker way."""
 
 _NEVER = -1
 
 
 @dataclass(frozen=True, slots=True)
+class _Rows:
+    """The beginnings at some sources, each a row. node: of each; second, part: int64[b], float64[b]; source: int64[b],
+    whose it is; size: int64[S], how many each source has."""
+
+    node: list[int]
+    second: Ints
+    part: Floats
+    source: Ints
+    size: Ints
+
+    @classmethod
+    def of(cls, begins: Sequence[Sequence[Source]]) -> _Rows:
+        """The beginnings of each source."""
+        flat = [source for of in begins for source in of]
+        size = np.array([len(of) for of in begins], dtype=np.int64)
+        return cls([each.node for each in flat], np.array([each.second for each in flat], dtype=np.int64),
+                   np.array([each.part for each in flat], dtype=np.float64), np.repeat(np.arange(len(size)), size),
+                   size)
+
+    def starts(self, rows: Sequence[int], later: int = 0) -> list[tuple[int, int]]:
+        """The node and the second of some beginnings, so many seconds later."""
+        second = self.second.tolist()
+        return [(self.node[row], second[row] + later) for row in rows]
+
+
+@dataclass(frozen=True, slots=True)
 class _Columns:
     """The ends of all targets. node: the nodes, each once; at: int64[e], each end's place among these; road, share:
-    int64[e], float64[e]; first: int64[T], where the ends of each target begin; empty: bool[T], whether it has none."""
+    int64[e], float64[e]; target: int64[e], whose it is; first: int64[T], where the ends of each target begin; empty:
+    bool[T], whether it has none."""
 
     node: list[int]
     at: Ints
     road: Ints
     share: Floats
+    target: Ints
     first: Ints
-    empty: NDArray[np.bool_]
+    empty: Bools
 
 
 async def table(driver: Driver, sources: Sequence[Snap], targets: Sequence[Snap], depart: int, ask: Ask) -> Floats:
@@ -79,50 +121,91 @@ def _columns(ends: Sequence[Sequence[Target]]) -> _Columns:
     number: dict[int, int] = {}
     flat = [target for of in ends for target in of]
     at = [number.setdefault(target.node, len(number)) for target in flat]
-    sizes = np.array([len(of) for of in ends])
+    sizes = np.array([len(of) for of in ends], dtype=np.int64)
     return _Columns(list(number), np.array(at, dtype=np.int64),
                     np.array([target.road for target in flat], dtype=np.int64),
-                    np.array([target.share for target in flat], dtype=np.float64), np.cumsum(sizes) - sizes, sizes == 0)
+                    np.array([target.share for target in flat], dtype=np.float64),
+                    np.repeat(np.arange(len(ends)), sizes), np.cumsum(sizes) - sizes, sizes == 0)
 
 
 async def _block(
         driver: Driver, begins: Sequence[Sequence[Source]], columns: _Columns, depart: int, ask: Ask) -> Floats:
     """The travel times of some sources; nan where no way leads."""
-    flat = [source for of in begins for source in of]
-    times = await _times(driver, flat, columns.node, ask)
-    return await beside(len(flat) * len(columns.at) // ENTRIES, _least, driver, begins, columns, times, depart)
+    rows = _Rows.of(begins)
+    steps = len(rows.node) * len(columns.at) // ENTRIES
+    arrive = await _arrivals(rows.starts(range(len(rows.node))), columns.node, ask)
+    times = np.where(arrive == _NEVER, np.inf, arrive + rows.part[:, None])
+    undecided = await beside(steps, _undecided, driver, rows, columns, arrive, times)
+    if undecided.any():
+        is_early = await _is_early(rows, columns, arrive, undecided, ask)
+        times[is_early] = arrive[is_early]
+    return await beside(steps, _travel, driver, rows, columns, times, depart)
 
 
-def _least(driver: Driver, begins: Sequence[Sequence[Source]], columns: _Columns, times: Floats,
-           depart: int) -> Floats:
+def _travel(driver: Driver, rows: _Rows, columns: _Columns, times: Floats, depart: int) -> Floats:
     """The travel times from when one is at each node."""
-    sizes = np.array([len(of) for of in begins])
-    found = np.full((len(begins), len(columns.first)), np.nan)
-    if not len(times) or not len(columns.at):
-        return found
-    arrivals = _finished(driver, times[:, columns.at], columns)
-    # A place without ends has none of the columns, and would be given its neighbour's.
-    best = np.full((len(begins), len(columns.first)), np.inf)
-    rows, wide = np.flatnonzero(sizes), np.flatnonzero(~columns.empty)
-    by_row = np.minimum.reduceat(arrivals, (np.cumsum(sizes) - sizes)[rows], axis=0)
-    best[np.ix_(rows, wide)] = np.minimum.reduceat(by_row, columns.first[wide], axis=1)
-    there = np.isfinite(best)
-    found[there] = np.floor(best[there] + 0.5) - depart
+    best = _whole(_best(driver, rows, columns, times))
+    best[np.isinf(best)] = np.nan
+    return best - depart
+
+
+def _best(driver: Driver, rows: _Rows, columns: _Columns, times: Floats) -> Floats:
+    """The least arrivals at all targets from each source, float64[S, T]; infinite where no way leads."""
+    best = np.full((len(rows.size), len(columns.first)), np.inf)
+    if len(times) and len(columns.at):
+        arrivals = _finished(driver, times[:, columns.at], columns)
+        # A place without ends has none of the columns, and would be given its neighbour's.
+        there, wide = np.flatnonzero(rows.size), np.flatnonzero(~columns.empty)
+        by_source = np.minimum.reduceat(arrivals, (np.cumsum(rows.size) - rows.size)[there], axis=0)
+        best[np.ix_(there, wide)] = np.minimum.reduceat(by_source, columns.first[wide], axis=1)
+    return best
+
+
+def _whole(times: Floats) -> Floats:
+    """The whole seconds that are nearest to some times, as nearest_second has them."""
+    whole: Floats = np.floor(times + 0.5)
+    return whole
+
+
+def _undecided(driver: Driver, rows: _Rows, columns: _Columns, arrive: Ints, times: Floats) -> Bools:
+    """At which nodes it has to be known whether one is there as early as who begins at the second before,
+    bool[b, nodes]: where that may be, and a target would be reached at another whole second then. times: when one is
+    there where it isn't so."""
+    second = rows.second[:, None]
+    may_be: Bools = (rows.part[:, None] > 0.0) & (arrive != _NEVER)
+    may_be &= driver.travel.have_rests(second, np.maximum(arrive, second))
+    found = np.zeros_like(may_be)
+    if may_be.any() and len(columns.at):
+        latest = _whole(_best(driver, rows, columns, times))[rows.source][:, columns.target]
+        soonest = _whole(_finished(driver, np.where(may_be, arrive, times)[:, columns.at], columns))
+        row, end = np.nonzero((soonest < latest) & may_be[:, columns.at])
+        found[row, columns.at[end]] = True
     return found
 
 
-async def _times(driver: Driver, sources: Sequence[Source], nodes: Sequence[int], ask: Ask) -> Floats:
-    """When one is at each node who begins at each source, float64[sources, nodes]; infinite where no way leads."""
-    arrive = await _arrivals([(source.node, source.second) for source in sources], nodes, ask)
-    part = np.array([source.part for source in sources], dtype=np.float64)
-    last = [int(row.max(initial=source.second)) for row, source in zip(arrive, sources)]
-    later = [row for row, source in enumerate(sources)
-             if source.part > 0.0 and driver.travel.has_rest(source.second, last[row])]
-    times = np.where(arrive == _NEVER, np.inf, arrive + part[:, None])
-    if later:
-        behind = await _arrivals([(sources[row].node, sources[row].second + 1) for row in later], nodes, ask)
-        times[later] = np.where(behind == arrive[later], np.where(behind == _NEVER, np.inf, behind), times[later])
-    return times
+async def _is_early(rows: _Rows, columns: _Columns, arrive: Ints, undecided: Bools, ask: Ask) -> Bools:
+    """At which of these nodes one is as early who begins a second later, bool[b, nodes]."""
+    found = np.zeros_like(undecided)
+    count = undecided.sum(axis=1)
+    many = np.flatnonzero(count >= ROW)
+    if len(many):
+        behind = await _arrivals(rows.starts(many.tolist(), 1), columns.node, ask)
+        found[many] = undecided[many] & (behind == arrive[many])
+    row, at = np.nonzero(undecided & (count < ROW)[:, None])
+    starts = rows.starts(row.tolist(), 1)
+    found[row, at] = await _single(starts, [columns.node[each] for each in at.tolist()], ask) == arrive[row, at]
+    return found
+
+
+async def _single(starts: Sequence[tuple[int, int]], ends: Sequence[int], ask: Ask) -> Ints:
+    """The least arrivals of drives from nodes and seconds to a node each, int64[d]; _NEVER where no walk leads."""
+    found: list[int] = []
+    for begin in range(0, len(starts), SINGLE):
+        these = list(zip(starts[begin:begin + SINGLE], ends[begin:begin + SINGLE]))
+        replies = await ask([f"q,{node},{end},{second % DAY}" for (node, second), end in these])
+        found += [arrival(reply, second) if checked(reply) else _NEVER
+                  for ((_, second), _), reply in zip(these, replies)]
+    return np.array(found, dtype=np.int64)
 
 
 async def _arrivals(starts: Sequence[tuple[int, int]], nodes: Sequence[int], ask: Ask) -> Ints:
@@ -133,7 +216,8 @@ async def _arrivals(starts: Sequence[tuple[int, int]], nodes: Sequence[int], ask
     if not nodes or not starts:
         return np.empty((len(starts), len(nodes)), dtype=np.int64)
     most = max(TOGETHER // len(nodes), 1)
-    parts = [(second, list(of)[at:at + most]) for second, of in by_second.items() for at in range(0, len(of), most)]
+    size = min(most, LINE)
+    parts = [(second, list(of)[at:at + size]) for second, of in by_second.items() for at in range(0, len(of), size)]
     row_of = {start: row for row, start in enumerate((node, second) for second, of in parts for node in of)}
     rows: list[Ints] = []
     for at in range(0, len(parts), most):

@@ -44,8 +44,8 @@ class Snapper:
         self._spot = np.unique(corner, axis=0, return_inverse=True)[1].astype(np.int32)
         self._junctions = Grouped.by(self._spot, int(self._spot.max(initial=-1)) + 1)
         # Of one place at a time, for which numpy's arrays are slow.
-        self._along, self._forward, self._points = streets.share.data, streets.is_forward.data, streets.places.data
-        self._metres, self._lead = streets.metres.data, streets.lead.data
+        self._along, self._forward = streets.share.data, streets.is_forward.data
+        self._points, self._metres, self._lead = streets.places.ravel().data, streets.metres.data, streets.lead.data
         (west, south), (east, north) = (edge(streets.places, axis=0).tolist() for edge in (np.min, np.max))
         self.box: tuple[float, float, float, float] = west, south, east, north
 
@@ -164,7 +164,7 @@ class Snapper:
     def _snap(self, place: Place, street: int, segment: int, part: float, roads: list[int] | None) -> Snap:
         """The point of a street, of which these roads count; where all do, at its end all roads that meet there do."""
         streets, along = self._streets, self._along
-        (x, y), (u, v) = self._points[segment:segment + 2].tolist()
+        x, y, u, v = self._points[2 * segment:2 * segment + 4]
         point = (x + (u - x) * part, y + (v - y) * part)
         share = along[segment] + (along[segment + 1] - along[segment]) * part
         metres, lead = self._metres[street], self._lead[street]

@@ -130,6 +130,17 @@ class Travel:
         found = self._rests[min(high, DAY)] - self._rests[low] + self._rests[max(high - DAY, 0)]
         return bool(found)
 
+    def have_rests(self, begin: Ints, end: Ints) -> Bools:
+        """As has_rest, of each of some beginnings and ends that numpy brings to one shape."""
+        if self._rests is None:
+            return np.zeros(np.broadcast(begin, end).shape, dtype=bool)
+        low = begin % DAY
+        # Whoever is longer on the way than a day meets all there are.
+        high = np.minimum(low + (end - begin) + 1, 2 * DAY)
+        before = self._rests[np.minimum(high, DAY)] - self._rests[low]
+        found: Bools = before + self._rests[np.maximum(high - DAY, 0)] > 0
+        return found
+
     def _of_road(self, road: int) -> tuple[list[int], list[int], list[int]]:
         """The starts, kinds and values of a road's pieces."""
         profile = self._number[road]

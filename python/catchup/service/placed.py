@@ -3,7 +3,7 @@
 from __future__ import annotations
 
 import os
-from collections.abc import Callable, Sequence
+from collections.abc import Awaitable, Callable, Sequence
 from dataclasses import dataclass
 from pathlib import Path
 from typing import TYPE_CHECKING
@@ -16,7 +16,6 @@ from catchup.places.places import MAP_FILE
 from catchup.places.travel import Travel
 from catchup.service import packed
 from catchup.service.answers import checked
-from catchup.service.children import Child
 from catchup.tables import Profiles
 
 if TYPE_CHECKING:
@@ -25,9 +24,9 @@ if TYPE_CHECKING:
 
 @dataclass(frozen=True, slots=True)
 class Placed:
-    """The places of one version. `quick` asks the child for routes, `slow` the one for all that takes longer; both
-    raise the Refusal that a client gets where the program has no answer. Hold the version while several lines are
-    asked."""
+    """The places of one version. `quick` asks the child for routes, `slow` the one for all that takes longer, and its
+    helpers where lines are many; both raise the Refusal that a client gets where the program has no answer. Hold the
+    version while several lines are asked."""
 
     version: Version
     places: Places
@@ -47,15 +46,16 @@ def placed_of(version: Version) -> Placed:
     travel = travel_of(version.descriptor)
     travel.prepare()
     places = version.ground.over(travel, "v" if version.has_seconds else "q")
-    return Placed(version, places, ask_of(lambda: version.quick), ask_of(lambda: version.slow))
+    # Which child is asked anew each time, since one that ends is started again.
+    return Placed(version, places, ask_of(lambda lines: version.quick.ask_all(lines)),
+                  ask_of(lambda lines: version.helpers.ask_all(version.slow, lines)))
 
 
-def ask_of(child: Callable[[], Child]) -> Ask:
-    """Asks a child of the service: all lines in one write. Which child is asked anew each time, since one that ends is
-    started again."""
+def ask_of(ask_all: Callable[[Sequence[bytes]], Awaitable[Sequence[bytes]]]) -> Ask:
+    """Asks the program, in text."""
 
     async def ask(lines: Sequence[str]) -> Sequence[str]:
-        replies = await child().ask_all("\n".join(lines).encode("ascii").split(b"\n"))
+        replies = await ask_all("\n".join(lines).encode("ascii").split(b"\n"))
         return [checked(reply).decode("ascii") for reply in replies]
 
     return ask

@@ -13,6 +13,7 @@ from typing import TYPE_CHECKING
 from catchup.service import packed
 from catchup.service.children import DRIVE_PROBE, PROBE, Child, NotOpened
 from catchup.service.errors import Refusal
+from catchup.service.helpers import Helpers
 from catchup.service.limits import PROBE_SECONDS, QUICK_SECONDS, SLOW_SECONDS
 from catchup.service.process import said_of
 from catchup.service.telling import tell
@@ -63,9 +64,10 @@ class Kept:
 
 
 class Version:
-    """One packed file, held open, and two children that answer of it: one for quick lines, one for slow ones."""
+    """One packed file, held open, and two children that answer of it: one for quick lines, one for slow ones, which may
+    have so many helpers."""
 
-    def __init__(self, descriptor: int, program: str, ground: Places | None = None) -> None:
+    def __init__(self, descriptor: int, program: str, ground: Places | None = None, helpers: int = 0) -> None:
         self.descriptor = descriptor
         self.program = program
         self.has_seconds = False        # the program says the second at which each road is entered
@@ -74,6 +76,7 @@ class Version:
         self.holders = 0
         self.is_retired = False
         self.restarts: set[asyncio.Task[None]] = set()
+        self.helpers = Helpers(lambda: Child.start(program, descriptor, SLOW_SECONDS), helpers)
 
     async def start(self) -> None:
         """Starts both children, which check the file, and reads it meanwhile; NotOpened where the program refuses
@@ -171,6 +174,7 @@ class Version:
     def end_where_unused(self) -> None:
         if not self.is_retired or self.holders or self.descriptor < 0:
             return
+        self.helpers.end()
         os.close(self.descriptor)
         self.descriptor = -1
         for child in (self.quick, self.slow):
@@ -189,6 +193,7 @@ class Version:
     def end_now(self) -> None:
         """Ends the children at once, whatever they were asked."""
         self.is_retired = True
+        self.helpers.end()
         for child in (self.quick, self.slow):
             self.end_child(child)
 
@@ -199,6 +204,7 @@ class Version:
     def look(self, now: float) -> None:
         """Ends a child whose next reply takes too long, and asks one that has long been asked nothing whether it is
         there."""
+        self.helpers.look(now)
         for child in (self.quick, self.slow):
             if child.gone.is_set():
                 continue
@@ -251,6 +257,7 @@ class Network:
         self.turn = asyncio.Lock()
         self.on_change: Callable[[Version], None] | None = None
         self.ground: Places | None = None
+        self.helpers = 0                # that each version may have
         self.current: Version
 
     async def open(self) -> None:
@@ -286,7 +293,7 @@ class Network:
         """Begins to open a file that is about to be put in the place, so that `load` needn't begin then."""
         self.forget_prepared()
         descriptor = os.open(path, os.O_RDONLY | os.O_CLOEXEC)
-        version = Version(descriptor, self.program, self.ground)
+        version = Version(descriptor, self.program, self.ground, self.helpers)
         starting = asyncio.get_running_loop().create_task(version.start())
         self.prepared = identity_of(os.fstat(descriptor)), version, starting
 
@@ -309,7 +316,7 @@ class Network:
         """Serves an open file, where it is one of this network."""
         prepared = self.take_prepared(identity)
         if prepared is None:
-            version = Version(descriptor, self.program, self.ground)
+            version = Version(descriptor, self.program, self.ground, self.helpers)
             starting = asyncio.get_running_loop().create_task(version.start())
         else:
             os.close(descriptor)

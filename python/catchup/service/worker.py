@@ -19,6 +19,7 @@ from catchup.service.answers import as_json
 from catchup.service.editor import Editor, Refused
 from catchup.service.errors import Refusal, told_briefly
 from catchup.service.gates import Gates
+from catchup.service.helpers import helpers_for
 from catchup.service.limits import WATCH_SECONDS
 from catchup.service.metrics import Metrics
 from catchup.service.notes import first_to_tell
@@ -64,6 +65,7 @@ class Worker:
                          for file in options.files]
         for network in self.networks:
             network.ground = shared.grounds.get(network.path)
+            network.helpers = helpers_for(options.workers)
         self.by_name = {network.name: network for network in self.networks}
         # A file without a name answers to every name.
         self.unnamed = self.by_name.get(None)

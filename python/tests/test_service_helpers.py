@@ -1,0 +1,159 @@
+"""Helpers of a child: lines of one question that several processes answer."""
+
+from __future__ import annotations
+
+import asyncio
+from collections.abc import Awaitable, Callable, Sequence
+from typing import Any
+
+import pytest
+
+uvicorn = pytest.importorskip("uvicorn", reason="python3-uvicorn isn't installed")
+
+from catchup.service import helpers  # noqa: E402
+from catchup.service.children import NotOpened  # noqa: E402
+from catchup.service.errors import Refusal  # noqa: E402
+from catchup.service.helpers import Helpers, helpers_for  # noqa: E402
+
+LINES = [b"%d" % number for number in range(100)]
+
+
+class Made:
+    """A child that isn't a process: it answers each line by itself, in some seconds."""
+
+    def __init__(self, seconds: float, fails_at: bytes | None = None) -> None:
+        self.seconds, self.fails_at = seconds, fails_at
+        self.loop = asyncio.get_running_loop()
+        self.answered: list[bytes] = []
+        self.is_lost = self.is_killed = self.is_closed = self.is_overdue = self.is_slow = False
+        self.on_gone: Callable[[Any], None] | None = None
+
+    async def ask_all(self, lines: Sequence[bytes]) -> list[bytes]:
+        for line in lines:
+            await asyncio.sleep(self.seconds)
+            if line == self.fails_at:
+                raise Refusal(503, "the program has ended")
+            self.answered.append(line)
+        return [b"answer " + line for line in lines]
+
+    def is_late(self, now: float) -> bool:
+        return self.is_slow
+
+    def kill(self) -> None:
+        self.is_killed = True
+
+    def close(self) -> None:
+        self.is_closed = True
+
+
+def run(test: Callable[[], Awaitable[None]], monkeypatch: pytest.MonkeyPatch, patience: float = 0.02) -> None:
+    monkeypatch.setattr(helpers, "PATIENCE_SECONDS", patience)
+    asyncio.run(asyncio.wait_for(test(), 60))  # type: ignore[arg-type]
+
+
+def helpers_of(made: list[Made], most: int, **of: Any) -> Helpers:
+    async def start() -> Any:
+        made.append(Made(0.002, **of))
+        return made[-1]
+
+    return Helpers(start, most)
+
+
+def test_all_help_and_replies_have_their_order(monkeypatch: pytest.MonkeyPatch) -> None:
+    async def test() -> None:
+        made: list[Made] = []
+        group, child = helpers_of(made, 3), Made(0.002)
+        for _ in range(2):
+            assert await group.ask_all(child, LINES) == [b"answer " + line for line in LINES]  # type: ignore[arg-type]
+        assert len(made) == 3 and all(each.answered for each in made)
+        assert sorted(line for each in (child, *made) for line in each.answered) == sorted(2 * LINES)
+
+    run(test, monkeypatch)
+
+
+def test_few_lines_and_quick_ones_are_one_childs(monkeypatch: pytest.MonkeyPatch) -> None:
+    async def test() -> None:
+        made: list[Made] = []
+        group, child = helpers_of(made, 3), Made(0.0)
+        await group.ask_all(child, LINES)  # type: ignore[arg-type]
+        child.seconds = 0.005
+        await group.ask_all(child, LINES[:helpers.MANY - 1])  # type: ignore[arg-type]
+        assert not made and len(child.answered) == len(LINES) + helpers.MANY - 1
+        await helpers_of(made, 0).ask_all(child, LINES)  # type: ignore[arg-type]
+        assert not made
+
+    run(test, monkeypatch, patience=5.0)
+
+
+@pytest.mark.parametrize("who", ["child", "helper"])
+def test_where_one_ends_whoever_asks_is_told(who: str, monkeypatch: pytest.MonkeyPatch) -> None:
+    async def test() -> None:
+        group = helpers_of([], 2, fails_at=b"90" if who == "helper" else None)
+        child = Made(0.05 if who == "helper" else 0.002, fails_at=b"90" if who == "child" else None)
+        with pytest.raises(Refusal, match="the program has ended"):
+            await group.ask_all(child, LINES)  # type: ignore[arg-type]
+        assert not group.works
+
+    run(test, monkeypatch, patience=0.02 if who == "helper" else 50.0)
+
+
+def test_one_that_cannot_be_started_is_not_needed(monkeypatch: pytest.MonkeyPatch) -> None:
+    async def test() -> None:
+        async def start() -> Any:
+            raise NotOpened("ended with status 9")
+
+        group, child = Helpers(start, 2), Made(0.002)
+        assert len(await group.ask_all(child, LINES)) == len(LINES)  # type: ignore[arg-type]
+        assert child.answered == LINES and not group.children
+
+    run(test, monkeypatch)
+
+
+def test_they_end_when_unused_late_or_over(monkeypatch: pytest.MonkeyPatch) -> None:
+    async def test() -> None:
+        made: list[Made] = []
+        group, child = helpers_of(made, 2), Made(0.002)
+        await group.ask_all(child, LINES)  # type: ignore[arg-type]
+        now = asyncio.get_running_loop().time()
+        group.look(now)
+        assert len(group.children) == 2 and not any(each.is_closed for each in made)
+        made[0].is_slow = True
+        group.look(now)
+        assert made[0].is_killed and made[0].is_overdue
+        assert made[0].on_gone is not None
+        made[0].on_gone(made[0])
+        group.look(now + helpers.UNUSED_SECONDS + 1)
+        assert made[1].is_closed and not group.children
+        await group.ask_all(child, LINES)  # type: ignore[arg-type]
+        group.end()
+        assert len(made) == 4 and all(each.is_killed for each in made[2:]) and not group.children
+
+    run(test, monkeypatch)
+
+
+def test_one_that_comes_when_all_is_over_ends(monkeypatch: pytest.MonkeyPatch) -> None:
+    async def test() -> None:
+        made: list[Made] = []
+        go = asyncio.Event()
+
+        async def start() -> Any:
+            await go.wait()
+            made.append(Made(0.0))
+            return made[-1]
+
+        group = Helpers(start, 1)
+        await group.ask_all(Made(0.002), LINES)  # type: ignore[arg-type]
+        group.end()
+        go.set()
+        while group.coming:
+            await asyncio.sleep(0)
+        assert made[0].is_killed and not group.children
+
+    run(test, monkeypatch)
+
+
+def test_how_many_there_may_be(monkeypatch: pytest.MonkeyPatch) -> None:
+    monkeypatch.setattr(helpers.os, "sched_getaffinity", lambda _: set(range(4)))
+    assert [helpers_for(workers) for workers in (1, 2, 3, 4, 9)] == [3, 1, 0, 0, 0]
+    monkeypatch.setattr(helpers.os, "sched_getaffinity", lambda _: set(range(64)))
+    assert helpers_for(1) == helpers.MOST
