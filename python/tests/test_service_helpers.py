@@ -3,10 +3,15 @@
 from __future__ import annotations
 
 import asyncio
+import os
 from collections.abc import Awaitable, Callable, Sequence
+from pathlib import Path
 from typing import Any
 
 import pytest
+from conftest import EXAMPLES
+
+from catchup.program import find_program, run_program
 
 uvicorn = pytest.importorskip("uvicorn", reason="python3-uvicorn isn't installed")
 
@@ -14,6 +19,7 @@ from catchup.service import helpers  # noqa: E402
 from catchup.service.children import NotOpened  # noqa: E402
 from catchup.service.errors import Refusal  # noqa: E402
 from catchup.service.helpers import Helpers, helpers_for  # noqa: E402
+from catchup.service.versions import Version  # noqa: E402
 
 LINES = [b"%d" % number for number in range(100)]
 
@@ -157,3 +163,28 @@ def test_how_many_there_may_be(monkeypatch: pytest.MonkeyPatch) -> None:
     assert [helpers_for(workers) for workers in (1, 2, 3, 4, 9)] == [3, 1, 0, 0, 0]
     monkeypatch.setattr(helpers.os, "sched_getaffinity", lambda _: set(range(64)))
     assert helpers_for(1) == helpers.MOST
+
+
+def test_a_versions_helpers_say_what_it_says_and_end_with_it(
+        program: Path, tmp_path: Path, monkeypatch: pytest.MonkeyPatch) -> None:
+    tables = [EXAMPLES / "town" / name for name in ("nodes.csv", "roads.csv", "profiles.csv")]
+    assert run_program(["build", *tables, "dissect", tmp_path / "town.cu"]).status == 0
+    lines = [b"t,%d,1,%d,%s" % (25_000 + 20 * number, number % 159, b",".join(b"%d" % node for node in range(150)))
+             for number in range(300)]
+
+    async def test() -> None:
+        version = Version(os.open(tmp_path / "town.cu", os.O_RDONLY), str(find_program()), None, 2)
+        await version.start()
+        with version.held():
+            said = await version.helpers.ask_all(version.slow, lines)
+            while version.helpers.coming:
+                await asyncio.sleep(0.01)
+            children = list(version.helpers.children)
+            assert len(children) == 2
+            assert said == await version.helpers.ask_all(version.slow, lines) == await version.slow.ask_all(lines)
+            version.retire()
+            assert all(child.process.poll() is None for child in children)
+        for child in (*children, version.quick, version.slow):
+            await child.gone.wait()
+
+    run(test, monkeypatch, patience=0.0)
