@@ -5,6 +5,7 @@ from __future__ import annotations
 import datetime
 import math
 import re
+import socket
 import zoneinfo
 from collections.abc import Callable, Iterator
 from pathlib import Path
@@ -227,6 +228,28 @@ def test_other_methods_and_hosts(service: Service) -> None:
     assert service.ask(path, "POST")[0] == 405
     assert service.ask(path, "GET", Host="elsewhere.example.org")[0] == 421
     assert service.client.request("OPTIONS", path, headers={"Origin": ORIGIN}).status_code == 204
+
+
+def test_nearest_streets_are_asked_as_all_else_is(service: Service) -> None:
+    path = f"/nearest/v1/car/{A}"
+    wanted = service.get(path)
+    for _ in range(2):
+        # A name that isn't served is none though another was before.
+        assert service.ask(path, "GET", Host="elsewhere.example.org")[0] == 421
+        assert service.ask(path, "GET", b"a body that nobody reads") == (200, wanted)
+        assert service.ask(path, "POST")[0] == 405
+    counted = service.client.get("/metrics").text
+    assert re.search(r'catchup_requests_total\{path="/nearest/v1",status="200"\} [0-9.]+', counted)
+    # Many at once on one connection are answered in their order, with others between.
+    said = "".join(f"GET {each} HTTP/1.1\r\nHost: localhost\r\n\r\n" for each in (
+        path, f"/nearest/v1/car/{B}?number=0", "/health", path, f"/nearest/v1/car/{B}"))
+    with service.connect() as client:
+        client.sendall(said.encode())
+        client.shutdown(socket.SHUT_WR)
+        answers = b"".join(iter(lambda: client.recv(65_536), b"")).decode()
+    statuses = re.findall(r"HTTP/1.1 ([0-9]+)", answers)
+    codes = re.findall(r'"(?:code|status)":"(\w+)"', answers)
+    assert (statuses, codes) == (["200", "400", "200", "200", "200"], ["Ok", "InvalidOptions", "ok", "Ok", "Ok"])
 
 
 def test_too_many_places_for_an_address(service: Service) -> None:

@@ -27,8 +27,8 @@ LINES = [b"%d" % number for number in range(100)]
 class Made:
     """A child that isn't a process: it answers each line by itself, in some seconds."""
 
-    def __init__(self, seconds: float, fails_at: bytes | None = None) -> None:
-        self.seconds, self.fails_at = seconds, fails_at
+    def __init__(self, seconds: float, fails_at: bytes | None = None, fails_from: bytes = b"a") -> None:
+        self.seconds, self.fails_at, self.fails_from = seconds, fails_at, fails_from
         self.loop = asyncio.get_running_loop()
         self.answered: list[bytes] = []
         self.is_lost = self.is_killed = self.is_closed = self.is_overdue = self.is_slow = False
@@ -37,7 +37,7 @@ class Made:
     async def ask_all(self, lines: Sequence[bytes]) -> list[bytes]:
         for line in lines:
             await asyncio.sleep(self.seconds)
-            if line == self.fails_at:
+            if line == self.fails_at or line >= self.fails_from:
                 raise Refusal(503, "the program has ended")
             self.answered.append(line)
         return [b"answer " + line for line in lines]
@@ -91,16 +91,27 @@ def test_few_lines_and_quick_ones_are_one_childs(monkeypatch: pytest.MonkeyPatch
     run(test, monkeypatch, patience=5.0)
 
 
-@pytest.mark.parametrize("who", ["child", "helper"])
-def test_where_one_ends_whoever_asks_is_told(who: str, monkeypatch: pytest.MonkeyPatch) -> None:
+def test_where_the_child_ends_whoever_asks_is_told(monkeypatch: pytest.MonkeyPatch) -> None:
     async def test() -> None:
-        group = helpers_of([], 2, fails_at=b"90" if who == "helper" else None)
-        child = Made(0.05 if who == "helper" else 0.002, fails_at=b"90" if who == "child" else None)
+        group = helpers_of([], 2)
         with pytest.raises(Refusal, match="the program has ended"):
-            await group.ask_all(child, LINES)  # type: ignore[arg-type]
+            await group.ask_all(Made(0.002, fails_at=b"90"), LINES)  # type: ignore[arg-type]
         assert not group.works
 
-    run(test, monkeypatch, patience=0.02 if who == "helper" else 50.0)
+    run(test, monkeypatch, patience=50.0)
+
+
+@pytest.mark.parametrize("patience", [0.0, 0.02])
+def test_what_a_helper_leaves_that_ends_is_done(patience: float, monkeypatch: pytest.MonkeyPatch) -> None:
+    async def test() -> None:
+        made: list[Made] = []
+        # Each helper ends at the first line that it has of these.
+        group, child = helpers_of(made, 2, fails_from=b"50"), Made(0.004)
+        for _ in range(2):
+            assert await group.ask_all(child, LINES) == [b"answer " + line for line in LINES]  # type: ignore[arg-type]
+        assert len(made) == 2 and not group.works
+
+    run(test, monkeypatch, patience)
 
 
 def test_one_that_cannot_be_started_is_not_needed(monkeypatch: pytest.MonkeyPatch) -> None:

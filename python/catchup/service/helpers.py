@@ -7,6 +7,7 @@ when they have been asked nothing for a while.
 from __future__ import annotations
 
 import asyncio
+import contextlib
 import os
 from collections import deque
 from collections.abc import Awaitable, Callable, Sequence
@@ -42,15 +43,20 @@ class Helpers:
         self.asked = 0.0                # when the last one was done
 
     async def ask_all(self, child: Child, lines: Sequence[bytes]) -> Sequence[bytes]:
-        """The replies to some lines in their order, by a child and its helpers."""
+        """The replies to some lines in their order, by a child and its helpers. Raises the Refusal of the child; what a
+        helper leaves that ends is the child's."""
         if len(lines) < MANY or not self.most:
             return await child.ask_all(lines)
         work, loop = Work(lines), asyncio.get_running_loop()
         late = loop.call_later(PATIENCE_SECONDS, self.call, work)
         self.works += 1
         try:
-            await asyncio.gather(*(work.share(each) for each in (child, *self.children)))
-            return await work.replies()
+            await asyncio.gather(work.share(child), *(work.help(each) for each in self.children))
+            while work.left or work.joined:
+                await work.share(child)
+                while work.joined:
+                    await work.joined.pop()
+            return work.said
         finally:
             late.cancel()
             work.left.clear()
@@ -112,27 +118,23 @@ class Work:
         size = -(-len(lines) // PARTS)
         self.left = deque(range(begin, min(begin + size, len(lines))) for begin in range(0, len(lines), size))
         self.joined: list[asyncio.Task[None]] = []
-        self.problem: BaseException | None = None
 
     async def share(self, child: Child) -> None:
-        """Has a child answer as many of them as it comes to."""
+        """Has a child answer as many of them as it comes to. Raises Refusal, where the lines that it had go back."""
         while self.left:
             part = self.left.popleft()
             try:
                 self.said[part.start:part.stop] = await child.ask_all(self.lines[part.start:part.stop])
-            except Refusal as problem:
-                self.left.clear()
-                self.problem = problem
+            except Refusal:
+                self.left.append(part)
+                raise
 
-    def join(self, child: Child) -> None:
-        """One more child takes its share."""
+    async def help(self, helper: Child) -> None:
+        """The same of a helper, which may end."""
+        with contextlib.suppress(Refusal):
+            await self.share(helper)
+
+    def join(self, helper: Child) -> None:
+        """One more takes its share."""
         if self.left:
-            self.joined.append(asyncio.get_running_loop().create_task(self.share(child)))
-
-    async def replies(self) -> Sequence[bytes]:
-        """The replies, once all are there. Raises Refusal."""
-        while self.joined:
-            await self.joined.pop()
-        if self.problem is not None:
-            raise self.problem
-        return self.said
+            self.joined.append(asyncio.get_running_loop().create_task(self.help(helper)))

@@ -62,14 +62,15 @@ class Osrm:
 
     def answer_nearest(self, path: bytes, query: bytes) -> Answer:
         """The same of an address of /nearest, for which the program is asked nothing, so nobody waits."""
-        from catchup.service.osrm import answers, guide
-
         version = self.version()
         try:
             asked = parse(path, query)
             assert isinstance(asked, AskedNearest)
             placed = self.placed(asked.profile)
             version = placed.version.name
+            # Only a service with maps needs what these need.
+            from catchup.service.osrm import answers, guide
+
             members = answers.nearest(asked, placed, guide.guide_of(placed.places.ground))
         except (Fault, Refusal) as problem:
             return refused(problem, version)
