@@ -333,11 +333,17 @@ def test_a_worker_that_hangs_is_replaced(file: Path, monkeypatch: pytest.MonkeyP
 
 
 def test_workers_and_children_break_off_nobody(file: Path) -> None:
-    """Nor do they where somebody has chosen how they share the processors."""
-    with Service(file) as service:
-        assert os.sched_getscheduler(service.process.pid) == os.sched_getscheduler(0)
-        found = {os.sched_getscheduler(pid) for pid in (*service.workers(), *service.children())}
-        assert found == {os.SCHED_BATCH}
+    """Where there are as many workers as processors, and nobody has chosen how they share these."""
+    processors = os.sched_getaffinity(0)
+    for used in ({min(processors)}, processors):
+        os.sched_setaffinity(0, used)
+        try:
+            with Service(file) as service:
+                assert os.sched_getscheduler(service.process.pid) == os.sched_getscheduler(0)
+                found = {os.sched_getscheduler(pid) for pid in (*service.workers(), *service.children())}
+                assert found == {os.SCHED_BATCH if len(used) == 1 else os.sched_getscheduler(0)}
+        finally:
+            os.sched_setaffinity(0, processors)
     chosen = ("import os; os.sched_setscheduler(0, os.SCHED_IDLE, os.sched_param(0)); "
               "from catchup.service.process import give_way; give_way(); print(os.sched_getscheduler(0))")
     ran = run([sys.executable, "-c", chosen], folder=TOP / "python")

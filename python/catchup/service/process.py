@@ -34,8 +34,8 @@ def end_with(parent: int) -> None:
 
 def give_way() -> None:
     """Has this process, and all that it starts, break off no other as it wakes: it waits until that has done its part.
-    A worker and its children would else break off each other at each request. Where somebody has chosen how the service
-    is to share the processors, that stays."""
+    Workers and their children that share all processors would else break off each other at each request. Where somebody
+    has chosen how the service is to share the processors, that stays."""
     with contextlib.suppress(OSError):
         if os.sched_getscheduler(0) == os.SCHED_OTHER:
             os.sched_setscheduler(0, os.SCHED_BATCH, os.sched_param(0))

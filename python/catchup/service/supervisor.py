@@ -165,7 +165,9 @@ class DrainingServer(Server):  # type: ignore[misc]
 
 async def serve(sockets: list[socket.socket], slot: int, notify: Any = None, pause: float = 0.0) -> None:
     """Serves in this process until a signal comes."""
-    give_way()
+    if Setting.options.workers >= len(os.sched_getaffinity(0)):
+        # They have no processor to themselves, and wake each other at each request.
+        give_way()
     asyncio.get_running_loop().set_exception_handler(tell_error)
     worker = Worker(Setting.options, Setting.folder, Setting.shared, Metrics(Setting.figures, slot))
     front = Front(worker, make_app(worker))
