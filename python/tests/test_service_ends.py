@@ -1,5 +1,5 @@
-"""How a service ends while clients go on connecting: whoever has connected gets an answer, whichever process is asked to
-end, and when."""
+"""How a service ends while clients go on connecting: whoever has connected gets an answer, whichever process is asked
+to end, and when."""
 
 from __future__ import annotations
 

@@ -171,13 +171,15 @@ OTHER = b"GET /route?from=7&to=20&depart=08:30 HTTP/1.1\r\n"
 # Those that end their connection come last.
 HEADS = [
     ROUTE, OTHER + H + b"\r\n", OTHER + H + b"Accept: */*\r\n\r\n", OTHER + H + b"Content-Length: 0\r\n\r\n",
-    OTHER + b"Host: example\x01\r\n\r\n", OTHER + b"Host: examples.\r\n\r\n", HEALTH, HEALTH[:-2] + b"Accept: */*\r\n\r\n",
-    b"GET /health HTTP/1.1\r\nHost: examples.\r\n\r\n", b"GET /route?from=5&to=1&depart=86400 HTTP/1.1\r\n" + H + b"\r\n",
+    OTHER + b"Host: example\x01\r\n\r\n", OTHER + b"Host: examples.\r\n\r\n", HEALTH,
+    HEALTH[:-2] + b"Accept: */*\r\n\r\n", b"GET /health HTTP/1.1\r\nHost: examples.\r\n\r\n",
+    b"GET /route?from=5&to=1&depart=86400 HTTP/1.1\r\n" + H + b"\r\n",
     b"GET /route?to=5&from=1&depart=0 HTTP/1.1\r\n" + H + b"\r\n", ROUTE.replace(b"GET", b"HEAD"),
     OTHER.replace(b"1.1\r", b"1.0\r") + b"Connection: keep-alive\r\n\r\n",
     b"POST /edits HTTP/1.1\r\n" + H + b"Content-Length: 3\r\n\r\n?,?",
     b"POST /route?from=5&to=151&depart=28800 HTTP/1.1\r\n" + H + b"\r\n"]
-LAST_HEADS = [OTHER + H + b"Connection: close\r\n\r\n", OTHER + H + H + b"\r\n", OTHER + b"\r\n", OTHER + H + b" a\r\n\r\n"]
+LAST_HEADS = [
+    OTHER + H + b"Connection: close\r\n\r\n", OTHER + H + H + b"\r\n", OTHER + b"\r\n", OTHER + H + b" a\r\n\r\n"]
 
 
 def answer_of(stream: BinaryIO, request: bytes) -> tuple[bytes, bytes]:
@@ -210,12 +212,14 @@ def alone(service: Service) -> dict[bytes, tuple[bytes, bytes]]:
 @settings(max_examples=60)
 @given(st.lists(st.sampled_from(HEADS), max_size=9), st.sampled_from([*HEADS, *LAST_HEADS]), st.booleans())
 def test_what_a_connection_has_asked_changes_no_answer(
-        service: Service, alone: dict[bytes, tuple[bytes, bytes]], before: list[bytes], last: bytes, at_once: bool) -> None:
+        service: Service, alone: dict[bytes, tuple[bytes, bytes]], before: list[bytes], last: bytes,
+        at_once: bool) -> None:
     requests = [*before, last]
     assert answers_of(service, requests, at_once) == [alone[request] for request in requests]
 
 
-def test_the_same_headers_are_answered_by_what_they_say(service: Service, alone: dict[bytes, tuple[bytes, bytes]]) -> None:
+def test_the_same_headers_are_answered_by_what_they_say(
+        service: Service, alone: dict[bytes, tuple[bytes, bytes]]) -> None:
     """Nor does a connection take a name that isn't served for one that it has seen."""
     good, bad, accepts = HEADS[1], HEADS[5], HEADS[2]
     assert [alone[each][0][9:12] for each in (good, accepts, bad)] == [b"200", b"200", b"421"]

@@ -1,8 +1,9 @@
 """How the end goes: nobody connects any more, and whoever has connected gets an answer.
 
-The system cuts off whoever has connected and isn't taken as the last process closes the socket. So the main process lets
-nobody connect before it asks any worker to end, and holds the socket until all have ended. A signal to all processes may
-come to a worker first: it serves on until the main process has asked too, or for a moment where that doesn't.
+The system cuts off whoever has connected and isn't taken as the last process closes the socket. So the main process
+lets nobody connect before it asks any worker to end, and closes the socket behind all workers. A signal to all
+processes may come to a worker first: it serves on until the main process has asked too, or for a moment where that
+doesn't.
 """
 
 from __future__ import annotations

@@ -443,8 +443,8 @@ def allow_files() -> int:
 
 
 def share(options: Options, kept: dict[Path, Kept], most: int) -> Shared:
-    """What workers have from now on: a token or a table that changes later is read at a reload, and not by a worker that
-    is started again."""
+    """What workers have from now on: a token or a table that changes later is read at a reload, and not by a worker
+    that is started again."""
     return Shared(options.gates(), draw_networks(options), streets_of(options), open_places(options), kept, most)
 
 
