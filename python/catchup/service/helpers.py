@@ -17,7 +17,7 @@ from catchup.service.children import Child, NotOpened
 from catchup.service.errors import Refusal
 
 MOST: Final = 7                         # helpers of a version
-PATIENCE_SECONDS: Final = 0.1           # for which one child works alone before others are started
+PATIENCE_SECONDS: Final = 0.2           # for which one child works alone before others are started
 UNUSED_SECONDS: Final = 20.0            # after which they end
 PARTS: Final = 32                       # that many lines are cut into
 MANY: Final = 16                        # lines below which one child answers all
