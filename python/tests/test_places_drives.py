@@ -174,9 +174,11 @@ def test_a_table_asks_each_beginning_once(made: Town) -> None:
         await made.places.table(places, places, 30_400, asked)
 
     made.ask(count)
-    rows = [(line.split(",")[1], node) for line in lines if line[0] == "t" for node in line.split(",")[3:][:int(
-        line.split(",")[2])]]
-    assert len(rows) == len(set(rows)) and all(int(line.split(",")[2]) <= matrix.LINE for line in lines if line[0] == "t")
+    rows: list[tuple[str, str]] = []
+    for words in [line.split(",") for line in lines if line[0] == "t"]:
+        assert int(words[2]) <= matrix.LINE
+        rows += [(words[1], node) for node in words[3:][:int(words[2])]]
+    assert len(rows) == len(set(rows))
     singles = [line for line in lines if line[0] == "q"]
     assert len(singles) == len(set(singles)) < 24 * len(rows)
 
