@@ -2,6 +2,7 @@
 
 from __future__ import annotations
 
+import contextlib
 import json
 import os
 import re
@@ -142,10 +143,11 @@ def read_all(client: socket.socket) -> bytes:
 
 
 def children_of(pid: int) -> list[int]:
-    """The processes that a process has started and that are there."""
+    """The processes that a process has started and that are there; none where it has ended itself meanwhile."""
     found = []
-    for task in Path(f"/proc/{pid}/task").glob("*/children"):
-        found += [int(word) for word in task.read_text().split()]
+    with contextlib.suppress(FileNotFoundError, ProcessLookupError):
+        for task in Path(f"/proc/{pid}/task").glob("*/children"):
+            found += [int(word) for word in task.read_text().split()]
     return sorted(found)
 
 
