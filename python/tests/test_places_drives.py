@@ -183,6 +183,19 @@ def test_a_table_asks_each_beginning_once(made: Town) -> None:
     assert len(singles) == len(set(singles)) < 24 * len(rows)
 
 
+def test_a_table_is_the_same_in_whatever_order_its_places_are(made: Town) -> None:
+    draw = random.Random(7)
+
+    async def compare_orders(ask: Ask) -> None:
+        places = [made.somewhere(draw) for _ in range(9)]
+        table = await made.places.table(places, places, 30_400, ask)
+        order = draw.sample(range(9), 9)
+        mixed = await made.places.table([places[at] for at in order], places, 30_400, ask)
+        assert np.array_equal(mixed, table[order], equal_nan=True)
+
+    made.ask(compare_orders)
+
+
 def test_a_reach_has_what_drives_reach(made: Town) -> None:
     draw = random.Random(6)
 

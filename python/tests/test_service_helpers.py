@@ -18,7 +18,7 @@ uvicorn = pytest.importorskip("uvicorn", reason="python3-uvicorn isn't installed
 from catchup.service import helpers  # noqa: E402
 from catchup.service.children import NotOpened  # noqa: E402
 from catchup.service.errors import Refusal  # noqa: E402
-from catchup.service.helpers import Helpers, helpers_for  # noqa: E402
+from catchup.service.helpers import Helpers, Work, helpers_for  # noqa: E402
 from catchup.service.versions import Version  # noqa: E402
 
 LINES = [b"%d" % number for number in range(100)]
@@ -89,6 +89,27 @@ def test_few_lines_and_quick_ones_are_one_childs(monkeypatch: pytest.MonkeyPatch
         assert not made
 
     run(test, monkeypatch, patience=5.0)
+
+
+@pytest.mark.parametrize("count", [1, 15, 16, 17, 100, 1000])
+def test_shares_are_ever_fewer_lines_and_each_line_is_in_one(count: int) -> None:
+    work = Work([b"%d" % number for number in range(count)])
+    shares = []
+    while work.left:
+        shares.append(work.take())
+    assert [number for share in shares for number in share] == list(range(count))
+    sizes = [len(share) for share in shares]
+    assert sizes == sorted(sizes, reverse=True) and sizes[0] == -(-count // helpers.SHARES) and sizes[-1] == 1
+
+
+def test_a_share_that_came_back_is_taken_again() -> None:
+    work = Work([b""] * 100)
+    first = work.take()
+    work.left.append(first)
+    taken = []
+    while work.left:
+        taken += work.take()
+    assert sorted(taken) == list(range(100))
 
 
 def test_where_the_child_ends_whoever_asks_is_told(monkeypatch: pytest.MonkeyPatch) -> None:

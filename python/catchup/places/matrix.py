@@ -1,4 +1,5 @@
-"""Tables of travel between many places, by lines `t`: one row for each beginning, all of one second in one line.
+"""Tables of travel between many places, by lines `t`: one row for each beginning. Sources that are near one another are
+asked behind one another, since the program remembers at which seconds it drove what.
 
 Who begins between two seconds may arrive as early as who begins at the first of them. Where the entry that is answered,
 a whole second, hangs on that, the later second is asked too: by lines `q`, or by another row where they would be many.
@@ -15,6 +16,7 @@ from numpy.typing import NDArray
 from catchup.beside import beside
 from catchup.clock import DAY
 from catchup.errors import CatchupError
+from catchup.places.curve import along
 from catchup.places.drives import Driver, arrival, checked
 from catchup.places.ends import Source, Target
 from catchup.places.values import Ask, Snap
@@ -92,9 +94,11 @@ async def table(driver: Driver, sources: Sequence[Snap], targets: Sequence[Snap]
     found = np.full((len(sources), len(targets)), np.nan)
     if not len(sources) or not len(targets):
         return found
-    columns, begins = await beside(STEPS * (len(sources) + len(targets)), _ends, driver, sources, targets, depart)
+    order = along([snap.point for snap in sources])
+    near = [sources[at] for at in order.tolist()]
+    columns, begins = await beside(STEPS * (len(sources) + len(targets)), _ends, driver, near, targets, depart)
     for rows in _blocks([len(each) for each in begins], max(len(columns.at), len(columns.node))):
-        found[rows] = await _block(driver, begins[rows], columns, depart, ask)
+        found[order[rows]] = await _block(driver, begins[rows], columns, depart, ask)
     await beside(STEPS * (len(sources) + len(targets)), _go_straight, driver, sources, targets, depart, found)
     return found
 
@@ -210,20 +214,27 @@ async def _single(starts: Sequence[tuple[int, int]], ends: Sequence[int], ask: A
 
 async def _arrivals(starts: Sequence[tuple[int, int]], nodes: Sequence[int], ask: Ask) -> Ints:
     """The least arrivals at nodes from nodes and seconds, int64[starts, nodes]; _NEVER where no walk leads."""
-    by_second: dict[int, dict[int, None]] = {}
-    for node, second in starts:
-        by_second.setdefault(second, {})[node] = None
     if not nodes or not starts:
         return np.empty((len(starts), len(nodes)), dtype=np.int64)
     most = max(TOGETHER // len(nodes), 1)
-    size = min(most, LINE)
-    parts = [(second, list(of)[at:at + size]) for second, of in by_second.items() for at in range(0, len(of), size)]
+    parts = _lines(starts, min(most, LINE))
     row_of = {start: row for row, start in enumerate((node, second) for second, of in parts for node in of)}
     rows: list[Ints] = []
     for at in range(0, len(parts), most):
         # Others get their turn between.
         rows.append(await _asked(parts[at:at + most], nodes, ask))
     return np.concatenate(rows)[[row_of[start] for start in starts]]
+
+
+def _lines(starts: Sequence[tuple[int, int]], most: int) -> list[tuple[int, list[int]]]:
+    """Lines of a second and the nodes where one begins then, so many of them at most: each beginning once, in the order
+    in which they are given."""
+    lines: list[tuple[int, list[int]]] = []
+    for node, second in dict.fromkeys(starts):
+        if not lines or lines[-1][0] != second or len(lines[-1][1]) == most:
+            lines.append((second, []))
+        lines[-1][1].append(node)
+    return lines
 
 
 async def _asked(parts: Sequence[tuple[int, list[int]]], nodes: Sequence[int], ask: Ask) -> Ints:

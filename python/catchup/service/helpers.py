@@ -19,7 +19,7 @@ from catchup.service.errors import Refusal
 MOST: Final = 7                         # helpers of a version
 PATIENCE_SECONDS: Final = 0.2           # for which one child works alone before others are started
 UNUSED_SECONDS: Final = 20.0            # after which they end
-PARTS: Final = 32                       # that many lines are cut into
+SHARES: Final = 16                      # of the lines that nobody has yet: a child takes one of them at a time
 MANY: Final = 16                        # lines below which one child answers all
 
 StartChild = Callable[[], Awaitable[Child]]
@@ -110,19 +110,27 @@ class Helpers:
 
 
 class Work:
-    """Lines that several children answer: each takes the next few as soon as it has answered those before."""
+    """Lines that several children answer: each takes the next few as soon as it has answered those before. They are ever
+    fewer, so that all children end about together."""
 
     def __init__(self, lines: Sequence[bytes]) -> None:
         self.said: list[bytes] = [b""] * len(lines)
         self.lines = lines
-        size = -(-len(lines) // PARTS)
-        self.left = deque(range(begin, min(begin + size, len(lines))) for begin in range(0, len(lines), size))
+        self.left = deque([range(len(lines))])
         self.joined: list[asyncio.Task[None]] = []
+
+    def take(self) -> range:
+        """The next few lines that nobody has yet; there are some."""
+        first = self.left.popleft()
+        size = -(-sum(map(len, self.left), len(first)) // SHARES)
+        if len(first) > size:
+            self.left.appendleft(first[size:])
+        return first[:size]
 
     async def share(self, child: Child) -> None:
         """Has a child answer as many of them as it comes to. Raises Refusal, where the lines that it had go back."""
         while self.left:
-            part = self.left.popleft()
+            part = self.take()
             try:
                 self.said[part.start:part.stop] = await child.ask_all(self.lines[part.start:part.stop])
             except Refusal:
