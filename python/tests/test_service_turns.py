@@ -11,7 +11,7 @@ from dataclasses import dataclass, field
 
 import pytest
 
-from catchup.service import accepting
+from catchup.service import accepting, turns as turns_of
 from catchup.service.accepting import Acceptor, Counts, Sort, brings_much, sort_of
 from catchup.service.process import Pipe
 from catchup.service.turns import MOST_HUNG_UP, MOST_LARGE, PIECES, PROMPT, Turns
@@ -143,6 +143,12 @@ def test_large_bodies_are_known_by_their_heads(head: bytes, wanted: bool) -> Non
 # ---- requests ----
 
 
+@pytest.fixture
+def still(monkeypatch: pytest.MonkeyPatch) -> None:
+    """No turn takes long, however long a busy machine leaves this process aside."""
+    monkeypatch.setattr(turns_of, "LONG_SECONDS", 60.0)
+
+
 @dataclass(eq=False)
 class Request:
     """A request that notes what becomes of it, and in which turn."""
@@ -178,6 +184,7 @@ def begun(many: dict[str, tuple[bool, bool]], turns_taken: int) -> list[list[str
     return asyncio.run(run())
 
 
+@pytest.mark.usefixtures("still")
 def test_a_turn_begins_a_few_requests_of_each_kind() -> None:
     many = {f"{kind}{at}": (kind == "large", kind == "gone") for at in range(6) for kind in ("plain", "gone", "large")}
     first, second, third, *_ = begun(many, 7)
@@ -199,6 +206,7 @@ def test_after_a_long_turn_one_request_is_begun() -> None:
     assert asyncio.run(run()) == ["0"]
 
 
+@pytest.mark.usefixtures("still")
 def test_requests_whose_clients_hang_up_or_go_meanwhile() -> None:
     async def run() -> tuple[list[str], int]:
         turns, began = Turns(), []  # type: ignore[var-annotated]
@@ -214,6 +222,7 @@ def test_requests_whose_clients_hang_up_or_go_meanwhile() -> None:
     assert asyncio.run(run()) == (["2", "3", "1"], 2)
 
 
+@pytest.mark.usefixtures("still")
 def test_no_more_wait_than_may() -> None:
     async def run() -> tuple[int, int, int]:
         turns = Turns()
@@ -230,6 +239,7 @@ def test_no_more_wait_than_may() -> None:
     assert asyncio.run(run()) == (3, 5, False)
 
 
+@pytest.mark.usefixtures("still")
 def test_pieces_of_large_bodies_take_turns() -> None:
     async def run() -> list[int]:
         turns = Turns()
