@@ -91,11 +91,11 @@ def next_reaches() -> list[str]:
 @pytest.mark.parametrize(
     ("lines", "usual"),
     [
-        (queries(400), 72_800),
-        (days(), 2_121_800),
-        (days() * 3, 1_567_100),
-        (reaches(), 910_400),
-        (next_reaches(), 737_900),
+        (queries(400), 80_500),
+        (days(), 2_117_000),
+        (days() * 3, 1_551_700),
+        (reaches(), 847_900),
+        (next_reaches(), 675_600),
     ],
     ids=["queries", "days", "days-again", "reaches", "next-reaches"],
 )
@@ -104,7 +104,20 @@ def test_answers_take_no_more(small: Opened, lines: list[str], usual: int) -> No
     assert a_line <= MORE * usual, f"{a_line:.0f} instructions a line"
 
 
+def test_queries_take_less_once_functions_are_made(small: Opened) -> None:
+    """Behind the first thousand queries lists become functions: after four thousand all are there."""
+    many = queries(4000)
+    a_line = (small.count(many + queries(400)) - small.count(many)) / 400
+    assert a_line <= MORE * 60_500, f"{a_line:.0f} instructions a line"
+
+
+def test_queries_take_little_more_while_functions_are_made(small: Opened) -> None:
+    many = queries(3000)
+    a_line = (small.count(many) - small.count(many[:1000])) / 2000
+    assert a_line <= 1.5 * 80_500, f"{a_line:.0f} instructions a line"
+
+
 def test_far_queries_take_no_more(large: Opened) -> None:
     """The further apart the ends are, the more a query spares that is led to its end."""
     a_line = large.count_a_line(queries(100, LARGE - 10))
-    assert a_line <= MORE * 253_700, f"{a_line:.0f} instructions a line"
+    assert a_line <= MORE * 277_900, f"{a_line:.0f} instructions a line"

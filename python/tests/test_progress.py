@@ -135,7 +135,7 @@ def test_one_line_written_over_on_a_terminal(program: Path, tmp_path: Path) -> N
 def test_settled_shortcuts_of_edits_are_counted_on_a_terminal(program: Path, tmp_path: Path) -> None:
     names = [str(tmp_path / name) for name in ("nodes.csv", "roads.csv", "profiles.csv")]
     packed, edits = str(tmp_path / "grid.cu"), tmp_path / "edits.txt"
-    subprocess.run([program, "make", "7", "40", "40", *names], check=True, capture_output=True)
+    subprocess.run([program, "make", "7", "64", "64", *names], check=True, capture_output=True)
     subprocess.run([program, "build", *names, "dissect", packed], check=True, capture_output=True)
     edits.write_text("".join(f"s,{profile},0,travel,{70 + profile}\n" for profile in range(64)))
     env = {name: value for name, value in os.environ.items() if name != "CATCHUP_PROGRESS"}

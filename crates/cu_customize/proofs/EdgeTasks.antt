@@ -15,7 +15,7 @@ use Rattle.cu_customize.specs.Functions.{FunctionsState}
 use Rattle.cu_customize.specs.Settling.{ArrivesBy, IsSettledList}
 use Rattle.cu_customize.specs.Steps.Best.{IsOpenAmong}
 use Rattle.cu_customize.specs.Steps.Gathering.{ways_of}
-use Rattle.cu_customize.specs.Steps.Triangles.{AreTriangles, IsTriangle, middles_in}
+use Rattle.cu_customize.specs.Triangles.{AreTriangles, IsTriangle, middles_in}
 use Rattle.cu_customize.proofs.Filing.{middles_joined}
 use Rattle.cu_customize.proofs.Loops.{middles_below, taken_settled}
 use Rattle.cu_customize.proofs.Settles.{LeadsOver, leads_over}

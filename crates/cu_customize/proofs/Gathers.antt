@@ -24,7 +24,7 @@ use Rattle.cu_customize.specs.Functions.{road_function, road_if}
 use Rattle.cu_runs.specs.PackedRuns.{IsPackedFunction, composed}
 use Rattle.cu_customize.specs.Steps.Gathering.{ArrivesIn, Gathers, GathersAt, IsBeaten, IsBound, IsGathered, IsGatheredBut, IsInTime, IsLeastAt, IsLeastWay}
 use Rattle.cu_customize.specs.Steps.Gathering.{IsNear, IsNobodys, IsOpenIn, IsOrdered, IsRival, IsTask, IsWithin, state_of, ways_of}
-use Rattle.cu_customize.specs.Steps.Triangles.{middles_in}
+use Rattle.cu_customize.specs.Triangles.{middles_in}
 use Rattle.cu_runs.proofs.AddLaws.{composed_order}
 use Rattle.cu_customize.proofs.Bests.{among_cases, arrives_once}
 use Rattle.cu_customize.proofs.Loops.{member_map}

@@ -26,7 +26,7 @@ use Rattle.cu_runs.specs.Least.{Held, least_arrival, least_way, way_with, IsAdde
 use Rattle.cu_customize.specs.Settling.{function_from, through}
 use Rattle.cu_runs.specs.Travels.{TakeLonger, Takes, TakesAtLeast, TakesAtMost}
 use Rattle.cu_customize.specs.Steps.Gathering.{AreLimits, ArrivesIn, FindsHalves, Gathers, HasBy, HasHalves, HasTriangles, IsBeaten, IsBound, IsFar, IsLower, IsNear, IsTask, state_of, ways_of}
-use Rattle.cu_customize.specs.Steps.Triangles.{IsTriangle, middles_in}
+use Rattle.cu_customize.specs.Triangles.{IsTriangle, middles_in}
 use Rattle.cu_runs.specs.PackedRuns.{IsPackedFunction, composed}
 use Rattle.cu_runs.proofs.AddLaws.{composed_order}
 use Rattle.cu_customize.proofs.Gathers.{HasFunction, at_once, gathers_at, gathers_none, gathers_one}

@@ -28,7 +28,7 @@ use Rattle.cu_runs.specs.Least.{Held, least_arrival, least_way}
 use Rattle.cu_customize.specs.Settling.{ArrivesBy, IsDayValueOf, IsSettledList, KnowsHalves, function_from, through}
 use Rattle.cu_customize.specs.Steps.Gathering.{ArrivesIn, IsGathered, IsInTime, IsLeastWay, IsOpenIn, IsPulled, IsTask, state_of, ways_of}
 use Rattle.cu_customize.specs.Steps.Kept.{IsBuiltTo, Keeps}
-use Rattle.cu_customize.specs.Steps.Triangles.{AreTriangles, middles_in}
+use Rattle.cu_customize.specs.Triangles.{AreTriangles, middles_in}
 use Rattle.cu_runs.specs.PackedRuns.{IsPackedFunction}
 use Rattle.cu_customize.proofs.Keeping.{arcs_in, kept_are, kept_halves, next_built}
 use Rattle.cu_customize.proofs.Dropped.{AreAlike, arrives_alike, daily_alike, kept_alike, settled_alike}

@@ -27,7 +27,8 @@ use Rattle.cu_customize.specs.Functions.{FunctionsState, kept_state}
 use Rattle.cu_runs.specs.Least.{Held}
 use Rattle.cu_customize.specs.Settling.{HasFarWay, IsDayValueOf, IsSettledList, KnowsHalves, function_from}
 use Rattle.cu_customize.specs.Steps.Gathering.{AreNear, HasTriangles, IsGathered, IsNear, IsPulled, IsTask, state_of, ways_of}
-use Rattle.cu_customize.specs.Steps.Triangles.{AreTriangles, AreTrianglesBy, middles_in}
+use Rattle.cu_customize.specs.Steps.Triangles.{AreTrianglesBy}
+use Rattle.cu_customize.specs.Triangles.{AreTriangles, middles_in}
 use Rattle.cu_runs.specs.PackedRuns.{IsPackedFunction}
 use Rattle.cu_customize.proofs.EdgeTasks.{all_below, common_found, leads, task_settled, triangles_between}
 use Rattle.cu_customize.proofs.LowFunctions.{down_edge, up_edge}

@@ -11,7 +11,7 @@ use Rattle.cu_interval.specs.declared.ways.Way.{Way}
 use Rattle.cu_interval.specs.declared.ways.Way.TheVariants.{Road, Via}
 use Rattle.cu_interval.specs.WayLists.{GoesFirst}
 use Rattle.cu_customize.specs.declared.triangles.Triangle.{Triangle}
-use Rattle.cu_customize.specs.Steps.Triangles.{middles_in}
+use Rattle.cu_customize.specs.Triangles.{middles_in}
 
 -- the place of a road is its place among the roads
 road_place : (xs ys : List ℕ) (i a : ℕ) → slice_get (map Road xs ++ map Via ys) i ≡ Some (Road a) → slice_get xs i ≡ Some a

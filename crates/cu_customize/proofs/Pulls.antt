@@ -20,7 +20,7 @@ use Rattle.cu_runs.specs.declared.merging.WayRun.{WayRun}
 use Rattle.cu_customize.specs.declared.task.Task.{Task}
 use Rattle.cu_runs.specs.Least.{Held, IsWayRuns, least_arrival, least_way}
 use Rattle.cu_customize.specs.Steps.Gathering.{IsPulled, IsTask, IsWithin, read_of, said_by, ways_of}
-use Rattle.cu_customize.specs.Steps.Triangles.{middles_in}
+use Rattle.cu_customize.specs.Triangles.{middles_in}
 use Rattle.cu_runs.specs.PackedRuns.{IsPackedFunction}
 use Rattle.cu_customize.proofs.Places.{way_place}
 

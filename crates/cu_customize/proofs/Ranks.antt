@@ -7,7 +7,8 @@ use Rattle.cu_chordal.specs.Graphs.{ChordalValue, IsChordal, NumbersEdges, first
 use Rattle.cu_chordal.proofs.Tables.{first_all}
 use Rattle.cu_chordal.proofs.Grouping.{zero_step}
 use Rattle.cu_customize.specs.declared.triangles.Triangle.{Triangle}
-use Rattle.cu_customize.specs.Steps.Triangles.{AreTriangles, AreTrianglesOf, HoldsTriangles}
+use Rattle.cu_customize.specs.Steps.Triangles.{HoldsTriangles}
+use Rattle.cu_customize.specs.Triangles.{AreTriangles, AreTrianglesOf}
 
 pub first_zero : (edges : List Ends) → first_edge_of edges 0 ≡ 0
 first_zero [] = refl

@@ -1,3 +1,4 @@
 pub mod Functions
 pub mod Settling
 pub mod Steps
+pub mod Triangles

@@ -6,7 +6,7 @@ ghost use Rattle.cu_interval.specs.Hierarchies.{IsBuilt};
 ghost use Rattle.cu_interval.specs.Shortcuts.{number_of};
 ghost use Rattle.cu_customize.specs.Steps.Building.{AreParts};
 ghost use Rattle.cu_customize.specs.Steps.Kept.{AreBuilt, IsBuilding, IsBuildingFrom};
-ghost use Rattle.cu_customize.specs.Steps.Triangles.{AreTrianglesOf};
+ghost use Rattle.cu_customize.specs.Triangles.{AreTrianglesOf};
 
 use crate::dropping::drop_edges_to;
 use crate::gathering::Gatherer;

@@ -37,3 +37,4 @@ pub use functions::Functions;
 pub use packed_settling::PackedSettling;
 pub use pulling::SettledRuns;
 pub use settling::{Settled, settle};
+pub use triangles::Triangle;

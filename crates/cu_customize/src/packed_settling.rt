@@ -1,6 +1,6 @@
 //! Settling one shortcut by packed runs, from whatever functions stand for those of the shortcuts below it.
 
-ghost use Rattle.std.specs.Prelude.{◌≡◌, ◌<◌, ◌*◌, ℕ, List, All, IfOk, IfSome, OnOk, Some, length, slice_get, true, false, None};
+ghost use Rattle.std.specs.Prelude.{◌≡◌, ◌<◌, ◌*◌, [], ℕ, List, All, IfOk, IfSome, OnOk, Some, length, slice_get, true, false, None};
 ghost use Rattle.std.specs.List.{Contains};
 ghost use Rattle.std.specs.List.Sorted.{IsStrictlyIncreasing};
 ghost use Rattle.cu_model.specs.Networks.{NetworkValue};
@@ -10,7 +10,8 @@ ghost use Rattle.cu_interval.specs.Hierarchies.{end_of, list_number, start_of};
 ghost use Rattle.cu_customize.specs.Functions.{kept_state};
 ghost use Rattle.cu_customize.specs.Settling.{HasFarWay, IsDayValueOf, IsSettledList};
 ghost use Rattle.cu_customize.specs.Steps.Gathering.{AreNear, HasTriangles, IsFar, IsNear};
-ghost use Rattle.cu_customize.specs.Steps.Triangles.{AreTriangles, FindsTriangle};
+ghost use Rattle.cu_customize.specs.Steps.Triangles.{FindsTriangle};
+ghost use Rattle.cu_customize.specs.Triangles.{AreTriangles, AreTrianglesOf};
 
 use crate::gathering::{Gatherer, halves_of};
 use crate::pulling::{SettledRuns, pull};
@@ -21,8 +22,9 @@ use cu_interval::{Dir, EdgeArcs, leg_of};
 use cu_model::{DAY, NoMemory, Roads};
 use cu_runs::{LayeredFunctions, MAX_NUMBER, Windows, staying};
 use std::alloc::Global;
+use std::marker::Model;
 
-/// What settles one shortcut after the other by packed runs, with its room.
+/// What settles one shortcut after the other by packed runs, with its room. Contracts see the triangles that it found last.
 #[derive(Drop)]
 pub struct PackedSettling {
     triangles: Vec<Triangle>,
@@ -30,9 +32,20 @@ pub struct PackedSettling {
     windows: Windows,
 }
 
+impl Model for PackedSettling {
+    ghost use Rattle.std.specs.Prelude.{List};
+    ghost use Rattle.cu_customize.specs.declared.triangles.Triangle.{Triangle};
+
+    ghost Value = { List Triangle };
+
+    ghost view = { λ settling. settling.triangles.items };
+}
+
 impl PackedSettling {
-    /// With windows of the day that are narrow where profiles of these roads change.
-    pub fn new<R: Roads>(alloc: Global, roads: &R) -> Result<PackedSettling, NoMemory> {
+    /// With windows of the day that are narrow where profiles of these roads change. No triangles are found yet.
+    pub fn new<R: Roads>(alloc: Global, roads: &R) -> Result<PackedSettling, NoMemory>
+        ensures { IfOk result (λ settling. settling ≡ []) }
+    {
         let windows = Windows::of(roads);
         Ok(PackedSettling {
             triangles: Vec::new(alloc),
@@ -46,10 +59,27 @@ impl PackedSettling {
         self.windows
     }
 
-    /// Settles the shortcut of an edge in a direction by the functions of these roads and these functions of shortcuts,
-    /// by list number: the maximal runs, over a day, of its first candidate that arrives earliest, and when that
-    /// arrives. The candidates are the edge's roads that aren't closed, by rising number, and then the middles of which
-    /// both halves have a function, by rising rank. None where a way takes longer than packed runs can say.
+    /// Finds the lower triangles of an edge, by which both its shortcuts are settled then.
+    pub fn find(&mut self, graph: &Chordal, edge: u32) -> Result<(), NoMemory>
+        requires edge { edge < length graph.now.edges }
+        ensures { OnOk result (AreTrianglesOf graph.now.edges edge self.new) }
+    {
+        let ends = graph.ends(edge);
+        find_triangles(graph, ends, &mut self.triangles)
+    }
+
+    /// The triangles that were found last.
+    pub fn triangles(&self) -> &[Triangle]
+        ensures { result.now ≡ self.now }
+    {
+        &self.triangles
+    }
+
+    /// Settles the shortcut of an edge, whose triangles were found last, in a direction by the functions of these roads and
+    /// these functions of shortcuts, by list number: the maximal runs, over a day, of its first candidate that arrives
+    /// earliest, and when that arrives. The candidates are the edge's roads that aren't closed, by rising number, and then
+    /// the middles of which both halves have a function, by rising rank. None where a way takes longer than packed runs can
+    /// say. The triangles stay.
     pub fn settle<R: Roads>(
         &mut self,
         alloc: Global,
@@ -65,6 +95,7 @@ impl PackedSettling {
         requires arcs { (list : List ℕ) → slice_get arcs.now (list_number edge dir) ≡ Some list
             → IsStrictlyIncreasing list × All (λ a. a < length (R.network roads.now).arcs) list }
         requires functions { length functions ≡ 2 * length graph.now.edges }
+        requires triangles { AreTrianglesOf graph.now.edges edge self.old }
         ensures ways { (ends : Ends) (list : List ℕ)
             → slice_get graph.now.edges edge ≡ Some ends
             → slice_get arcs.now (list_number edge dir) ≡ Some list
@@ -79,9 +110,9 @@ impl PackedSettling {
             → IfOk result (λ found. found ≡ None → HasFarWay graph.now.edges
             (kept_state (R.network roads.now) functions.entry)
             (start_of ends dir) (end_of ends dir)) }
+        ensures triangles { self.new ≡ self.old }
     {
         let ends = graph.ends(edge);
-        find_triangles(graph, ends, &mut self.triangles)?;
         let stay = staying();
         let task = Task {
             graph,

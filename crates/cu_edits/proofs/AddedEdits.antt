@@ -1,6 +1,6 @@
 -- A list of edits with one more fits as the list did.
 use Rattle.std.proofs.Common.{◌≡◌, ◌≢◌, ◌<◌, ◌+◌, ◌^◌, ◌∙◌, ◌⊎◌, ℕ, zero, suc, Bool, true, List, [], ◌∷◌, ◌++◌, Option, Some, None, refl, ap, sym, subst, arith, inl, inr, length}
-use Rattle.std.specs.Prelude.{◌↔◌, All, IsTrue, slice_get, slice_set}
+use Rattle.std.specs.Prelude.{◌↔◌, All, IsTrue, max, min, slice_get, slice_set}
 use Rattle.std.specs.List.{Contains}
 use Rattle.std.proofs.lemmas.Bool.{cases_eq}
 use Rattle.std.proofs.lemmas.List.{length-set}
@@ -12,18 +12,27 @@ use Rattle.cu_model.specs.Edits.{IsEditInRange, edited, reassigned}
 use Rattle.cu_model.specs.Networks.{IsNetwork, NetworkValue}
 use Rattle.cu_model.proofs.ListLaws.{get_here, get_other, item_there}
 use Rattle.cu_chordal.proofs.Decided.{member_decided}
-use Rattle.cu_chordal.proofs.Members.{all_from_members, here, member_cases, none_in_nil, there}
-use Rattle.cu_interval.specs.Hierarchies.{HierarchyValue}
+use Rattle.cu_chordal.proofs.Members.{all_from_members, here, member_at, member_cases, none_in_nil, there}
+use Rattle.cu_chordal.proofs.Tables.{edge_from_up_of}
+use Rattle.cu_chordal.specs.declared.graph.Ends.{Ends}
+use Rattle.cu_chordal.specs.Graphs.{up_of}
+use Rattle.cu_interval.specs.Hierarchies.{HierarchyValue, IsHierarchy}
+use Rattle.cu_interval.proofs.EndsLaws.{ends_rise}
 use Rattle.cu_interval.specs.Touching.{NumbersTouched}
-use Rattle.cu_resettled.specs.ResettlingAll.{IsChangedBySome, IsTouchedEdgeBySome, edited_all}
-use Rattle.cu_resettled.proofs.TouchedBySome.{changed_more, edited_more, touched_more}
+use Rattle.cu_resettled.specs.ResettlingAll.{IsChangedBySome, IsTouchedBySome, IsTouchedEdgeBySome, edited_all}
+use Rattle.cu_resettled.proofs.TouchedBySome.{changed_more, covered, edited_more, touched_more}
 use Rattle.cu_edits.specs.EditLists.{AreChanged, EditListValue, FitsList, FitsNetwork, IsAssigned, IsGiven, over_network}
 use Rattle.cu_edits.specs.Lists.{AreInRange, AreSound}
 use Rattle.cu_edits.specs.Steps.Adding.{IsInside, added, assigned_by, given_by, marked_at}
-use Rattle.cu_edits.specs.Steps.Found.{AreTouchedFrom}
+use Rattle.cu_edits.specs.Steps.Climbing.{AreCounted, ArePlanned, LeadToMarked}
+use Rattle.cu_edits.specs.Steps.Found.{AreTouchedFrom, LeadsTo}
 use Rattle.cu_edits.specs.Steps.Known.{IsEditSound}
+use Rattle.cu_edits.specs.Steps.Spreading.{IsAbove}
+use Rattle.cu_edits.specs.declared.finding.Planned.{Planned}
 use Rattle.cu_edits.proofs.EditedLists.{arcs_all, profiles_all}
 use Rattle.cu_edits.proofs.Planned.{changed_within}
+use Rattle.cu_edits.proofs.Reached.{joined_among}
+use Rattle.cu_edits.proofs.Spreading.{at_min_max}
 use Rattle.cu_edits.proofs.ListLaws.{get_front}
 
 pub range_more : (g : NetworkValue) (edits : List Edit) (edit : Edit) → AreInRange g edits → IsEditInRange (edited_all g edits) edit → AreInRange g (edits ++ edit ∷ [])
@@ -203,31 +212,60 @@ network_more g list edit arcs edges fits range sets changed =
       roads = fits.roads;
     }
 
-touched_by_more : (h : HierarchyValue) (edits : List Edit) (edit : Edit) (edges : List ℕ) → NumbersTouched (over_network h (edited_all h.network edits)) edit edges
+touched_by_more : (h : HierarchyValue) (edits : List Edit) (edit : Edit) (marks : List Bool) (edges all : List ℕ) (count : ℕ)
+    → ((k : ℕ) (m : Bool) → slice_get marks k ≡ Some m → IsTrue m ↔ IsTouchedEdgeBySome h edits k)
+    → NumbersTouched (over_network h (edited_all h.network edits)) edit all → AreCounted marks edges all count
     → (e : ℕ) → IsTouchedEdgeBySome h (edits ++ edit ∷ []) e ↔ (IsTouchedEdgeBySome h edits e ⊎ Contains edges e)
-touched_by_more h edits edit edges numbers e = (there_more, back_more)
+touched_by_more h edits edit marks edges all count law numbers counted e = (there_more, back_more)
   where
     there_more : IsTouchedEdgeBySome h (edits ++ edit ∷ []) e → IsTouchedEdgeBySome h edits e ⊎ Contains edges e
     there_more (ends, at, touched) = elim ((touched_more h.network h.order edits edit ends.low ends.high).0 touched) [
       | inl before ↦ inl (ends, at, before)
-      | inr own ↦ inr ((numbers.exact e).1 (ends, at, own))
+      | inr own ↦ elim (counted.marked e ((numbers.exact e).1 (ends, at, own))) [ inl among ↦ inr among | inr marked ↦ inl ((law e true marked).0 refl) ]
     ]
 
     back_more : IsTouchedEdgeBySome h edits e ⊎ Contains edges e → IsTouchedEdgeBySome h (edits ++ edit ∷ []) e
     back_more (inl (ends, at, before)) = (ends, at, (touched_more h.network h.order edits edit ends.low ends.high).1 (inl before))
     back_more (inr among) =
-        let (ends, at, own) = (numbers.exact e).0 among in
+        let (ends, at, own) = (numbers.exact e).0 (counted.of e among) in
         (ends, at, (touched_more h.network h.order edits edit ends.low ends.high).1 (inr own))
 
-pub list_more : (h : HierarchyValue) (list : EditListValue) (edit : Edit) (arcs edges : List ℕ) → FitsList h list → IsEditInRange (edited_all h.network list.edits) edit
-    → IsEditSound edit → AreChanged (edited_all h.network list.edits) edit arcs → NumbersTouched (over_network h (edited_all h.network list.edits)) edit edges
-    → FitsList h (added list edit arcs edges)
-list_more h list edit arcs edges fits range sets changed numbers = record {
+pub list_more : (h : HierarchyValue) (list : EditListValue) (edit : Edit) (arcs edges all : List ℕ) (count : ℕ) → FitsList h list → IsEditInRange (edited_all h.network list.edits) edit
+    → IsEditSound edit → AreChanged (edited_all h.network list.edits) edit arcs → NumbersTouched (over_network h (edited_all h.network list.edits)) edit all
+    → AreCounted list.touched edges all count → FitsList h (added list edit arcs edges)
+list_more h list edit arcs edges all count fits range sets changed numbers counted = record {
   network = network_more h.network list edit arcs edges fits.network range sets changed;
   edges = long_marked list.touched edges ∙ fits.edges;
   touches = marks_more list.touched edges (IsTouchedEdgeBySome h list.edits) (IsTouchedEdgeBySome h (list.edits ++ edit ∷ [])) fits.touches
-      (touched_by_more h list.edits edit edges numbers);
+      (touched_by_more h list.edits edit list.touched edges all count fits.touches numbers counted);
 }
+
+-- an edge that one leads to is above it, and all above one that some of several edits touches is touched by some of them
+leads_above : (edges : List Ends) (edge next : ℕ) → LeadsTo edges edge next → IsAbove edges edge next
+leads_above edges edge next (ends, rank, at, joined, between) = (ends, rank, at, edge_from_up_of edges ends.low rank (joined_among (up_of edges ends.low) ends.high rank joined), between)
+
+some_above : (h : HierarchyValue) → IsHierarchy h → (edits : List Edit) (e over : ℕ) → IsTouchedEdgeBySome h edits e → IsAbove h.edges e over → IsTouchedEdgeBySome h edits over
+some_above h sound edits e over (ends, at, touched) (same, rank, on, side, between) =
+    let cover = covered h.network h.order edits in
+    let is : ends ≡ same = cc (at, on) in
+    let t : IsTouchedBySome h.network h.order edits same.low same.high = subst (λ (x : Ends). IsTouchedBySome h.network h.order edits x.low x.high) is touched in
+    let (low, first) = (sound.edges.exact same.low same.high).0 (member_at h.edges same e on) in
+    let (lower, second) = (sound.edges.exact same.low rank).0 side in
+    let rise = ends_rise h sound over (record { low = min rank same.high; high = max rank same.high }) between in (
+      record { low = min rank same.high; high = max rank same.high },
+      between,
+      at_min_max (λ p q. p < q → IsTouchedBySome h.network h.order edits p q) rank same.high (λ lt up. cover.second same.low rank same.high t lower lt second first)
+          (λ ge up. cover.first same.low same.high rank t low up first second) rise,
+    )
+
+pub lead_to_marked : (h : HierarchyValue) → IsHierarchy h → (list : EditListValue) → FitsList h list → LeadToMarked h.edges list.touched
+lead_to_marked h sound list fits edge next marked leads =
+    let over = some_above h sound list.edits edge next ((fits.touches edge true marked).0 refl) (leads_above h.edges edge next leads) in
+    let inside = slice_get_within h.edges next over.0 over.1 in
+    let long = fits.edges in
+    let (m, at) = item_there list.touched next (omega (arith, inside, long)) in
+    let set : m ≡ true = (fits.touches next m at).1 over in
+    at ∙ ap (λ (b : Bool). Some b) set
 
 -- the profiles of a list are few, and its marks are there for what an edit changes and touches
 pub few_profiles : (g : NetworkValue) → IsNetwork g → (list : EditListValue) → FitsNetwork g list → length list.given < 2 ^ 32
@@ -239,10 +277,10 @@ planned_arcs h list fits edit arcs range changed =
     subst (λ (n : ℕ). All (λ arc. arc < n) arcs) (arcs_all h.network list.edits ∙ sym fits.network.marks)
     (changed_within (edited_all h.network list.edits) edit arcs range changed)
 
-pub planned_edges : (h : HierarchyValue) (list : EditListValue) → FitsList h list → (edit : Edit) (edges : List ℕ)
-    → NumbersTouched (over_network h (edited_all h.network list.edits)) edit edges → All (λ edge. edge < length list.touched) edges
-planned_edges h list fits edit edges numbers = all_from_members (λ edge. edge < length list.touched) edges (λ edge c.
-    let (ends, at, touched) = (numbers.exact edge).0 c in
+pub planned_edges : (h : HierarchyValue) (list : EditListValue) → FitsList h list → (edit : Edit) (edges all : List ℕ) (count : ℕ)
+    → NumbersTouched (over_network h (edited_all h.network list.edits)) edit all → AreCounted list.touched edges all count → All (λ edge. edge < length list.touched) edges
+planned_edges h list fits edit edges all count numbers counted = all_from_members (λ edge. edge < length list.touched) edges (λ edge c.
+    let (ends, at, touched) = (numbers.exact edge).0 (counted.of edge c) in
     let inside = slice_get_within h.edges edge ends at in
     let long = fits.edges in
     omega (arith, inside, long))
@@ -251,3 +289,10 @@ planned_edges h list fits edit edges numbers = all_from_members (λ edge. edge <
 pub touched_behind : (h : HierarchyValue) (edits : List Edit) (edit : Edit) (read arcs edges : List ℕ) → read ≡ arcs → IsNetwork (edited_all h.network edits)
     → AreChanged (edited_all h.network edits) edit arcs → AreTouchedFrom h read edges → NumbersTouched (over_network h (edited_all h.network edits)) edit edges
 touched_behind h edits edit read arcs edges same sound changed touched = touched edits edit sound (subst (AreChanged (edited_all h.network edits) edit) (sym same) changed)
+
+pub planned_behind : (h : HierarchyValue) → IsHierarchy h → (list : EditListValue) → FitsList h list → (edit : Edit) (read arcs : List ℕ) (planned : Planned) → read ≡ arcs
+    → IsNetwork (edited_all h.network list.edits) → AreChanged (edited_all h.network list.edits) edit arcs → ArePlanned h read list.touched planned
+    → (all : List ℕ) × NumbersTouched (over_network h (edited_all h.network list.edits)) edit all × AreCounted list.touched planned.edges.items all planned.count
+planned_behind h sound list fits edit read arcs planned same network changed are =
+    let (all, from, counted) = are (lead_to_marked h sound list fits) in
+    (all, touched_behind h list.edits edit read arcs all same network changed from, counted)

@@ -1,11 +1,11 @@
 -- What is found over the graph of a hierarchy, said of the hierarchy.
 use Rattle.std.proofs.Common.{◌≡◌, ◌<◌, ◌*◌, ℕ, Bool, List, Some, ap, length, subst, sym, inl, inr, true}
 use Rattle.std.specs.Prelude.{All, slice_get}
-use Rattle.std.proofs.lemmas.Option.{slice_get_within}
+use Rattle.std.proofs.lemmas.Option.{slice_get-get_or, slice_get_within}
 use Rattle.cu_model.specs.declared.roads.Edit.{Edit}
 use Rattle.cu_model.proofs.RoadLaws.{all_at}
 use Rattle.cu_chordal.specs.declared.graph.Ends.{Ends}
-use Rattle.cu_chordal.specs.Graphs.{ChordalValue}
+use Rattle.cu_chordal.specs.Graphs.{ChordalValue, IsRising}
 use Rattle.cu_interval.specs.declared.ways.Dir.{Dir}
 use Rattle.cu_interval.specs.declared.ways.Dir.TheVariants.{Up, Down}
 use Rattle.cu_interval.specs.declared.ways.Entry.{Entry}
@@ -13,24 +13,24 @@ use Rattle.cu_interval.specs.declared.ways.Way.{Way}
 use Rattle.cu_interval.specs.declared.ways.Way.TheVariants.{Road, Via}
 use Rattle.cu_interval.specs.Hierarchies.{HierarchyValue, IsHierarchyOf, IsWellFormed, end_of, list_number, list_of, start_of}
 use Rattle.cu_interval.proofs.EndsLaws.{number_within}
+use Rattle.cu_customize.specs.declared.triangles.Triangle.{Triangle}
+use Rattle.cu_customize.specs.Triangles.{AreTrianglesOf}
 use Rattle.cu_unpack.specs.RebuiltRuns.{PackedValue}
+use Rattle.cu_edits.specs.declared.learning_packed.Middles.TheVariants.{Any, Moved}
 use Rattle.cu_edits.specs.Steps.Packed.{AreAtHandIfMoved, AreCandidatesAtHand, IsAtHand, IsWayAtHand, LearnsPacked}
 use Rattle.cu_edits.specs.Steps.Moving.{AreWaysUnmoved, HalvesAre, IsUnmoved, IsUnmovedWay, KeepsWays, MayStand, MovedValue}
+use Rattle.cu_edits.specs.Steps.Triangles.{AreLearned, HalvesByAre, TellsSides}
+use Rattle.cu_edits.proofs.TriangleHalves.{all_halves, moved_halves}
 use Rattle.cu_resettled.specs.ResettlingAll.{IsChangedBySome}
 
 module _ (h : HierarchyValue) (graph : ChordalValue) (of : IsHierarchyOf graph h) where
   pub same_edges : graph.edges ≡ h.edges
   same_edges = ap (λ (k : ChordalValue). k.edges) of.0
 
-  -- a fact of the ends of an edge of the graph is one of those of the hierarchy's
-  pub of_ends : (Fact : List Ends → Ends → Type 0) (edge : ℕ) (ends : Ends) → slice_get graph.edges edge ≡ Some ends → Fact graph.edges ends → (given : Ends) → slice_get h.edges edge ≡ Some given
-      → Fact h.edges given
-  of_ends Fact edge ends at fact given there =
-      let here : slice_get h.edges edge ≡ Some ends = subst (λ (es : List Ends). slice_get es edge ≡ Some ends) same_edges at in
-      let same : ends ≡ given = cc (here, there) in
-      subst (Fact h.edges) same (subst (λ (es : List Ends). Fact es ends) same_edges fact)
+  rising : IsRising graph.edges
+  rising = subst (λ (k : ChordalValue). IsRising k.edges) (sym of.0) of.1.graph.rising
 
-  -- of all ends of an edge, too
+  -- a fact of the ends of an edge of the graph is one of those of the hierarchy's
   pub of_all_ends : (Fact : List Ends → Ends → Type 0) (edge : ℕ) → ((ends : Ends) → slice_get graph.edges edge ≡ Some ends → Fact graph.edges ends) → (given : Ends)
       → slice_get h.edges edge ≡ Some given → Fact h.edges given
   of_all_ends Fact edge fact =
@@ -38,13 +38,14 @@ module _ (h : HierarchyValue) (graph : ChordalValue) (of : IsHierarchyOf graph h
 
   module _ (edit : List Edit) (marks : List Bool) (moved : MovedValue) (edge : ℕ) (dir : Dir) where
     -- a list may stand
-    pub may_stand : (arcs : List (List ℕ)) (ends : Ends) → slice_get marks edge ≡ Some true
-        → ((list : List ℕ) → slice_get arcs (list_number edge dir) ≡ Some list → All (λ a. IsChangedBySome h.network edit a → ⊥) list) → slice_get graph.edges edge ≡ Some ends
-        → ((middle : ℕ) → HalvesAre (IsUnmoved moved) graph.edges ends dir middle) → MayStand h edit arcs marks moved edge dir
-    may_stand arcs ends marked roads at halves = record {
+    pub may_stand : (arcs : List (List ℕ)) (triangles : List Triangle) → slice_get marks edge ≡ Some true
+        → ((list : List ℕ) → slice_get arcs (list_number edge dir) ≡ Some list → All (λ a. IsChangedBySome h.network edit a → ⊥) list) → AreTrianglesOf graph.edges edge triangles
+        → All (HalvesByAre (IsUnmoved moved) dir) triangles → MayStand h edit arcs marks moved edge dir
+    may_stand arcs triangles marked roads are unmoved = record {
       marked = marked;
       roads = roads;
-      halves = of_ends (λ es given. (middle : ℕ) → HalvesAre (IsUnmoved moved) es given dir middle) edge ends at halves;
+      halves = of_all_ends (λ es ends. (middle : ℕ) → HalvesAre (IsUnmoved moved) es ends dir middle) edge
+          (λ ends at. all_halves graph.edges rising ends dir triangles (are ends at) (IsUnmoved moved) unmoved);
     }
 
     -- its ways are as they were
@@ -53,9 +54,11 @@ module _ (h : HierarchyValue) (graph : ChordalValue) (of : IsHierarchyOf graph h
     ways_unmoved = of_all_ends (λ es ends. All (λ (entry : Entry). IsUnmovedWay h.network edit es moved ends dir entry.way) (list_of h edge dir)) edge
 
     -- all halves are at hand
-    pub all_at_hand : (packed : PackedValue) (ends : Ends) → slice_get graph.edges edge ≡ Some ends → ((middle : ℕ) → HalvesAre (IsAtHand moved packed) graph.edges ends dir middle)
+    pub all_at_hand : (packed : PackedValue) (triangles : List Triangle) → AreTrianglesOf graph.edges edge triangles → All (AreLearned Any moved packed dir) triangles
         → AreCandidatesAtHand h edit marks moved packed edge dir
-    all_at_hand packed ends at halves = inl (of_ends (λ es given. (middle : ℕ) → HalvesAre (IsAtHand moved packed) es given dir middle) edge ends at halves)
+    all_at_hand packed triangles are known =
+        inl (of_all_ends (λ es ends. (middle : ℕ) → HalvesAre (IsAtHand moved packed) es ends dir middle) edge
+        (λ ends at. all_halves graph.edges rising ends dir triangles (are ends at) (IsAtHand moved packed) known))
 
     still_at_hand : (packed learnt : PackedValue) → LearnsPacked h packed learnt → (es : List Ends) (ends : Ends) (way : Way) → IsWayAtHand moved packed es ends dir way
         → IsWayAtHand moved learnt es ends dir way
@@ -64,15 +67,15 @@ module _ (h : HierarchyValue) (graph : ChordalValue) (of : IsHierarchyOf graph h
         let both = hand first second are in (λ unmoved. learns.still first Down (both.0 unmoved), λ unmoved. learns.still second Up (both.1 unmoved))
 
     -- those of some candidates are
-    pub some_at_hand : (packed learnt : PackedValue) (ends : Ends) → slice_get graph.edges edge ≡ Some ends → KeepsWays h edit marks moved edge dir
-        → ((given : Ends) → slice_get graph.edges edge ≡ Some given → All (λ (entry : Entry). IsWayAtHand moved packed graph.edges given dir entry.way) (list_of h edge dir))
-        → LearnsPacked h packed learnt
-        → ((middle : ℕ) → AreAtHandIfMoved moved learnt graph.edges ends dir middle) → AreCandidatesAtHand h edit marks moved learnt edge dir
-    some_at_hand packed learnt ends at keeps ways learns halves = inr (
+    pub some_at_hand : (packed learnt : PackedValue) (triangles : List Triangle) → AreTrianglesOf graph.edges edge triangles → KeepsWays h edit marks moved edge dir
+        → ((ends : Ends) → slice_get graph.edges edge ≡ Some ends → All (λ (entry : Entry). IsWayAtHand moved packed graph.edges ends dir entry.way) (list_of h edge dir))
+        → LearnsPacked h packed learnt → All (AreLearned Moved moved learnt dir) triangles → AreCandidatesAtHand h edit marks moved learnt edge dir
+    some_at_hand packed learnt triangles are keeps ways learns known = inr (
       keeps,
-      of_all_ends (λ es given. All (λ (entry : Entry). IsWayAtHand moved learnt es given dir entry.way) (list_of h edge dir)) edge
-          (λ given there k d lt. still_at_hand packed learnt learns graph.edges given _ (ways given there k d lt)),
-      of_ends (λ es given. (middle : ℕ) → AreAtHandIfMoved moved learnt es given dir middle) edge ends at halves,
+      of_all_ends (λ es ends. All (λ (entry : Entry). IsWayAtHand moved learnt es ends dir entry.way) (list_of h edge dir)) edge
+          (λ ends at k d lt. still_at_hand packed learnt learns graph.edges ends _ (ways ends at k d lt)),
+      of_all_ends (λ es ends. (middle : ℕ) → AreAtHandIfMoved moved learnt es ends dir middle) edge
+          (λ ends at. moved_halves graph.edges rising ends dir triangles (are ends at) moved learnt known),
     )
 
 -- the way of an entry of a list of the hierarchy, whose edge has these ends in the graph
@@ -86,3 +89,10 @@ entry_formed h graph of edge ends dir index entry at there =
 pub told_of : (moved : MovedValue) (edges : List Ends) (edge : ℕ) (ends : Ends) (dir : Dir) → length moved.places ≡ 2 * length edges → slice_get edges edge ≡ Some ends
     → list_number edge dir < length moved.places
 told_of moved edges edge ends dir long at = subst (λ (n : ℕ). list_number edge dir < n) (sym long) (number_within edge (length edges) dir (slice_get_within edges edge ends at))
+
+-- so it is of all sides of the triangles of an edge
+pub told_sides : (moved : MovedValue) (edges : List Ends) (edge : ℕ) (triangles : List Triangle) → length moved.places ≡ 2 * length edges → edge < length edges
+    → AreTrianglesOf edges edge triangles → All (TellsSides moved) triangles
+told_sides moved edges edge triangles long inside are k d lt =
+    let is = (are _ (slice_get-get_or edges edge (record { low = 0; high = 0 }) inside)).each k d lt in
+    (told_of moved edges _ _ Down long is.to_low, told_of moved edges _ _ Down long is.to_high)

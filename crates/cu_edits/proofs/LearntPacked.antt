@@ -1,11 +1,8 @@
 -- Packed runs that are learned of lists of the hierarchy before an edit, one list after the other.
 use Rattle.std.proofs.Common.{◌≡◌, ◌<◌, ◌+◌, ◌∙◌, ℕ, List, Some, true, get_or, inl, inr, length, subst, sym, take}
 use Rattle.std.specs.Prelude.{All, slice_get}
-use Rattle.std.specs.List.{Contains}
-use Rattle.std.proofs.lemmas.List.Elements.{All-contains, All-more}
+use Rattle.std.proofs.lemmas.List.Elements.{All-more}
 use Rattle.cu_chordal.specs.declared.graph.Ends.{Ends}
-use Rattle.cu_chordal.specs.Graphs.{HasEdge}
-use Rattle.cu_chordal.proofs.Decided.{member_decided}
 use Rattle.cu_interval.specs.declared.ways.Dir.{Dir}
 use Rattle.cu_interval.specs.declared.ways.Dir.TheVariants.{Up, Down}
 use Rattle.cu_interval.specs.declared.ways.Way.{Way}
@@ -13,14 +10,15 @@ use Rattle.cu_interval.specs.declared.ways.Way.TheVariants.{Road, Via}
 use Rattle.cu_interval.specs.declared.ways.Entry.{Entry}
 use Rattle.cu_interval.specs.Hierarchies.{HierarchyValue}
 use Rattle.cu_interval.proofs.EndsLaws.{each_number}
+use Rattle.cu_customize.specs.declared.triangles.Triangle.{Triangle}
 use Rattle.cu_unpack.specs.RebuiltRuns.{IsKnownList, IsSameList, IsSized, Learns, PackedValue}
 use Rattle.cu_unpack.proofs.Learning.{learned_keeps, learned_still}
 use Rattle.cu_edits.specs.declared.learning_packed.Middles.{Middles}
 use Rattle.cu_edits.specs.declared.learning_packed.Middles.TheVariants.{Any, Moved}
 use Rattle.cu_edits.specs.Learned.{ArePackedOf}
-use Rattle.cu_edits.specs.Steps.Packed.{AreAtHandIfMoved, AreLearned, IsAtHand, IsWayAtHand, LearnsPacked}
-use Rattle.cu_edits.specs.Steps.Moving.{HalvesAre, MovedValue}
-use Rattle.cu_edits.proofs.BothHalves.{by_any, joins_low}
+use Rattle.cu_edits.specs.Steps.Packed.{IsAtHand, IsWayAtHand, LearnsPacked}
+use Rattle.cu_edits.specs.Steps.Moving.{BothAre, HalvesAre, MovedValue}
+use Rattle.cu_edits.specs.Steps.Triangles.{AreLearned, halves_by}
 
 -- one list was learned, and those that it needs
 pub learns_list : (h : HierarchyValue) (edge : ℕ) (before now : PackedValue) → ArePackedOf h before → IsSized (length h.edges) now → Learns h edge before now → LearnsPacked h before now
@@ -57,10 +55,6 @@ module _ (h : HierarchyValue) (moved : MovedValue) (before now : PackedValue) (l
       let both = known first second are in
       (still_at_hand first Down both.0, still_at_hand second Up both.1)
 
-  moved_still : (edges : List Ends) (ends : Ends) (dir : Dir) (middle : ℕ) → AreAtHandIfMoved moved before edges ends dir middle → AreAtHandIfMoved moved now edges ends dir middle
-  moved_still edges ends dir middle (inl unmoved) = inl unmoved
-  moved_still edges ends dir middle (inr known) = inr (halves_still edges ends dir middle known)
-
   way_still : (edges : List Ends) (ends : Ends) (dir : Dir) (way : Way) → IsWayAtHand moved before edges ends dir way → IsWayAtHand moved now edges ends dir way
   way_still edges ends dir (Road a) known = known
   way_still edges ends dir (Via m) known = halves_still edges ends dir m known
@@ -69,32 +63,16 @@ module _ (h : HierarchyValue) (moved : MovedValue) (before now : PackedValue) (l
       → All (λ (entry : Entry). IsWayAtHand moved now edges ends dir entry.way) entries
   ways_still edges ends dir entries all k d inside = way_still edges ends dir (get_or entries k d).way (all k d inside)
 
-  pub middle_still : (which : Middles) (edges : List Ends) (ends : Ends) (dir : Dir) (middle : ℕ) → AreLearned which moved before edges ends dir middle
-      → AreLearned which moved now edges ends dir middle
-  middle_still Any edges ends dir middle known = halves_still edges ends dir middle known
-  middle_still Moved edges ends dir middle known = moved_still edges ends dir middle known
+  both_still : (edges : ℕ × ℕ) → BothAre (IsAtHand moved before) edges → BothAre (IsAtHand moved now) edges
+  both_still edges known = (still_at_hand edges.0 Down known.0, still_at_hand edges.1 Up known.1)
 
--- so it is of the first middles and one more
-pub learns_more : (Known Now : ℕ → Type 0) → ((x : ℕ) → Known x → Now x) → (middles : List ℕ) (i : ℕ) → i < length middles → All Known (take i middles) → Now (get_or middles i 0)
-    → All Now (take (i + 1) middles)
-learns_more Known Now still middles i inside all one = All-more Now middles i 0 inside (λ k d h. still (get_or (take i middles) k d) (all k d h)) one
+  triangle_still : (which : Middles) (dir : Dir) (triangle : Triangle) → AreLearned which moved before dir triangle → AreLearned which moved now dir triangle
+  triangle_still Any dir triangle known = both_still (halves_by dir triangle) known
+  triangle_still Moved dir triangle (inl unmoved) = inl unmoved
+  triangle_still Moved dir triangle (inr known) = inr (both_still (halves_by dir triangle) known)
 
--- what is so of the halves by all middles that are joined to the lower end is so of any
-moved_by_any : (moved : MovedValue) (value : PackedValue) (edges : List Ends) (ends : Ends) (dir : Dir) (middles : List ℕ) → ((x : ℕ) → HasEdge edges x ends.low → Contains middles x)
-    → All (AreAtHandIfMoved moved value edges ends dir) middles → (middle : ℕ) → AreAtHandIfMoved moved value edges ends dir middle
-moved_by_any moved value edges ends dir middles members all middle = elim (member_decided middles middle) [
-  | inl c ↦ All-contains (AreAtHandIfMoved moved value edges ends dir) middles middle all c
-  | inr apart ↦ inl (λ first second are. absurd (apart (members middle (joins_low edges ends dir middle first second are))))
-]
-
-pub learned_by_any : (which : Middles) (moved : MovedValue) (value : PackedValue) (edges : List Ends) (ends : Ends) (dir : Dir) (middles : List ℕ)
-    → ((x : ℕ) → HasEdge edges x ends.low → Contains middles x) → All (AreLearned which moved value edges ends dir) middles → (middle : ℕ)
-    → AreLearned which moved value edges ends dir middle
-learned_by_any Any moved value edges ends dir middles members all middle = by_any (IsAtHand moved value) edges ends dir middles members all middle
-learned_by_any Moved moved value edges ends dir middles members all middle = moved_by_any moved value edges ends dir middles members all middle
-
--- where both halves are at hand, nothing else is asked
-pub both_learned : (which : Middles) (moved : MovedValue) (value : PackedValue) (edges : List Ends) (ends : Ends) (dir : Dir) (middle : ℕ)
-    → HalvesAre (IsAtHand moved value) edges ends dir middle → AreLearned which moved value edges ends dir middle
-both_learned Any moved value edges ends dir middle known = known
-both_learned Moved moved value edges ends dir middle known = inr known
+  -- so it is of the first triangles and one more
+  pub learns_more : (which : Middles) (dir : Dir) (triangles : List Triangle) (i : ℕ) (d : Triangle) → i < length triangles
+      → All (AreLearned which moved before dir) (take i triangles) → AreLearned which moved now dir (get_or triangles i d) → All (AreLearned which moved now dir) (take (i + 1) triangles)
+  learns_more which dir triangles i d inside all one =
+      All-more (AreLearned which moved now dir) triangles i d inside (λ k e lt. triangle_still which dir (get_or (take i triangles) k e) (all k e lt)) one

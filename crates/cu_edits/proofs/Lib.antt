@@ -16,6 +16,7 @@ pub mod LearntSides
 pub mod LearntPacked
 pub mod MovedPlaces
 pub mod Reached
+pub mod ClimbLaws
 pub mod Recustomized
 pub mod Replaced
 pub mod RisingEdges
@@ -46,3 +47,4 @@ pub mod Planned
 pub mod AddedEdits
 pub mod ListLaws
 pub mod PiecesGiven
+pub mod TriangleHalves

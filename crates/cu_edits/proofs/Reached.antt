@@ -40,13 +40,13 @@ joined_among (x ∷ xs) high rank c = elim (eqb_tells x high) [
     first_of x xs rank (zero, inside, read) = (zero, omega arith, read)
     first_of x xs rank (suc i, inside, read) = absurd (omega (arith, inside))
 
-joined_all : (x : ℕ) (xs : List ℕ) (high rank : ℕ) → x ≡ high → Contains (x ∷ xs) rank → Contains (joined_to (x ∷ xs) high) rank
+pub joined_all : (x : ℕ) (xs : List ℕ) (high rank : ℕ) → x ≡ high → Contains (x ∷ xs) rank → Contains (joined_to (x ∷ xs) high) rank
 joined_all x xs high rank same c = elim (eqb_tells x high) [
   | inl at ↦ subst (λ b. Contains (cond b (x ∷ xs) (x ∷ [])) rank) (sym at.0) c
   | inr off ↦ absurd (off.1 same)
 ]
 
-joined_lowest : (x : ℕ) (xs : List ℕ) (high : ℕ) → Contains (joined_to (x ∷ xs) high) x
+pub joined_lowest : (x : ℕ) (xs : List ℕ) (high : ℕ) → Contains (joined_to (x ∷ xs) high) x
 joined_lowest x xs high = elim (eqb_tells x high) [
   | inl at ↦ subst (λ b. Contains (cond b (x ∷ xs) (x ∷ [])) x) (sym at.0) (here x xs)
   | inr off ↦ subst (λ b. Contains (cond b (x ∷ xs) (x ∷ [])) x) (sym off.0) (here x [])
@@ -149,6 +149,18 @@ touched_from h sound arcs starts found sorted begun reaches once moved in_order 
         (λ c. (touched e).0 (Contains-permutation sorted found e back c)),
         λ t. Contains-permutation found sorted e moved ((touched e).1 t),
       );
+    })
+
+-- the same where they were reached in order
+pub touched_rising : (h : HierarchyValue) → IsHierarchy h → (arcs starts found : List ℕ) → ((e : ℕ) → Contains starts e ↔ IsOfSome h arcs e) → Reaches h.edges starts found
+    → AllPairs (λ x y. x < y) found → AreTouchedFrom h arcs found
+touched_rising h sound arcs starts found begun reaches pairs edits edit network changed =
+    let g = edited_all h.network edits in
+    let of_changed = λ (e : ℕ). some_changed h edits g refl edit arcs changed e in
+    over_bare h g edit found (record {
+      rising = λ k lt. pairs k (k + 1) 0 (omega arith) lt;
+      exact = found_touched (bare h g) (bare_sound h edits g refl sound network) edit starts
+          (λ e. ((λ c. (of_changed e).0 ((begun e).0 c)), λ own. (begun e).1 ((of_changed e).1 own))) found reaches;
     })
 
 -- the edges found so far lead to those found, and all were reached

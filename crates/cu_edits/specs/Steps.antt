@@ -1,5 +1,6 @@
 -- What private functions mean to each other; no public contract speaks of it.
 pub mod Adding
+pub mod Climbing
 pub mod Found
 pub mod Frames
 pub mod Holding
@@ -11,4 +12,5 @@ pub mod Settled
 pub mod SettlerStates
 pub mod Spreading
 pub mod Taking
+pub mod Triangles
 pub mod TurningPlain

@@ -4,15 +4,15 @@ ghost use Rattle.std.specs.Prelude.{◌≡◌, ◌≤◌, ◌<◌, ◌+◌, ◌^
 ghost use Rattle.std.specs.List.{Contains};
 ghost use Rattle.cu_model.specs.Edits.{IsEditInRange};
 ghost use Rattle.cu_model.specs.Networks.{NetworkValue};
-ghost use Rattle.cu_chordal.specs.declared.graph.TheConstants.{MAX_EDGES};
 ghost use Rattle.cu_interval.specs.Hierarchies.{HierarchyValue, IsHierarchyOf};
 ghost use Rattle.cu_resettled.specs.ResettlingAll.{IsChangedBySome, NumbersTouchedBySome, edited_all};
 ghost use Rattle.cu_edits.specs.EditLists.{AreByProfile, AreChanged, FitsList, FitsNetwork, HasProfile};
 ghost use Rattle.cu_edits.specs.Steps.Adding.{AreFirstProfiles, AreMoved, IsInside, SetsPieces, added, assigned_by, given_by, marked_at};
-ghost use Rattle.cu_edits.specs.Steps.Found.{AddsDriven, AreTouchedFrom};
+ghost use Rattle.cu_edits.specs.Steps.Climbing.{ArePlanned};
+ghost use Rattle.cu_edits.specs.Steps.Found.{AddsDriven};
 ghost use Rattle.cu_edits.specs.Together.{GiveProfile};
 
-use crate::finding::plan_roads;
+use crate::finding::{Planned, plan_road, plan_roads};
 use crate::found_edges::FoundEdges;
 use cu_chordal::{Chordal, Groups};
 use cu_interval::Ways;
@@ -185,16 +185,22 @@ impl EditList {
         ways: &W,
         arcs: &[u32],
         graph: &Chordal,
-    ) -> Result<Vec<u32>, NoMemory>
+    ) -> Result<Planned, NoMemory>
         requires arcs { All (λ arc. arc < length (W.hierarchy ways.now).network.arcs) arcs.now }
         requires graph { IsHierarchyOf graph.now (W.hierarchy ways.now) }
         requires edges { length self.old.touched ≡ length graph.now.edges }
-        ensures touched { IfOk result
-            (λ edges. AreTouchedFrom (W.hierarchy ways.now) arcs.now edges.items) }
-        ensures few { IfOk result (λ edges. length edges.items ≤ MAX_EDGES) }
+        ensures planned { IfOk result
+            (ArePlanned (W.hierarchy ways.now) arcs.now self.old.touched) }
         ensures same { self.new ≡ self.old }
     {
-        plan_roads(alloc, ways, arcs, graph, &mut self.found)
+        if arcs.len() == 1 {
+            return plan_road(alloc, ways, arcs[0], graph, &self.touched);
+        }
+        let edges = plan_roads(alloc, ways, arcs, graph, &mut self.found)?;
+        Ok(Planned {
+            count: edges.len() as u32,
+            edges,
+        })
     }
 
     /// One more edit, which changes these roads and touches these edges. Where memory runs out it isn't added.

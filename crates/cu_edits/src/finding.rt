@@ -1,17 +1,61 @@
 //! The edges that an edit of a list touches, found from its roads on.
 
-ghost use Rattle.std.specs.Prelude.{◌≡◌, ◌≤◌, ◌<◌, All, IfOk, OnOk, length};
+ghost use Rattle.std.specs.Prelude.{◌≡◌, ◌≤◌, ◌<◌, ◌∷◌, [], All, IfOk, OnOk, length};
 ghost use Rattle.cu_chordal.specs.declared.graph.TheConstants.{MAX_EDGES};
 ghost use Rattle.cu_chordal.specs.Graphs.{FindsEdge, IsChordal};
 ghost use Rattle.cu_interval.specs.Hierarchies.{IsHierarchyOf};
+ghost use Rattle.cu_edits.specs.Steps.Climbing.{ArePlanned, IsEdgeOf};
 ghost use Rattle.cu_edits.specs.Steps.Found.{AddsFound, AreTouchedFrom, IsOfSome, LeadsTo, Reaches, joined_to};
 ghost use Rattle.cu_edits.specs.Steps.Spreading.{IsBetween, IsOfRoad};
 
+use crate::climbing::climb;
 use crate::found_edges::FoundEdges;
 use cu_chordal::{Chordal, Ends};
 use cu_interval::Ways;
 use cu_model::NoMemory;
 use std::alloc::Global;
+
+/// How many edges an edit touches, and edges to be marked, so that all that it touches are.
+#[derive(Drop)]
+pub(crate) struct Planned {
+    pub(crate) count: u32,
+    pub(crate) edges: Vec<u32>,
+}
+
+/// How many edges an edit touches which changes this road alone, and those of them that aren't marked, and maybe some that are. The
+/// graph is that of the hierarchy, and what is touched from a marked edge on is marked.
+pub(crate) fn plan_road<W: Ways>(
+    alloc: Global,
+    ways: &W,
+    arc: u32,
+    graph: &Chordal,
+    marks: &[bool],
+) -> Result<Planned, NoMemory>
+    requires arc { arc < length (W.hierarchy ways.now).network.arcs }
+    requires graph { IsHierarchyOf graph.now (W.hierarchy ways.now) }
+    requires marks { length marks.now ≡ length graph.now.edges }
+    ensures { IfOk result
+        (ArePlanned (W.hierarchy ways.now) (arc ∷ []) marks.now) }
+{
+    let mut edges = Vec::new(alloc);
+    let Some(edge) = edge_of_road(ways, arc, graph) else {
+        return Ok(Planned { count: 0, edges });
+    };
+    let count = climb(graph, edge, marks, &mut edges)?;
+    Ok(Planned { count, edges })
+}
+
+// The edge of a road. A loop has none.
+fn edge_of_road<W: Ways>(ways: &W, arc: u32, graph: &Chordal) -> Option<u32>
+    requires arc { arc < length (W.hierarchy ways.now).network.arcs }
+    requires graph { IsHierarchyOf graph.now (W.hierarchy ways.now) }
+    ensures { IsEdgeOf (W.hierarchy ways.now) arc result }
+{
+    let road = ways.arc(arc);
+    let first = ways.rank(road.tail);
+    let second = ways.rank(road.head);
+    graph.edge(first.min(second), first.max(second))
+}
 
 /// The edges that an edit touches which changes these roads, by rising number. The graph is that of the hierarchy. What was found
 /// is cleared first. It takes the time of the edges touched, and not that of all edges.

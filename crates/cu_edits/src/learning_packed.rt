@@ -1,19 +1,21 @@
 //! Learning functions of lists of the hierarchy before an edit, as packed runs.
 
-ghost use Rattle.std.specs.Prelude.{◌≡◌, ◌<◌, ℕ, All, Some, length, slice_get, true};
+ghost use Rattle.std.specs.Prelude.{◌≡◌, ◌<◌, ◌*◌, All, Some, length, slice_get, true};
 ghost use Rattle.cu_chordal.specs.declared.graph.Ends.{Ends};
 ghost use Rattle.cu_interval.specs.declared.ways.Entry.{Entry};
 ghost use Rattle.cu_interval.specs.Hierarchies.{IsWellFormed, end_of, list_number, list_of, start_of};
-ghost use Rattle.cu_unpack.specs.RebuiltRuns.{PackedValue};
 ghost use Rattle.cu_edits.specs.Learned.{ArePackedOf};
-ghost use Rattle.cu_edits.specs.Steps.Packed.{AreLearned, IfNear, IsAtHand, IsWayAtHand, LearnsPacked};
-ghost use Rattle.cu_edits.specs.Steps.Moving.{HalvesAre};
+ghost use Rattle.cu_edits.specs.declared.learning_packed.Middles.TheVariants.{Moved};
+ghost use Rattle.cu_edits.specs.Steps.Packed.{IfNear, IsAtHand, IsWayAtHand, LearnsPacked};
+ghost use Rattle.cu_edits.specs.Steps.Moving.{BothAre, HalvesAre, IsUnmoved, TellsBoth};
 ghost use Rattle.cu_edits.specs.Steps.Parts.{TellsLists};
+ghost use Rattle.cu_edits.specs.Steps.Triangles.{AreLearned, TellsSides};
 
 use crate::edit_parts::EditParts;
 use crate::moved_lists::MovedLists;
-use crate::unchanged_lists::are_both_unmoved;
+use crate::triangle_halves::{are_both_unmoved, half_edges};
 use cu_chordal::Ends;
+use cu_customize::Triangle;
 use cu_interval::{Dir, Way, Ways};
 use cu_model::NoMemory;
 use cu_unpack::PackedFunctions;
@@ -26,73 +28,70 @@ pub enum Middles {
     Moved,
 }
 
-/// Makes sure that both halves of each way by such a middle of an edge with these ends in a direction are known, but for halves
-/// that were moved; those that aren't are learned. False where a way takes longer than packed runs can say. What was learned stays
-/// after a refusal too.
+/// A list whose candidates are learned: of an edge in a direction. The triangles are the edge's lower ones.
+#[derive(Clone, Copy)]
+pub struct Asked<'a> {
+    pub edge: u32,
+    pub dir: Dir,
+    pub triangles: &'a [Triangle],
+    pub moved: &'a MovedLists,
+}
+
+/// Makes sure that both halves of each way by such a middle of a triangle of a list are known, but for halves that were moved; those
+/// that aren't are learned. False where a way takes longer than packed runs can say. What was learned stays after a refusal too.
 pub fn learn_middles<W: Ways>(
     alloc: Global,
     parts: &EditParts<'_, W>,
-    moved: &MovedLists,
-    ends: Ends,
-    dir: Dir,
+    asked: &Asked<'_>,
     which: Middles,
     packed: &mut PackedFunctions,
 ) -> Result<bool, NoMemory>
-    requires ranks { ends.low < parts.now.graph.ranks }
-    requires moved { TellsLists parts.now moved.now }
+    requires moved { TellsLists parts.now asked.now.moved.now }
+    requires sides { All (TellsSides asked.now.moved.now) asked.now.triangles.now }
     requires packed { ArePackedOf parts.now.before packed.old }
     ensures learns { LearnsPacked parts.now.before packed.old packed.new }
-    ensures known { IfNear result ((middle : ℕ)
-        → AreLearned which moved.now packed.new parts.now.graph.edges ends dir middle) }
+    ensures known { IfNear result (All (AreLearned which asked.now.moved.now packed.new asked.now.dir)
+        asked.now.triangles.now) }
 {
-    for middle in parts.down(ends.low) {
-        if !learn_middle(alloc, parts, moved, ends, dir, which, *middle, packed)? {
+    for triangle in asked.triangles {
+        if !learn_triangle(alloc, parts, asked, which, *triangle, packed)? {
             return Ok(false);
         }
     }
     Ok(true)
 }
 
-// The same of one middle.
-fn learn_middle<W: Ways>(
+// The same of one triangle.
+fn learn_triangle<W: Ways>(
     alloc: Global,
     parts: &EditParts<'_, W>,
-    moved: &MovedLists,
-    ends: Ends,
-    dir: Dir,
+    asked: &Asked<'_>,
     which: Middles,
-    middle: u32,
+    triangle: Triangle,
     packed: &mut PackedFunctions,
 ) -> Result<bool, NoMemory>
-    requires middle { middle < parts.now.graph.ranks }
-    requires moved { TellsLists parts.now moved.now }
+    requires moved { TellsLists parts.now asked.now.moved.now }
+    requires sides { TellsSides asked.now.moved.now triangle }
     requires packed { ArePackedOf parts.now.before packed.old }
     ensures learns { LearnsPacked parts.now.before packed.old packed.new }
-    ensures known { IfNear result (AreLearned which moved.now packed.new parts.now.graph.edges ends dir middle) }
+    ensures known { IfNear result
+        (AreLearned which asked.now.moved.now packed.new asked.now.dir triangle) }
 {
-    if is_left_out(parts, moved, ends, dir, which, middle) {
+    let edges = half_edges(triangle, asked.dir);
+    if is_left_out(asked.moved, which, edges) {
         return Ok(true);
     }
-    learn_both(alloc, parts, moved, ends, dir, middle, packed)
+    learn_halves(alloc, parts, asked.moved, edges, packed)
 }
 
-// Need the halves by a middle not be learned, since none of them was moved?
-fn is_left_out<W: Ways>(
-    parts: &EditParts<'_, W>,
-    moved: &MovedLists,
-    ends: Ends,
-    dir: Dir,
-    which: Middles,
-    middle: u32,
-) -> bool
-    requires middle { middle < parts.now.graph.ranks }
-    requires moved { TellsLists parts.now moved.now }
-    ensures { result ≡ true → (packed : PackedValue)
-        → AreLearned which moved.now packed parts.now.graph.edges ends dir middle }
+// Need the halves that these edges have not be learned, since none of them was moved?
+fn is_left_out(moved: &MovedLists, which: Middles, edges: (u32, u32)) -> bool
+    requires { TellsBoth moved.now edges }
+    ensures { result ≡ true → (which ≡ Moved) × BothAre (IsUnmoved moved.now) edges }
 {
     match which {
         Middles::Any => false,
-        Middles::Moved => are_both_unmoved(parts, moved, ends, dir, middle),
+        Middles::Moved => are_both_unmoved(moved, edges),
     }
 }
 
@@ -167,10 +166,27 @@ fn learn_both<W: Ways>(
     let Some((first, second)) = parts.find_halves(ends, dir, middle) else {
         return Ok(true);
     };
-    if !learn_list(alloc, parts, moved, first, Dir::Down, packed)? {
+    learn_halves(alloc, parts, moved, (first, second), packed)
+}
+
+// The same of the halves that these edges have.
+fn learn_halves<W: Ways>(
+    alloc: Global,
+    parts: &EditParts<'_, W>,
+    moved: &MovedLists,
+    edges: (u32, u32),
+    packed: &mut PackedFunctions,
+) -> Result<bool, NoMemory>
+    requires moved { TellsLists parts.now moved.now }
+    requires edges { TellsBoth moved.now edges }
+    requires packed { ArePackedOf parts.now.before packed.old }
+    ensures learns { LearnsPacked parts.now.before packed.old packed.new }
+    ensures known { IfNear result (BothAre (IsAtHand moved.now packed.new) edges) }
+{
+    if !learn_list(alloc, parts, moved, edges.0, Dir::Down, packed)? {
         return Ok(false);
     }
-    learn_list(alloc, parts, moved, second, Dir::Up, packed)
+    learn_list(alloc, parts, moved, edges.1, Dir::Up, packed)
 }
 
 // The same of one list.

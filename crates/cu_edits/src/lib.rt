@@ -28,6 +28,7 @@
 //! `specs/Steps` is cited by private functions alone.
 #![tactic(auto)]
 
+mod climbing;
 mod copied_lists;
 mod customized;
 mod edge_functions;
@@ -54,6 +55,7 @@ mod settler;
 mod settler_state;
 mod settling_packed;
 mod touching;
+mod triangle_halves;
 mod unchanged_lists;
 mod work_papers;
 

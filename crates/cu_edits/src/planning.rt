@@ -12,7 +12,6 @@ ghost use Rattle.cu_edits.specs.EditLists.{AreChanged, CountsTouched, FitsList, 
 use crate::edit_list::EditList;
 use crate::edited_roads::EditedRoads;
 use crate::edits::Edits;
-use crate::finding::plan_roads;
 use crate::reading::read_edit;
 use cu_chordal::Chordal;
 use cu_interval::Ways;
@@ -42,10 +41,9 @@ pub fn plan_all<W: Ways>(
 {
     read_edit(&edit);
     let arcs = changed_behind(alloc, ways, edits, &edit)?;
-    let edges = edits.touched_from(alloc, ways, &arcs, graph)?;
-    let count = edges.len() as u32;
-    edits.add(edit, &arcs, &edges)?;
-    Ok(count)
+    let planned = edits.touched_from(alloc, ways, &arcs, graph)?;
+    edits.add(edit, &arcs, &planned.edges)?;
+    Ok(planned.count)
 }
 
 // The roads that an edit changes behind all of a list.

@@ -5,6 +5,7 @@ ghost use Rattle.cu_resettled.specs.ResettlingAll.{edited_all};
 ghost use Rattle.cu_interval.specs.declared.ways.Dir.TheVariants.{Up, Down};
 ghost use Rattle.cu_interval.specs.Hierarchies.{list_number, list_of};
 ghost use Rattle.cu_customize.specs.Functions.{kept_state};
+ghost use Rattle.cu_customize.specs.Triangles.{AreTrianglesOf};
 ghost use Rattle.cu_edits.specs.Settling.{IsResettledEdge, settled_so_far};
 ghost use Rattle.cu_edits.specs.Learned.{ArePackedOf};
 ghost use Rattle.cu_edits.specs.Steps.Packed.{AreCandidatesAtHand, IfNear, IsPackedList, LearnsPacked};
@@ -15,12 +16,13 @@ ghost use Rattle.cu_edits.specs.Steps.Parts.{FitTogether, TellsLists, settling_o
 
 use crate::copied_lists::copy_touched;
 use crate::edit_parts::EditParts;
-use crate::learning_packed::{Middles, learn_middles, learn_ways};
+use crate::learning_packed::{Asked, Middles, learn_middles, learn_ways};
 use crate::moved_lists::MovedLists;
 use crate::new_list::{NewList, Outcome};
 use crate::settler_state::PackedState;
+use crate::triangle_halves::are_halves_unmoved;
 use crate::unchanged_lists::{
-    are_halves_unmoved, are_old_entries, are_roads_unchanged, are_ways_unmoved, copy_old_list,
+    are_old_entries, are_roads_unchanged, are_ways_unmoved, copy_old_list,
 };
 use cu_customize::{PackedSettling, SettledRuns};
 use cu_interval::{Dir, Entry, TouchedEdge, Ways};
@@ -73,6 +75,7 @@ fn next_lists<W: Ways>(
         state.new.moved edge Down lists.1)) }
     ensures holds { HoldsPacked parts.now settled.now state.new }
 {
+    state.settling.find(parts.graph(), edge)?;
     let Some(up) = next_list(alloc, parts, state, edge, Dir::Up)? else {
         return Ok(None);
     };
@@ -160,12 +163,14 @@ fn next_list<W: Ways>(
     requires packed { ArePackedOf parts.now.before state.old.functions }
     requires moved { TellsLists parts.now state.old.moved }
     requires edge { edge < length parts.now.graph.edges }
+    requires triangles { AreTrianglesOf parts.now.graph.edges edge state.old.settling }
     ensures list { IfOk result (SettlesList parts.now state.old edge dir) }
     ensures learns { LearnsPacked parts.now.before
         state.old.functions state.new.functions }
     ensures moved { state.new.moved ≡ state.old.moved }
+    ensures triangles { state.new.settling ≡ state.old.settling }
 {
-    if may_stand(parts, &state.moved, edge, dir) {
+    if may_stand(parts, state, edge, dir) {
         let ways = copy_old_list(alloc, parts, edge, dir)?;
         return Ok(Some(NewList {
             ways,
@@ -177,11 +182,12 @@ fn next_list<W: Ways>(
 
 // Does the list of an edge in a direction stand, since it is known to be what customization makes of the lists below it, and
 // nothing that it may be made of has changed?
-fn may_stand<W: Ways>(parts: &EditParts<'_, W>, moved: &MovedLists, edge: u32, dir: Dir) -> bool
-    requires moved { TellsLists parts.now moved.now }
+fn may_stand<W: Ways>(parts: &EditParts<'_, W>, state: &PackedState, edge: u32, dir: Dir) -> bool
+    requires moved { TellsLists parts.now state.now.moved }
     requires edge { edge < length parts.now.graph.edges }
+    requires triangles { AreTrianglesOf parts.now.graph.edges edge state.now.settling }
     ensures stands { result ≡ true → MayStand parts.now.before parts.now.edit
-        parts.now.arcs parts.now.customized moved.now edge dir }
+        parts.now.arcs parts.now.customized state.now.moved edge dir }
     ensures fit { FitTogether parts.now }
 {
     if !parts.is_marked(edge) {
@@ -190,7 +196,7 @@ fn may_stand<W: Ways>(parts: &EditParts<'_, W>, moved: &MovedLists, edge: u32, d
     if !are_roads_unchanged(parts, edge, dir) {
         return false;
     }
-    are_halves_unmoved(parts, moved, parts.ends(edge), dir)
+    are_halves_unmoved(&state.moved, state.settling.triangles(), dir)
 }
 
 // Settles the list of an edge in a direction by packed runs. None where a way takes longer than they can say.
@@ -204,13 +210,21 @@ fn settle_list<W: Ways>(
     requires packed { ArePackedOf parts.now.before state.old.functions }
     requires moved { TellsLists parts.now state.old.moved }
     requires edge { edge < length parts.now.graph.edges }
+    requires triangles { AreTrianglesOf parts.now.graph.edges edge state.old.settling }
     ensures list { IfOk result (SettlesList parts.now state.old edge dir) }
     ensures learns { LearnsPacked parts.now.before
         state.old.functions state.new.functions }
     ensures moved { state.new.moved ≡ state.old.moved }
+    ensures triangles { state.new.settling ≡ state.old.settling }
 {
     let moved = &state.moved;
-    if !learn_candidates(alloc, parts, moved, edge, dir, &mut state.functions)? {
+    let asked = Asked {
+        edge,
+        dir,
+        triangles: state.settling.triangles(),
+        moved,
+    };
+    if !learn_candidates(alloc, parts, &asked, &mut state.functions)? {
         return Ok(None);
     }
     let functions = moved.over(state.functions.functions());
@@ -231,9 +245,11 @@ fn settle_runs<W: Ways>(
 ) -> Result<Option<SettledRuns>, NoMemory>
     requires edge { edge < length parts.now.graph.edges }
     requires functions { length functions ≡ 2 * length parts.now.graph.edges }
-    ensures { IfOk result (λ found. IfSome found (IsPackedList parts.now.before.edges
+    requires triangles { AreTrianglesOf parts.now.graph.edges edge settling.old }
+    ensures found { IfOk result (λ found. IfSome found (IsPackedList parts.now.before.edges
         parts.now.arcs (kept_state (edited_all parts.now.before.network parts.now.edit)
         functions.entry) edge dir)) }
+    ensures triangles { settling.new ≡ settling.old }
 {
     let roads = parts.edited_roads();
     let graph = parts.graph();
@@ -242,32 +258,31 @@ fn settle_runs<W: Ways>(
     Ok(found)
 }
 
-// Learns the halves of the candidates that a list of an edge may be made of after the edit: of all, or, where its ways are as
-// they were and it was the best that could be made, of these ways and of those by a middle of which a half was moved.
+// Learns the halves of the candidates that a list may be made of after the edit: of all, or, where its ways are as they were and
+// it was the best that could be made, of these ways and of those by a middle of which a half was moved.
 fn learn_candidates<W: Ways>(
     alloc: Global,
     parts: &EditParts<'_, W>,
-    moved: &MovedLists,
-    edge: u32,
-    dir: Dir,
+    asked: &Asked<'_>,
     packed: &mut PackedFunctions,
 ) -> Result<bool, NoMemory>
     requires packed { ArePackedOf parts.now.before packed.old }
-    requires moved { TellsLists parts.now moved.now }
-    requires edge { edge < length parts.now.graph.edges }
+    requires moved { TellsLists parts.now asked.now.moved.now }
+    requires edge { asked.now.edge < length parts.now.graph.edges }
+    requires triangles { AreTrianglesOf parts.now.graph.edges asked.now.edge
+        asked.now.triangles.now }
     ensures learns { LearnsPacked parts.now.before packed.old packed.new }
     ensures known { IfNear result (AreCandidatesAtHand parts.now.before parts.now.edit
-        parts.now.customized moved.now packed.new edge dir) }
+        parts.now.customized asked.now.moved.now packed.new asked.now.edge asked.now.dir) }
     ensures fit { FitTogether parts.now }
 {
-    let ends = parts.ends(edge);
-    if !keeps_its_ways(parts, moved, edge, dir) {
-        return learn_middles(alloc, parts, moved, ends, dir, Middles::Any, packed);
+    if !keeps_its_ways(parts, asked.moved, asked.edge, asked.dir) {
+        return learn_middles(alloc, parts, asked, Middles::Any, packed);
     }
-    if !learn_ways(alloc, parts, moved, edge, dir, packed)? {
+    if !learn_ways(alloc, parts, asked.moved, asked.edge, asked.dir, packed)? {
         return Ok(false);
     }
-    learn_middles(alloc, parts, moved, ends, dir, Middles::Moved, packed)
+    learn_middles(alloc, parts, asked, Middles::Moved, packed)
 }
 
 // Is the list of an edge in a direction known to be what customization makes of the lists below it, and are its ways as they
@@ -280,8 +295,9 @@ fn keeps_its_ways<W: Ways>(
 ) -> bool
     requires moved { TellsLists parts.now moved.now }
     requires edge { edge < length parts.now.graph.edges }
-    ensures { result ≡ true → KeepsWays parts.now.before parts.now.edit
+    ensures keeps { result ≡ true → KeepsWays parts.now.before parts.now.edit
         parts.now.customized moved.now edge dir }
+    ensures fit { FitTogether parts.now }
 {
     if !parts.is_marked(edge) {
         return false;

@@ -8,6 +8,7 @@ ghost use Rattle.cu_edits.specs.Steps.Parts.{TellsLists};
 
 use crate::edit_parts::EditParts;
 use crate::moved_lists::MovedLists;
+use crate::triangle_halves::are_both_unmoved;
 use cu_chordal::Ends;
 use cu_interval::{Dir, Entry, Way, WayList, Ways};
 use cu_model::NoMemory;
@@ -29,28 +30,8 @@ pub fn are_roads_unchanged<W: Ways>(parts: &EditParts<'_, W>, edge: u32, dir: Di
     true
 }
 
-/// Is none of the halves moved of which the ways by middles of an edge with these ends are made in a direction?
-pub fn are_halves_unmoved<W: Ways>(
-    parts: &EditParts<'_, W>,
-    moved: &MovedLists,
-    ends: Ends,
-    dir: Dir,
-) -> bool
-    requires ranks { ends.low < parts.now.graph.ranks }
-    requires moved { TellsLists parts.now moved.now }
-    ensures { result ≡ true → (middle : ℕ)
-        → HalvesAre (IsUnmoved moved.now) parts.now.graph.edges ends dir middle }
-{
-    for middle in parts.down(ends.low) {
-        if !are_both_unmoved(parts, moved, ends, dir, *middle) {
-            return false;
-        }
-    }
-    true
-}
-
-/// Are both halves by this middle, if there are such, not moved?
-pub fn are_both_unmoved<W: Ways>(
+// Are both halves by this middle, if there are such, not moved?
+fn is_middle_unmoved<W: Ways>(
     parts: &EditParts<'_, W>,
     moved: &MovedLists,
     ends: Ends,
@@ -64,9 +45,7 @@ pub fn are_both_unmoved<W: Ways>(
 {
     match parts.find_halves(ends, dir, middle) {
         None => true,
-        Some((first, second)) => {
-            moved.is_unmoved(first, Dir::Down) && moved.is_unmoved(second, Dir::Up)
-        }
+        Some((first, second)) => are_both_unmoved(moved, (first, second)),
     }
 }
 
@@ -111,7 +90,7 @@ fn is_way_unmoved<W: Ways>(
 {
     match way {
         Way::Road(road) => !parts.is_changed(road),
-        Way::Via(middle) => are_both_unmoved(parts, moved, ends, dir, middle),
+        Way::Via(middle) => is_middle_unmoved(parts, moved, ends, dir, middle),
     }
 }
 

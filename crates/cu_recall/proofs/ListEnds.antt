@@ -1,5 +1,5 @@
 -- Lists by their numbers, and the ranks from and to which they lead.
-use Rattle.std.proofs.Common.{◌≡◌, ◌≢◌, ◌<◌, ◌+◌, ◌*◌, ◌/◌, ◌%◌, ◌∙◌, ℕ, [], Bool, true, false, Some, eqb, get_or, sym, ap, arith, length, min, if◌then◌else◌}
+use Rattle.std.proofs.Common.{◌≡◌, ◌≢◌, ◌<◌, ◌+◌, ◌*◌, ◌/◌, ◌%◌, ◌∙◌, ℕ, [], Bool, true, false, Some, eqb, get_or, sym, ap, arith, subst, length, min, if◌then◌else◌}
 use Rattle.std.specs.Prelude.{slice_get}
 use Rattle.std.proofs.lemmas.Option.{slice_get-get_or, slice_get_within}
 use Rattle.cu_chordal.specs.declared.graph.Ends.{Ends}
@@ -8,7 +8,7 @@ use Rattle.cu_interval.specs.declared.ways.Dir.TheVariants.{Up, Down}
 use Rattle.cu_interval.specs.declared.ways.Way.{Way}
 use Rattle.cu_interval.specs.Hierarchies.{HierarchyValue, IsHierarchy, start_of, end_of, list_from, list_number, list_of, way_from}
 use Rattle.cu_interval.proofs.Lookups.{list_from-edge}
-use Rattle.cu_interval.proofs.EndsLaws.{ends_apart, ends_range, min_ends}
+use Rattle.cu_interval.proofs.EndsLaws.{each_number, ends_apart, ends_range, min_ends}
 use Rattle.cu_unpack.proofs.Down.{some_list}
 use Rattle.cu_recall.specs.Spans.{IsListFrom, dir_of, low_of, low_of_list}
 
@@ -19,6 +19,14 @@ number_edge edge Down = omega arith
 pub number_dir : (edge : ℕ) (dir : Dir) → dir_of (list_number edge dir) ≡ dir
 number_dir edge Up = let even : eqb ((2 * edge) % 2) 0 ≡ true = let zero : (2 * edge) % 2 ≡ 0 = omega arith in grind (arith, zero) in ap (λ (b : Bool). if b then Up else Down) even
 number_dir edge Down = let odd : eqb ((2 * edge + 1) % 2) 0 ≡ false = let one : (2 * edge + 1) % 2 ≡ 1 = omega arith in grind (arith, one) in ap (λ (b : Bool). if b then Up else Down) odd
+
+-- a list has the number of its edge in its direction
+pub number_back : (list : ℕ) → list ≡ list_number (list / 2) (dir_of list)
+number_back list =
+    let (edge, dir, is) = each_number list in
+    let there : list_number (list_number edge dir / 2) (dir_of (list_number edge dir)) ≡ list_number edge dir =
+    ap (λ (e : ℕ). list_number e (dir_of (list_number edge dir))) (number_edge edge dir) ∙ ap (list_number edge) (number_dir edge dir) in
+    subst (λ (n : ℕ). n ≡ list_number (n / 2) (dir_of n)) is (sym there)
 
 -- the list of an edge in a direction leads from its start to its end
 pub list_of_edge : (h : HierarchyValue) (edge : ℕ) (dir : Dir) (ends : Ends) → slice_get h.edges edge ≡ Some ends → IsListFrom h (list_number edge dir) (start_of ends dir) (end_of ends dir)

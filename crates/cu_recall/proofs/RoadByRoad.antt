@@ -1,20 +1,29 @@
 -- Walks that are written road by road: parting the list that is next, and going on behind a road.
 use Rattle.std.proofs.Common.{◌≡◌, ◌≤◌, ◌<◌, ◌+◌, ◌*◌, ◌/◌, ◌%◌, ◌∙◌, ◌↔◌, ℕ, List, [], ◌∷◌, ◌++◌, Option, Some, None, refl, sym, ap, subst, arith, length, min, append_assoc}
-use Rattle.std.specs.Prelude.{IfSome, IsSome, slice_set}
+use Rattle.std.specs.Borrow.{Bor}
+use Rattle.std.specs.Prelude.{All, IfSome, IsSome, slice_get, slice_set}
+use Rattle.std.proofs.lemmas.List.Elements.{All-cons}
 use Rattle.std.proofs.lemmas.Nat.{div-add-mod'}
 use Rattle.cu_model.specs.Days.{day}
-use Rattle.cu_model.specs.Roads.{drive}
+use Rattle.cu_model.specs.Roads.{Leads, drive}
 use Rattle.cu_model.proofs.ListLaws.{get_here, get_other}
 use Rattle.cu_model.proofs.RoadLaws.{arc_value-near, drive-append, leads_within}
+use Rattle.cu_interval.specs.Low.{IsLowWalk, WalkBelow}
 use Rattle.cu_interval.specs.declared.shortcuts.Leg.{Leg}
 use Rattle.cu_interval.specs.declared.ways.Way.TheVariants as way
-use Rattle.cu_interval.specs.Hierarchies.{HierarchyValue, IsHierarchy, way_from}
+use Rattle.cu_interval.specs.declared.ways.Dir.{Dir}
+use Rattle.cu_interval.specs.Hierarchies.{HierarchyValue, IsHierarchy, end_of, list_number, start_of, way_from}
+use Rattle.cu_chordal.specs.declared.graph.Ends.{Ends}
 use Rattle.cu_interval.specs.Unpacking.{followed, unpacked, unpacked_walk, unpacked_way}
-use Rattle.cu_interval.proofs.Days.{leads-days}
+use Rattle.cu_interval.proofs.Days.{below-days, leads-days}
+use Rattle.cu_interval.proofs.Near.{below-near}
+use Rattle.cu_interval.proofs.Unpacked.{unpacked-low}
+use Rattle.cu_interval.proofs.Walks.{low_some}
 use Rattle.cu_interval.proofs.Fuel.{unpacked-via}
 use Rattle.cu_interval.proofs.Lookups.{middles_fall, well_formed}
 use Rattle.cu_unpack.specs.Steps.Legs.{walk_on}
 use Rattle.cu_recall.specs.declared.kept.Kept.{Kept}
+use Rattle.cu_recall.specs.declared.kept.Kept.TheVariants as kept
 use Rattle.cu_recall.specs.declared.pending.Asked.{Asked}
 use Rattle.cu_recall.specs.declared.spans.Driven.{Driven}
 use Rattle.cu_recall.specs.declared.spans.Met.{Met}
@@ -22,15 +31,16 @@ use Rattle.cu_recall.specs.declared.spans.Parts.{Parts}
 use Rattle.cu_recall.specs.declared.spans.Parts.TheVariants as part
 use Rattle.cu_recall.specs.declared.spans.Row.{Row}
 use Rattle.cu_recall.specs.declared.walking.Glance.{Glance}
-use Rattle.cu_recall.specs.declared.walking.NextRoad.{NextRoad}
+use Rattle.cu_recall.specs.declared.walking.WalkPart.TheVariants as walked
 use Rattle.cu_recall.specs.declared.walking.WalkSpot.{WalkSpot}
-use Rattle.cu_recall.specs.Spans.{HasMoment, HoldsMet, HoldsParts, IsListFrom, Knows, WalkTakes, low_of_list, met_of}
+use Rattle.cu_recall.specs.Spans.{HasMoment, HoldsMet, HoldsParts, IsListFrom, Knows, WalkTakes, dir_of, low_of_list, met_of}
 use Rattle.cu_recall.specs.Windows.{HoldsDriven}
 use Rattle.cu_recall.specs.Steps.Looks.{IsAsked, IsMetAt}
-use Rattle.cu_recall.specs.Steps.Walks.{AreWaiting, DrivesRoad, FindsRoad, HoldsGlance, HoldsTravel, IsAt, IsNext, IsSomewhere, Waits, next_asked}
-use Rattle.cu_recall.proofs.Answering.{takes_near}
+use Rattle.cu_recall.specs.Steps.Walks.{AreWaiting, DrivesPart, FindsPart, HoldsGlance, HoldsTravel, IsAt, IsNext, IsOpenRoad, IsSomewhere, Waits, next_asked}
 use Rattle.cu_recall.proofs.DayWalks.{drive_days, walk_days}
-use Rattle.cu_recall.proofs.ListEnds.{list_apart, list_inside, list_low}
+use Rattle.cu_sequences.specs.Kept.{AreSequences, SequencesValue}
+use Rattle.cu_sequences.specs.Sequences.{IsSequence}
+use Rattle.cu_recall.proofs.ListEnds.{list_apart, list_inside, list_low, number_back}
 
 -- the entry that was read is the list's, where it has the second
 pub met_read : (h : HierarchyValue) (asked : Asked) (kept : Kept) → HoldsMet h asked.list (met_of kept) → (found : Option Met)
@@ -111,42 +121,50 @@ module _ (h : HierarchyValue) (f : IsHierarchy h) where
   says asked met parts u v (holds, low, high) same is = subst (HoldsParts h u v met.from met.until) same (holds.1 u v is (omega (arith, low, high)))
 
   module _ (waiting : List Glance) (spot : WalkSpot) (met : Met) (is_met : IsMetAt h (next_asked spot) met) where
+    -- the road of the leg that is next arrives
+    road_arrives : (u v road travel : ℕ) → IsListFrom h spot.next.list u v → met.parts ≡ part.Road road → HoldsTravel h spot.next.list spot.second travel
+        → (way_from h u v spot.second ≡ Some (way.Road road)) × WalkTakes h u v spot.second travel 1 × (drive h.network (road ∷ []) spot.second ≡ spot.second + travel)
+    road_arrives u v road travel here same takes_so =
+        let t = spot.second in
+        let (roads, takes) = takes_so u v here in
+        let taken = says (next_asked spot) met (part.Road road) u v is_met same here t is_met.1 is_met.2 in
+        let walk : unpacked_walk h u v t ≡ road ∷ [] = ap (unpacked_way h.network (unpacked h (min u v)) u v t) taken in
+        let one : length (unpacked_walk h u v t) ≡ 1 = ap length walk in
+        (taken, (takes.0, one, takes.2), sym (ap (λ (w : List ℕ). drive h.network w t) walk) ∙ takes.2)
+
     -- a road of the leg that is next is found
-    pub road_found : (leg : Leg) (legs : List Leg) (found : NextRoad) → WentDown h leg legs spot.second waiting spot → met.parts ≡ part.Road found.road
-        → HoldsTravel h spot.next.list spot.second found.travel → found.waiting ≡ spot.waiting → FindsRoad h leg legs spot.second waiting found
-    road_found leg legs found went same travel many =
-        let here = went.place.list in
-        let (roads, takes) = travel went.next.from went.next.to here in
-        let taken = says (next_asked spot) met (part.Road found.road) went.next.from went.next.to is_met same here spot.second is_met.1 is_met.2 in
-        let on = road_walk went.next went.rest spot.second found.road found.travel roads taken takes in
-        let near = (takes_near h f went.next.from went.next.to spot.second found.travel roads (list_apart h f spot.next.list went.next.from went.next.to here) takes).1 in
-        let early = went.place.early in
+    pub road_found : (leg : Leg) (legs : List Leg) (road travel : ℕ) → WentDown h leg legs spot.second waiting spot → met.parts ≡ part.Road road
+        → HoldsTravel h spot.next.list spot.second travel
+        → FindsPart h leg legs spot.second waiting (record { part = walked.Road road travel; waiting = spot.waiting })
+    road_found leg legs road travel went same travels =
+        let t = spot.second in
+        let (taken, takes, arrives) = road_arrives went.next.from went.next.to road travel went.place.list same travels in
+        let on = road_walk went.next went.rest t road travel 1 taken takes in
         let room = went.place.room in (
           went.rest,
-          subst (λ (n : ℕ). AreWaiting h waiting n went.rest) (sym many) went.place.rest,
-          sym went.walk ∙ on.0,
-          (let one = on.1 in omega (arith, near, one, early)),
-          omega (arith, many, room),
+          went.place.rest,
+          sym went.walk ∙ on.0 ∙ ap (λ (n : ℕ). road ∷ walk_on h went.rest n) (sym arrives),
+          omega (arith, room),
         )
 
     -- which takes as long on any day
-    pub road_drives : (leg : Leg) (legs : List Leg) (found : NextRoad) → WentDown h leg legs spot.second waiting spot → met.parts ≡ part.Road found.road
-        → HoldsTravel h spot.next.list spot.second found.travel → DrivesRoad h spot.second found
-    road_drives leg legs found went same travel =
+    pub road_drives : (leg : Leg) (legs : List Leg) (road travel : ℕ) → WentDown h leg legs spot.second waiting spot → met.parts ≡ part.Road road
+        → HoldsTravel h spot.next.list spot.second travel → DrivesPart h spot.second (walked.Road road travel)
+    road_drives leg legs road travel went same travels =
         let u = went.next.from in
         let v = went.next.to in
         let t = spot.second in
-        let here = went.place.list in
-        let (roads, takes) = travel u v here in
-        let taken = says (next_asked spot) met (part.Road found.road) u v is_met same here t is_met.1 is_met.2 in
-        let leads = well_formed h f u v t (way.Road found.road) taken in
-        let there = leads_within h.network found.road leads.0 leads.1 leads.2 in
-        let walk : unpacked_walk h u v t ≡ found.road ∷ [] = ap (unpacked_way h.network (unpacked h (min u v)) u v t) taken in
-        let arrives : drive h.network (found.road ∷ []) t ≡ t + found.travel = sym (ap (λ (w : List ℕ). drive h.network w t) walk) ∙ takes.2 in
-        let near = arc_value-near h.network f.network found.road there t in
+        let (taken, takes, arrives) = road_arrives u v road travel went.place.list same travels in
+        let leads = well_formed h f u v t (way.Road road) taken in
+        let there = leads_within h.network road leads.0 leads.1 leads.2 in
+        let near = arc_value-near h.network f.network road there t in
+        let days : (k : ℕ) → drive h.network (road ∷ []) (k * day + t) ≡ k * day + drive h.network (road ∷ []) t =
+        λ k. leads-days h.network h.order f.network road u v k t leads in
         record {
-          near = omega (arith, near, arrives);
-          arrives = λ k. leads-days h.network h.order f.network found.road u v k t leads ∙ ap (λ (n : ℕ). k * day + n) arrives;
+          some = omega arith;
+          near = omega (arith, near);
+          days = days;
+          roads = λ k. days k ∙ ap (λ (n : ℕ). k * day + n) arrives;
         }
 
     module _ (first second : ℕ) (same : met.parts ≡ part.Halves first second) where
@@ -207,6 +225,57 @@ module _ (h : HierarchyValue) (f : IsHierarchy h) where
             walk = sym (halves_walk went.next went.rest t m e) ∙ went.walk;
           }
 
+-- a road that leads somewhere can be driven, and so can the roads of a walk
+open_leads : (h : HierarchyValue) (a u v : ℕ) → Leads h.network a u v → IsOpenRoad h.network a
+open_leads h a u v leads = (leads_within h.network a u v leads, leads.1)
+
+open_below : (h : HierarchyValue) (m u : ℕ) (walk : List ℕ) (v : ℕ) → WalkBelow h.network h.order m u walk v → All (IsOpenRoad h.network) walk
+open_below h m u [] v below = absurd below
+open_below h m u (a ∷ []) v leads = All-cons (IsOpenRoad h.network) a [] (open_leads h a leads.0 leads.1 leads.2) (λ k d lt. absurd (omega (arith, lt)))
+open_below h m u (a ∷ b ∷ walk) v (x, leads, low, rest) =
+    All-cons (IsOpenRoad h.network) a (b ∷ walk) (open_leads h a leads.0 leads.1 leads.2) (open_below h m x (b ∷ walk) v rest)
+
+-- what is read of a list's sequence is so of the list with its number
+pub sequence_of : (h : HierarchyValue) (kept : SequencesValue) (list : ℕ) (roads : Bor (List ℕ)) → AreSequences h kept
+    → ((g : HierarchyValue) (edge : ℕ) (dir : Dir) (ends : Ends) → AreSequences g kept → list ≡ list_number edge dir → slice_get g.edges edge ≡ Some ends
+    → IsSequence g (start_of ends dir) (end_of ends dir) roads.now)
+    → (u v : ℕ) → IsListFrom h list u v → IsSequence h u v roads.now
+sequence_of h kept list roads are read u v (ends, at, from, to) =
+    let is = read h (list / 2) (dir_of list) ends are (number_back list) at in
+    subst (λ (x : ℕ). IsSequence h u x roads.now) (sym to) (subst (λ (x : ℕ). IsSequence h x (end_of ends (dir_of list)) roads.now) (sym from) is)
+
+-- a list that has the same roads at every second is found
+module _ (h : HierarchyValue) (f : IsHierarchy h) (waiting : List Glance) (spot : WalkSpot) (leg : Leg) (legs : List Leg) (went : WentDown h leg legs spot.second waiting spot)
+    (roads : Bor (List ℕ)) (sequence : (u v : ℕ) → IsListFrom h spot.next.list u v → IsSequence h u v roads.now) where
+  pub sequence_found : FindsPart h leg legs spot.second waiting (record { part = walked.Sequence roads; waiting = spot.waiting })
+  sequence_found =
+      let t = spot.second in
+      let (some, walk) = sequence went.next.from went.next.to went.place.list in
+      let room = went.place.room in (
+        went.rest,
+        went.place.rest,
+        sym went.walk ∙ ap (λ (w : List ℕ). w ++ walk_on h went.rest (drive h.network w t)) (walk t),
+        omega (arith, room),
+      )
+
+  pub sequence_drives : DrivesPart h spot.second (walked.Sequence roads)
+  sequence_drives =
+      let g = h.network in
+      let t = spot.second in
+      let u = went.next.from in
+      let v = went.next.to in
+      let here = went.place.list in
+      let (some, walk) = sequence u v here in
+      let apart = list_apart h f spot.next.list u v here in
+      let low = subst (λ (w : List ℕ). IsLowWalk g h.order u w v) (walk t) (unpacked-low h f u v t apart some) in
+      let one = low_some g h.order u roads.now v low in
+      record {
+        some = omega (arith, one);
+        near = below-near g h.order f.network (min u v) u roads.now v t low.1;
+        days = λ k. below-days g h.order f.network (min u v) u roads.now v k t low.1;
+        roads = open_below h (min u v) u roads.now v low.1;
+      }
+
 -- what is known of driving a list says how long its walk takes
 pub travel_driven : (h : HierarchyValue) (list second : ℕ) (driven : Driven) → HoldsDriven h list second driven → HoldsTravel h list second driven.travel
 travel_driven h list second driven holds u v is =
@@ -218,3 +287,7 @@ travel_driven h list second driven holds u v is =
 pub went_somewhere : (h : HierarchyValue) (before waiting : List Glance) (start spot : WalkSpot) (t : ℕ) → IsSomewhere h before start
     → ((leg : Leg) (legs : List Leg) → IsAt h before start leg legs → WentDown h leg legs t waiting spot) → IsSomewhere h waiting spot
 went_somewhere h before waiting start spot t (leg, legs, is) went = let w = went leg legs is in (w.next, w.rest, w.place)
+
+-- an entry that says nothing
+pub met_nothing : (h : HierarchyValue) (list : ℕ) → HoldsMet h list (met_of (kept.Road 0 0 0))
+met_nothing h list = (omega arith, λ u v is lt. absurd (omega (arith, lt)))

@@ -4,7 +4,8 @@
 //! [`Recall`] relaxes the shortcuts of a packed file as `Relaxer` of `cu_interval` says. Its answers are those of an
 //! unpacking, and in a built hierarchy those over all low walks, whatever its [`Room`] holds of earlier relaxations, as long
 //! as that is so of the hierarchy (`Fits` in `specs/Rooms.antt`). It writes the walk of one that arrives, by what the room
-//! holds, each road as a form of `cu_drive` says. It takes no memory, and gives its room back.
+//! holds, each road as a form of `cu_drive` says; a list that has the same roads at every second is written at once, by the sequences
+//! of `cu_sequences` that it is lent. It takes no memory, and gives its room back.
 //!
 //! A [`Row`] has, for one list, up to four [`Span`]s, over each of which the list's walk takes as long over as many roads,
 //! and an entry that was [`Met`]. Each is a fact of the hierarchy alone (`Knows` in `specs/Spans.antt`), so no query
@@ -21,10 +22,10 @@
 //!
 //! What is private stands in layers over what a row holds: `remembering` keeps it, row by row, and `downs` edge by edge;
 //! `driving` drives one road, `looking` looks a list up in what is known or else in the bytes, and `unpacking` parts a list at
-//! its middles until each part is known or a road, while others wait (`pending`); `walking` parts it until each part is a road,
-//! which it writes. What only private functions cite is in `specs/Steps`.
+//! its middles until each part is known or a road, while others wait (`pending`); `walking` parts it until each part is a road
+//! or has a sequence, which it writes. What only private functions cite is in `specs/Steps`.
 //!
-//! It stands on `cu_model`, `cu_io`, `cu_drive`, `cu_chordal`, `cu_interval`, `cu_unpack` and `cu_pack`.
+//! It stands on `cu_model`, `cu_io`, `cu_drive`, `cu_chordal`, `cu_interval`, `cu_sequences`, `cu_unpack` and `cu_pack`.
 #![tactic(auto)]
 
 mod downs;

@@ -15,6 +15,7 @@ ghost use Rattle.cu_recall.specs.Spans.{IsListFrom};
 ghost use Rattle.cu_recall.specs.Windows.{HoldsDriven};
 ghost use Rattle.cu_recall.specs.Steps.Looks.{edge_asked};
 ghost use Rattle.cu_recall.specs.Steps.Walks.{IsShortWalk};
+ghost use Rattle.cu_sequences.specs.Kept.{AreSequences};
 
 use crate::looking::known;
 use crate::pending::Asked;
@@ -28,6 +29,7 @@ use cu_interval::{BoundedWays, Call, Dir, Relaxed, Relaxer, Shortcut, Ways};
 use cu_io::{Sink, SinkFailed};
 use cu_model::{DAY, Roads};
 use cu_pack::PackedView;
+use cu_sequences::Sequences;
 use cu_unpack::Walker;
 use std::marker::Model;
 
@@ -37,30 +39,44 @@ use std::marker::Model;
 pub struct Recall<'a> {
     view: &'a PackedView<'a>,
     graph: &'a Chordal,
+    sequences: &'a Sequences,
     room: Room,
 }
 
 impl<'a> Model for Recall<'a> {
     ghost use Rattle.cu_interval.specs.Hierarchies.{HierarchyValue, IsHierarchyOf};
     ghost use Rattle.cu_recall.specs.Rooms.{Fits};
+    ghost use Rattle.cu_sequences.specs.Kept.{AreSequences};
 
     ghost Value = { HierarchyValue };
 
     ghost view = { λ recall. recall.view.now };
 
     ghost invariant = { λ recall. IsHierarchyOf recall.graph.now recall.view.now
-        × Fits recall.view.now recall.room };
+        × Fits recall.view.now recall.room
+        × AreSequences recall.view.now recall.sequences.now };
 }
 
 impl<'a> Recall<'a> {
-    /// Relaxations over this file, whose graph this is, with room that was made for as many nodes and edges, and knows nothing
-    /// but what is so of its hierarchy. Takes no memory.
-    pub fn new(view: &'a PackedView<'a>, graph: &'a Chordal, room: Room) -> Recall<'a>
+    /// Relaxations over this file, whose graph this is, by sequences of its lists, with room that was made for as many nodes and
+    /// edges, and knows nothing but what is so of its hierarchy. Takes no memory.
+    pub fn new(
+        view: &'a PackedView<'a>,
+        graph: &'a Chordal,
+        sequences: &'a Sequences,
+        room: Room,
+    ) -> Recall<'a>
         requires graph { IsHierarchyOf graph.now view.now }
+        requires sequences { AreSequences view.now sequences.now }
         requires fits { Fits view.now room }
         ensures view { result ≡ view.now }
     {
-        Recall { view, graph, room }
+        Recall {
+            view,
+            graph,
+            sequences,
+            room,
+        }
     }
 
     /// Gives the room back, for the next relaxations. Takes no memory.
@@ -111,13 +127,14 @@ impl<'a> Walker for Recall<'a> {
     ) -> Result<(), SinkFailed> {
         let view = self.view;
         let graph = self.graph;
+        let sequences = self.sequences;
         let room = &mut self.room;
         let asked = asked_of(call.edge, call.dir, call.second);
         let start = WalkStart {
             asked,
             at: call.second,
         };
-        walk_in(view, graph, room, start, first, form, sink)
+        walk_in(view, graph, sequences, room, start, first, form, sink)
     }
 }
 
@@ -158,6 +175,7 @@ pub fn relax_over(
 fn walk_in<P: WalkForm, K: Sink>(
     view: &PackedView<'_>,
     graph: &Chordal,
+    sequences: &Sequences,
     room: &mut Room,
     start: WalkStart,
     first: bool,
@@ -168,6 +186,7 @@ fn walk_in<P: WalkForm, K: Sink>(
     requires short { IsShortWalk view.now start.asked }
     requires at { start.at % day ≡ start.asked.second }
     requires time { start.at < 2 ^ 61 }
+    requires sequences { AreSequences view.now sequences.now }
     requires fits { Fits view.now room.old }
     requires sound { IsHierarchy view.now }
     ensures wrote { (u v : ℕ) → IsListFrom view.now start.asked.list u v
@@ -178,7 +197,9 @@ fn walk_in<P: WalkForm, K: Sink>(
 {
     make_rows(&mut room.rows, room.lists);
     let (rows, waiting) = (&mut room.rows, &mut room.waiting);
-    write_walk(view, graph, rows, waiting, start, first, form, sink)
+    write_walk(
+        view, graph, sequences, rows, waiting, start, first, form, sink,
+    )
 }
 
 /// The list of an edge in a direction, asked at the second of the day of an absolute second.

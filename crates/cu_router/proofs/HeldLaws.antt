@@ -17,7 +17,6 @@ use Rattle.cu_interval.specs.Hierarchies.{HierarchyValue, IsBuilt, IsHierarchy, 
 use Rattle.cu_resettled.specs.ResettlingAll.{IsResettledAll, NumbersTouchedBySome, hierarchy_with_all}
 use Rattle.cu_pack.specs.Checks.{Spells, sealed}
 use Rattle.cu_pack.specs.Reading.{decoded}
-use Rattle.cu_pack.specs.Spelling.{spelling}
 use Rattle.cu_pack.proofs.Spelled.Again.{read_again, same_hierarchy}
 use Rattle.cu_pack.proofs.Read.Bodies.{spelled_sealed}
 use Rattle.cu_pack.proofs.Viewed.Views.{said_again}

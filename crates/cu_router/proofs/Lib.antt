@@ -8,3 +8,5 @@ mod ArrivalLaws
 mod DepartureLaws
 mod TableLaws
 pub mod HeldAnswers
+pub mod SequencesStay
+pub mod ListsLaws

@@ -4,5 +4,6 @@ pub mod Days
 pub mod Reaches
 pub mod Edited
 pub mod Working
+pub mod Lists
 pub mod Changes
 pub mod Steps

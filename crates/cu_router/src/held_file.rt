@@ -89,6 +89,16 @@ impl HeldFile {
         HeldFile::knowing(alloc, bytes, customized, Known::Built)
     }
 
+    /// [`HeldFile::new`], which asks nothing of walks, so that no query is led to its end.
+    pub fn unasked(alloc: Global, bytes: Vec<u8>) -> Result<HeldFile, NoMemory>
+        requires spelled { (h : HierarchyValue) × Spells bytes.items h }
+        ensures held { IfOk result (λ file. Spells bytes.items file) }
+    {
+        let edges = PackedView::adopt(&bytes).edges();
+        let customized = CustomizedEdges::none(alloc, edges)?;
+        HeldFile::knowing(alloc, bytes, customized, Known::Nothing)
+    }
+
     // Holds the packed file of a hierarchy, where these of its edges are known to be customized, and so much of its walks.
     fn knowing(
         alloc: Global,
@@ -120,6 +130,11 @@ impl HeldFile {
         ensures sound { IsHierarchy self.now }
     {
         adopt(&self.bytes)
+    }
+
+    /// How many bytes it has. Takes no memory.
+    pub fn size(&self) -> usize {
+        self.bytes.len()
     }
 
     /// The graph of its edges. Takes no memory.

@@ -10,27 +10,33 @@ ghost use Rattle.cu_recall.specs.Downs.{KnowsDowns};
 ghost use Rattle.cu_recall.specs.Rooms.{Fits};
 ghost use Rattle.cu_recall.specs.Spans.{Knows};
 ghost use Rattle.cu_router.specs.Answers.{FindsArrival, IsHeldAnswer, IsHeldDrive, IsHeldWaits};
+ghost use Rattle.cu_router.specs.Lists.{FitsLists};
 ghost use Rattle.cu_router.specs.Swept.{swept_as, swept_drive, swept_reply, swept_waits};
 
 use crate::held_file::HeldFile;
+use crate::known_lists::KnownLists;
 use crate::sweeps::Sweeps;
 use cu_drive::{NumberAlone, WalkForm, WithSecond};
 use cu_interval::Ways;
 use cu_io::{Sink, SinkFailed};
 use cu_model::{NoMemory, Query};
 use cu_recall::{Recall, Room, Row};
+use cu_stored::Stored;
 use cu_sweep::{Found, Question};
 use cu_wait::{MeasuredProfile, WithLeft};
 use std::alloc::Global;
 use std::marker::Model;
 
-/// Room for the queries of a hierarchy, in which they keep what they learn of it. Contracts see for how many nodes it was made,
+/// Room for the queries of a hierarchy, in which they keep what they learn of it. They are answered by what is known of lists, and
+/// else by what they learn. Contracts see for how many nodes it was made,
 /// and what is kept of each list, and of the lists downwards by edge.
 #[derive(Drop)]
 pub struct QueryRoom {
     pub(crate) sweeps: Sweeps,
     // It is there but while a query is answered, which owns it.
     pub(crate) room: Option<Room>,
+    // How many relaxations the last query that was replied to asked.
+    asked: u32,
 }
 
 impl Model for QueryRoom {
@@ -58,6 +64,7 @@ impl QueryRoom {
         Ok(QueryRoom {
             sweeps: Sweeps::new(alloc, nodes)?,
             room: Some(Room::new(alloc, nodes, edges)?),
+            asked: 0,
         })
     }
 
@@ -69,6 +76,11 @@ impl QueryRoom {
             unreachable!()
         };
         room.rows()
+    }
+
+    /// How many relaxations the last query that was replied to asked. Takes no memory.
+    pub fn asked(&self) -> u32 {
+        self.asked
     }
 
     /// Forgets what was learnt, as must be done when the held file changes over. Takes no memory.
@@ -89,10 +101,12 @@ impl QueryRoom {
     pub fn put_answer<K: Sink>(
         &mut self,
         held: &HeldFile,
+        lists: &KnownLists,
         query: Query,
         sink: &mut K,
     ) -> Result<(), SinkFailed>
         requires fits { Fits held.now self.old }
+        requires lists { FitsLists held.now lists.now }
         requires from { query.from < held.now.network.nodes }
         requires to { query.to < held.now.network.nodes }
         requires second { query.second < DAY }
@@ -101,17 +115,19 @@ impl QueryRoom {
             (swept_reply held.now query) }
         ensures fits { Fits held.now self.new }
     {
-        self.put_in(held, query, &NumberAlone, sink)
+        self.put_in(held, lists, query, &NumberAlone, sink)
     }
 
     /// The same with the drive of the walk: each of its roads with the absolute second at which it is entered.
     pub fn put_drive<K: Sink>(
         &mut self,
         held: &HeldFile,
+        lists: &KnownLists,
         query: Query,
         sink: &mut K,
     ) -> Result<(), SinkFailed>
         requires fits { Fits held.now self.old }
+        requires lists { FitsLists held.now lists.now }
         requires from { query.from < held.now.network.nodes }
         requires to { query.to < held.now.network.nodes }
         requires second { query.second < DAY }
@@ -120,7 +136,7 @@ impl QueryRoom {
             (swept_drive held.now query) }
         ensures fits { Fits held.now self.new }
     {
-        self.put_in(held, query, &WithSecond, sink)
+        self.put_in(held, lists, query, &WithSecond, sink)
     }
 
     /// The same where profiles are measured, of which these are kept: behind each road the second at which one comes to it, and
@@ -128,11 +144,13 @@ impl QueryRoom {
     pub fn put_waits<K: Sink>(
         &mut self,
         held: &HeldFile,
+        lists: &KnownLists,
         kept: &[Option<MeasuredProfile>],
         query: Query,
         sink: &mut K,
     ) -> Result<(), SinkFailed>
         requires fits { Fits held.now self.old }
+        requires lists { FitsLists held.now lists.now }
         requires from { query.from < held.now.network.nodes }
         requires to { query.to < held.now.network.nodes }
         requires second { query.second < DAY }
@@ -142,18 +160,20 @@ impl QueryRoom {
         ensures fits { Fits held.now self.new }
     {
         let view = held.view();
-        self.put_in(held, query, &WithLeft::of(&view, kept), sink)
+        self.put_in(held, lists, query, &WithLeft::of(&view, kept), sink)
     }
 
     // Writes the reply of a held file to a query, the roads of a walk in this form.
     fn put_in<P: WalkForm, K: Sink>(
         &mut self,
         held: &HeldFile,
+        lists: &KnownLists,
         query: Query,
         form: &P,
         sink: &mut K,
     ) -> Result<(), SinkFailed>
         requires fits { Fits held.now self.old }
+        requires lists { FitsLists held.now lists.now }
         requires from { query.from < held.now.network.nodes }
         requires to { query.to < held.now.network.nodes }
         requires second { query.second < DAY }
@@ -170,18 +190,21 @@ impl QueryRoom {
         let from = view.rank(query.from);
         let to = view.rank(query.to);
         let second = query.second;
-        let mut recall = Recall::new(&view, held.graph(), room);
+        let recall = Recall::new(&view, held.graph(), &lists.sequences, room);
+        let mut stored = Stored::new(&lists.store, recall);
         let question = Question { from, to, second };
         let sweeps = &mut self.sweeps;
-        let outcome = sweeps.answer(held, &mut recall, question, form, sink);
-        self.room = Some(recall.into_room());
+        let outcome = sweeps.answer(held, &mut stored, question, form, sink);
+        self.asked = stored.asked();
+        self.room = Some(stored.into_other().into_room());
         outcome
     }
 
     /// The least arrival of a query between nodes below the number of nodes, leaving at a second of the day, where the held
     /// hierarchy is built. None exactly where there is no walk. Takes no memory.
-    pub fn find(&mut self, held: &HeldFile, query: Query) -> Option<u64>
+    pub fn find(&mut self, held: &HeldFile, lists: &KnownLists, query: Query) -> Option<u64>
         requires fits { Fits held.now self.old }
+        requires lists { FitsLists held.now lists.now }
         requires built { IsBuilt held.now }
         requires from { query.from < held.now.network.nodes }
         requires to { query.to < held.now.network.nodes }
@@ -197,7 +220,7 @@ impl QueryRoom {
         let from = view.rank(query.from);
         let to = view.rank(query.to);
         let second = query.second;
-        let mut recall = Recall::new(&view, held.graph(), room);
+        let mut recall = Recall::new(&view, held.graph(), &lists.sequences, room);
         let question = Question { from, to, second };
         let arrival = find_swept(held, &mut self.sweeps, &mut recall, question, query);
         self.room = Some(recall.into_room());

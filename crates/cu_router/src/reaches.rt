@@ -7,10 +7,12 @@ ghost use Rattle.cu_interval.specs.Hierarchies.{IsHierarchy};
 ghost use Rattle.cu_reach.specs.Departures.{HoldsDeparture, IsDeparture, latest_by};
 ghost use Rattle.cu_reach.specs.ReachTexts.{reach_reply, table_reply, table_rows};
 ghost use Rattle.cu_recall.specs.Rooms.{Fits};
+ghost use Rattle.cu_router.specs.Lists.{FitsLists};
 ghost use Rattle.cu_router.specs.Reaches.{IsHeldLatestReply};
 ghost use Rattle.cu_router.specs.Steps.Departing.{departure_text};
 
 use crate::held_file::HeldFile;
+use crate::known_lists::KnownLists;
 use crate::query_room::QueryRoom;
 use crate::sweeps::put_found;
 use cu_drive::NumberAlone;
@@ -123,10 +125,12 @@ impl QueryRoom {
     pub fn put_latest<K: Sink>(
         &mut self,
         held: &HeldFile,
+        lists: &KnownLists,
         asked: LatestAsked,
         sink: &mut K,
     ) -> Result<(), SinkFailed>
         requires fits { Fits held.now self.old }
+        requires lists { FitsLists held.now lists.now }
         requires from { asked.from < held.now.network.nodes }
         requires to { asked.to < held.now.network.nodes }
         requires by { asked.by ≤ latest_by }
@@ -143,7 +147,7 @@ impl QueryRoom {
         let tree = held.tree();
         let graph = held.graph();
         let desk = &mut self.sweeps.desk;
-        let mut recall = Recall::new(&view, graph, room);
+        let mut recall = Recall::new(&view, graph, &lists.sequences, room);
         let departure = latest(tree, graph, desk, &mut recall, from, to, asked.by);
         let ranks = Ranks { from, to };
         let outcome = put_departure(departure, desk, &mut recall, ranks, asked, sink);

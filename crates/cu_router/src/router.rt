@@ -25,6 +25,7 @@ use crate::busy::Busy;
 use crate::days::find_day;
 use crate::edit_room::{EditRoom, add_held, edit_all_held, edit_held, fill_edit_room};
 use crate::held_file::HeldFile;
+use crate::known_lists::KnownLists;
 use crate::query_room::QueryRoom;
 use crate::working::{begin_held, finish, give_back, plan_held, settle_next};
 use cu_arrival::Arrival;
@@ -40,11 +41,13 @@ use cu_wait::MeasuredProfile;
 use std::alloc::Global;
 use std::marker::Model;
 
-/// The packed bytes of a hierarchy, built or not, and the room for its queries and edits. Contracts see the hierarchy.
+/// The packed bytes of a hierarchy, built or not, what is known of its lists beside them, and the room for its queries and edits.
+/// Contracts see the hierarchy.
 #[derive(Drop)]
 pub struct Router {
     held: HeldFile,
     queries: QueryRoom,
+    lists: KnownLists,
     reaches: ReachDesk,
     // Made by the first edit or whole day, so that a session of queries pays nothing for it.
     editing: Option<EditRoom>,
@@ -54,6 +57,7 @@ impl Model for Router {
     ghost use Rattle.std.specs.Prelude.{◌≡◌, length};
     ghost use Rattle.cu_interval.specs.Hierarchies.{HierarchyValue};
     ghost use Rattle.cu_recall.specs.Rooms.{Fits};
+    ghost use Rattle.cu_router.specs.Lists.{FitsLists};
     ghost use Rattle.cu_router.specs.Steps.Rooms.{FitsEdits};
 
     ghost Value = { HierarchyValue };
@@ -62,7 +66,8 @@ impl Model for Router {
 
     ghost invariant = { λ router. Fits router.held router.queries
         × FitsEdits router.held router.editing
-        × (length router.reaches ≡ router.held.network.nodes) };
+        × (length router.reaches ≡ router.held.network.nodes)
+        × FitsLists router.held router.lists };
 }
 
 impl Router {
@@ -86,14 +91,26 @@ impl Router {
         Router::over(alloc, held)
     }
 
+    /// [`Router::new`] for edits, after which its file is asked for: it doesn't find out whether walks are too long to lead queries
+    /// to their end, so it is made sooner, and so are edits.
+    pub fn for_edits(alloc: Global, bytes: Vec<u8>) -> Result<Router, NoMemory>
+        requires spelled { (h : HierarchyValue) × Spells bytes.items h }
+        ensures held { IfOk result (λ router. Spells bytes.items router) }
+    {
+        let held = HeldFile::unasked(alloc, bytes)?;
+        Router::over(alloc, held)
+    }
+
     // Room for the queries and edits of a held file.
     fn over(alloc: Global, held: HeldFile) -> Result<Router, NoMemory>
         ensures same { IfOk result (λ router. router ≡ held) }
     {
         let (queries, reaches) = rooms_over(alloc, &held)?;
+        let lists = KnownLists::new(alloc, &held)?;
         Ok(Router {
             held,
             queries,
+            lists,
             reaches,
             editing: None,
         })
@@ -124,7 +141,11 @@ impl Router {
             (swept_reply self.old query) }
         ensures stays { self.new ≡ self.old }
     {
-        self.queries.put_answer(&self.held, query, sink)
+        let outcome = self
+            .queries
+            .put_answer(&self.held, &self.lists, query, sink);
+        self.lists.go_on(&self.held, self.queries.asked());
+        outcome
     }
 
     /// The same with the drive of the walk: each of its roads with the absolute second at which it is entered. Takes no memory.
@@ -137,7 +158,9 @@ impl Router {
             (swept_drive self.old query) }
         ensures stays { self.new ≡ self.old }
     {
-        self.queries.put_drive(&self.held, query, sink)
+        let outcome = self.queries.put_drive(&self.held, &self.lists, query, sink);
+        self.lists.go_on(&self.held, self.queries.asked());
+        outcome
     }
 
     /// The same where profiles are measured, of which these are kept: behind each road the second at which one comes to it, and
@@ -156,7 +179,11 @@ impl Router {
             (swept_waits kept.now self.old query) }
         ensures stays { self.new ≡ self.old }
     {
-        self.queries.put_waits(&self.held, kept, query, sink)
+        let outcome = self
+            .queries
+            .put_waits(&self.held, &self.lists, kept, query, sink);
+        self.lists.go_on(&self.held, self.queries.asked());
+        outcome
     }
 
     /// The least arrival of a query between nodes below the number of nodes, leaving at a second of the day, in a built
@@ -170,7 +197,7 @@ impl Router {
         ensures near { IfSome result (λ arrival. arrival ≤ 2 ^ 39) }
         ensures stays { self.new ≡ self.old }
     {
-        self.queries.find(&self.held, query)
+        self.queries.find(&self.held, &self.lists, query)
     }
 
     /// Writes the reply to a question for all nodes, from one below the number of nodes, leaving at a second of the day. Takes no
@@ -217,7 +244,8 @@ impl Router {
             × Wrote (K.state sink.old) (K.state sink.new) result reply }
         ensures stays { self.new ≡ self.old }
     {
-        self.queries.put_latest(&self.held, asked, sink)
+        self.queries
+            .put_latest(&self.held, &self.lists, asked, sink)
     }
 
     /// The arrivals over a whole day between nodes below the number of nodes, each the least over all walks where the hierarchy is
@@ -244,6 +272,7 @@ impl Router {
         let lists = touched.lists.as_slice();
         self.held.change_over(bytes, lists);
         self.queries.forget();
+        self.lists.forget(lists);
         Ok(lists.len())
     }
 
@@ -288,6 +317,7 @@ impl Router {
         let (bytes, lists) = edit_all_held(alloc, &self.held, rows, edits, editing, progress)?;
         self.held.change_over(bytes, lists.as_slice());
         self.queries.forget();
+        self.lists.forget(lists.as_slice());
         Ok(())
     }
 
@@ -376,6 +406,7 @@ impl Router {
         let papers = finish(alloc, &self.held, self.queries.rows(), room, busy);
         self.held.change_over(bytes, papers.lists());
         self.queries.forget();
+        self.lists.forget(papers.lists());
         Ok(())
     }
 

@@ -31,7 +31,6 @@ pub mod Chosen
 pub mod GoalLaws
 pub mod Placed
 pub mod Neighbours
-pub mod Skipping
 pub mod Falling
 pub mod Lowering
 pub mod Ascending

@@ -106,42 +106,22 @@ pub(crate) fn relax_down<R: Relaxer, L: Limits, K: Linking>(
 {
     let nodes = graph.ranks();
     begin_down(labels, chain, nodes, rank);
-    let first = graph.first_edge(rank);
+    let mut edge = graph.first_edge(rank);
     let highers = graph.up(rank);
-    let mut place = next_reached(labels, highers, nodes, 0);
-    'edges: while place < highers.len() {
+    'edges: for higher in highers {
         let leg = Leg {
-            edge: first + place as u32,
+            edge,
             dir: Dir::Down,
-            from: nodes + highers[place],
+            from: nodes + *higher,
             into: nodes + rank,
         };
         let long = relax_into(labels, chain, relaxer, limits, leg);
         if long.is_some() {
             return long;
         }
-        place = next_reached(labels, highers, nodes, place + 1);
+        edge += 1;
     }
     None
-}
-
-// The place of the first neighbour, from a place on, that has a downward label; how many they are where there is none.
-fn next_reached(labels: &[Option<u64>], highers: &[u32], nodes: u32, start: usize) -> usize
-    requires places { All (λ higher. nodes + higher < length labels.now) highers.now }
-    requires start { start ≤ length highers.now }
-    ensures onward { start ≤ result }
-    ensures within { result ≤ length highers.now }
-    ensures passed { (k : ℕ) → start ≤ k → k < result
-        → second_at labels.now (nodes + slice_index_or highers.now k 0) ≡ None }
-{
-    let mut place = start;
-    'edges: while place < highers.len() {
-        if labels[nodes as usize + highers[place] as usize].is_some() {
-            return place;
-        }
-        place += 1;
-    }
-    place
 }
 
 // A downward label begins as the upward one, without a call of its own.
@@ -164,6 +144,7 @@ fn begin_down<K: Linking>(labels: &mut [Option<u64>], chain: &mut K, nodes: u32,
 // Relaxes an edge from the label of one place, and gives another place the label where that is strictly earlier. Answers the
 // call where its walk is too long. The call is left out where it may not be made, or where the other label is no later than any
 // that it could give.
+#[inline(always)]
 fn relax_into<R: Relaxer, L: Limits, K: Linking>(
     labels: &mut [Option<u64>],
     chain: &mut K,

@@ -29,6 +29,8 @@ pub struct PackedFunctions {
     table: PackedTable,
     room: Room,
     windows: Windows,
+    // The lists that were asked for, by number.
+    asked: Vec<bool>,
 }
 
 impl Model for PackedFunctions {
@@ -53,6 +55,7 @@ impl PackedFunctions {
             table: PackedTable::new(alloc, edges)?,
             room: Room::new(alloc)?,
             windows,
+            asked: vec![in alloc; false; 2 * edges as usize]?,
         })
     }
 
@@ -103,13 +106,31 @@ impl PackedFunctions {
         ensures learns { Learns (W.hierarchy ways.now) edge self.old self.new }
     {
         let shortcut = Shortcut { edge, dir };
+        if self.table.is_known(shortcut) && is_noted(&self.asked, shortcut) {
+            return Ok(true);
+        }
         if !learn_asked(alloc, ways, &mut self.table, &mut self.room, shortcut)? {
             return Ok(false);
         }
         if is_below_many(ways, edge) {
             self.table.find_bounds(alloc, shortcut, self.windows)?;
         }
+        note(&mut self.asked, shortcut);
         Ok(true)
+    }
+}
+
+// Is a list noted?
+fn is_noted(notes: &[bool], shortcut: Shortcut) -> bool {
+    let place = shortcut.list();
+    place < notes.len() && notes[place]
+}
+
+// Notes a list, if there is room for it.
+fn note(notes: &mut [bool], shortcut: Shortcut) {
+    let place = shortcut.list();
+    if place < notes.len() {
+        notes[place] = true;
     }
 }
 

@@ -7,8 +7,8 @@ use cu_interval::{TouchedEdge, WayList};
 use std::alloc::Global;
 use std::test::Fail;
 
-// An edge that was settled, with no ways.
-fn settled(alloc: Global, edge: u32) -> TouchedEdge
+/// An edge that was settled, with no ways.
+pub(crate) fn settled(alloc: Global, edge: u32) -> TouchedEdge
     ensures { result.edge ≡ edge }
 {
     TouchedEdge {

@@ -11,14 +11,15 @@ use cu_model::{NoMemory, Roads};
 use cu_pack::{PackedView, chordal_of};
 use cu_recall::{Recall, RecalledWays, Room, SweepRecall};
 use cu_samples::{Tables, packed};
+use cu_sequences::Sequences;
 use cu_unpack::{Unpacker, Work};
 use std::alloc::Global;
 use std::process::Abort;
 use std::test::Fail;
 
-// Four nodes with the roads 2 -> 0, 0 -> 1, 1 -> 3 and 2 -> 3: a minute; 100 seconds, but 300 from 8:00 and closed from 9:56:40 to
-// 10:01:40; a minute; and 400 seconds. From node 2 to node 3 the way is by node 1, and from node 2 to node 1 by node 0.
-const BESIDE: Tables<'static> = Tables {
+/// Four nodes with the roads 2 -> 0, 0 -> 1, 1 -> 3 and 2 -> 3: a minute; 100 seconds, but 300 from 8:00 and closed from 9:56:40 to
+/// 10:01:40; a minute; and 400 seconds. From node 2 to node 3 the way is by node 1, and from node 2 to node 1 by node 0.
+pub(crate) const BESIDE: Tables<'static> = Tables {
     nodes: b"node,x,y\n0,0,0\n1,0,0\n2,0,0\n3,0,0\n",
     roads: b"arc,tail,head,profile\n0,2,0,0\n1,0,1,1\n2,1,3,0\n3,2,3,2\n",
     profiles: b"profile,from,kind,value\n0,0,travel,60\n1,0,travel,100\n1,28800,travel,300\n1,35800,until,36100\n1,36000,travel,100\n2,0,travel,400\n",
@@ -131,6 +132,7 @@ fn unpacks(rt: &impl Abort, alloc: Global, view: &PackedView<'_>) -> Result<(), 
 // Is this what is answered by what remembers in this room? The room with what it then knows.
 fn recalled(
     rt: &impl Abort,
+    alloc: Global,
     view: &PackedView<'_>,
     graph: &Chordal,
     room: Room,
@@ -141,7 +143,8 @@ fn recalled(
     ensures fits { Fits view.now result }
 {
     let edges = view.edges();
-    let mut recall = Recall::new(view, graph, room);
+    let none = Sequences::none(alloc);
+    let mut recall = Recall::new(view, graph, &none, room);
     answers(rt, &mut recall, edges, rows);
     recall.into_room()
 }
@@ -155,10 +158,10 @@ fn remembers_in(
 ) -> Result<(), Fail>
     requires graph { IsHierarchyOf graph.now view.now }
 {
-    let room = recalled(rt, view, graph, fresh(alloc, view)?, &REMEMBERED);
+    let room = recalled(rt, alloc, view, graph, fresh(alloc, view)?, &REMEMBERED);
     let room = forgotten(view, room);
     let last = [(4, Dir::Up, 28_740, Relaxed::At(29_140))];
-    recalled(rt, view, graph, room, &last);
+    recalled(rt, alloc, view, graph, room, &last);
     Ok(())
 }
 
@@ -235,7 +238,7 @@ fn keeps_in_both(
 ) -> Result<(), Fail>
     requires graph { IsHierarchyOf graph.now view.now }
 {
-    recalled(rt, view, graph, fresh(alloc, view)?, &SPANS);
+    recalled(rt, alloc, view, graph, fresh(alloc, view)?, &SPANS);
     keeps_in_sweeps(rt, view, graph, fresh(alloc, view)?);
     Ok(())
 }
@@ -323,12 +326,13 @@ fn unpacker_knows(rt: &impl Abort, alloc: Global, view: &PackedView<'_>) -> Resu
     Ok(())
 }
 
-fn recall_knows(rt: &impl Abort, view: &PackedView<'_>, graph: &Chordal, room: Room)
+fn recall_knows(rt: &impl Abort, alloc: Global, view: &PackedView<'_>, graph: &Chordal, room: Room)
     requires graph { IsHierarchyOf graph.now view.now }
     requires fits { Fits view.now room }
 {
     let edges = view.edges();
-    let recall = Recall::new(view, graph, room);
+    let none = Sequences::none(alloc);
+    let recall = Recall::new(view, graph, &none, room);
     bounds(rt, &recall, edges, &LEAST);
 }
 
@@ -349,7 +353,7 @@ fn both_know(
 ) -> Result<(), Fail>
     requires graph { IsHierarchyOf graph.now view.now }
 {
-    recall_knows(rt, view, graph, fresh(alloc, view)?);
+    recall_knows(rt, alloc, view, graph, fresh(alloc, view)?);
     sweep_knows(rt, view, graph, fresh(alloc, view)?);
     Ok(())
 }
@@ -370,13 +374,14 @@ fn knows_the_least_bounds(rt: HostRuntime) -> Result<(), Fail> {
 }
 
 // Room in which the way upwards over edge 4 at this second was met.
-fn met(view: &PackedView<'_>, graph: &Chordal, room: Room, second: u32) -> Room
+fn met(alloc: Global, view: &PackedView<'_>, graph: &Chordal, room: Room, second: u32) -> Room
     requires graph { IsHierarchyOf graph.now view.now }
     requires fits { Fits view.now room }
     requires edge { 4 < length view.now.edges }
     ensures fits { Fits view.now result }
 {
-    let mut recall = Recall::new(view, graph, room);
+    let none = Sequences::none(alloc);
+    let mut recall = Recall::new(view, graph, &none, room);
     recall.relax(4, Dir::Up, u64::from(second));
     recall.into_room()
 }
@@ -437,7 +442,7 @@ fn writes_of(
     requires graph { IsHierarchyOf graph.now view.now }
     requires edge { 4 < length view.now.edges }
 {
-    let room = met(view, graph, fresh(alloc, view)?, other);
+    let room = met(alloc, view, graph, fresh(alloc, view)?, other);
     writes_in(alloc, view, graph, &room, second, roads)
 }
 

@@ -2,8 +2,10 @@
 //! remembers nothing.
 
 ghost use Rattle.std.specs.Prelude.{◌≡◌, ◌<◌, ◌^◌, length};
+ghost use Rattle.cu_sequences.specs.Kept.{AreSequences};
 ghost use Rattle.cu_unpack.specs.Answers.{IsArriving};
 
+use crate::sequences::{CHAIN, all_sequences, some_sequences};
 use cu_drive::WithSecond;
 use cu_interval::{Call, Dir, Relaxed, Relaxer, Ways};
 use cu_io::MemorySink;
@@ -11,6 +13,7 @@ use cu_model::Roads;
 use cu_pack::{PackedView, chordal_of};
 use cu_recall::{Recall, Room};
 use cu_samples::{BUILT, FORGED, ROW, packed};
+use cu_sequences::Sequences;
 use cu_unpack::{Unpacker, Walker, Work};
 use std::alloc::Global;
 use std::test::Fail;
@@ -34,7 +37,7 @@ fn plain_walk(
     requires answers { IsArriving unpacker.old edge dir at }
     ensures unpacker { unpacker.new ≡ unpacker.old }
 {
-    let mut sink = MemorySink::new(alloc, 128, Vec::new(alloc))?;
+    let mut sink = MemorySink::new(alloc, 1_024, Vec::new(alloc))?;
     let second = at;
     unpacker.write_walk(Call { edge, dir, second }, true, &WithSecond, &mut sink)?;
     Ok(sink)
@@ -53,7 +56,7 @@ fn learnt_walk(
     requires answers { IsArriving recall.old edge dir at }
     ensures recall { recall.new ≡ recall.old }
 {
-    let mut sink = MemorySink::new(alloc, 128, Vec::new(alloc))?;
+    let mut sink = MemorySink::new(alloc, 1_024, Vec::new(alloc))?;
     let second = at;
     recall.write_walk(Call { edge, dir, second }, true, &WithSecond, &mut sink)?;
     recall.relax(edge, dir, at);
@@ -147,12 +150,26 @@ fn is_unpacked(alloc: Global, view: &PackedView<'_>, recall: &mut Recall<'_>) ->
     same_over_edges(alloc, &mut unpacker, recall, view.edges())
 }
 
-// Are they, of one that knows nothing yet?
-fn all_same(alloc: Global, view: &PackedView<'_>) -> Result<bool, Fail> {
+// Are they, of one that knows nothing yet but these sequences?
+fn same_by(alloc: Global, view: &PackedView<'_>, sequences: &Sequences) -> Result<bool, Fail>
+    requires { AreSequences view.now sequences.now }
+{
     let graph = chordal_of(alloc, view)?;
     let edges = view.edges();
-    let mut recall = Recall::new(view, &graph, Room::new(alloc, view.nodes(), edges)?);
+    let room = Room::new(alloc, view.nodes(), edges)?;
+    let mut recall = Recall::new(view, &graph, sequences, room);
     is_unpacked(alloc, view, &mut recall)
+}
+
+// Are they, by the sequences of all lists, of some and of none?
+fn all_same(alloc: Global, view: &PackedView<'_>) -> Result<bool, Fail> {
+    let all = all_sequences(alloc, view);
+    let some = some_sequences(alloc, view);
+    Ok(
+        same_by(alloc, view, &all)?
+            && same_by(alloc, view, &some)?
+            && same_by(alloc, view, &Sequences::none(alloc))?,
+    )
 }
 
 // Are they over a file with these bytes?
@@ -166,7 +183,7 @@ fn writes_as_an_unpacking_does(rt: HostRuntime) -> Result<(), Fail> {
     let alloc = rt.alloc();
     assert!(rt; file_same(alloc, &BUILT)?);
     assert!(rt; file_same(alloc, &FORGED)?);
-    let row = packed(alloc, ROW)?;
-    assert!(rt; file_same(alloc, &row)?);
+    assert!(rt; file_same(alloc, &packed(alloc, ROW)?)?);
+    assert!(rt; file_same(alloc, &packed(alloc, CHAIN)?)?);
     Ok(())
 }

@@ -132,7 +132,7 @@ struct Parts<'a> {
     arcs: &'a EdgeArcs,
 }
 
-// The list of an edge in a direction, settled by words over these functions of lists.
+// The list of an edge in a direction, settled by words over these functions of lists, once its triangles are found.
 fn settle(
     alloc: Global,
     parts: &Parts<'_>,
@@ -146,6 +146,7 @@ fn settle(
         parts.now.graph.now.edges parts.now.arcs.now }
     requires functions { length functions ≡ 2 * length parts.now.graph.now.edges }
 {
+    settling.find(parts.graph, edge)?;
     settling.settle(
         alloc,
         parts.network,

@@ -7,6 +7,8 @@ mod arrivals;
 #[cfg(test)]
 mod bounds;
 #[cfg(test)]
+mod brief;
+#[cfg(test)]
 mod chordal;
 #[cfg(test)]
 mod customize;

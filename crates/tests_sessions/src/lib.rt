@@ -3,4 +3,8 @@
 #![tactic(auto)]
 
 #[cfg(test)]
+mod grids;
+#[cfg(test)]
+mod known;
+#[cfg(test)]
 mod sessions;

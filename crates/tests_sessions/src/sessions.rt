@@ -7,12 +7,12 @@ use cu_session::{Router, answer_edits, session};
 use std::alloc::Global;
 use std::test::Fail;
 
-// What a session answers to a script over a packed file, and its status.
-fn answer(alloc: Global, file: &[u8], script: &str) -> Result<(u8, Vec<u8>), Fail> {
+/// What a session answers to a script over a packed file, and its status.
+pub(crate) fn answer(alloc: Global, file: &[u8], script: &str) -> Result<(u8, Vec<u8>), Fail> {
     let bytes = Vec::from_slice(alloc, file)?;
     let _view = PackedView::open(alloc, &bytes)?;
     let mut source = MemorySource::of(Vec::from_slice(alloc, script.as_bytes())?, Vec::new(alloc));
-    let mut sink = MemorySink::new(alloc, 4096, Vec::new(alloc))?;
+    let mut sink = MemorySink::new(alloc, 131_072, Vec::new(alloc))?;
     let status = session(alloc, bytes, &mut source, &mut sink);
     Ok((status, Vec::from_slice(alloc, sink.bytes())?))
 }

@@ -53,7 +53,7 @@ pub fn edit<H: Shelf, K: Sink, P: Progress>(
         (world_of (H.state shelf.new) source (K.state sink.new)) }
 {
     let file = open_edited(alloc, asked.hierarchy, asked.edits, shelf, progress)?;
-    let mut router = Router::new(alloc, file.hierarchy)?;
+    let mut router = Router::for_edits(alloc, file.hierarchy)?;
     let answered = answer_edits_telling(alloc, &mut router, &file.edits, sink, progress);
     let packed = router.into_file();
     answered?;

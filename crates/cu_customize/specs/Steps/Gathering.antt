@@ -30,7 +30,7 @@ use Rattle.cu_customize.specs.Functions.{FunctionsState, kept_state}
 use Rattle.cu_runs.specs.Least.{Held, KeepsDayOrder, least_arrival, least_way}
 use Rattle.cu_customize.specs.Settling.{ArrivesBy, HasFarWay, KnowsHalves, function_from}
 use Rattle.cu_customize.specs.Steps.Best.{IsOpenAmong, IsOpenWay}
-use Rattle.cu_customize.specs.Steps.Triangles.{IsTriangle, middles_in}
+use Rattle.cu_customize.specs.Triangles.{IsTriangle, middles_in}
 use Rattle.cu_runs.specs.Windows.{AreEach, IsIn, window_start}
 use Rattle.cu_runs.specs.PackedRuns.{IsPackedFunction}
 

@@ -41,6 +41,14 @@ IsMovedTo moved edge dir function =
 abbrev pub HalvesAre : (ℕ → Dir → Type 0) → List Ends → Ends → Dir → ℕ → Type 0
 HalvesAre Good edges ends dir middle = (first second : ℕ) → AreHalfEdges edges ends dir middle first second → Good first Down × Good second Up
 
+-- both halves that a pair of edges has are like this: the one's list downwards, and the other's upwards
+abbrev pub BothAre : (ℕ → Dir → Type 0) → ℕ × ℕ → Type 0
+BothAre Good edges = Good edges.0 Down × Good edges.1 Up
+
+-- it is told of the lists of both edges of a pair whether they were moved
+abbrev pub TellsBoth : MovedValue → ℕ × ℕ → Type 0
+TellsBoth moved edges = (list_number edges.0 Down < length moved.places) × (list_number edges.1 Down < length moved.places)
+
 -- a way is as it was: its road isn't changed, or both its halves aren't moved
 abbrev pub IsUnmovedWay : NetworkValue → List Edit → List Ends → MovedValue → Ends → Dir → Way → Type 0
 IsUnmovedWay g edit edges moved ends dir (Road a) = IsChangedBySome g edit a → ⊥

@@ -13,8 +13,6 @@ use Rattle.cu_customize.specs.declared.pulling.SettledRuns.{SettledRuns}
 use Rattle.cu_customize.specs.Functions.{FunctionsState}
 use Rattle.cu_customize.specs.Settling.{IsDayValueOf, IsSettledList}
 use Rattle.cu_unpack.specs.RebuiltRuns.{IsKnownList, IsRebuiltRuns, PackedValue}
-use Rattle.cu_edits.specs.declared.learning_packed.Middles.{Middles}
-use Rattle.cu_edits.specs.declared.learning_packed.Middles.TheVariants.{Any, Moved}
 use Rattle.cu_edits.specs.Learned.{ArePackedOf}
 use Rattle.cu_edits.specs.Settling.{IsSettled, SettlingValue, settled_so_far}
 use Rattle.cu_edits.specs.Steps.Frames.{IsFrame}
@@ -39,11 +37,6 @@ IsAtHand moved packed edge dir = IsUnmoved moved edge dir → IsKnownList packed
 abbrev pub AreAtHandIfMoved : MovedValue → PackedValue → List Ends → Ends → Dir → ℕ → Type 0
 AreAtHandIfMoved moved packed edges ends dir middle =
     HalvesAre (IsUnmoved moved) edges ends dir middle ⊎ HalvesAre (IsAtHand moved packed) edges ends dir middle
-
--- both halves of the way by a middle are at hand, or, where that is asked of moved ones alone, if one of them was moved
-abbrev pub AreLearned : Middles → MovedValue → PackedValue → List Ends → Ends → Dir → ℕ → Type 0
-AreLearned Any moved packed edges ends dir middle = HalvesAre (IsAtHand moved packed) edges ends dir middle
-AreLearned Moved moved packed edges ends dir middle = AreAtHandIfMoved moved packed edges ends dir middle
 
 -- so are those of a way, if it is one by a middle
 abbrev pub IsWayAtHand : MovedValue → PackedValue → List Ends → Ends → Dir → Way → Type 0

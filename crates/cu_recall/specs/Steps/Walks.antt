@@ -1,8 +1,9 @@
 -- A walk that is written road by road: the list that is next, those that wait behind it, and what is read of each.
-use Rattle.std.specs.Prelude.{ℕ, List, [], ◌∷◌, Option, Some, None, ◌≡◌, ◌≢◌, ◌≤◌, ◌<◌, ◌+◌, ◌*◌, ◌^◌, length, min, slice_get, slice_set}
+use Rattle.std.specs.Prelude.{ℕ, List, [], ◌∷◌, ◌++◌, Option, Some, None, ◌≡◌, ◌≢◌, ◌≤◌, ◌<◌, ◌+◌, ◌*◌, All, false, length, min, slice_get, slice_set}
 use Rattle.cu_model.specs.declared.limits.TheConstants.{MAX_UNTIL}
 use Rattle.cu_model.specs.Days.{day}
-use Rattle.cu_model.specs.Roads.{drive}
+use Rattle.cu_model.specs.Networks.{NetworkValue}
+use Rattle.cu_model.specs.Roads.{drive, is_closed_arc}
 use Rattle.cu_interval.specs.declared.shortcuts.Leg.{Leg}
 use Rattle.cu_interval.specs.Hierarchies.{HierarchyValue, list_from}
 use Rattle.cu_interval.specs.Unpacking.{unpacked_walk}
@@ -10,7 +11,9 @@ use Rattle.cu_unpack.specs.Steps.Legs.{walk_on}
 use Rattle.cu_recall.specs.declared.pending.Asked.{Asked}
 use Rattle.cu_recall.specs.declared.spans.Row.{Row}
 use Rattle.cu_recall.specs.declared.walking.Glance.{Glance}
-use Rattle.cu_recall.specs.declared.walking.NextRoad.{NextRoad}
+use Rattle.cu_recall.specs.declared.walking.NextPart.{NextPart}
+use Rattle.cu_recall.specs.declared.walking.WalkPart.{WalkPart}
+use Rattle.cu_recall.specs.declared.walking.WalkPart.TheVariants as part
 use Rattle.cu_recall.specs.declared.walking.WalkSpot.{WalkSpot}
 use Rattle.cu_recall.specs.Spans.{HoldsMet, IsListFrom, Knows, WalkTakes, met_of}
 use Rattle.cu_recall.specs.Steps.Looks.{IsAsked}
@@ -65,13 +68,30 @@ abbrev pub Resumes : List Glance → ℕ → ℕ → Option WalkSpot → Type 0
 Resumes waiting count second None = count ≡ 0
 Resumes waiting count second (Some spot) = (count ≡ spot.waiting + 1) × (slice_get waiting spot.waiting ≡ Some spot.next) × (spot.second ≡ second)
 
--- the walk over these legs begins with the road, and goes on with those that wait then
-abbrev pub FindsRoad : HierarchyValue → Leg → List Leg → ℕ → List Glance → NextRoad → Type 0
-FindsRoad h leg legs t waiting found =
-    (rest : List Leg) × AreWaiting h waiting found.waiting rest × (walk_on h (leg ∷ legs) t ≡ found.road ∷ walk_on h rest (t + found.travel))
-    × (t + found.travel < 2 ^ 64) × (found.waiting ≤ h.network.nodes)
+-- the roads of a part of a walk
+abbrev pub roads_of : WalkPart → List ℕ
+roads_of (part.Road road travel) = road ∷ []
+roads_of (part.Sequence roads) = roads.now
 
--- whoever enters the road that is found at this second of any day takes as long as it says
-pub record DrivesRoad (h : HierarchyValue) (t : ℕ) (found : NextRoad) : Type 0 where
-  pub near : found.travel ≤ MAX_UNTIL
-  pub arrives : (k : ℕ) → drive h.network (found.road ∷ []) (k * day + t) ≡ k * day + (t + found.travel)
+-- the walk over these legs begins with the part, and goes on with those that wait then
+abbrev pub FindsPart : HierarchyValue → Leg → List Leg → ℕ → List Glance → NextPart → Type 0
+FindsPart h leg legs t waiting found =
+    (rest : List Leg) × AreWaiting h waiting found.waiting rest
+    × (walk_on h (leg ∷ legs) t ≡ roads_of found.part ++ walk_on h rest (drive h.network (roads_of found.part) t))
+    × (found.waiting ≤ h.network.nodes)
+
+-- a road that is there and isn't closed
+abbrev pub IsOpenRoad : NetworkValue → ℕ → Type 0
+IsOpenRoad g road = (road < length g.arcs) × (is_closed_arc g road ≡ false)
+
+-- a road takes as long at this second of any day as is said of it, and others can be driven
+abbrev pub DrivesRoads : HierarchyValue → ℕ → WalkPart → Type 0
+DrivesRoads h t (part.Road road travel) = (k : ℕ) → drive h.network (road ∷ []) (k * day + t) ≡ k * day + (t + travel)
+DrivesRoads h t (part.Sequence roads) = All (IsOpenRoad h.network) roads.now
+
+-- whoever enters a part at this second of any day drives over it within its limits
+pub record DrivesPart (h : HierarchyValue) (t : ℕ) (found : WalkPart) : Type 0 where
+  pub some : 0 < length (roads_of found)
+  pub near : drive h.network (roads_of found) t ≤ t + MAX_UNTIL * length (roads_of found)
+  pub days : (k : ℕ) → drive h.network (roads_of found) (k * day + t) ≡ k * day + drive h.network (roads_of found) t
+  pub roads : DrivesRoads h t found

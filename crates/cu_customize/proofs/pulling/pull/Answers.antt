@@ -4,7 +4,7 @@ use Rattle.cu_runs.specs.declared.merging.TheConstants.{NOBODY}
 use Rattle.cu_runs.specs.declared.merging.WayRun.{WayRun}
 use Rattle.cu_runs.specs.Least.{IsWayRuns, least_way}
 use Rattle.cu_customize.specs.Steps.Gathering.{ways_of}
-use Rattle.cu_customize.specs.Steps.Triangles.{middles_in}
+use Rattle.cu_customize.specs.Triangles.{middles_in}
 use Rattle.cu_customize.proofs.Pulls.{entries_list, pulled, runs_within}
 use Rattle.cu_customize.proofs.pulling.pull.Goals as goal
 

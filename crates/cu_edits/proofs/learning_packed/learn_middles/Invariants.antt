@@ -1,11 +1,12 @@
--- The halves by the middles so far are learned.
+-- The halves by the triangles so far are learned.
 use Rattle.std.proofs.Common.{take}
 use Rattle.std.specs.Prelude.{All}
-use Rattle.cu_edits.specs.Steps.Packed.{AreLearned, LearnsPacked}
+use Rattle.cu_edits.specs.Steps.Packed.{LearnsPacked}
+use Rattle.cu_edits.specs.Steps.Triangles.{AreLearned}
 use Rattle.cu_edits.proofs.learning_packed.learn_middles.Given as goal
 
-abbrev pub invariant-loop-middle : goal.invariant-loop-middle
-invariant-loop-middle g l = record {
+abbrev pub invariant-loop-triangle : goal.invariant-loop-triangle
+invariant-loop-triangle g l = record {
   learns : LearnsPacked l.parts.before l.fn.packed l.packed;
-  known : All (AreLearned l.which l.moved l.packed l.parts.graph.edges l.ends l.dir) (take l.middle-index l.middle-items);
+  known : All (AreLearned l.which l.asked.moved.now l.packed l.asked.dir) (take l.triangle-index l.asked.triangles.now);
 }

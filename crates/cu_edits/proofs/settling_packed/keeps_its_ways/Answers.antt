@@ -1,7 +1,7 @@
 use Rattle.cu_edits.proofs.settling_packed.keeps_its_ways.Goals as goal
 
-pub returns : goal.returns
-returns g c unmoved = record {
+pub returns-clause-keeps : goal.returns-clause-keeps
+returns-clause-keeps g c unmoved = record {
   marked = c.is_marked.ensures.marked c.if-not-is_marked.false;
   ways = c.are_ways_unmoved.ensures unmoved;
 }

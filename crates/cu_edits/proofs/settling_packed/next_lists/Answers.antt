@@ -1,10 +1,25 @@
-use Rattle.std.proofs.Common.{◌*◌, ◌∙◌, ap, length, sym}
+use Rattle.std.proofs.Common.{◌<◌, ◌*◌, ◌∙◌, ap, length, subst, sym}
 use Rattle.cu_chordal.specs.Graphs.{ChordalValue}
 use Rattle.cu_interval.specs.declared.ways.Dir.TheVariants.{Down, Up}
+use Rattle.cu_customize.specs.Triangles.{AreTrianglesOf}
 use Rattle.cu_edits.specs.Steps.Parts.{settling_over}
 use Rattle.cu_edits.proofs.PackedNext.{edge_inside, new_list_over, packed_still}
 use Rattle.cu_edits.specs.Steps.Moving.{MovedValue}
 use Rattle.cu_edits.proofs.settling_packed.next_lists.Goals as goal
+
+pub find-requires : goal.find-requires
+find-requires g c = record {
+  edge = subst (λ (k : ChordalValue). c.args.edge < length k.edges) (sym c.graph.ensures.same)
+      (edge_inside (settling_over c.args.parts.now c.args.settled.now) c.args.parts.now.graph c.args.edge c.requires.holds.parts.hierarchy c.requires.asked);
+}
+
+pub next_list-requires-clause-triangles : goal.next_list-requires-clause-triangles
+next_list-requires-clause-triangles g c = subst (λ (k : ChordalValue). AreTrianglesOf k.edges c.args.edge c.find.new.self) c.graph.ensures.same c.in_ok-find.ensures
+
+pub next_list-requires-2-clause-triangles : goal.next_list-requires-2-clause-triangles
+next_list-requires-2-clause-triangles g c =
+    subst (AreTrianglesOf c.args.parts.now.graph.edges c.args.edge) (sym c.next_list.ensures.triangles)
+    (subst (λ (k : ChordalValue). AreTrianglesOf k.edges c.args.edge c.find.new.self) c.graph.ensures.same c.in_ok-find.ensures)
 
 pub next_list-requires-2-clause-edge : goal.next_list-requires-2-clause-edge
 next_list-requires-2-clause-edge g c =

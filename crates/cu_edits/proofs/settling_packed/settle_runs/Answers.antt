@@ -5,6 +5,7 @@ use Rattle.cu_chordal.specs.Graphs.{ChordalValue}
 use Rattle.cu_interval.specs.Hierarchies.{IsHierarchyOf, list_number}
 use Rattle.cu_customize.specs.declared.pulling.SettledRuns.{SettledRuns}
 use Rattle.cu_customize.specs.Functions.{kept_state}
+use Rattle.cu_customize.specs.Triangles.{AreTrianglesOf}
 use Rattle.cu_edits.specs.Steps.Packed.{IsPackedList}
 use Rattle.cu_edits.proofs.AtHand.{same_edges}
 use Rattle.cu_edits.proofs.SettlingArcs.{arcs_sound}
@@ -33,8 +34,11 @@ settle-requires-clause-arcs g c = λ list at.
 pub settle-requires-clause-functions : goal.settle-requires-clause-functions
 settle-requires-clause-functions g c = c.requires.functions ∙ ap (λ (k : ChordalValue). 2 * length k.edges) (sym c.graph-graph.ensures.same)
 
-pub returns : goal.returns
-returns g c =
+pub settle-requires-clause-triangles : goal.settle-requires-clause-triangles
+settle-requires-clause-triangles g c = subst (λ (k : ChordalValue). AreTrianglesOf k.edges c.args.edge c.args.settling.now) (sym c.graph-graph.ensures.same) c.requires.triangles
+
+pub returns-clause-found : goal.returns-clause-found
+returns-clause-found g c =
     let h = c.args.parts.now.before in
     let edit = c.args.parts.now.edit in
     let of = subst (λ (k : ChordalValue). IsHierarchyOf k h) (sym c.graph-graph.ensures.same) c.graph-graph.ensures.fit.0.hierarchy in

@@ -7,4 +7,4 @@ use Rattle.cu_recall.proofs.walking.read_list.Goals as goal
 pub returns-clause-holds : goal.returns-clause-holds
 returns-clause-holds c h knows =
     let met = (knows c.args.list _ (slice_get-get_or c.args.rows.now c.args.list _ c.requires.list)).met in
-    subst (λ (glance : Glance). HoldsGlance h glance) (sym c.alone.ensures) (met, met)
+    subst (λ (glance : Glance). HoldsGlance h glance) (sym c.alone-2.ensures) (met, met)

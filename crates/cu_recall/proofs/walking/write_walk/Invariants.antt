@@ -1,4 +1,4 @@
--- So many roads less one of the walk were written, and the next one is entered at this second.
+-- At least so many roads less one of the walk were written, and the next one is entered at this second.
 use Rattle.std.proofs.Common.{◌≡◌, ◌≤◌, ◌+◌, ◌*◌, ◌%◌, length}
 use Rattle.cu_io.specs.Sinks.{WroteAll}
 use Rattle.cu_model.specs.declared.limits.TheConstants.{MAX_UNTIL}
@@ -9,8 +9,8 @@ use Rattle.cu_recall.specs.Spans.{Knows}
 use Rattle.cu_recall.proofs.OnWalk.{IsOnWalk}
 use Rattle.cu_recall.proofs.walking.write_walk.Given as goal
 
-abbrev pub invariant-roads : goal.invariant-roads
-invariant-roads g l = record {
+abbrev pub invariant-parts : goal.invariant-parts
+invariant-parts g l = record {
   last : l._number-end ≡ l.view.network.nodes;
   knows : Knows l.view l.rows;
   way : (w : IsOnWalk l.view l.fn.start.asked l.waiting l.spot l._number)

@@ -1,5 +1,5 @@
 use Rattle.std.proofs.Common.{◌∙◌, subst, sym}
-use Rattle.std.specs.Prelude.{IfOk, IfSome}
+use Rattle.std.specs.Prelude.{IfOk}
 use Rattle.std.specs.Global.{Vec}
 use Rattle.std.proofs.lemmas.Result.{IfOk-weaker}
 use Rattle.cu_interval.specs.declared.ways.TouchedEdge.{TouchedEdge}
@@ -8,7 +8,7 @@ use Rattle.cu_resettled.specs.ResettlingAll.{IsResettledAll, NumbersTouchedBySom
 use Rattle.cu_edits.specs.Customized.{AreCustomized}
 use Rattle.cu_edits.specs.EditLists.{FitsList}
 use Rattle.cu_edits.specs.Lists.{AreInRange, AreSound}
-use Rattle.cu_edits.specs.Settling.{SettlingValue, numbers_of}
+use Rattle.cu_edits.specs.Settling.{SettlingValue}
 use Rattle.cu_recall.specs.Spans.{Knows}
 use Rattle.cu_router.specs.declared.edit_room.EditRoom.{EditRoom}
 use Rattle.cu_router.specs.Steps.Rooms.{HasEditRoom}

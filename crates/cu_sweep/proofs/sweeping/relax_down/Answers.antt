@@ -14,7 +14,7 @@ use Rattle.cu_interval.specs.declared.ways.Dir.TheVariants.{Down}
 use Rattle.cu_interval.specs.declared.relaxing.Call.{Call}
 use Rattle.cu_interval.specs.declared.relaxing.Relaxed.{Relaxed}
 use Rattle.cu_interval.specs.Calls.{IfAt}
-use Rattle.cu_interval.specs.Hierarchies.{HierarchyValue, graph_of, number_from}
+use Rattle.cu_interval.specs.Hierarchies.{HierarchyValue, number_from}
 use Rattle.cu_sweep.specs.Sweeps.{AddsAll, below, call_at, call_unless, first_long, second_of}
 use Rattle.cu_sweep.specs.Places.{calls_of_some, second_at}
 use Rattle.cu_sweep.specs.Steps.Ready.{IsReadyBy}
@@ -24,9 +24,7 @@ use Rattle.cu_sweep.proofs.Readying.{apart, keeps_links, near_at, relaxed_ready,
 use Rattle.cu_sweep.proofs.Passing.{below_taken, cut_at, take_full}
 use Rattle.cu_sweep.proofs.Rows.{IsRow, no_call, row_edge, row_ends, row_more, row_none, row_whole, some_call}
 use Rattle.cu_sweep.proofs.Holding.{seconds_other}
-use Rattle.cu_sweep.proofs.Neighbours.{neighbours_within}
 use Rattle.cu_sweep.proofs.DownRows.{IsDownPart, down_begun, down_done, down_more}
-use Rattle.cu_sweep.proofs.Skipping.{IsDownTo, skipped_to}
 use Rattle.cu_sweep.proofs.sweeping.relax_down.Goals as goal
 
 pub edges-init : goal.edges-init
@@ -46,35 +44,21 @@ edges-init g c =
     let rank = c.requires.rank in
     let long = c.requires.ready.long in
     let places = c.requires.ready.places in
-    let ready : IsReadyBy g.K.Linking.links g.K.Linking.turned m begun.new.labels begun.new.chain =
-    subst (λ (n : ℕ). IsReadyBy g.K.Linking.links g.K.Linking.turned n begun.new.labels begun.new.chain) nodes begun.ensures.ready in
-    let long_new = ready.long in
-    let places_new = ready.places in
-    let highers = c.up-highers.result.now in
-    let whole : highers ≡ up_of h.edges x = c.up-highers.ensures.exact ∙ ap (λ (es : List Ends). up_of es x) same in
-    let next = c.next_reached-place in
-    let calls = g.R.Relaxer.calls c.args.relaxer.now in
     record {
-      ready = ready;
+      ready = subst (λ (n : ℕ). IsReadyBy g.K.Linking.links g.K.Linking.turned n begun.new.labels begun.new.chain) nodes begun.ensures.ready;
       unturned = begun.ensures.unturned;
       stays = refl;
-      highers = whole;
-      first = c.first_edge-first.ensures.count ∙ ap (λ (es : List Ends). first_edge_of es x) same;
-      within = c.next_reached-place.ensures.within;
+      highers = c.up-highers.ensures.exact ∙ ap (λ (es : List Ends). up_of es x) same;
+      edge = let e = c.first_edge-edge.ensures.count ∙ ap (λ (es : List Ends). first_edge_of es x) same in omega (arith, e);
       nodes = nodes;
       source = λ y ne. ap (λ (ls : List (Option ℕ)). second_at ls (m + y)) labels_eq ∙ get_or-set_other labels (m + x) (m + y) (second_at labels x) None (λ e. ne (omega (arith, e)));
-      swept = λ q done sw p all al.
-          let none : IsDownTo h q done x highers begun.new.labels (g.K.Linking.links begun.new.chain) calls calls 0 = (
-            subst (λ (ls : List (Option ℕ)). IsDownPart h q done x [] ls (g.K.Linking.links begun.new.chain)) (sym labels_eq)
-                (subst (λ (ks : List (Option (ℕ × ℕ))). IsDownPart h q done x [] (slice_set labels (m + x) (second_at labels x)) ks) (sym links_eq)
-                (down_begun h q done x labels links sw p (omega (arith, rank, ranks, long))
-                (λ kept. let all = places (keeps_links g.K.Linking.links c.args.chain.now kept) in omega (arith, rank, ranks, all)))),
-            row_none h (λ z. down_call h q x z (number_from 0 h.edges x z)) calls,
-          ) in
-          skipped_to h c.requires.graph.1 q done x highers begun.new.labels (g.K.Linking.links begun.new.chain) calls calls whole all
-          (omega (arith, rank, ranks, long_new)) (λ kept. let all = places_new (keeps_links g.K.Linking.links begun.new.chain kept) in omega (arith, rank, ranks, all))
-          0 next.result (omega arith) next.ensures.within
-          (λ j from to. subst (λ (n : ℕ). second_at begun.new.labels (n + get_or highers j 0) ≡ None) nodes (next.ensures.passed j from to)) none;
+      swept = λ q done sw p all al. (
+        subst (λ (ls : List (Option ℕ)). IsDownPart h q done x [] ls (g.K.Linking.links begun.new.chain)) (sym labels_eq)
+            (subst (λ (ks : List (Option (ℕ × ℕ))). IsDownPart h q done x [] (slice_set labels (m + x) (second_at labels x)) ks) (sym links_eq)
+            (down_begun h q done x labels links sw p (omega (arith, rank, ranks, long))
+            (λ kept. let all = places (keeps_links g.K.Linking.links c.args.chain.now kept) in omega (arith, rank, ranks, all)))),
+        row_none h (λ z. down_call h q x z (number_from 0 h.edges x z)) (g.R.Relaxer.calls c.args.relaxer.now),
+      );
     }
 
 pub overflow_add-leg : goal.overflow_add-leg
@@ -85,7 +69,7 @@ overflow_add-leg g c =
     let ranks : c.args.graph.now.ranks ≡ m = ap (λ (v : ChordalValue). v.ranks) c.requires.graph.0 in
     let nodes : c.ranks-nodes.result ≡ m = c.ranks-nodes.ensures.count ∙ ranks in
     let i = c.edges.invariant in
-    let k = c.edges.place in
+    let k = c.edges.higher-index in
     let highers = c.up-highers.result.now in
     let lt : k < length highers = omega arith in
     let y = get_or highers k 0 in
@@ -95,10 +79,9 @@ overflow_add-leg g c =
     let within = facts.3 in
     let labels = c.edges.labels in
     let links = g.K.Linking.links c.edges.chain in
-    let edge = c.first_edge-first.result + k in
-    let is_edge : edge ≡ first_edge_of h.edges x + k = ap (λ (j : ℕ). j + k) i.first in
-    let number : number_from 0 h.edges x y ≡ Some edge = facts.0 ∙ ap (λ (j : ℕ). Some j) (sym is_edge) in
-    let there_ : edge < length h.edges = subst (λ (j : ℕ). j < length h.edges) (sym is_edge) facts.1 in
+    let edge = c.edges.edge in
+    let number : number_from 0 h.edges x y ≡ Some edge = facts.0 ∙ ap (λ (j : ℕ). Some j) (sym i.edge) in
+    let there_ : edge < length h.edges = subst (λ (j : ℕ). j < length h.edges) (sym i.edge) facts.1 in
     let few : m ≤ MAX_NODES = i.ready.few in
     omega (arith, few, within, nodes)
 
@@ -110,7 +93,7 @@ relax_into-long-requires-clause-edge g c =
     let ranks : c.args.graph.now.ranks ≡ m = ap (λ (v : ChordalValue). v.ranks) c.requires.graph.0 in
     let nodes : c.ranks-nodes.result ≡ m = c.ranks-nodes.ensures.count ∙ ranks in
     let i = c.edges.invariant in
-    let k = c.edges.place in
+    let k = c.edges.higher-index in
     let highers = c.up-highers.result.now in
     let lt : k < length highers = omega arith in
     let y = get_or highers k 0 in
@@ -120,10 +103,9 @@ relax_into-long-requires-clause-edge g c =
     let within = facts.3 in
     let labels = c.edges.labels in
     let links = g.K.Linking.links c.edges.chain in
-    let edge = c.first_edge-first.result + k in
-    let is_edge : edge ≡ first_edge_of h.edges x + k = ap (λ (j : ℕ). j + k) i.first in
-    let number : number_from 0 h.edges x y ≡ Some edge = facts.0 ∙ ap (λ (j : ℕ). Some j) (sym is_edge) in
-    let there_ : edge < length h.edges = subst (λ (j : ℕ). j < length h.edges) (sym is_edge) facts.1 in
+    let edge = c.edges.edge in
+    let number : number_from 0 h.edges x y ≡ Some edge = facts.0 ∙ ap (λ (j : ℕ). Some j) (sym i.edge) in
+    let there_ : edge < length h.edges = subst (λ (j : ℕ). j < length h.edges) (sym i.edge) facts.1 in
     subst (λ (v : HierarchyValue). edge < length v.edges) (sym i.stays) there_
 
 pub relax_into-long-requires-clause-from : goal.relax_into-long-requires-clause-from
@@ -134,7 +116,7 @@ relax_into-long-requires-clause-from g c =
     let ranks : c.args.graph.now.ranks ≡ m = ap (λ (v : ChordalValue). v.ranks) c.requires.graph.0 in
     let nodes : c.ranks-nodes.result ≡ m = c.ranks-nodes.ensures.count ∙ ranks in
     let i = c.edges.invariant in
-    let k = c.edges.place in
+    let k = c.edges.higher-index in
     let highers = c.up-highers.result.now in
     let lt : k < length highers = omega arith in
     let y = get_or highers k 0 in
@@ -144,10 +126,9 @@ relax_into-long-requires-clause-from g c =
     let within = facts.3 in
     let labels = c.edges.labels in
     let links = g.K.Linking.links c.edges.chain in
-    let edge = c.first_edge-first.result + k in
-    let is_edge : edge ≡ first_edge_of h.edges x + k = ap (λ (j : ℕ). j + k) i.first in
-    let number : number_from 0 h.edges x y ≡ Some edge = facts.0 ∙ ap (λ (j : ℕ). Some j) (sym is_edge) in
-    let there_ : edge < length h.edges = subst (λ (j : ℕ). j < length h.edges) (sym is_edge) facts.1 in
+    let edge = c.edges.edge in
+    let number : number_from 0 h.edges x y ≡ Some edge = facts.0 ∙ ap (λ (j : ℕ). Some j) (sym i.edge) in
+    let there_ : edge < length h.edges = subst (λ (j : ℕ). j < length h.edges) (sym i.edge) facts.1 in
     let long = i.ready.long in
     omega (arith, within, nodes, long)
 
@@ -159,7 +140,7 @@ relax_into-long-requires-clause-apart g c =
     let ranks : c.args.graph.now.ranks ≡ m = ap (λ (v : ChordalValue). v.ranks) c.requires.graph.0 in
     let nodes : c.ranks-nodes.result ≡ m = c.ranks-nodes.ensures.count ∙ ranks in
     let i = c.edges.invariant in
-    let k = c.edges.place in
+    let k = c.edges.higher-index in
     let highers = c.up-highers.result.now in
     let lt : k < length highers = omega arith in
     let y = get_or highers k 0 in
@@ -169,22 +150,10 @@ relax_into-long-requires-clause-apart g c =
     let within = facts.3 in
     let labels = c.edges.labels in
     let links = g.K.Linking.links c.edges.chain in
-    let edge = c.first_edge-first.result + k in
-    let is_edge : edge ≡ first_edge_of h.edges x + k = ap (λ (j : ℕ). j + k) i.first in
-    let number : number_from 0 h.edges x y ≡ Some edge = facts.0 ∙ ap (λ (j : ℕ). Some j) (sym is_edge) in
-    let there_ : edge < length h.edges = subst (λ (j : ℕ). j < length h.edges) (sym is_edge) facts.1 in
+    let edge = c.edges.edge in
+    let number : number_from 0 h.edges x y ≡ Some edge = facts.0 ∙ ap (λ (j : ℕ). Some j) (sym i.edge) in
+    let there_ : edge < length h.edges = subst (λ (j : ℕ). j < length h.edges) (sym i.edge) facts.1 in
     subst (λ (n : ℕ). IsOnChainTo links (n + x) (n + y) → ⊥) (sym nodes) (apart m links (m + y) (m + x) (i.ready.rises i.unturned) (turn_down m x y up within))
-
-pub next_reached-place-requires-in-edges-clause-places : goal.next_reached-place-requires-in-edges-clause-places
-next_reached-place-requires-in-edges-clause-places g c =
-    let h = g.R.Relaxer.hierarchy c.args.relaxer.now in
-    let ranks : c.args.graph.now.ranks ≡ h.network.nodes = ap (λ (v : ChordalValue). v.ranks) c.requires.graph.0 in
-    let nodes : c.ranks-nodes.result ≡ h.network.nodes = c.ranks-nodes.ensures.count ∙ ranks in
-    let long = c.edges.invariant.ready.long in
-    let kept = c.relax_into-long.auto.labels in
-    λ k other lt.
-    let within = neighbours_within (graph_of h) c.requires.graph.1.graph c.args.rank c.up-highers.result.now c.edges.invariant.highers k other lt in
-    omega (arith, nodes, long, kept, within)
 
 pub edges-preserved : goal.edges-preserved
 edges-preserved g c =
@@ -195,7 +164,7 @@ edges-preserved g c =
     let ranks : c.args.graph.now.ranks ≡ m = ap (λ (v : ChordalValue). v.ranks) c.requires.graph.0 in
     let nodes : c.ranks-nodes.result ≡ m = c.ranks-nodes.ensures.count ∙ ranks in
     let i = c.edges.invariant in
-    let k = c.edges.place in
+    let k = c.edges.higher-index in
     let highers = c.up-highers.result.now in
     let lt : k < length highers = omega arith in
     let y = get_or highers k 0 in
@@ -205,10 +174,9 @@ edges-preserved g c =
     let within = facts.3 in
     let labels = c.edges.labels in
     let links = g.K.Linking.links c.edges.chain in
-    let edge = c.first_edge-first.result + k in
-    let is_edge : edge ≡ first_edge_of h.edges x + k = ap (λ (j : ℕ). j + k) i.first in
-    let number : number_from 0 h.edges x y ≡ Some edge = facts.0 ∙ ap (λ (j : ℕ). Some j) (sym is_edge) in
-    let there_ : edge < length h.edges = subst (λ (j : ℕ). j < length h.edges) (sym is_edge) facts.1 in
+    let edge = c.edges.edge in
+    let number : number_from 0 h.edges x y ≡ Some edge = facts.0 ∙ ap (λ (j : ℕ). Some j) (sym i.edge) in
+    let there_ : edge < length h.edges = subst (λ (j : ℕ). j < length h.edges) (sym i.edge) facts.1 in
     let call = c.relax_into-long in
     let ne : y ≢ x = λ same. absurd (omega (arith, same, up)) in
     let made = call_into (g.R.Relaxer.hierarchy c.edges.relaxer) allows labels (Some edge) Down (c.ranks-nodes.result + y) (c.ranks-nodes.result + x) in
@@ -249,18 +217,12 @@ edges-preserved g c =
     let more : take (k + 1) highers ≡ take k highers ++ (y ∷ []) = take_more highers k 0 lt in
     let long_labels = i.ready.long in
     let long_links = i.ready.places in
-    let ready_new : IsReadyBy g.K.Linking.links g.K.Linking.turned m call.new.labels call.new.chain =
-    subst (λ (ls : List (Option ℕ)). IsReadyBy g.K.Linking.links g.K.Linking.turned m ls call.new.chain) (sym labels_eq) ready in
-    let long_new = ready_new.long in
-    let places_new = ready_new.places in
-    let next = c.next_reached-place-in-edges in
     record {
-      ready = ready_new;
+      ready = subst (λ (ls : List (Option ℕ)). IsReadyBy g.K.Linking.links g.K.Linking.turned m ls call.new.chain) (sym labels_eq) ready;
       unturned = call.ensures.unturned;
       stays = call.ensures.stays ∙ i.stays;
       highers = i.highers;
-      first = i.first;
-      within = c.next_reached-place-in-edges.ensures.within;
+      edge = let e = i.edge in omega (arith, e);
       nodes = nodes;
       source = λ z other.
           ap (λ (ls : List (Option ℕ)). second_at ls (m + z)) labels_eq ∙ seconds_other labels (m + x) (m + z) answer (λ e. other (omega (arith, e)))
@@ -289,17 +251,12 @@ edges-preserved g c =
           s_q (time_left m labels (m + y) (second_at labels (m + y)) i.ready.few i.ready.near from_m refl) in
           let part = subst (λ (r : Relaxed). IsDownPart h q done x (take k highers ++ (y ∷ []))
           (seconds_after labels (m + x) r) (links_after labels links (m + y) edge (m + x) r)) same_answer part0 in
-          let row_next = row_more h f (take k highers) a b d y o row at_y told (sym long_q ∙ none) in
-          let one : IsDownTo h q done x highers call.new.labels (g.K.Linking.links call.new.chain) a d (k + 1) = (
+          let next = row_more h f (take k highers) a b d y o row at_y told (sym long_q ∙ none) in (
             subst (λ (xs : List ℕ). IsDownPart h q done x xs call.new.labels (g.K.Linking.links call.new.chain)) (sym more)
                 (subst (λ (ls : List (Option ℕ)). IsDownPart h q done x (take k highers ++ (y ∷ [])) ls (g.K.Linking.links call.new.chain)) (sym labels_eq)
                 (subst (λ (ks : List (Option (ℕ × ℕ))). IsDownPart h q done x (take k highers ++ (y ∷ [])) (seconds_after labels (m + x) answer) ks) (sym links_eq) part)),
-            subst (λ (xs : List ℕ). IsRow h f xs a d) (sym more) row_next,
-          ) in
-          skipped_to h c.requires.graph.1 q done x highers call.new.labels (g.K.Linking.links call.new.chain) a d i.highers all
-          (omega (arith, into_m, long_new)) (λ kept. let all = places_new (keeps_links g.K.Linking.links call.new.chain kept) in omega (arith, into_m, all))
-          (k + 1) next.result next.ensures.onward next.ensures.within
-          (λ j from to. subst (λ (n : ℕ). second_at call.new.labels (n + get_or highers j 0) ≡ None) nodes (next.ensures.passed j from to)) one;
+            subst (λ (xs : List ℕ). IsRow h f xs a d) (sym more) next,
+          );
     }
 
 pub returns-then-is_some-clause-ready : goal.returns-then-is_some-clause-ready
@@ -311,7 +268,7 @@ returns-then-is_some-clause-ready g c =
     let ranks : c.args.graph.now.ranks ≡ m = ap (λ (v : ChordalValue). v.ranks) c.requires.graph.0 in
     let nodes : c.ranks-nodes.result ≡ m = c.ranks-nodes.ensures.count ∙ ranks in
     let i = c.edges.invariant in
-    let k = c.edges.place in
+    let k = c.edges.higher-index in
     let highers = c.up-highers.result.now in
     let lt : k < length highers = omega arith in
     let y = get_or highers k 0 in
@@ -321,9 +278,8 @@ returns-then-is_some-clause-ready g c =
     let within = facts.3 in
     let labels = c.edges.labels in
     let links = g.K.Linking.links c.edges.chain in
-    let edge = c.first_edge-first.result + k in
-    let is_edge : edge ≡ first_edge_of h.edges x + k = ap (λ (j : ℕ). j + k) i.first in
-    let there_ : edge < length h.edges = subst (λ (j : ℕ). j < length h.edges) (sym is_edge) facts.1 in
+    let edge = c.edges.edge in
+    let there_ : edge < length h.edges = subst (λ (j : ℕ). j < length h.edges) (sym i.edge) facts.1 in
     let call = c.relax_into-long in
     let allowed = allows (m + x) in
     let answer = answer_in h allowed edge Down (second_at labels (m + y)) in
@@ -357,7 +313,7 @@ returns-then-is_some-clause-over g c =
     let ranks : c.args.graph.now.ranks ≡ m = ap (λ (v : ChordalValue). v.ranks) c.requires.graph.0 in
     let nodes : c.ranks-nodes.result ≡ m = c.ranks-nodes.ensures.count ∙ ranks in
     let i = c.edges.invariant in
-    let k = c.edges.place in
+    let k = c.edges.higher-index in
     let highers = c.up-highers.result.now in
     let lt : k < length highers = omega arith in
     let y = get_or highers k 0 in
@@ -367,10 +323,9 @@ returns-then-is_some-clause-over g c =
     let within = facts.3 in
     let labels = c.edges.labels in
     let links = g.K.Linking.links c.edges.chain in
-    let edge = c.first_edge-first.result + k in
-    let is_edge : edge ≡ first_edge_of h.edges x + k = ap (λ (j : ℕ). j + k) i.first in
-    let number : number_from 0 h.edges x y ≡ Some edge = facts.0 ∙ ap (λ (j : ℕ). Some j) (sym is_edge) in
-    let there_ : edge < length h.edges = subst (λ (j : ℕ). j < length h.edges) (sym is_edge) facts.1 in
+    let edge = c.edges.edge in
+    let number : number_from 0 h.edges x y ≡ Some edge = facts.0 ∙ ap (λ (j : ℕ). Some j) (sym i.edge) in
+    let there_ : edge < length h.edges = subst (λ (j : ℕ). j < length h.edges) (sym i.edge) facts.1 in
     let call = c.relax_into-long in
     let ne : y ≢ x = λ same. absurd (omega (arith, same, up)) in
     let made = call_into (g.R.Relaxer.hierarchy c.edges.relaxer) allows labels (Some edge) Down (c.ranks-nodes.result + y) (c.ranks-nodes.result + x) in
@@ -417,7 +372,7 @@ returns-clause-over g c =
     let x = c.args.rank in
     let i = c.edges.invariant in
     let same : c.args.graph.now.edges ≡ h.edges = ap (λ (v : ChordalValue). v.edges) c.requires.graph.0 in
-    let whole : take c.edges.place c.up-highers.result.now ≡ up_of h.edges x = take_full c.up-highers.result.now c.edges.place (omega arith) ∙ i.highers in
+    let whole : take c.edges.higher-index c.up-highers.result.now ≡ up_of h.edges x = take_full c.up-highers.result.now c.edges.higher-index (omega arith) ∙ i.highers in
     let a = g.R.Relaxer.calls c.args.relaxer.now in
     let b = g.R.Relaxer.calls c.edges.relaxer in
     λ q done sw p higher al.

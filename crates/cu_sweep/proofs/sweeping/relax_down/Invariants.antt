@@ -1,13 +1,15 @@
 -- The calls from so many higher neighbours were made.
-use Rattle.std.proofs.Common.{◌≡◌, ◌≢◌, ◌≤◌, ◌+◌, ◌-◌, ℕ, List, length, false}
+use Rattle.std.proofs.Common.{◌≡◌, ◌≢◌, ◌+◌, ℕ, List, take, false}
 use Rattle.std.specs.List.{Contains}
 use Rattle.cu_chordal.specs.Graphs.{HasEdge, first_edge_of, up_of}
+use Rattle.cu_interval.specs.Hierarchies.{number_from}
 use Rattle.cu_sweep.specs.Places.{second_at}
 use Rattle.cu_sweep.specs.Swept.{IsPassed}
-use Rattle.cu_sweep.specs.Steps.Made.{Led, sweep_of}
+use Rattle.cu_sweep.specs.Steps.Made.{Led, down_call, sweep_of}
 use Rattle.cu_sweep.specs.Steps.Ready.{IsReadyBy}
 use Rattle.cu_sweep.specs.Steps.Sweeping.{IsDownSwept}
-use Rattle.cu_sweep.proofs.Skipping.{IsDownTo}
+use Rattle.cu_sweep.proofs.DownRows.{IsDownPart}
+use Rattle.cu_sweep.proofs.Rows.{IsRow}
 use Rattle.cu_sweep.proofs.sweeping.relax_down.Given as goal
 
 abbrev pub invariant-edges : goal.invariant-edges
@@ -19,14 +21,12 @@ invariant-edges g l =
       unturned : g.K.Linking.turned l.chain ≡ false;
       stays : g.R.Relaxer.hierarchy l.relaxer ≡ h;
       highers : l.highers ≡ up_of h.edges l.fn.rank;
-      first : l.first ≡ first_edge_of h.edges l.fn.rank;
-      within : l.place ≤ length l.highers;
+      edge : l.edge ≡ first_edge_of h.edges l.fn.rank + l.higher-index;
       nodes : l.nodes ≡ n;
       source : (y : ℕ) → y ≢ l.fn.rank → second_at l.labels (n + y) ≡ second_at l.fn.labels (n + y);
       swept : (q : Led) (done : List ℕ) → IsDownSwept h q done l.fn.labels (g.K.Linking.links l.fn.chain) → IsPassed h (sweep_of q) l.fn.rank
           → ((y : ℕ) → HasEdge h.edges l.fn.rank y → Contains done y) → q.allows ≡ g.L.Limits.allows l.fn.limits
-          → IsDownTo h q done l.fn.rank l.highers l.labels (g.K.Linking.links l.chain) (g.R.Relaxer.calls l.fn.relaxer) (g.R.Relaxer.calls l.relaxer) l.place;
+          → IsDownPart h q done l.fn.rank (take l.higher-index l.highers) l.labels (g.K.Linking.links l.chain)
+          × IsRow h (λ y. down_call h q l.fn.rank y (number_from 0 h.edges l.fn.rank y))
+          (take l.higher-index l.highers) (g.R.Relaxer.calls l.fn.relaxer) (g.R.Relaxer.calls l.relaxer);
     }
-
-abbrev pub decreases-edges : goal.decreases-edges
-decreases-edges g l = length l.highers - l.place

@@ -1,17 +1,18 @@
-use Rattle.std.proofs.Common.{◌≡◌, ℕ, List, rules, subst, sym, false, true}
+use Rattle.std.proofs.Common.{◌≡◌, ◌∙◌, ℕ, List, rules, subst, sym, false, true}
 use Rattle.cu_chordal.specs.declared.graph.Ends.{Ends}
 use Rattle.cu_interval.specs.Hierarchies.{end_of, start_of}
 use Rattle.cu_customize.specs.declared.triangles.Triangle.{Triangle}
 use Rattle.cu_customize.specs.Functions.{kept_state}
 use Rattle.cu_customize.specs.Settling.{HasFarWay, IsDayValueOf, IsSettledList}
-use Rattle.cu_customize.specs.Steps.Triangles.{AreTriangles}
+use Rattle.cu_customize.specs.Triangles.{AreTriangles}
 use Rattle.cu_customize.proofs.Gathers.{gathered_within}
 use Rattle.cu_customize.proofs.PackedSettles.{edge_settled, edge_task, edge_triangles, far_between}
 use Rattle.cu_customize.proofs.packed_settling.PackedSettling.settle.Goals as goal
 
 pub are_near-requires : goal.are_near-requires
 are_near-requires g c =
-    let found = subst (λ (ts : List Triangle). AreTriangles c.args.graph.now.edges c.ends-ends.result.low c.ends-ends.result.high ts) (sym c.deref.ensures.value) c.in_ok-find_triangles.ensures in (
+    let found = subst (λ (ts : List Triangle). AreTriangles c.args.graph.now.edges c.ends-ends.result.low c.ends-ends.result.high ts) (sym c.self.view_is ∙ sym c.deref.ensures.value)
+    (c.requires.triangles c.ends-ends.result c.ends-ends.ensures.there) in (
       g.R.Roads.network c.args.roads.now,
       edge_triangles (g.R.Roads.network c.args.roads.now) _ c.args.edge c.args.dir c.ends-ends.result c.ends-ends.ensures.sound c.ends-ends.ensures.there found
           c.leg_of.ensures.from c.leg_of.ensures.to c.requires.functions,
@@ -19,7 +20,8 @@ are_near-requires g c =
 
 pub gather-requires : goal.gather-requires
 gather-requires g c =
-    let found = subst (λ (ts : List Triangle). AreTriangles c.args.graph.now.edges c.ends-ends.result.low c.ends-ends.result.high ts) (sym c.deref.ensures.value) c.in_ok-find_triangles.ensures in
+    let found = subst (λ (ts : List Triangle). AreTriangles c.args.graph.now.edges c.ends-ends.result.low c.ends-ends.result.high ts) (sym c.self.view_is ∙ sym c.deref.ensures.value)
+    (c.requires.triangles c.ends-ends.result c.ends-ends.ensures.there) in
     let near : c.are_near.result ≡ true = search rules in
     let triangles = edge_triangles (g.R.Roads.network c.args.roads.now) _ c.args.edge c.args.dir c.ends-ends.result c.ends-ends.ensures.sound c.ends-ends.ensures.there found c.leg_of.ensures.from
     c.leg_of.ensures.to c.requires.functions in
@@ -29,7 +31,8 @@ gather-requires g c =
 
 pub pull-requires-clause-task : goal.pull-requires-clause-task
 pull-requires-clause-task g c =
-    let found = subst (λ (ts : List Triangle). AreTriangles c.args.graph.now.edges c.ends-ends.result.low c.ends-ends.result.high ts) (sym c.deref.ensures.value) c.in_ok-find_triangles.ensures in
+    let found = subst (λ (ts : List Triangle). AreTriangles c.args.graph.now.edges c.ends-ends.result.low c.ends-ends.result.high ts) (sym c.self.view_is ∙ sym c.deref.ensures.value)
+    (c.requires.triangles c.ends-ends.result c.ends-ends.ensures.there) in
     let near : c.are_near.result ≡ true = search rules in
     let triangles = edge_triangles (g.R.Roads.network c.args.roads.now) _ c.args.edge c.args.dir c.ends-ends.result c.ends-ends.ensures.sound c.ends-ends.ensures.there found c.leg_of.ensures.from
     c.leg_of.ensures.to c.requires.functions in (
@@ -44,7 +47,8 @@ pull-requires-clause-held g c = λ some. gathered_within _ _ _ _ c.in_ok-gather.
 
 pub returns-clause-ways : goal.returns-clause-ways
 returns-clause-ways g c ends list at listed =
-    let found = subst (λ (ts : List Triangle). AreTriangles c.args.graph.now.edges c.ends-ends.result.low c.ends-ends.result.high ts) (sym c.deref.ensures.value) c.in_ok-find_triangles.ensures in
+    let found = subst (λ (ts : List Triangle). AreTriangles c.args.graph.now.edges c.ends-ends.result.low c.ends-ends.result.high ts) (sym c.self.view_is ∙ sym c.deref.ensures.value)
+    (c.requires.triangles c.ends-ends.result c.ends-ends.ensures.there) in
     let near : c.are_near.result ≡ true = search rules in
     let triangles = edge_triangles (g.R.Roads.network c.args.roads.now) _ c.args.edge c.args.dir c.ends-ends.result c.ends-ends.ensures.sound c.ends-ends.ensures.there found c.leg_of.ensures.from
     c.leg_of.ensures.to c.requires.functions in
@@ -62,7 +66,8 @@ returns-clause-ways g c ends list at listed =
 
 pub returns-clause-function : goal.returns-clause-function
 returns-clause-function g c ends at =
-    let found = subst (λ (ts : List Triangle). AreTriangles c.args.graph.now.edges c.ends-ends.result.low c.ends-ends.result.high ts) (sym c.deref.ensures.value) c.in_ok-find_triangles.ensures in
+    let found = subst (λ (ts : List Triangle). AreTriangles c.args.graph.now.edges c.ends-ends.result.low c.ends-ends.result.high ts) (sym c.self.view_is ∙ sym c.deref.ensures.value)
+    (c.requires.triangles c.ends-ends.result c.ends-ends.ensures.there) in
     let near : c.are_near.result ≡ true = search rules in
     let triangles = edge_triangles (g.R.Roads.network c.args.roads.now) _ c.args.edge c.args.dir c.ends-ends.result c.ends-ends.ensures.sound c.ends-ends.ensures.there found c.leg_of.ensures.from
     c.leg_of.ensures.to c.requires.functions in
@@ -78,7 +83,8 @@ returns-clause-function g c ends at =
 
 pub returns-then-not-are_near-clause-far : goal.returns-then-not-are_near-clause-far
 returns-then-not-are_near-clause-far g c ends at none =
-    let found = subst (λ (ts : List Triangle). AreTriangles c.args.graph.now.edges c.ends-ends.result.low c.ends-ends.result.high ts) (sym c.deref.ensures.value) c.in_ok-find_triangles.ensures in
+    let found = subst (λ (ts : List Triangle). AreTriangles c.args.graph.now.edges c.ends-ends.result.low c.ends-ends.result.high ts) (sym c.self.view_is ∙ sym c.deref.ensures.value)
+    (c.requires.triangles c.ends-ends.result c.ends-ends.ensures.there) in
     let far : c.are_near.result ≡ false = search rules in
     let task_far = c.are_near.ensures.far (g.R.Roads.network c.args.roads.now)
     (edge_triangles (g.R.Roads.network c.args.roads.now) _ c.args.edge c.args.dir c.ends-ends.result c.ends-ends.ensures.sound c.ends-ends.ensures.there found c.leg_of.ensures.from

@@ -6,7 +6,11 @@ use Rattle.cu_reach.specs.Departures.{IsDeparture}
 use Rattle.cu_router.specs.Reaches.{IsHeldLatestReply}
 use Rattle.cu_router.specs.Steps.Departing.{departure_text}
 use Rattle.cu_router.proofs.DepartureLaws.{departure_told}
+use Rattle.cu_sequences.specs.Kept.{AreSequences}
 use Rattle.cu_router.proofs.query_room.QueryRoom.put_latest.Goals as goal
+
+pub new-recall-requires-clause-sequences : goal.new-recall-requires-clause-sequences
+new-recall-requires-clause-sequences g c = subst (λ (h : HierarchyValue). AreSequences h c.args.lists.now.sequences) (sym c.view-view.ensures.same) c.requires.lists.sequences
 
 pub put_departure-outcome-requires-clause-departs : goal.put_departure-outcome-requires-clause-departs
 put_departure-outcome-requires-clause-departs g c =

@@ -9,7 +9,9 @@ use Rattle.cu_resettled.proofs.TouchedBySome.{all_of_one, numbers_of_one}
 use Rattle.cu_pack.specs.Checks.{Spells, sealed}
 use Rattle.cu_recall.specs.Rooms.{Fits}
 use Rattle.cu_router.specs.Edited.{IsEdited}
+use Rattle.cu_router.specs.Lists.{FitsLists}
 use Rattle.cu_router.specs.Steps.Rooms.{FitsEdits}
+use Rattle.cu_router.proofs.ListsLaws.{lists_below}
 use Rattle.cu_router.proofs.RoomLaws.{edit_made, fits_after}
 use Rattle.cu_router.proofs.router.Router.edit.Goals as goal
 
@@ -34,6 +36,14 @@ change_over-requires c =
       };
     }
 
+pub forget-requires-2 : goal.forget-requires-2
+forget-requires-2 c =
+    let held = c.self.inside.held in
+    let edit = c.args.edit in
+    let touched = subst (λ (l : List TouchedEdge). NumbersTouchedBySome held (edit ∷ []) (numbers_of l)) (sym c.as_slice-lists.ensures.value)
+    ((numbers_of_one held edit (numbers_of c.in_ok-bytes.touched.lists.items)).0 c.in_ok-bytes.ensures.touched) in
+    record { edges = lists_below held (edit ∷ []) c.as_slice-lists.result.now c.self.inside.lists.store.known touched c.self.invariant.3.size }
+
 pub invariant_of-self-2 : goal.invariant_of-self-2
 invariant_of-self-2 c =
     let held = c.self.inside.held in
@@ -49,6 +59,10 @@ invariant_of-self-2 c =
       subst (λ (h : HierarchyValue). Fits h c.forget.new.self) (sym same) fits,
       subst (λ (h : HierarchyValue). FitsEdits h c.edit_held.new.editing) (sym same) c.in_ok-bytes.ensures.editing,
       nodes ∙ sym (ap (λ (h : HierarchyValue). h.network.nodes) same),
+      subst (λ (h : HierarchyValue). FitsLists h c.forget-2.new.self) (sym same)
+          (c.forget-2.ensures held new (edit ∷ []) c.in_ok-bytes.ensures.held (all_of_one held new edit c.in_ok-bytes.ensures.resettled) c.self.invariant.3
+          (subst (λ (l : List TouchedEdge). NumbersTouchedBySome held (edit ∷ []) (numbers_of l)) (sym c.as_slice-lists.ensures.value)
+          ((numbers_of_one held edit (numbers_of lists)).0 c.in_ok-bytes.ensures.touched))),
     )
 
 pub returns-clause-edited : goal.returns-clause-edited

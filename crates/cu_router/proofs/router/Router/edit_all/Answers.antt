@@ -7,6 +7,8 @@ use Rattle.cu_resettled.specs.ResettlingAll.{IsResettledAll, NumbersTouchedBySom
 use Rattle.cu_pack.specs.Checks.{Spells, sealed}
 use Rattle.cu_recall.specs.Rooms.{Fits}
 use Rattle.cu_router.specs.Edited.{IsEditedAll}
+use Rattle.cu_router.specs.Lists.{FitsLists}
+use Rattle.cu_router.proofs.ListsLaws.{lists_below}
 use Rattle.cu_router.specs.Steps.Rooms.{FitsEdits}
 use Rattle.cu_router.proofs.RoomLaws.{edits_made, fits_after}
 use Rattle.cu_router.proofs.router.Router.edit_all.Goals as goal
@@ -33,6 +35,13 @@ change_over-requires g c =
       };
     }
 
+pub forget-requires-2 : goal.forget-requires-2
+forget-requires-2 g c =
+    let held = c.self.inside.held in
+    let edits = c.args.edits.now.edits in
+    let touched = subst (λ (l : List TouchedEdge). NumbersTouchedBySome held edits (numbers_of l)) (sym c.as_slice-2.ensures.value) c.in_ok-bytes.ensures.touched in
+    record { edges = lists_below held edits c.as_slice-2.result.now c.self.inside.lists.store.known touched c.self.invariant.3.size }
+
 pub invariant_of-self-2 : goal.invariant_of-self-2
 invariant_of-self-2 g c =
     let held = c.self.inside.held in
@@ -45,6 +54,9 @@ invariant_of-self-2 g c =
       subst (λ (h : HierarchyValue). Fits h c.forget.new.self) (sym same) fits,
       subst (λ (h : HierarchyValue). FitsEdits h c.edit_all_held.new.editing) (sym same) c.in_ok-bytes.ensures.editing,
       nodes ∙ sym (ap (λ (h : HierarchyValue). h.network.nodes) same),
+      subst (λ (h : HierarchyValue). FitsLists h c.forget-2.new.self) (sym same)
+          (c.forget-2.ensures held new edits c.in_ok-bytes.ensures.held c.in_ok-bytes.ensures.resettled c.self.invariant.3
+          (subst (λ (l : List TouchedEdge). NumbersTouchedBySome held edits (numbers_of l)) (sym c.as_slice-2.ensures.value) c.in_ok-bytes.ensures.touched)),
     )
 
 pub returns-clause-edited : goal.returns-clause-edited

@@ -10,8 +10,10 @@ use Rattle.cu_pack.specs.Checks.{Spells, sealed}
 use Rattle.cu_recall.specs.Rooms.{Fits}
 use Rattle.cu_router.specs.Changes.{IsChange}
 use Rattle.cu_router.specs.Edited.{IsEdited}
+use Rattle.cu_router.specs.Lists.{FitsLists}
 use Rattle.cu_router.specs.Working.{FitsBusy}
 use Rattle.cu_router.specs.Steps.Rooms.{FitsEdits, HasEditRoom}
+use Rattle.cu_router.proofs.ListsLaws.{lists_below}
 use Rattle.cu_router.proofs.RoomLaws.{fits_after}
 use Rattle.cu_router.proofs.WorkingLaws.{ready_change, ready_made, ready_range, ready_sound, ready_together, ready_touched}
 use Rattle.cu_router.proofs.router.Router.publish.Goals as goal
@@ -52,6 +54,16 @@ change_over-requires c =
     let lists = c.lists-2.ensures ∙ ap (λ (papers : PapersValue). papers.lists) c.finish-papers.ensures.papers in
     record { change = subst (IsChange held bytes) (sym lists) (ready_change held busy fits c.requires.none bytes spelled) }
 
+pub forget-requires-2 : goal.forget-requires-2
+forget-requires-2 c =
+    let held = c.self.inside.held in
+    let busy = c.args.busy in
+    let fits = subst (λ (h : HierarchyValue). FitsBusy h busy) (sym c.self.view_is) c.requires.fits in
+    let lists = c.lists-3.ensures ∙ ap (λ (papers : PapersValue). papers.lists) c.finish-papers.ensures.papers in
+    let touched = subst (λ (l : List TouchedEdge). NumbersTouchedBySome held (busy.edit ∷ []) (numbers_of l)) (sym lists)
+    ((numbers_of_one held busy.edit (numbers_of busy.papers.lists)).0 (ready_touched held busy fits c.requires.none)) in
+    record { edges = lists_below held (busy.edit ∷ []) c.lists-3.result.now c.self.inside.lists.store.known touched c.self.invariant.3.size }
+
 pub invariant_of-self-2 : goal.invariant_of-self-2
 invariant_of-self-2 c =
     let held = c.self.inside.held in
@@ -67,6 +79,11 @@ invariant_of-self-2 c =
       subst (λ (h : HierarchyValue). Fits h c.forget.new.self) (sym same) queries,
       subst (λ (h : HierarchyValue). HasEditRoom h c.finish-papers.new.room) (sym same) c.finish-papers.ensures.room,
       nodes ∙ sym (ap (λ (h : HierarchyValue). h.network.nodes) same),
+      subst (λ (h : HierarchyValue). FitsLists h c.forget-2.new.self) (sym same)
+          (c.forget-2.ensures held new (busy.edit ∷ []) fits.work.are.sound (ready_together held busy fits c.requires.none) c.self.invariant.3
+          (subst (λ (l : List TouchedEdge). NumbersTouchedBySome held (busy.edit ∷ []) (numbers_of l))
+          (sym (c.lists-3.ensures ∙ ap (λ (papers : PapersValue). papers.lists) c.finish-papers.ensures.papers))
+          ((numbers_of_one held busy.edit (numbers_of busy.papers.lists)).0 (ready_touched held busy fits c.requires.none)))),
     )
 
 pub returns-clause-published : goal.returns-clause-published

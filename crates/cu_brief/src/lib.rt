@@ -1,0 +1,12 @@
+//! Functions of the seconds of a day as brief runs, four bytes each.
+//!
+//! A brief run has its first second, its kind, and by how many seconds, below 16,384, it takes longer than the base of its
+//! function when it leaves at that second. [`encode`] turns packed runs into them where they fit, and says where they don't;
+//! [`decode`] turns them back; [`value_at`] answers when they arrive, and takes no memory.
+#![tactic(auto)]
+
+mod encoding;
+mod searching;
+
+pub use encoding::{brief_of, decode, encode};
+pub use searching::value_at;

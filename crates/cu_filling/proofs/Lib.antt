@@ -1,0 +1,7 @@
+pub mod DayWalks
+pub mod ListDrives
+pub mod AddedRuns
+pub mod HalfDrives
+pub mod EntryDrives
+pub mod Putting
+pub mod AnswersNear

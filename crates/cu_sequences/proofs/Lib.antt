@@ -1,0 +1,4 @@
+pub mod SequenceLaws
+pub mod Places
+pub mod Keeping
+pub mod Example
