@@ -6,12 +6,11 @@ import os
 import shutil
 from collections.abc import Callable
 from pathlib import Path
-from typing import Any, TypeVar
+from typing import Any
 
 import pytest
-from serving import Service, wait_for as wait_long
+from serving import SECONDS, Service, wait_for
 
-SECONDS = 60
 LAPTOP = 1280, 800
 PHONE = 390, 844
 WORDS = ("--headless=new", "--no-sandbox", "--disable-gpu", "--disable-dev-shm-usage", "--hide-scrollbars")
@@ -27,12 +26,29 @@ return [Math.round(box.left + spot.x), Math.round(box.top + spot.y)];
 """
 
 
-Found = TypeVar("Found")
+def start_chromium(room: Path, *words: str) -> Any:
+    """The driver of a chromium that keeps its own in a folder, with some words. On a busy machine both may take longer
+    to start than selenium and chromedriver wait, half a minute and a minute, and are started again."""
+    webdriver = pytest.importorskip("selenium.webdriver", reason="python3-selenium isn't installed")
+    if shutil.which("chromium") is None or shutil.which("chromedriver") is None:
+        pytest.skip("chromium and chromedriver aren't installed")
+    from selenium.common.exceptions import WebDriverException
+    from selenium.webdriver.chrome.service import Service as Driver
 
-
-def wait_for(find: Callable[[], Found], wanted: Callable[[Found], bool] = bool) -> Found:
-    """What is found once it is as wanted, or at the end of the time."""
-    return wait_long(find, wanted, SECONDS)
+    for left in range(4, -1, -1):
+        options = webdriver.ChromeOptions()
+        for word in (*words, f"--user-data-dir={room}/browser{left}"):
+            options.add_argument(word)
+        options.set_capability("goog:loggingPrefs", {"browser": "ALL"})
+        try:
+            driver = webdriver.Chrome(options=options, service=Driver("/usr/bin/chromedriver"))
+        except WebDriverException:
+            if not left:
+                raise
+        else:
+            driver.set_page_load_timeout(SECONDS)
+            driver.set_script_timeout(SECONDS)
+            return driver
 
 
 class Browser:
@@ -40,17 +56,7 @@ class Browser:
 
     def __init__(self, room: Path, size: tuple[int, int] = LAPTOP) -> None:
         self.size = size
-        webdriver = pytest.importorskip("selenium.webdriver", reason="python3-selenium isn't installed")
-        if shutil.which("chromium") is None or shutil.which("chromedriver") is None:
-            pytest.skip("chromium and chromedriver aren't installed")
-        from selenium.webdriver.chrome.service import Service as Driver
-
-        options = webdriver.ChromeOptions()
-        for word in (*WORDS, f"--user-data-dir={room}/browser"):
-            options.add_argument(word)
-        options.set_capability("goog:loggingPrefs", {"browser": "ALL"})
-        self.driver = webdriver.Chrome(options=options, service=Driver("/usr/bin/chromedriver"))
-        self.driver.set_page_load_timeout(60)
+        self.driver = start_chromium(room, *WORDS)
         self.run: Callable[..., Any] = self.driver.execute_script
 
     def open(self, service: Service, address: str = "", size: tuple[int, int] | None = None, *, dark: bool = False,

@@ -88,7 +88,7 @@ def run_into_closed_pipe(name: str, *words: str | Path, input: bytes = b"", cwd:
     return Ran(done.returncode, "", done.stderr.decode())
 
 
-def interrupt(process: subprocess.Popen[bytes], after: Path, seconds: float = 60) -> tuple[int, bytes]:
+def interrupt(process: subprocess.Popen[bytes], after: Path, seconds: float = 600) -> tuple[int, bytes]:
     """Interrupts a command, with all that it has started, once a file is there; its status and what it said."""
     until = time.monotonic() + seconds
     while not after.exists():

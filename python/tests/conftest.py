@@ -72,7 +72,7 @@ def program() -> Path:
         pytest.skip(f"the program doesn't run here: {run.error.strip()}")
     with Child(words) as child:
         # A reply that stays in the program would be waited for without end.
-        late = threading.Timer(60, child.kill)
+        late = threading.Timer(600, child.kill)
         late.start()
         try:
             assert child.ask("q,0,2,0") == "arrive=160 arcs=0 1"

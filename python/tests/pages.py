@@ -101,7 +101,7 @@ def run_steps(steps: list[Step], clone: Path, room: Path) -> list[Found | None]:
     words = {"PATH": plain_path(), "TMPDIR": f"{room}/tmp", "steps": f"{room}/steps", "LC_ALL": "C"}
     # Where neither is told, parallel warns of the one and asks the shell that started it, which may be none, for the other.
     words |= {"HOME": f"{room}/home", "SHELL": "/bin/sh"}
-    subprocess.run(["bash", "-c", RUN_STEPS], cwd=clone, env=os.environ | words, timeout=900)
+    subprocess.run(["bash", "-c", RUN_STEPS], cwd=clone, env=os.environ | words, timeout=3600)
     return [_found(room / "steps" / f"{number:03}") for number in range(len(steps))]
 
 

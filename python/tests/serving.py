@@ -5,31 +5,40 @@ from __future__ import annotations
 import contextlib
 import json
 import os
+import random
 import re
 import resource
 import signal
 import socket
 import subprocess
+import threading
 import time
-from collections.abc import Callable, Iterable
+from collections.abc import Iterable
 from pathlib import Path
-from typing import Any, TypeVar
+from typing import Any
 
 import httpx
 from conftest import TOP
+from waiting import SECONDS as SECONDS, wait_for as wait_for
 
 from catchup.program import run_program
 
 HTTP = TOP / "bin" / "catchup-http"
-SECONDS = 120
-Found = TypeVar("Found")
+PORTS = Path("/proc/sys/net/ipv4/ip_local_port_range")
 
 
-def wait_for(find: Callable[[], Found], wanted: Callable[[Found], bool] = bool, seconds: float = SECONDS) -> Found:
-    """What is found once it is as wanted, or at the end of the time."""
-    last = time.monotonic() + seconds
-    while not wanted(found := find()) and time.monotonic() < last:
-        time.sleep(0.02)
+def free_ports(many: int) -> list[int]:
+    """Ports that are free, and stay so until somebody asks for just these: none of those that the system gives to
+    whoever connects or listens anywhere. So a service may go, and another one listen there. Lower ones are kept for
+    protocols, to some of which no browser goes."""
+    low, high = map(int, PORTS.read_text().split())
+    left = [port for port in range(11_000, 1 << 16) if not low <= port <= high] or [*range(low, high + 1)]
+    draw, found = random.SystemRandom(), list[int]()
+    with contextlib.ExitStack() as taken:
+        while len(found) < many:
+            with contextlib.suppress(OSError):
+                made = taken.enter_context(socket.create_server(("127.0.0.1", draw.choice(left))))
+                found.append(made.getsockname()[1])
     return found
 
 
@@ -149,6 +158,61 @@ def children_of(pid: int) -> list[int]:
         for task in Path(f"/proc/{pid}/task").glob("*/children"):
             found += [int(word) for word in task.read_text().split()]
     return sorted(found)
+
+
+class Watch:
+    """A clock of what some processes and their descendants do, and whoever looks at it. It stands still while a busy
+    machine has them wait for a processor: the system counts that for each thread, and for each processor how long the
+    machine had none. Where nobody waits it is a clock like any other."""
+
+    def __init__(self, *pids: int) -> None:
+        self.pids = pids
+        self.own = f"/proc/self/task/{threading.get_native_id()}/schedstat"
+        self.is_over = threading.Event()
+        self.before, self.stolen = self.waits(), stolen()
+        self.last = dict(self.before)
+        self.began = time.monotonic()
+        self.thread = threading.Thread(target=self.look, daemon=True)
+        self.thread.start()
+
+    def waits(self) -> dict[str, int]:
+        """For how many nanoseconds each thread has waited."""
+        places, pids = [self.own], [*self.pids]
+        while pids:
+            pid = pids.pop()
+            pids += children_of(pid)
+            with contextlib.suppress(OSError):
+                places += [f"/proc/{pid}/task/{task}/schedstat" for task in os.listdir(f"/proc/{pid}/task")]
+        found = {}
+        for place in places:
+            with contextlib.suppress(OSError, IndexError):
+                found[place] = int(Path(place).read_text().split()[1])
+        return found
+
+    def look(self) -> None:
+        """What a process has waited can't be asked for any more when it has ended."""
+        while not self.is_over.wait(0.05):
+            self.last = self.last | self.waits()
+
+    def so_far(self) -> float:
+        """How long it has taken up to now."""
+        took = time.monotonic() - self.began
+        last = self.last | self.waits()
+        waited = sum(found - self.before.get(place, 0) for place, found in last.items()) / 1e9
+        return took - waited - max((now - then for now, then in zip(stolen(), self.stolen)), default=0.0)
+
+    def seconds(self) -> float:
+        """How long it took. The clock stops."""
+        found = self.so_far()
+        self.is_over.set()
+        self.thread.join()
+        return found
+
+
+def stolen() -> list[float]:
+    """For how many seconds each processor of this machine wasn't there, where the machine is one of many on another."""
+    ticks = re.findall(r"^cpu\d+(?: \d+){7} (\d+)", Path("/proc/stat").read_text(), re.M)
+    return [int(each) / os.sysconf("SC_CLK_TCK") for each in ticks]
 
 
 def is_there(pid: int) -> bool:

@@ -17,7 +17,7 @@ case "$1" in
   all)
     echo build >>"$BUILDS"
     # As slow as it takes until so many others wait for it.
-    for _ in ${SLOW:+$(seq 300)}; do
+    for _ in ${SLOW:+$(seq 3000)}; do
       [ "$(cat "${BUILDS%/*}"/said.? | grep -c 'waiting for it')" -lt "$SLOW" ] || break
       sleep 0.1
     done
@@ -90,7 +90,7 @@ class Checkout:
             with open(self.room / f"said.{each}", "wb") as said:
                 words = os.environ | self.words_of_stub() | env
                 started.append(subprocess.Popen([self.top / "bin/catchup"], env=words, stdout=-1, stderr=said))
-        outputs = [process.communicate(timeout=60)[0].decode().strip() for process in started]
+        outputs = [process.communicate(timeout=600)[0].decode().strip() for process in started]
         said_by = [(self.room / f"said.{each}").read_text() for each in range(1, many + 1)]
         return list(zip((process.returncode for process in started), outputs, said_by))
 

@@ -43,7 +43,7 @@ class Ran(NamedTuple):
 
 
 def run(program: Path, folder: Path, words: Sequence[str | bytes], script: bytes = b"") -> Ran:
-    ended = subprocess.run([program, *words], cwd=folder, input=script, capture_output=True, timeout=60)
+    ended = subprocess.run([program, *words], cwd=folder, input=script, capture_output=True, timeout=600)
     return Ran(ended.returncode, ended.stdout, ended.stderr.decode())
 
 
@@ -584,7 +584,7 @@ def test_nothing_is_said_where_all_is_done(program: Path, folder: Path) -> None:
 def test_an_input_that_fails(program: Path, folder: Path) -> None:
     directory = os.open(folder, os.O_RDONLY)
     try:
-        ended = subprocess.run([program, *SERVE], cwd=folder, stdin=directory, capture_output=True, timeout=60)
+        ended = subprocess.run([program, *SERVE], cwd=folder, stdin=directory, capture_output=True, timeout=600)
     finally:
         os.close(directory)
     assert (ended.returncode, ended.stdout) == (7, b"")
@@ -597,7 +597,7 @@ def test_an_input_that_fails(program: Path, folder: Path) -> None:
 def test_an_output_that_fails(program: Path, folder: Path) -> None:
     with open("/dev/full", "wb") as full:
         ended = subprocess.run(
-            [program, *SERVE], cwd=folder, input=b"q,0,2,0\n", stdout=full, stderr=subprocess.PIPE, timeout=60
+            [program, *SERVE], cwd=folder, input=b"q,0,2,0\n", stdout=full, stderr=subprocess.PIPE, timeout=600
         )
     assert ended.returncode == 8
     assert ended.stderr == (
@@ -612,7 +612,7 @@ def test_a_reader_that_has_gone_is_told_nothing(program: Path, folder: Path, wor
     os.close(reader)
     with os.fdopen(writer, "wb", closefd=True) as output:
         ended = subprocess.run(
-            [program, *words], cwd=folder, input=b"q,0,2,0\n", stdout=output, stderr=subprocess.PIPE, timeout=60
+            [program, *words], cwd=folder, input=b"q,0,2,0\n", stdout=output, stderr=subprocess.PIPE, timeout=600
         )
     assert (ended.returncode, ended.stderr) == (8, b"")
 

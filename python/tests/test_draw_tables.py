@@ -122,5 +122,5 @@ def test_drawing_needs_the_standard_library_alone() -> None:
         "from catchup.draw import asking, day, output, reach, route\n"
         "print(sorted({name.partition('.')[0] for name in sys.modules} - sys.stdlib_module_names - {'catchup', '__main__'}))\n"
     )
-    done = subprocess.run([sys.executable, "-I", "-S", "-c", code], capture_output=True, text=True, timeout=60)
+    done = subprocess.run([sys.executable, "-I", "-S", "-c", code], capture_output=True, text=True, timeout=600)
     assert (done.stdout, done.stderr) == ("[]\n", "")

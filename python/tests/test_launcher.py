@@ -154,7 +154,7 @@ def test_builds_though_nobody_listens(checkout: Checkout) -> None:
     assert process.stderr
     process.stderr.read(1)
     process.stderr.close()
-    process.wait(timeout=60)
+    process.wait(timeout=600)
     builds = checkout.builds()
     assert checkout.launch() == (0, "one")
     assert checkout.builds() == builds

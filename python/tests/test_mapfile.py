@@ -7,6 +7,7 @@ from pathlib import Path
 
 import numpy as np
 import pytest
+from waiting import least_seconds
 
 from catchup.errors import Failure
 from catchup.mapfile import MapFile, RoadNames, Span, write_map
@@ -130,6 +131,12 @@ def test_a_large_map(tmp_path: Path) -> None:
                    small, np.arange(roads), tail.astype(np.int64), head.astype(np.int64), small, np.arange(roads + 1) * points,
                    rnd.random(roads * points), rnd.random(roads * points), ["primary"])
     write_map(tmp_path / "map.gpkg", made, RoadNames.none(roads), np.arange(roads * points))
-    begin = time.process_time()
-    found = MapFile.open(tmp_path / "map.gpkg")
-    assert time.process_time() - begin < 2 and (found.point_lat == made.point_lat).all() and (found.road_head == head).all()
+
+    def take() -> float:
+        begin = time.process_time()
+        found = MapFile.open(tmp_path / "map.gpkg")
+        took = time.process_time() - begin
+        assert (found.point_lat == made.point_lat).all() and (found.road_head == head).all()
+        return took
+
+    assert least_seconds(take, 2) < 2

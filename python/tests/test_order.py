@@ -257,7 +257,7 @@ def test_a_closed_pipe_is_silent(tables: Path) -> None:
 
 
 def test_an_interrupt_leaves_nothing(tables: Path, monkeypatch: pytest.MonkeyPatch) -> None:
-    stub(tables, 'touch "$SEEN.started"; exec sleep 30', monkeypatch)
+    stub(tables, 'touch "$SEEN.started"; exec sleep 600', monkeypatch)
     process = subprocess.Popen(
         [BIN / "order-by-metis", "nodes", "roads"], stdout=subprocess.PIPE, stderr=subprocess.PIPE, start_new_session=True
     )

@@ -15,6 +15,7 @@ from pathlib import Path
 from typing import Any
 
 import pytest
+from browsing import WORDS, start_chromium
 from osrm_grid import grid_map, import_map, place_of
 from serving import SECONDS, Service, wait_for
 
@@ -145,22 +146,13 @@ def pages(tmp_path: Path) -> Iterator[tuple[Path, int]]:
 
 
 def test_a_page_draws_a_route_by_leaflet(folder: Path, pages: tuple[Path, int], tmp_path: Path) -> None:
-    webdriver = pytest.importorskip("selenium.webdriver", reason="python3-selenium isn't installed")
-    if shutil.which("chromium") is None or shutil.which("chromedriver") is None:
-        pytest.skip("chromium and chromedriver aren't installed")
-    from selenium.webdriver.chrome.service import Service as Driver
-
-    options = webdriver.ChromeOptions()
-    for word in ("--headless=new", "--no-sandbox", "--disable-gpu", "--disable-dev-shm-usage",
-                 f"--user-data-dir={tmp_path}/browser"):
-        options.add_argument(word)
     room, port = pages
     origin = f"http://127.0.0.1:{port}"
     with Service(folder / "map.cu", "--tables", folder, "--origin", origin) as service:
         (room / "index.html").write_text(
             PAGE.replace("PORT", str(service.port)).replace(
                 "PLACES", json.dumps([lon_lat(place) for place in (START, MIDDLE, END)])))
-        browser = webdriver.Chrome(options=options, service=Driver("/usr/bin/chromedriver"))
+        browser = start_chromium(tmp_path, *WORDS)
         try:
             browser.get(f"{origin}/")
             assert wait_for(lambda: browser.execute_script("return window.shown && shown.code")) == "Ok"

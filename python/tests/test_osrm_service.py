@@ -263,10 +263,16 @@ def test_too_many_places_for_an_address(service: Service) -> None:
 
 
 def test_now_is_the_time_in_the_zone(service: Service) -> None:
-    now = datetime.datetime.now(zoneinfo.ZoneInfo(ZONE))
+    def now() -> int:
+        found = datetime.datetime.now(zoneinfo.ZoneInfo(ZONE))
+        return found.hour * 3600 + found.minute * 60 + found.second
+
+    begun = now()
     [route] = service.get(f"/route/v1/car/{A};{B}")["routes"]
-    assert (route["depart"] - (now.hour * 3600 + now.minute * 60 + now.second)) % 86_400 < 30
-    assert (service.get(f"/table/v1/car/{A};{B}")["depart"] - route["depart"]) % 86_400 < 30
+    table = service.get(f"/table/v1/car/{A};{B}")
+    # However long a busy machine takes for an answer, it is of a second meanwhile.
+    departs = [(each["depart"] - begun) % 86_400 for each in (route, table)]
+    assert 0 <= departs[0] <= departs[1] <= (now() - begun) % 86_400
 
 
 def test_edits_are_answered_of(folder: Path, tmp_path: Path) -> None:

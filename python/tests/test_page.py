@@ -13,10 +13,10 @@ from pathlib import Path
 from typing import Any, ClassVar
 
 import pytest
-from browsing import LAPTOP, PHONE, SPOT, Browser, wait_for
+from browsing import LAPTOP, PHONE, SPOT, Browser
 from commands import call
 from conftest import EXAMPLES, build
-from serving import Service, ask_program
+from serving import Service, ask_program, free_ports, wait_for
 
 from catchup.service.page.sheet import degrees_of
 
@@ -424,10 +424,11 @@ def test_leaflet_is_missing(browser: Browser, village: Service) -> None:
 def test_the_service_is_gone_and_comes_back(browser: Browser, folder: Path, tmp_path: Path) -> None:
     path = tmp_path / "map.cu"
     path.write_bytes((folder / "map.cu").read_bytes())
-    with Service(path, "--tables", folder) as service:
+    # Nobody else takes it while no service is there.
+    [port] = free_ports(1)
+    with Service(path, "--tables", folder, "--port", str(port)) as service:
         browser.open(service, "#from=0&to=9&depart=08:00", LAPTOP)
         browser.wait_text("answer", "→")
-        port = service.port
     browser.wait_text("notice", "can't be reached")
     browser.picture("gone")
     with Service(path, "--tables", folder, "--port", str(port)):

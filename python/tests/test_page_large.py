@@ -6,8 +6,8 @@ from collections.abc import Iterator
 from pathlib import Path
 
 import pytest
-from browsing import IS_DRAWN, LAPTOP, Browser, wait_for
-from serving import Service
+from browsing import IS_DRAWN, LAPTOP, Browser
+from serving import Service, wait_for
 
 from catchup.bench.networks import make_network
 from catchup.order import metis_order

@@ -181,7 +181,7 @@ def in_threads(count: int, work: Callable[[int], None]) -> list[BaseException]:
     for thread in threads:
         thread.start()
     for thread in threads:
-        thread.join(120)
+        thread.join(600)
         assert not thread.is_alive()
     return raised
 
@@ -223,7 +223,7 @@ def test_an_edit_is_in_every_process_when_it_returns(program: Path, rush_hour: P
 
         def ask(number: int) -> None:
             with planner._taken() as child:
-                barrier.wait(60)
+                barrier.wait(600)
                 pids.add(child.pid)
                 assert child.ask("q,0,2,0") == "arrive=7 arcs=2"
 
@@ -327,6 +327,9 @@ def test_closing_waits_for_what_is_asked(tmp_path: Path, monkeypatch: pytest.Mon
     while len(planner._free):
         threading.Event().wait(0.01)
     planner.close()
+    # Both have their answers by now, and may not have noted them yet.
+    for thread in threads:
+        thread.join()
     assert found == [None, None]
     planner.close()
     for call in (lambda: planner.route(0, 1, 0), lambda: planner.edit_road(0, 0)):
@@ -342,7 +345,7 @@ def test_a_forgotten_planner_is_told(program: Path, rush_hour: Path) -> None:
     with pytest.warns(ResourceWarning, match="a Planner wasn't closed"):
         del planner
         gc.collect()
-    assert [process and process.wait(60) for process in processes] == [0, 0]
+    assert [process and process.wait(600) for process in processes] == [0, 0]
 
 
 def test_a_planner_that_cannot_start(monkeypatch: pytest.MonkeyPatch, rush_hour: Path) -> None:

@@ -71,7 +71,7 @@ def test_a_run(program: Path, serve: list[str | Path]) -> None:
 
 
 def test_a_run_that_takes_too_long(tmp_path: Path, monkeypatch: pytest.MonkeyPatch) -> None:
-    monkeypatch.setenv("CATCHUP", script(tmp_path, "exec sleep 60"))
+    monkeypatch.setenv("CATCHUP", script(tmp_path, "exec sleep 600"))
     with pytest.raises(Failure, match="took longer than 0.2 s"):
         run_program(["ask", "x"], seconds=0.2)
 
@@ -184,7 +184,7 @@ def test_a_forgotten_child_is_told_and_ends(serve: list[str | Path]) -> None:
     with pytest.warns(ResourceWarning, match="wasn't closed"):
         del child
         gc.collect()
-    assert process is not None and process.wait(60) == 0
+    assert process is not None and process.wait(600) == 0
 
 
 def test_a_program_that_cannot_be_started(tmp_path: Path, monkeypatch: pytest.MonkeyPatch) -> None:
@@ -260,7 +260,7 @@ def test_an_async_program_that_is_killed(serve: list[str | Path]) -> None:
         os.kill(child.pid, signal.SIGKILL)
         replies = await asyncio.gather(*(child.ask(b"q,0,2,0") for _ in range(5)), return_exceptions=True)
         assert all(isinstance(reply, Ended) for reply in replies)
-        await asyncio.wait_for(child.ended.wait(), 10)
+        await asyncio.wait_for(child.ended.wait(), 600)
         assert await child.close() == -9
 
     asyncio.run(ask())

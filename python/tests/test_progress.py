@@ -5,6 +5,7 @@ from __future__ import annotations
 import os
 import pty
 import re
+import shutil
 import subprocess
 from pathlib import Path
 
@@ -113,37 +114,107 @@ def on_terminal(program: Path, arguments: list[str], env: dict[str, str]) -> tup
     return shown.decode(), output
 
 
-def test_one_line_written_over_on_a_terminal(program: Path, tmp_path: Path) -> None:
-    names = [str(tmp_path / name) for name in ("nodes.csv", "roads.csv", "profiles.csv")]
-    subprocess.run([program, "make", "7", "40", "40", *names], check=True, capture_output=True)
+# In place of the system's clock, which hangs on how fast a machine is and what else it does: at each look so many
+# milliseconds have gone by.
+CLOCK = """
+#include <stdlib.h>
+#include <time.h>
+static long long looks;
+int clock_gettime(clockid_t which, struct timespec *now) {
+  long long at = ++looks * atoll(getenv("MILLISECONDS_A_LOOK"));
+  (void)which;
+  now->tv_sec = at / 1000;
+  now->tv_nsec = at % 1000 * 1000000;
+  return 0;
+}
+"""
+
+
+@pytest.fixture(scope="module")
+def clock(tmp_path_factory: pytest.TempPathFactory) -> Path:
+    """The clock, to be loaded before the program."""
+    compiler = shutil.which("cc")
+    if compiler is None:
+        pytest.skip("a C compiler isn't installed (gcc)")
+    folder = tmp_path_factory.mktemp("clock")
+    (folder / "clock.c").write_text(CLOCK)
+    subprocess.run([compiler, "-shared", "-fPIC", "-o", folder / "clock.so", folder / "clock.c"], check=True)
+    return folder / "clock.so"
+
+
+def by_clock(clock: Path, milliseconds: int) -> dict[str, str]:
+    """The environment of a program at each of whose looks at the clock so much time has gone by."""
     env = {name: value for name, value in os.environ.items() if name != "CATCHUP_PROGRESS"}
-    shown, output = on_terminal(program, ["build", *names, "dissect", str(tmp_path / "grid.cu")], env)
-    assert output.startswith("built 1600 ")
-    assert "\n" not in shown and "built" not in shown
-    assert shown.endswith("\r\x1b[K"), "the line is taken away before the last line is said"
-    percents = [int(one) for one in re.findall(r"settling shortcuts, (\d+) %, \d+ s left", shown)]
-    assert len(percents) > 2 and percents == sorted(percents) and percents[-1] <= 100
-    for stage in ("reading files", "making an order", "settling shortcuts", "packing"):
-        lines = re.findall(rf"\rcatchup: {stage}, ([^\x1b]*)", shown)
-        assert lines[0] == "0 %", "no seconds are left of what hasn't begun"
-        assert all(re.fullmatch(r"\d+ %(, \d+ s left)?", line) for line in lines)
-    assert "\rcatchup: storing\x1b[K" in shown
+    return env | {"LD_PRELOAD": str(clock), "MILLISECONDS_A_LOOK": str(milliseconds)}
+
+
+@pytest.fixture(scope="module")
+def grid(program: Path, tmp_path_factory: pytest.TempPathFactory) -> list[str]:
+    """The tables of a grid of 1,600 nodes, whose shortcuts are thousands."""
+    folder = tmp_path_factory.mktemp("grid")
+    names = [str(folder / name) for name in ("nodes.csv", "roads.csv", "profiles.csv")]
+    subprocess.run([program, "make", "7", "40", "40", *names], check=True, capture_output=True)
+    return names
+
+
+def settled(shown: str) -> list[int]:
+    """How many of a hundred shortcuts were settled in each line, of which seconds are told."""
+    return [int(one) for one in re.findall(r"settling shortcuts, (\d+) %, \d+ s left", shown)]
+
+
+# A line stands for a tenth of a second: by each clock one of so many is written over.
+STEPS = [(101, 1), (51, 2), (10, 10)]
+
+
+def check_steps(told: list[list[int]]) -> None:
+    """By the first clock each line that is told is shown, which is one for each percent at least."""
+    for percents, (_, of) in zip(told, STEPS, strict=True):
+        assert percents == sorted(percents) and percents[-1] <= 100
+        assert abs(len(percents) * of - len(told[0])) <= of, [len(each) for each in told]
+    assert set(range(1, 100)) <= set(told[0])
+
+
+def test_one_line_written_over_on_a_terminal(program: Path, grid: list[str], clock: Path, tmp_path: Path) -> None:
+    told = []
+    for milliseconds, _ in STEPS:
+        env = by_clock(clock, milliseconds)
+        shown, output = on_terminal(program, ["build", *grid, "dissect", str(tmp_path / "grid.cu")], env)
+        assert output.startswith("built 1600 ")
+        assert "\n" not in shown and "built" not in shown
+        assert shown.endswith("\r\x1b[K"), "the line is taken away before the last line is said"
+        told.append(settled(shown))
+        for stage in ("reading files", "making an order", "settling shortcuts", "packing"):
+            lines = re.findall(rf"\rcatchup: {stage}, ([^\x1b]*)", shown)
+            assert lines[0] == "0 %", "no seconds are left of what hasn't begun"
+            assert all(re.fullmatch(r"\d+ %(, \d+ s left)?", line) for line in lines)
+        assert "\rcatchup: storing\x1b[K" in shown
+    check_steps(told)
     env["CATCHUP_PROGRESS"] = "0"
     assert on_terminal(program, words("order", tmp_path), env) == ("", "ordered 159\n")
 
 
-def test_settled_shortcuts_of_edits_are_counted_on_a_terminal(program: Path, tmp_path: Path) -> None:
-    names = [str(tmp_path / name) for name in ("nodes.csv", "roads.csv", "profiles.csv")]
-    packed, edits = str(tmp_path / "grid.cu"), tmp_path / "edits.txt"
-    subprocess.run([program, "make", "7", "64", "64", *names], check=True, capture_output=True)
-    subprocess.run([program, "build", *names, "dissect", packed], check=True, capture_output=True)
-    edits.write_text("".join(f"s,{profile},0,travel,{70 + profile}\n" for profile in range(64)))
+def test_a_line_is_written_over_by_the_systems_clock_too(program: Path, grid: list[str], tmp_path: Path) -> None:
     env = {name: value for name, value in os.environ.items() if name != "CATCHUP_PROGRESS"}
-    shown, output = on_terminal(program, ["edit", packed, str(edits), str(tmp_path / "edited.cu")], env)
-    assert output.count("done ") == 64 and output.splitlines()[-1].startswith("stored ")
-    percents = [int(one) for one in re.findall(r"settling shortcuts, (\d+) %, \d+ s left", shown)]
-    assert len(percents) > 1 and percents == sorted(percents) and percents[-1] <= 100
-    assert shown.endswith("\r\x1b[K"), "the line is taken away before the last line is said"
+    shown, output = on_terminal(program, ["build", *grid, "dissect", str(tmp_path / "grid.cu")], env)
+    percents = settled(shown)
+    assert output.startswith("built 1600 ") and "\rcatchup: settling shortcuts, 0 %\x1b[K" in shown
+    assert percents == sorted(percents) and all(percent <= 100 for percent in percents)
+    assert shown.endswith("\r\x1b[K")
+
+
+def test_settled_shortcuts_of_edits_are_counted_on_a_terminal(
+        program: Path, grid: list[str], clock: Path, tmp_path: Path) -> None:
+    packed, edits = str(tmp_path / "grid.cu"), tmp_path / "edits.txt"
+    subprocess.run([program, "build", *grid, "dissect", packed], check=True, capture_output=True)
+    edits.write_text("".join(f"s,{profile},0,travel,{70 + profile}\n" for profile in range(64)))
+    told = []
+    for milliseconds, _ in STEPS:
+        env = by_clock(clock, milliseconds)
+        shown, output = on_terminal(program, ["edit", packed, str(edits), str(tmp_path / "edited.cu")], env)
+        assert output.count("done ") == 64 and output.splitlines()[-1].startswith("stored ")
+        assert shown.endswith("\r\x1b[K"), "the line is taken away before the last line is said"
+        told.append(settled(shown))
+    check_steps(told)
 
 
 def test_a_refused_table_is_told_as_ever(program: Path, tmp_path: Path) -> None:

@@ -37,7 +37,7 @@ def command(how):
         for _ in range(100000): print("line")
     if how == "number": return 5
     if how == "wait":
-        try: print("waiting", flush=True); time.sleep(30)
+        try: print("waiting", flush=True); time.sleep(600)
         finally: print("cleaned up")
     if how == "print": print("done")
 
@@ -72,20 +72,20 @@ ENDS = [
 @pytest.mark.parametrize("words, status, said", ENDS)
 def test_ends(words: list[str], status: int, said: str) -> None:
     run = start(*words)
-    _, error = run.communicate(timeout=60)
+    _, error = run.communicate(timeout=600)
     assert (run.returncode, error) == (status, said)
 
 
 def test_help_goes_to_standard_output() -> None:
     run = start("--help")
-    output, error = run.communicate(timeout=60)
+    output, error = run.communicate(timeout=600)
     assert (run.returncode, error) == (0, "") and output.startswith("Usage: try-it [OPTIONS] HOW")
 
 
 @pytest.mark.parametrize("how, said", [("bug", "RuntimeError: bug"), ("own module", "No module named 'catchup.no_such'")])
 def test_a_bug_keeps_its_traceback(how: str, said: str) -> None:
     run = start(how)
-    _, error = run.communicate(timeout=60)
+    _, error = run.communicate(timeout=600)
     assert run.returncode == 1 and "Traceback" in error and said in error
 
 
@@ -94,14 +94,14 @@ def test_a_closed_pipe_is_silent() -> None:
     run = start("pipe", stdout=writer)
     os.close(writer)
     os.close(reader)
-    _, error = run.communicate(timeout=60)
+    _, error = run.communicate(timeout=600)
     assert (run.returncode, error) == (141, "")
 
 
 def test_a_full_device_is_told() -> None:
     with open("/dev/full", "w") as full:
         run = start("print", stdout=full)
-        _, error = run.communicate(timeout=60)
+        _, error = run.communicate(timeout=600)
     assert run.returncode == 1 and error.startswith("try-it: ") and "No space left" in error and error.count("\n") == 1
 
 
@@ -111,5 +111,5 @@ def test_an_interrupt_lets_it_clean_up(number: int, status: int) -> None:
     assert run.stdout and run.stdout.readline() == "waiting\n"
     time.sleep(0.1)
     run.send_signal(number)
-    output, error = run.communicate(timeout=60)
+    output, error = run.communicate(timeout=600)
     assert (run.returncode, output, error) == (status, "cleaned up\n", "")

@@ -4,6 +4,7 @@ from __future__ import annotations
 
 import asyncio
 import contextlib
+import fcntl
 import itertools
 import json
 import os
@@ -19,7 +20,7 @@ import pytest
 from conftest import build
 from hypothesis import given, settings
 from hypothesis import strategies as st
-from serving import Service, ask_program, digest_of, is_there, left_in, wait_for
+from serving import Service, Watch, ask_program, digest_of, is_there, left_in, wait_for
 
 from catchup.program import run_program
 from catchup.service import packed
@@ -28,7 +29,7 @@ from catchup.service.roadedits import Profiles, edits_of, lines_of
 
 LINE = "s,0,0,travel,600"
 SLOW = """#!/bin/sh
-if [ "$1" = edit ]; then sleep {seconds} & wait $!; fi
+if [ "$1" = edit ]; then read -r line <{never}; fi
 exec {program} "$@"
 """
 
@@ -45,9 +46,10 @@ def file(town: Path, tmp_path: Path) -> Path:
 
 @pytest.fixture
 def slow(program: Path, tmp_path: Path) -> Path:
-    """The program, but that each edit takes its time."""
-    path = tmp_path / "slow"
-    path.write_text(SLOW.format(program=program, seconds=60))
+    """The program, but that no edit comes to its end: it waits for what nobody writes."""
+    path, never = tmp_path / "slow", tmp_path / "never"
+    os.mkfifo(never)
+    path.write_text(SLOW.format(program=program, never=never))
     path.chmod(path.stat().st_mode | stat.S_IXUSR)
     return path
 
@@ -60,6 +62,16 @@ def edited(path: Path, *lines: str) -> bytes:
     found = out.read_bytes()
     edits.unlink()
     out.unlink()
+    return found
+
+
+def edits_in_work(service: Service) -> list[int]:
+    """The processes that make an edit."""
+    found = []
+    for pid in service.children():
+        with contextlib.suppress(FileNotFoundError, ProcessLookupError):
+            if b"\0edit\0" in Path(f"/proc/{pid}/cmdline").read_bytes():
+                found.append(pid)
     return found
 
 
@@ -81,11 +93,15 @@ def test_an_edit_is_confirmed_once_it_is_stored_and_served(file: Path) -> None:
         # The worker that made it answers of it at once, others a moment later.
         query = "/route?from=5&to=151&depart=28800"
         arrive = int(ask_program(file, "q,5,151,28800")[0].split()[0].removeprefix("arrive="))
-        time.sleep(1)
-        for _ in range(20):
-            with Service.client_of(service) as client:
-                found = client.get(query).json()
-            assert (found["version"], found["arrive"]) == (told["version"], arrive)
+
+        def found() -> set[tuple[str, int]]:
+            answers = []
+            for _ in range(20):
+                with service.client_of() as client:
+                    answers.append(client.get(query).json())
+            return {(each["version"], each["arrive"]) for each in answers}
+
+        assert wait_for(found, lambda all: all == {(told["version"], arrive)}) == {(told["version"], arrive)}
         assert service.end() == (0, "", "")
     assert left_in(file.parent) == []
 
@@ -141,13 +157,21 @@ def test_edits_of_all_workers_take_turns(file: Path) -> None:
 
 
 def test_an_edit_with_an_edit_of_another_program_of_the_folder(file: Path) -> None:
-    with Service(file) as service:
-        holder = subprocess.Popen(["flock", file.parent, "sleep", "1.5"])
-        time.sleep(0.3)
-        began = time.monotonic()
-        service.edit(LINE)
-        assert time.monotonic() - began > 0.8
-        holder.wait()
+    """It waits until the other one lets go of the folder."""
+    before = digest_of(file)
+    with Service(file) as service, ThreadPoolExecutor(1) as pool:
+        folder = os.open(file.parent, os.O_RDONLY)
+        try:
+            fcntl.flock(folder, fcntl.LOCK_EX)
+            edit = pool.submit(service.once, LINE)
+            assert wait_for(lambda: service.get("/edits")["jobs"])
+            time.sleep(0.8)
+            assert service.get("/edits")["jobs"][0]["state"] == "waiting"
+            assert not edit.done() and digest_of(file) == before
+        finally:
+            os.close(folder)
+        status, told = edit.result()
+        assert (status, told["version"]) == (200, digest_of(file))
 
 
 # ---- jobs ----
@@ -178,12 +202,12 @@ def test_a_job_is_ended(file: Path, slow: Path) -> None:
         [job] = wait_for(lambda: service.get("/edits")["jobs"])
         wait_for(lambda: service.get(f"/edits/{job['job']}")["state"], lambda state: state == "working")
         second = service.client.post("/edits?wait=0", content=LINE).json()["job"]
-        began = time.monotonic()
+        watch = Watch(service.process.pid)
         status, told = service.ask(f"/edits/{second}", "DELETE")
         assert (status, told["state"]) == (200, "ended")
         status, told = service.ask(f"/edits/{job['job']}", "DELETE")
         assert (status, told["state"]) == (200, "ended")
-        assert time.monotonic() - began < 6
+        assert watch.seconds() < 6
         status, told = waiting.result()
         assert status == 503 and "ended" in told["error"]
         assert service.ask(f"/edits/{job['job']}", "DELETE")[0] == 409
@@ -434,8 +458,7 @@ def test_a_limit_of_file_sizes_keeps_the_version_before(file: Path) -> None:
 def test_an_edit_that_dies_is_told(file: Path, slow: Path) -> None:
     with Service(file, CATCHUP=str(slow)) as service, ThreadPoolExecutor(1) as pool:
         waiting = pool.submit(Service.once, service, LINE)
-        edit = wait_for(lambda: [pid for pid in service.children()
-                                 if b"edit" in Path(f"/proc/{pid}/cmdline").read_bytes()])
+        edit = wait_for(lambda: edits_in_work(service))
         os.kill(edit[0], signal.SIGKILL)
         status, told = waiting.result()
         assert (status, told["error"]) == (503, "catchup edit was ended by SIGKILL")
@@ -446,12 +469,11 @@ def test_at_the_end_an_edit_that_is_not_ready_is_ended(file: Path, slow: Path) -
     before = file.read_bytes()
     with Service(file, CATCHUP=str(slow)) as service, ThreadPoolExecutor(1) as pool:
         waiting = pool.submit(Service.once, service, LINE)
-        edit = wait_for(lambda: [pid for pid in service.children()
-                                 if b"edit" in Path(f"/proc/{pid}/cmdline").read_bytes()])
-        began = time.monotonic()
+        edit = wait_for(lambda: edits_in_work(service))
+        watch = Watch(service.process.pid)
         assert service.end() == (0, "", "")
         # Ten seconds, and what a busy machine adds.
-        assert time.monotonic() - began < 10 + 5
+        assert watch.seconds() < 10 + 5
         status, told = waiting.result()
         assert status == 503 and "the service ends" in told["error"]
         assert not is_there(edit[0])

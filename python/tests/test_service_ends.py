@@ -15,7 +15,7 @@ from contextlib import contextmanager
 from pathlib import Path
 
 import pytest
-from serving import HTTP, SECONDS, Service, is_there, read_all, wait_for
+from serving import HTTP, SECONDS, Service, Watch, is_there, read_all, wait_for
 
 ending = pytest.importorskip("catchup.service.ending")
 
@@ -99,10 +99,10 @@ def check_end(file: Path, end: Callable[[Service], None]) -> None:
     with Service(file, workers=3) as service:
         with clients_of(service.port) as found:
             assert wait_for(lambda: len(found) > 4 * MANY)
-            began = time.monotonic()
+            watch = Watch(service.process.pid)
             end(service)
             assert service.process.wait(SECONDS) == 0
-            took = time.monotonic() - began
+            took = watch.seconds()
             assert took < END_SECONDS, took
         assert set(found) <= {*ANSWERS, "refused"}, {each: found.count(each) for each in set(found)}
         assert service.process.communicate() == ("", "")
@@ -126,10 +126,10 @@ def test_a_worker_that_is_ended_alone_cuts_off_nobody(town: Path) -> None:
     with Service(town, workers=2) as service, clients_of(service.port) as found:
         for worker in service.workers():
             assert wait_for(lambda: len(found) > 2 * MANY)
-            began = time.monotonic()
+            watch = Watch(worker)
             os.kill(worker, signal.SIGTERM)
             assert wait_for(lambda: is_there(worker), lambda there: not there) is False
-            assert time.monotonic() - began < END_SECONDS
+            assert watch.seconds() < END_SECONDS
             assert wait_for(lambda: len(service.children()), lambda many: many == 4) == 4
             found.clear()
             assert wait_for(lambda: len(found) > 2 * MANY)
@@ -143,20 +143,29 @@ def test_a_worker_that_is_ended_alone_cuts_off_nobody(town: Path) -> None:
 def test_who_comes_while_the_last_is_answered_is_refused_at_once(town: Path) -> None:
     """Work that takes long keeps nobody waiting at the door."""
     with Service(town, workers=2) as service, service.connect() as client:
-        client.sendall(b"POST /edits HTTP/1.1\r\nHost: localhost\r\nContent-Length: 3\r\n\r\n?,")
-        # The worker has asked for the rest of it.
-        time.sleep(APART)
+        client.sendall(b"POST /edits HTTP/1.1\r\nHost: localhost\r\nContent-Length: 3\r\nExpect: 100-continue\r\n\r\n")
+        assert client.recv(100) == b"HTTP/1.1 100 Continue\r\n\r\n"
+        client.sendall(b"?,")
         service.process.send_signal(signal.SIGTERM)
-        time.sleep(3 * APART)
-        began = time.monotonic()
-        with pytest.raises(ConnectionRefusedError):
-            socket.create_connection(("127.0.0.1", service.port), timeout=SECONDS)
+        watch, last = Watch(service.process.pid), 0.0
+        while not is_refused(service.port):
+            last = watch.so_far()
+        assert last < 3 * APART
         # One whose first packet was dropped tries again after a second.
-        assert time.monotonic() - began < 5
+        assert watch.seconds() < 3 * APART + 5
         assert service.process.poll() is None
         client.sendall(b"?")
         assert client.recv(12) == b"HTTP/1.1 400"
         assert service.process.wait(SECONDS) == 0
+
+
+def is_refused(port: int) -> bool:
+    """Whether nobody may connect any more; somebody who may asks nothing."""
+    try:
+        socket.create_connection(("127.0.0.1", port), timeout=SECONDS).close()
+    except ConnectionRefusedError:
+        return True
+    return False
 
 
 @pytest.mark.parametrize("to_all", [False, True])
@@ -218,9 +227,9 @@ def test_whoever_is_left_is_answered_whatever_was_sent(listener: socket.socket) 
     half.sendall(REQUEST[:9])
     half.shutdown(socket.SHUT_WR)
     gone.close()
-    began = time.monotonic()
+    watch = Watch()
     ending.answer_left(listener, answer)
-    assert time.monotonic() - began < END_SECONDS / 2
+    assert watch.seconds() < END_SECONDS / 2
     listener.close()
     for client in clients[:-1]:
         with client:

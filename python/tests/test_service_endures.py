@@ -3,6 +3,7 @@ one."""
 
 from __future__ import annotations
 
+import fcntl
 import json
 import os
 import random
@@ -10,6 +11,7 @@ import re
 import signal
 import subprocess
 import sys
+import termios
 import threading
 import time
 from concurrent.futures import ThreadPoolExecutor
@@ -19,7 +21,8 @@ import httpx
 import pytest
 from conftest import TOP, build
 from scripts import run
-from serving import HTTP, SECONDS, Service, ask_program, children_of, client_of, digest_of, is_there, left_in, wait_for
+from serving import (
+    HTTP, SECONDS, Service, Watch, ask_program, children_of, client_of, digest_of, is_there, left_in, wait_for)
 
 from catchup.program import run_program
 
@@ -39,6 +42,11 @@ def version_of(service: Service) -> str:
     """The version that a worker answers of."""
     with client_of(service.port) as client:
         return str(client.get("/health").json()["version"])
+
+
+def versions_of(service: Service) -> set[str]:
+    """The versions of which some connections are answered, more than there are workers and shared among them."""
+    return {version_of(service) for _ in range(20)}
 
 
 def status_of(service: Service, path: str = ROUTE) -> int:
@@ -66,10 +74,9 @@ def test_a_file_that_is_put_in_place_is_served(file: Path) -> None:
     with Service(file, workers=2) as service:
         put(file, following)
         wanted = digest_of(file)
-        for _ in range(2):
-            assert wait_for(lambda: version_of(service), lambda found: found == wanted)
-        time.sleep(0.5)
-        assert {version_of(service) for _ in range(20)} == {wanted}
+        assert wait_for(lambda: versions_of(service), lambda found: found == {wanted}) == {wanted}
+        # From then on no worker goes back.
+        assert versions_of(service) == {wanted}
         assert wait_for(lambda: len(service.children()), lambda many: many == 4) == 4
 
 
@@ -85,7 +92,8 @@ def test_a_file_that_is_refused_is_not_served(file: Path, rush_hour: Path, tmp_p
             assert service.get(ROUTE)["version"] == before
             status, told = service.ask("/edits", "POST", b"a,0,1")
             assert status == 503 and "isn't served" in told["error"]
-            time.sleep(0.5)
+            # All workers have seen it before it goes.
+            assert wait_for(lambda: {refused_by(service) for _ in range(20)}, lambda found: None not in found)
             put(file, edited_bytes(good, file))
             assert wait_for(lambda: service.get("/health").get("refused", ""), lambda said: not said) == ""
             put(file, good)
@@ -93,6 +101,13 @@ def test_a_file_that_is_refused_is_not_served(file: Path, rush_hour: Path, tmp_p
         status, _, errors = service.end()
         assert status == 0 and errors.count("\n") == len(cases), errors
         assert all(said in line for (_, said), line in zip(cases, errors.splitlines())), errors
+
+
+def refused_by(service: Service) -> str | None:
+    """What a worker says of a file that isn't served; None where it is."""
+    with client_of(service.port) as client:
+        said: str | None = client.get("/health").json().get("refused")
+        return said
 
 
 def edited_bytes(good: bytes, path: Path) -> bytes:
@@ -153,34 +168,45 @@ def test_a_child_that_hangs_is_replaced(file: Path) -> None:
     with Service(file) as service:
         quick = service.children()[0]
         os.kill(quick, signal.SIGSTOP)
-        began = time.monotonic()
+        watch = Watch(service.process.pid)
         status, told = service.ask(ROUTE)
         if status == 200:
             quick = service.children()[1]
             os.kill(quick, signal.SIGSTOP)
-            began = time.monotonic()
+            watch = Watch(service.process.pid)
             status, told = service.ask(ROUTE)
-        assert status == 503 and told["error"] == "the program took too long" and time.monotonic() - began < 15
+        assert status == 503 and told["error"] == "the program took too long" and watch.seconds() < 15
         assert wait_for(lambda: service.ask(ROUTE)[0], lambda status: status == 200) == 200
         assert not is_there(quick)
+
+
+def is_asked(child: int) -> bool:
+    """Whether a line waits in a child's input, longer than that which asks whether it is there; or it is gone."""
+    try:
+        with open(f"/proc/{child}/fd/0", "rb", buffering=0) as pipe:
+            waits = int.from_bytes(fcntl.ioctl(pipe, termios.FIONREAD, bytes(4)), sys.byteorder)
+            return waits >= len("d,5,151\n")
+    except OSError:
+        return True
 
 
 def test_what_hangs_holds_up_no_end(file: Path) -> None:
     """Who waits for a child that hangs is told before the service ends; a worker that hangs is ended."""
     with Service(file) as service, ThreadPoolExecutor(2) as pool:
-        for child in service.children():
+        children = service.children()
+        for child in children:
             os.kill(child, signal.SIGSTOP)
         asked = [pool.submit(status_of, service, path) for path in (ROUTE, "/day?from=5&to=151")]
-        time.sleep(0.3)
-        began = time.monotonic()
+        assert wait_for(lambda: all(map(is_asked, children)))
+        watch = Watch(service.process.pid)
         assert service.end()[0] == 0
         assert [each.result() for each in asked] == [503, 503]
         # Ten seconds, and what a busy machine adds.
-        assert time.monotonic() - began < 10 + 5
+        assert watch.seconds() < 10 + 5
     with Service(file, workers=2) as service:
         os.kill(service.workers()[0], signal.SIGSTOP)
-        began = time.monotonic()
-        assert service.end()[0] == 0 and time.monotonic() - began < 10 + 5
+        watch = Watch(service.process.pid)
+        assert service.end()[0] == 0 and watch.seconds() < 10 + 5
 
 
 def test_two_services_over_one_file_take_turns(file: Path) -> None:
@@ -200,7 +226,7 @@ def test_health_says_that_a_child_hangs(file: Path) -> None:
         status, told = service.ask("/health")
         assert (status, told["status"]) == (503, "down")
         # Nobody asks it anything, and it is found all the same.
-        assert wait_for(lambda: service.ask("/health")[0], lambda status: status == 200, 60) == 200
+        assert wait_for(lambda: service.ask("/health")[0], lambda status: status == 200) == 200
 
 
 def test_workers_and_children_end_with_the_main_process(file: Path) -> None:
@@ -208,7 +234,9 @@ def test_workers_and_children_end_with_the_main_process(file: Path) -> None:
         processes = [*service.workers(), *service.children()]
         assert len(processes) == 6
         os.kill(service.process.pid, signal.SIGKILL)
-        assert wait_for(lambda: [pid for pid in processes if is_there(pid)], lambda left: not left, 10) == []
+        watch = Watch(*processes)
+        assert wait_for(lambda: [pid for pid in processes if is_there(pid)], lambda left: not left) == []
+        assert watch.seconds() < 10
 
 
 def test_a_worker_that_dies_is_started_again(file: Path) -> None:
@@ -457,11 +485,13 @@ def end_round(file: Path, writer: Writer, service: subprocess.Popen[bytes]) -> i
     assert reply.startswith("arrive="), reply
     if writer.confirmed:
         number, version = writer.confirmed[-1]
+        # A version is in the journal before it is in its place: a worker that is about to end may still put one there.
+        served = digest_of(file)
         entries = file.with_name(file.name + ".journal").read_text().splitlines()
         made = [entry for entry in entries if line_of(number) in entry]
         assert made and f'"after": "{version}' in made[-1]
         behind = "".join(entries[entries.index(made[-1]) + 1:])
-        assert digest_of(file) == version or line_of(number + 1) in behind
+        assert served == version or line_of(number + 1) in behind
     return writer.number + 1000
 
 

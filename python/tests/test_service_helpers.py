@@ -10,6 +10,7 @@ from typing import Any
 
 import pytest
 from conftest import EXAMPLES
+from waiting import SECONDS
 
 from catchup.program import find_program, run_program
 
@@ -54,7 +55,7 @@ class Made:
 
 def run(test: Callable[[], Awaitable[None]], monkeypatch: pytest.MonkeyPatch, patience: float = 0.02) -> None:
     monkeypatch.setattr(helpers, "PATIENCE_SECONDS", patience)
-    asyncio.run(asyncio.wait_for(test(), 60))  # type: ignore[arg-type]
+    asyncio.run(asyncio.wait_for(test(), SECONDS))  # type: ignore[arg-type]
 
 
 def helpers_of(made: list[Made], most: int, **of: Any) -> Helpers:
@@ -77,18 +78,28 @@ def test_all_help_and_replies_have_their_order(monkeypatch: pytest.MonkeyPatch) 
     run(test, monkeypatch)
 
 
-def test_few_lines_and_quick_ones_are_one_childs(monkeypatch: pytest.MonkeyPatch) -> None:
+def test_quick_lines_are_one_childs(monkeypatch: pytest.MonkeyPatch) -> None:
     async def test() -> None:
         made: list[Made] = []
         group, child = helpers_of(made, 3), Made(0.0)
         await group.ask_all(child, LINES)  # type: ignore[arg-type]
-        child.seconds = 0.005
-        await group.ask_all(child, LINES[:helpers.MANY - 1])  # type: ignore[arg-type]
-        assert not made and len(child.answered) == len(LINES) + helpers.MANY - 1
-        await helpers_of(made, 0).ask_all(child, LINES)  # type: ignore[arg-type]
-        assert not made
+        assert not made and len(child.answered) == len(LINES)
 
-    run(test, monkeypatch, patience=5.0)
+    run(test, monkeypatch, patience=SECONDS)
+
+
+def test_few_lines_are_one_childs_however_long_they_take(monkeypatch: pytest.MonkeyPatch) -> None:
+    async def test() -> None:
+        made: list[Made] = []
+        group, child = helpers_of(made, 3), Made(0.005)
+        await group.ask_all(child, LINES[:helpers.MANY - 1])  # type: ignore[arg-type]
+        await helpers_of(made, 0).ask_all(child, LINES)  # type: ignore[arg-type]
+        assert not made and len(child.answered) == len(LINES) + helpers.MANY - 1
+        # With one line more they would have been called.
+        await group.ask_all(child, LINES[:helpers.MANY])  # type: ignore[arg-type]
+        assert made
+
+    run(test, monkeypatch, patience=0.0)
 
 
 @pytest.mark.parametrize("count", [1, 15, 16, 17, 100, 1000])

@@ -2,19 +2,17 @@
 
 from __future__ import annotations
 
-import contextlib
 import os
 import re
 import shutil
 import signal
-import socket
 import subprocess
 import sys
 from pathlib import Path
 
 import pytest
 from conftest import TOP
-from serving import SECONDS
+from serving import SECONDS, free_ports
 
 PAGE = TOP / "docs" / "SERVICE.md"
 UNIT = TOP / "packaging" / "service" / "catchup-http.service"
@@ -38,13 +36,6 @@ def as_pattern(printed: str) -> str:
     return ".*".join(re.escape(part) for part in printed.strip().split(".."))
 
 
-def free_ports(*printed: str) -> dict[str, str]:
-    """A free port for each that the page prints."""
-    with contextlib.ExitStack() as taken:
-        sockets = [taken.enter_context(socket.create_server(("127.0.0.1", 0))) for _ in printed]
-        return {name: str(each.getsockname()[1]) for name, each in zip(printed, sockets)}
-
-
 def test_the_pages_commands_do_what_is_printed(program: Path, tmp_path: Path) -> None:
     if shutil.which("curl") is None:
         pytest.skip("curl isn't installed (curl)")
@@ -54,14 +45,15 @@ def test_the_pages_commands_do_what_is_printed(program: Path, tmp_path: Path) ->
         (tmp_path / "bin" / name).write_text(f'#!/bin/sh\nexec {path} "$@"\n')
         (tmp_path / "bin" / name).chmod(0o755)
     shutil.copytree(TOP / "examples", tmp_path / "examples", ignore=shutil.ignore_patterns("out"))
-    ports = free_ports("8080", "8081")
+    # A free one for each that the page prints.
+    ports = {printed: str(own) for printed, own in zip(("8080", "8081"), free_ports(2))}
     port = ports["8080"]
     services: list[subprocess.Popen[str]] = []
     folder, environment = tmp_path, {**os.environ, "CATCHUP": str(program)}
     try:
         for command, printed in commands():
-            for printed_port, own in ports.items():
-                command, printed = (text.replace(printed_port, own) for text in (command, printed))
+            command, printed = (
+                re.sub("|".join(ports), lambda port: ports[port[0]], text) for text in (command, printed))
             if command.startswith("cd "):
                 folder = folder / command[3:]
             elif command.endswith(" &"):

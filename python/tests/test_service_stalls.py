@@ -17,6 +17,8 @@ from pathlib import Path
 import pytest
 from serving import Service, read_all, wait_for
 
+from catchup.service.limits import HEAD_SECONDS
+
 ROUTE = b"GET /route?from=5&to=151&depart=28800 HTTP/1.1\r\nHost: localhost\r\n\r\n"
 HEALTH = b"GET /health HTTP/1.1\r\nHost: localhost\r\n\r\n"
 H = b"Host: localhost\r\n"
@@ -293,24 +295,34 @@ def test_a_thousand_idle_connections_take_little_memory(town: Path, capsys: pyte
     assert whole < 200
 
 
+def take_places(service: Service, sent: bytes) -> bool:
+    """Has others ask beside more clients than there is room for, who have sent something: the one that has been waited
+    for the longest goes. Whether all that came before it would have been sent away for its slowness, as it may be on a
+    busy machine."""
+    began = time.monotonic()
+    clients = [service.connect() for _ in range(80)]
+    for client in clients:
+        client.sendall(sent)
+    for _ in range(3):
+        with service.connect() as client:
+            client.sendall(HEALTH)
+            assert client.recv(1000).startswith(b"HTTP/1.1 200"), sent
+    said = b"" if sent.endswith(b"\n\r\n") else clients[0].recv(1)
+    is_quick = time.monotonic() - began < HEAD_SECONDS
+    assert said == b"" or not is_quick
+    if not sent and is_quick:
+        clients[-1].sendall(HEALTH)
+        assert clients[-1].recv(1000).startswith(b"HTTP/1.1 200")
+    for client in clients:
+        client.close()
+    return is_quick
+
+
 def test_clients_that_are_waited_for_go_where_there_are_too_many(town: Path) -> None:
     """With few open files allowed, a new client takes the place of the one that has been waited for the longest: for a
     request, for the rest of its head or of its body, or to close behind a refusal."""
     head = b"POST /edits HTTP/1.1\r\n" + H + b"Content-Length: 9\r\n\r\n"
     with Service(town, most_files=180) as service:
         for sent in (b"", b"G", head, head + b"a", b"no request\r\n\r\n"):
-            clients = [service.connect() for _ in range(80)]
-            for client in clients:
-                client.sendall(sent)
-            for _ in range(3):
-                with service.connect() as client:
-                    client.sendall(HEALTH)
-                    assert client.recv(1000).startswith(b"HTTP/1.1 200"), sent
-            clients[0].settimeout(5)
-            assert sent.endswith(b"\n\r\n") or clients[0].recv(1) == b""
-            if not sent:
-                clients[-1].sendall(HEALTH)
-                assert clients[-1].recv(1000).startswith(b"HTTP/1.1 200")
-            for client in clients:
-                client.close()
+            assert wait_for(lambda: take_places(service, sent)), sent
         assert service.end() == (0, "", "")

@@ -10,6 +10,7 @@ from collections.abc import Iterator
 from dataclasses import dataclass, field
 
 import pytest
+from waiting import SECONDS, wait_for
 
 from catchup.service import accepting, turns as turns_of
 from catchup.service.accepting import Acceptor, Counts, Sort, brings_much, sort_of
@@ -44,10 +45,7 @@ def test_clients_are_sorted_before_they_are_taken(listener: socket.socket, sent:
             elif end:
                 client.close()
             # Both ends are of this machine, and what was sent is there in a moment.
-            until = time.monotonic() + 5
-            while (found := sort_of(accepted)) is not wanted and time.monotonic() < until:
-                time.sleep(0.001)
-            assert found is wanted
+            assert wait_for(lambda: sort_of(accepted), lambda found: found is wanted) is wanted
 
 
 def test_a_client_that_is_gone_is_known(listener: socket.socket) -> None:
@@ -57,8 +55,7 @@ def test_a_client_that_is_gone_is_known(listener: socket.socket) -> None:
             accepted.setblocking(False)
             client.setsockopt(socket.SOL_SOCKET, socket.SO_LINGER, b"\1\0\0\0\0\0\0\0")
             client.close()
-            time.sleep(0.05)
-            assert sort_of(accepted) is Sort.GONE
+            assert wait_for(lambda: sort_of(accepted), lambda found: found is Sort.GONE) is Sort.GONE
 
 
 def test_clients_that_were_put_aside_are_taken_once_at_the_end(listener: socket.socket) -> None:
@@ -75,7 +72,11 @@ def test_clients_that_were_put_aside_are_taken_once_at_the_end(listener: socket.
             acceptor.aside[Sort.LARGE].append(listener.accept())
         acceptor.call_aside()
         acceptor.close()
-        await asyncio.sleep(0.05)
+        while acceptor.tasks:
+            await asyncio.sleep(0)
+        # The turn that was asked for has come by then, and another one would have.
+        for _ in range(10):
+            await asyncio.sleep(0)
 
     clients = [socket.create_connection(listener.getsockname()) for _ in range(5)]
     asyncio.run(run())
@@ -99,10 +100,9 @@ def test_clients_that_were_put_aside_wait_for_no_other(
 
     async def run() -> int:
         acceptor = Acceptor(listener, make, Counts(), 0, lambda: 0, 10)
-        for _ in range(100):
-            await asyncio.sleep(0.05)
-            if made:
-                break
+        until = time.monotonic() + SECONDS
+        while not made and time.monotonic() < until:
+            await asyncio.sleep(0.01)
         many = len(made)
         acceptor.close()
         return many

@@ -115,7 +115,7 @@ def test_an_interrupt_is_silent(folder: Path) -> None:
     process = subprocess.Popen([BIN / "table-csv", "line"], stdin=subprocess.PIPE, stderr=subprocess.PIPE)
     with open("line", "w"):
         process.send_signal(signal.SIGINT)
-        _, error = process.communicate(timeout=60)
+        _, error = process.communicate(timeout=600)
     assert (process.returncode, error) == (130, b"")
 
 
