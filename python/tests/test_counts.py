@@ -92,8 +92,8 @@ def next_reaches() -> list[str]:
     ("lines", "usual"),
     [
         (queries(400), 80_500),
-        (days(), 2_117_000),
-        (days() * 3, 1_551_700),
+        (days(), 2_090_700),
+        (days() * 3, 1_542_900),
         (reaches(), 847_900),
         (next_reaches(), 675_600),
     ],
@@ -108,7 +108,7 @@ def test_queries_take_less_once_functions_are_made(small: Opened) -> None:
     """Behind the first thousand queries lists become functions: after four thousand all are there."""
     many = queries(4000)
     a_line = (small.count(many + queries(400)) - small.count(many)) / 400
-    assert a_line <= MORE * 60_500, f"{a_line:.0f} instructions a line"
+    assert a_line <= MORE * 58_900, f"{a_line:.0f} instructions a line"
 
 
 def test_queries_take_little_more_while_functions_are_made(small: Opened) -> None:

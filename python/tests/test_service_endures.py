@@ -69,6 +69,12 @@ def edited(path: Path, line: str) -> bytes:
     return out.read_bytes()
 
 
+def test_the_program_keeps_to_the_memory_that_the_service_is_told(file: Path) -> None:
+    with Service(file, CATCHUP_MEMORY="64") as service:
+        for child in service.children():
+            assert b"CATCHUP_MEMORY=64" in Path(f"/proc/{child}/environ").read_bytes().split(b"\0")
+
+
 def test_a_file_that_is_put_in_place_is_served(file: Path) -> None:
     following = edited(file, "s,0,0,travel,600")
     with Service(file, workers=2) as service:

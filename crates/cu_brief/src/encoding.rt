@@ -1,13 +1,12 @@
 //! Packed runs as brief ones, and back.
 
-ghost use Rattle.std.specs.Prelude.{◌≡◌, ◌≤◌, ◌<◌, ◌+◌, ◌++◌, ◌∷◌, [], ℕ, All, IfOk, IfSome, None, false, length, true, vec_capacity, vec_len};
+ghost use Rattle.std.specs.Prelude.{◌≡◌, ◌≤◌, ◌<◌, ◌+◌, ◌++◌, ◌∷◌, [], ℕ, IfSome, None, false, length, true, vec_capacity, vec_len};
 ghost use Rattle.cu_model.specs.declared.limits.TheConstants.{DAY};
-ghost use Rattle.cu_runs.specs.PackedRuns.{IsDayList, end_run};
-ghost use Rattle.cu_brief.specs.BriefRuns.{AddsMeant, HasNoBrief, HasUnfit, brief_from, run_of_brief, runs_of};
+ghost use Rattle.cu_runs.specs.PackedRuns.{IsDayList};
+ghost use Rattle.cu_brief.specs.BriefRuns.{AddsMeant, HasNoBrief, HasUnfit, brief_from, run_of_brief};
 ghost use Rattle.cu_brief.specs.Steps.{IsAbove};
 
 use crate::searching::{FIXED, SECOND};
-use cu_model::{DAY, NoMemory};
 use cu_runs::PackedRun;
 
 /// Adds the brief runs that mean those of a function of the day, where each has one beside this base. There is room for them,
@@ -30,20 +29,6 @@ pub fn encode(packed: &[PackedRun], base: u32, brief: &mut Vec<u32>) -> bool
         push_in(brief, bits);
     }
     true
-}
-
-/// Writes the function that brief runs mean over what `packed` holds, as packed runs. After a refusal for want of memory
-/// `packed` may hold anything.
-pub fn decode(brief: &[u32], base: u32, packed: &mut Vec<PackedRun>) -> Result<(), NoMemory>
-    requires { All (λ bits. brief_from bits < DAY) brief.now }
-    ensures { IfOk result (λ _. packed.new.items ≡ runs_of base brief.now ++ end_run ∷ []) }
-{
-    packed.clear();
-    'runs: for index in 0..brief.len() {
-        packed.push(packed_of(brief[index], base))?;
-    }
-    packed.push(PackedRun::end())?;
-    Ok(())
 }
 
 // Adds a brief run to those for which there is room.
@@ -88,7 +73,8 @@ fn above(run: PackedRun, base: u32) -> Option<u32>
 }
 
 // The run that a brief one means.
-fn packed_of(bits: u32, base: u32) -> PackedRun
+#[inline(always)]
+pub(crate) fn packed_of(bits: u32, base: u32) -> PackedRun
     requires { brief_from bits < DAY }
     ensures { result ≡ run_of_brief base bits }
 {

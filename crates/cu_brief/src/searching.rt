@@ -21,7 +21,7 @@ pub fn value_at(brief: &[u32], base: u32, second: u32) -> u64
 }
 
 // How many brief runs are from this second of the day or before it.
-fn begun(brief: &[u32], second: u32) -> usize
+pub(crate) fn begun(brief: &[u32], second: u32) -> usize
     requires { IsNonDecreasingBy brief_from brief.now }
     ensures bound { result ≤ length brief.now }
     ensures point { IsPartitionPoint (λ bits. nat_le (brief_from bits) second ≡ true)

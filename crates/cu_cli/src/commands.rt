@@ -18,6 +18,7 @@ mod trial;
 mod verify;
 mod wait;
 
+use crate::manner::Manner;
 use crate::stops::Stop;
 use ask::AskWords;
 use build::BuildWords;
@@ -86,31 +87,31 @@ pub fn parse_words(words: &Vec<String>) -> Option<Command<'_>>
     }
 }
 
-/// Does what a command asks for, and tells how far it is.
+/// Does what a command asks for, in a manner.
 pub fn perform<H: Shelf, S: Source, K: Sink, P: Progress>(
     alloc: Global,
     command: Command<'_>,
     shelf: &mut H,
     source: &mut S,
     sink: &mut K,
-    progress: &mut P,
+    manner: Manner<'_, P>,
 ) -> Result<(), Stop>
     ensures works { Works (command_asked command.entry) (stop_of result)
         (world_of (H.state shelf.old) (S.state source.old) (K.state sink.old))
         (world_of (H.state shelf.new) (S.state source.new) (K.state sink.new)) }
 {
     match command {
-        Command::Serve(asked) => serve::serve(alloc, asked, shelf, source, sink, progress),
-        Command::Wait(asked) => wait::wait(alloc, asked, shelf, source, sink, progress),
-        Command::Order(asked) => order::order(alloc, asked, shelf, sink, progress),
+        Command::Serve(asked) => serve::serve(alloc, asked, shelf, source, sink, manner),
+        Command::Wait(asked) => wait::wait(alloc, asked, shelf, source, sink, manner),
+        Command::Order(asked) => order::order(alloc, asked, shelf, sink, manner.progress),
         Command::Make(asked) => make::make(alloc, asked, shelf, sink),
-        Command::Build(asked) => build::build(alloc, asked, shelf, sink, progress),
-        Command::Ask(asked) => ask::ask(alloc, asked, shelf, source, sink, progress),
-        Command::Desk(asked) => desk::desk(alloc, asked, shelf, source, sink, progress),
-        Command::Edit(asked) => edit::edit(alloc, asked, shelf, sink, progress),
-        Command::Verify(asked) => verify::verify(alloc, asked, shelf, sink, progress),
-        Command::Measure(asked) => measure::measure(alloc, asked, shelf, sink, progress),
-        Command::Migrate(asked) => migrate::migrate(alloc, asked, shelf, sink, progress),
+        Command::Build(asked) => build::build(alloc, asked, shelf, sink, manner.progress),
+        Command::Ask(asked) => ask::ask(alloc, asked, shelf, source, sink, manner),
+        Command::Desk(asked) => desk::desk(alloc, asked, shelf, source, sink, manner),
+        Command::Edit(asked) => edit::edit(alloc, asked, shelf, sink, manner.progress),
+        Command::Verify(asked) => verify::verify(alloc, asked, shelf, sink, manner.progress),
+        Command::Measure(asked) => measure::measure(alloc, asked, shelf, sink, manner.progress),
+        Command::Migrate(asked) => migrate::migrate(alloc, asked, shelf, sink, manner.progress),
         Command::Trial(asked) => trial::trial(alloc, asked, sink),
     }
 }

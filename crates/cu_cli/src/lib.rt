@@ -7,7 +7,8 @@
 //! its reply over the network that the edits before it left; over any hierarchy its reply is by the ways that are held
 //! at it. Both are definitions of `cu_session`. Files are stored as `specs/Storing.antt` says, and opened as
 //! `specs/Opening.antt` says. [`run_telling`] is [`run`], and tells how far long
-//! work is. [`run_surely`] says of objects that never fail that no fault ends a run over them.
+//! work is; [`run_within`] keeps besides to so much memory for what is known of shortcuts ([`Manner`]). [`run_surely`] says of
+//! objects that never fail that no fault ends a run over them.
 //!
 //! It stands on the readers and writers of tables and orders, on `cu_dissect` for orders by dissection, on
 //! `cu_customize` for the hierarchy, on `cu_pack` for its file, on `cu_verify` for its comparison with the built one, on
@@ -17,6 +18,7 @@
 
 mod commands;
 mod faults;
+mod manner;
 mod measuring;
 mod opening;
 mod preparing;
@@ -27,5 +29,6 @@ mod storing;
 mod sure;
 mod words;
 
-pub use program::{run, run_telling};
+pub use manner::Manner;
+pub use program::{run, run_telling, run_within};
 pub use sure::run_surely;

@@ -11,9 +11,11 @@ ghost use Rattle.cu_cli.specs.Storing.{Stores};
 ghost use Rattle.cu_session.specs.Sessions.{Leaves};
 
 use crate::commands::{parse_words, perform};
+use crate::manner::Manner;
 use crate::stops::{Stop, refuse};
 use cu_io::{Shelf, Sink, Source};
 use cu_progress::{Progress, Silent, Stage, begin};
+use cu_session::ListRoom;
 use std::alloc::Global;
 
 /// Does all that the program does: what the words ask for, over the files of the shelf and the script of the source,
@@ -88,13 +90,57 @@ pub fn run_telling<H: Shelf, S: Source, K: Sink, P: Progress>(
         → (result ≡ 0) ⊎ (result ≡ 9)
         ⊎ MayStop (meaning_of (map string_bytes words.now.items)) result }
 {
-    match perform_words(alloc, words, shelf, source, sink, progress) {
-        Ok(()) => 0,
-        Err(stop) => {
-            begin(progress, Stage::Done);
-            refuse(stop, sink)
-        }
-    }
+    let manner = Manner {
+        progress,
+        room: ListRoom::as_ever(),
+    };
+    run_within(alloc, words, shelf, source, sink, manner)
+}
+
+/// [`run_telling`] in a manner: it keeps to so much memory for what is known of shortcuts. That changes no answer, byte or status.
+pub fn run_within<H: Shelf, S: Source, K: Sink, P: Progress>(
+    alloc: Global,
+    words: &Vec<String>,
+    shelf: &mut H,
+    source: &mut S,
+    sink: &mut K,
+    manner: Manner<'_, P>,
+) -> u8
+    ensures ended { (ending : Ending) × (result ≡ status_at ending.stop)
+        × EndsRun (H.state shelf.old) (H.state shelf.new) (S.state source.old) (S.state source.new)
+        (map string_bytes words.now.items) ending
+        × Moves (S.state source.old) (S.state source.new) (K.state sink.old) (K.state sink.new)
+        ending
+        × Stores (H.state shelf.old).held ending.stored (H.state shelf.new).held }
+    ensures leaves { Leaves
+        (meaning_of (map string_bytes words.now.items)).script
+        result
+        (S.state source.old)
+        (S.state source.new)
+        (K.state sink.old)
+        (K.state sink.new) }
+    ensures numbers { AreTheNumbers }
+
+    // Where the words ask for what can be done with the files, nothing fails and the input has fewer than 2^40 bytes,
+    // all is done but for want of memory, or for what the meaning of the words says: a packed file past the limit, or a
+    // hierarchy that isn't the built one.
+    ensures complete { (meaning_of (map string_bytes words.now.items)).can (H.state shelf.old)
+        → IsShort (S.state source.old)
+        → MeetsNoFault (H.state shelf.old) (H.state shelf.new) (S.state source.old)
+        (S.state source.new) (K.state sink.old) (K.state sink.new)
+        → (result ≡ 0) ⊎ (result ≡ 9)
+        ⊎ MayStop (meaning_of (map string_bytes words.now.items)) result }
+{
+    let Manner { progress, room } = manner;
+    let manner = Manner {
+        progress: &mut *progress,
+        room,
+    };
+    let Err(stop) = perform_words(alloc, words, shelf, source, sink, manner) else {
+        return 0;
+    };
+    begin(progress, Stage::Done);
+    refuse(stop, sink)
 }
 
 // Does what the words ask for.
@@ -104,7 +150,7 @@ fn perform_words<H: Shelf, S: Source, K: Sink, P: Progress>(
     shelf: &mut H,
     source: &mut S,
     sink: &mut K,
-    progress: &mut P,
+    manner: Manner<'_, P>,
 ) -> Result<(), Stop>
     ensures works { Works (meaning_of (map string_bytes words.now.items)) (stop_of result)
         (world_of (H.state shelf.old) (S.state source.old) (K.state sink.old))
@@ -113,5 +159,5 @@ fn perform_words<H: Shelf, S: Source, K: Sink, P: Progress>(
     let Some(command) = parse_words(words) else {
         return Err(Stop::Words);
     };
-    perform(alloc, command, shelf, source, sink, progress)
+    perform(alloc, command, shelf, source, sink, manner)
 }

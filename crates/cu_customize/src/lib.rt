@@ -11,7 +11,8 @@
 //! [`settle`] makes one list from whatever functions it is handed ([`Functions`]): its clauses say the list and its
 //! value by these functions (`specs/Settling.antt`), and that it is the built one where they are those of a network
 //! and order (`specs/Functions.antt`). [`PackedSettling`] makes the same list as customization makes it, from packed
-//! runs that are kept by list number (`LayeredFunctions` of `cu_runs`), as long as these can say how long its ways take.
+//! runs that are kept by list number (`LayeredFunctions` of `cu_runs`), as long as these can say how long its ways take. It
+//! finds the lower triangles of an edge once for both its lists (`specs/Triangles.antt`), and hands them out.
 //!
 //! [`customize_telling`] is the same, and tells how much is settled as it goes.
 //!

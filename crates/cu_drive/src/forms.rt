@@ -1,6 +1,6 @@
 //! Forms in which walks are written.
 
-ghost use Rattle.std.specs.Prelude.{◌≡◌, ◌≤◌, ◌^◌, ℕ, Bool, List, codes};
+ghost use Rattle.std.specs.Prelude.{◌≡◌, ◌≤◌, ◌^◌, ℕ, Bool, List, codes, false};
 ghost use Rattle.cu_io.specs.Sinks.{Wrote};
 ghost use Rattle.cu_drive.specs.RoadTexts.{entered_text, number_text};
 
@@ -18,6 +18,11 @@ pub trait WalkForm {
     /// What stands before the roads.
     fn word(&self) -> &[u8]
         ensures { result.now ≡ word self.now };
+
+    /// Whether what is written for a road may hang on the second at which it is entered.
+    fn tells_seconds(&self) -> bool
+        ensures same { result ≡ false → (first : Bool) (road s t : ℕ)
+            → text self.now first road s ≡ text self.now first road t };
 
     /// Writes a road that is entered at an absolute second of at most 2^62. Takes no memory.
     ///
@@ -47,6 +52,10 @@ impl WalkForm for NumberAlone {
         b" arcs="
     }
 
+    fn tells_seconds(&self) -> bool {
+        false
+    }
+
     fn put<K: Sink>(
         &self,
         road: u32,
@@ -71,6 +80,10 @@ impl WalkForm for WithSecond {
 
     fn word(&self) -> &[u8] {
         b" drive="
+    }
+
+    fn tells_seconds(&self) -> bool {
+        true
     }
 
     fn put<K: Sink>(

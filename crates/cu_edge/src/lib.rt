@@ -15,10 +15,11 @@ ghost use Rattle.cu_cli.specs.Storing.{Stores};
 ghost use Rattle.cu_session.specs.Sessions.{Leaves};
 
 use cu_advice::{Ended, Fault, Noted, Watched, advise, brief, look};
-use cu_cli::run_telling;
+use cu_cli::{Manner, run_within};
 use cu_io::{DiskShelf, Shelf, Sink, Source, StdSink, StdSource};
-use cu_model::NoMemory;
+use cu_model::{NoMemory, Number, parse_number};
 use cu_progress::{Progress, Shown, choose_showing};
+use cu_session::ListRoom;
 use std::alloc::{AllocError, Global};
 use std::io::{self, BufWriter, ErrorKind, IsTerminal, Read, Write};
 use std::process::ExitCode;
@@ -72,26 +73,41 @@ fn run_over_streams<R: Read + Drop, W: Write + Drop>(
     let mut sink = StdSink::new(writer);
     let how = choose_showing(rt, &rt.stderr());
     let mut shown = Shown::new(rt, how, rt.stdout().is_terminal());
+    let manner = Manner {
+        progress: &mut shown,
+        room: choose_room(rt),
+    };
     Ok(end_by_run(
         rt.alloc(),
         words,
         &mut shelf,
         &mut source,
         &mut sink,
-        &mut shown,
+        manner,
     ))
 }
 
+// How much memory may be taken for what is known of shortcuts: so many MiB where the variable `CATCHUP_MEMORY` is a number.
+fn choose_room(rt: &HostRuntime) -> ListRoom {
+    match env::var(rt, "CATCHUP_MEMORY") {
+        Ok(value) => match parse_number(value.as_bytes()) {
+            Some(Number::Value(count)) => ListRoom::of_mib(count),
+            Some(Number::Huge) | None => ListRoom::as_ever(),
+        },
+        Err(_) => ListRoom::as_ever(),
+    }
+}
+
 /// The last step of a process: does what these words ask for, over the files of the shelf and the script of the source, with the
-/// replies, and the line that says what was stored, written to the sink; and tells how far long work is. The exit status is the
-/// answer of `run_telling`.
+/// replies, and the line that says what was stored, written to the sink; in a manner, on which no reply depends. The exit status is
+/// the answer of `run_within`.
 pub fn end_by_run<H: Shelf, S: Source, K: Sink, P: Progress>(
     alloc: Global,
     words: &Vec<String>,
     shelf: &mut H,
     source: &mut S,
     sink: &mut K,
-    progress: &mut P,
+    manner: Manner<'_, P>,
 ) -> ExitCode
     ensures ended { (ending : Ending) × (exit_status result ≡ status_at ending.stop)
         × EndsRun (H.state shelf.old) (H.state shelf.new) (S.state source.old) (S.state source.new)
@@ -114,7 +130,7 @@ pub fn end_by_run<H: Shelf, S: Source, K: Sink, P: Progress>(
         → (exit_status result ≡ 0) ⊎ (exit_status result ≡ 9)
         ⊎ MayStop (meaning_of (map string_bytes words.now.items)) (exit_status result) }
 {
-    let status = run_telling(alloc, words, shelf, source, sink, progress);
+    let status = run_within(alloc, words, shelf, source, sink, manner);
     ExitCode::from(status)
 }
 

@@ -1,5 +1,5 @@
 -- What is found over the graph of a hierarchy, said of the hierarchy.
-use Rattle.std.proofs.Common.{◌≡◌, ◌<◌, ◌*◌, ℕ, Bool, List, Some, ap, length, subst, sym, inl, inr, true}
+use Rattle.std.proofs.Common.{◌≡◌, ◌<◌, ◌*◌, ◌⊎◌, ◌∙◌, ℕ, Bool, List, Some, ap, length, subst, sym, inl, inr, true}
 use Rattle.std.specs.Prelude.{All, slice_get}
 use Rattle.std.proofs.lemmas.Option.{slice_get-get_or, slice_get_within}
 use Rattle.cu_model.specs.declared.roads.Edit.{Edit}
@@ -16,11 +16,14 @@ use Rattle.cu_interval.proofs.EndsLaws.{number_within}
 use Rattle.cu_customize.specs.declared.triangles.Triangle.{Triangle}
 use Rattle.cu_customize.specs.Triangles.{AreTrianglesOf}
 use Rattle.cu_unpack.specs.RebuiltRuns.{PackedValue}
-use Rattle.cu_edits.specs.declared.learning_packed.Middles.TheVariants.{Any, Moved}
-use Rattle.cu_edits.specs.Steps.Packed.{AreAtHandIfMoved, AreCandidatesAtHand, IsAtHand, IsWayAtHand, LearnsPacked}
+use Rattle.cu_edits.specs.declared.learning_packed.Middles.TheVariants.{Within, Moved}
+use Rattle.cu_edits.specs.Learned.{ArePackedOf}
+use Rattle.cu_edits.specs.Steps.Packed.{AreAtHandIfMoved, AreCandidatesAtHand, IsAtHand, IsWayAtHand, LearnsPacked, functions_at_hand}
+use Rattle.cu_edits.specs.Steps.Bounds.{HalvesTakeMore, SomeTakeNoMore, no_limit}
 use Rattle.cu_edits.specs.Steps.Moving.{AreWaysUnmoved, HalvesAre, IsUnmoved, IsUnmovedWay, KeepsWays, MayStand, MovedValue}
-use Rattle.cu_edits.specs.Steps.Triangles.{AreLearned, HalvesByAre, TellsSides}
-use Rattle.cu_edits.proofs.TriangleHalves.{all_halves, moved_halves}
+use Rattle.cu_edits.specs.Steps.Triangles.{AreLearned, HalvesByAre, IsLimit, TellsSides}
+use Rattle.cu_edits.proofs.TriangleHalves.{all_halves, moved_halves, rival_halves, some_take}
+use Rattle.cu_edits.proofs.LimitLaws.{limit_still}
 use Rattle.cu_resettled.specs.ResettlingAll.{IsChangedBySome}
 
 module _ (h : HierarchyValue) (graph : ChordalValue) (of : IsHierarchyOf graph h) where
@@ -53,12 +56,20 @@ module _ (h : HierarchyValue) (graph : ChordalValue) (of : IsHierarchyOf graph h
         → All (λ (entry : Entry). IsUnmovedWay h.network edit graph.edges moved ends dir entry.way) (list_of h edge dir)) → AreWaysUnmoved h edit moved edge dir
     ways_unmoved = of_all_ends (λ es ends. All (λ (entry : Entry). IsUnmovedWay h.network edit es moved ends dir entry.way) (list_of h edge dir)) edge
 
-    -- all halves are at hand
-    pub all_at_hand : (packed : PackedValue) (triangles : List Triangle) → AreTrianglesOf graph.edges edge triangles → All (AreLearned Any moved packed dir) triangles
-        → AreCandidatesAtHand h edit marks moved packed edge dir
-    all_at_hand packed triangles are known =
-        inl (of_all_ends (λ es ends. (middle : ℕ) → HalvesAre (IsAtHand moved packed) es ends dir middle) edge
-        (λ ends at. all_halves graph.edges rising ends dir triangles (are ends at) (IsAtHand moved packed) known))
+    -- those of all that may be in time are
+    pub rivals_at_hand : (packed learnt : PackedValue) (triangles : List Triangle) (limit : ℕ) → AreTrianglesOf graph.edges edge triangles → ArePackedOf h packed → LearnsPacked h packed learnt
+        → IsLimit (functions_at_hand moved packed) dir triangles limit → All (AreLearned h (Within limit) moved learnt dir) triangles → AreCandidatesAtHand h edit marks moved learnt edge dir
+    rivals_at_hand packed learnt triangles limit are old learns is known = inl (record {
+      limit = limit;
+      in_time = of_all_ends (λ es ends. (limit ≡ no_limit) ⊎ SomeTakeNoMore (functions_at_hand moved learnt) limit es ends dir) edge
+          (λ ends at. elim (limit_still h moved packed learnt (old.size.functions ∙ sym learns.packed.size.functions) learns dir triangles limit is) [
+            | inl none ↦ inl none
+            | inr some ↦ inr (some_take graph.edges rising ends dir triangles (are ends at) (functions_at_hand moved learnt) limit some)
+          ]);
+      each = of_all_ends (λ es ends. (middle : ℕ)
+          → (HalvesAre (IsUnmoved moved) es ends dir middle × HalvesTakeMore h limit es ends dir middle) ⊎ HalvesAre (IsAtHand moved learnt) es ends dir middle) edge
+          (λ ends at. rival_halves graph.edges rising ends dir triangles (are ends at) h moved learnt limit known);
+    })
 
     still_at_hand : (packed learnt : PackedValue) → LearnsPacked h packed learnt → (es : List Ends) (ends : Ends) (way : Way) → IsWayAtHand moved packed es ends dir way
         → IsWayAtHand moved learnt es ends dir way
@@ -69,13 +80,13 @@ module _ (h : HierarchyValue) (graph : ChordalValue) (of : IsHierarchyOf graph h
     -- those of some candidates are
     pub some_at_hand : (packed learnt : PackedValue) (triangles : List Triangle) → AreTrianglesOf graph.edges edge triangles → KeepsWays h edit marks moved edge dir
         → ((ends : Ends) → slice_get graph.edges edge ≡ Some ends → All (λ (entry : Entry). IsWayAtHand moved packed graph.edges ends dir entry.way) (list_of h edge dir))
-        → LearnsPacked h packed learnt → All (AreLearned Moved moved learnt dir) triangles → AreCandidatesAtHand h edit marks moved learnt edge dir
+        → LearnsPacked h packed learnt → All (AreLearned h Moved moved learnt dir) triangles → AreCandidatesAtHand h edit marks moved learnt edge dir
     some_at_hand packed learnt triangles are keeps ways learns known = inr (
       keeps,
       of_all_ends (λ es ends. All (λ (entry : Entry). IsWayAtHand moved learnt es ends dir entry.way) (list_of h edge dir)) edge
           (λ ends at k d lt. still_at_hand packed learnt learns graph.edges ends _ (ways ends at k d lt)),
       of_all_ends (λ es ends. (middle : ℕ) → AreAtHandIfMoved moved learnt es ends dir middle) edge
-          (λ ends at. moved_halves graph.edges rising ends dir triangles (are ends at) moved learnt known),
+          (λ ends at. moved_halves graph.edges rising ends dir triangles (are ends at) h moved learnt known),
     )
 
 -- the way of an entry of a list of the hierarchy, whose edge has these ends in the graph

@@ -16,3 +16,10 @@ halves_are Good edges rising ends dir middle first second are one two e f halves
   subst (λ (k : ℕ). Good k Down) (one_number edges rising first e middle (start_of ends dir) are.to halves.to) one,
   subst (λ (k : ℕ). Good k Up) (one_number edges rising second f middle (end_of ends dir) are.on halves.on) two,
 )
+
+-- so it is with what is so of both together
+pub pairs_are : (Good : ℕ × ℕ → Type 0) (edges : List Ends) → IsRising edges → (ends : Ends) (dir : Dir) (middle first second : ℕ) → AreHalfEdges edges ends dir middle first second
+    → Good (first, second) → (e f : ℕ) → AreHalfEdges edges ends dir middle e f → Good (e, f)
+pairs_are Good edges rising ends dir middle first second are good e f halves =
+    subst (λ (k : ℕ). Good (k, f)) (one_number edges rising first e middle (start_of ends dir) are.to halves.to)
+    (subst (λ (k : ℕ). Good (first, k)) (one_number edges rising second f middle (end_of ends dir) are.on halves.on) good)

@@ -1,7 +1,6 @@
 -- Functions of lists that are known, and copies of them.
-use Rattle.std.proofs.Common.{◌≡◌, ◌<◌, ◌∙◌, ℕ, List, Option, Some, ap, get_or, length, refl, subst, sym}
+use Rattle.std.proofs.Common.{◌≡◌, ◌∙◌, ℕ, List, Option, Some, ap, subst, sym}
 use Rattle.std.specs.Prelude.{slice_get}
-use Rattle.std.proofs.lemmas.Option.{slice_get_read}
 use Rattle.cu_arrival.specs.declared.runs.Run.{Run}
 use Rattle.cu_arrival.specs.Runs.{IsArrivalFunction, arrival_value}
 use Rattle.cu_interval.specs.declared.ways.Dir.{Dir}
@@ -11,12 +10,9 @@ use Rattle.cu_unpack.specs.RebuiltRuns.{IsKnownList, IsRebuiltRuns, PackedValue}
 use Rattle.cu_edits.specs.Learned.{ArePackedOf}
 
 -- what is read of a list that is the same stands in it
-pub read_at : {X : Type 0} (list same : List X) (place index : ℕ) (x : X) → same ≡ list → index ≡ place → place < length list → x ≡ get_or same index x
-    → slice_get list place ≡ Some x
-read_at {X} list same place index x is number inside read =
-    let here = subst (λ (xs : List X). x ≡ get_or xs index x) is read in
-    let there = subst (λ (n : ℕ). x ≡ get_or list n x) number here in
-    slice_get_read list (length list) place x refl inside there
+pub read_at : {X : Type 0} (list same : List X) (place index : ℕ) (x : X) → same ≡ list → index ≡ place → slice_get same index ≡ Some x → slice_get list place ≡ Some x
+read_at {X} list same place index x is number read =
+    subst (λ (n : ℕ). slice_get list n ≡ Some x) number (subst (λ (xs : List X). slice_get xs index ≡ Some x) is read)
 
 -- what is known of a list is its function
 pub known_runs : (h : HierarchyValue) (packed : PackedValue) (edge : ℕ) (dir : Dir) (function : Option (List Run)) → ArePackedOf h packed

@@ -1,24 +1,40 @@
 -- Packed runs that are learned of lists of the hierarchy before an edit, one list after the other.
-use Rattle.std.proofs.Common.{◌≡◌, ◌<◌, ◌+◌, ◌∙◌, ℕ, List, Some, true, get_or, inl, inr, length, subst, sym, take}
+use Rattle.std.proofs.Common.{◌≡◌, ◌<◌, ◌+◌, ◌∙◌, ℕ, Bool, List, Some, true, false, arith, get_or, inl, inr, length, subst, sym, take}
 use Rattle.std.specs.Prelude.{All, slice_get}
 use Rattle.std.proofs.lemmas.List.Elements.{All-more}
+use Rattle.std.proofs.lemmas.Option.{slice_get-get_or, slice_get_within}
+use Rattle.cu_arrival.specs.declared.runs.Run.{Run}
 use Rattle.cu_chordal.specs.declared.graph.Ends.{Ends}
 use Rattle.cu_interval.specs.declared.ways.Dir.{Dir}
 use Rattle.cu_interval.specs.declared.ways.Dir.TheVariants.{Up, Down}
 use Rattle.cu_interval.specs.declared.ways.Way.{Way}
 use Rattle.cu_interval.specs.declared.ways.Way.TheVariants.{Road, Via}
 use Rattle.cu_interval.specs.declared.ways.Entry.{Entry}
-use Rattle.cu_interval.specs.Hierarchies.{HierarchyValue}
+use Rattle.cu_interval.specs.Hierarchies.{HierarchyValue, list_number}
 use Rattle.cu_interval.proofs.EndsLaws.{each_number}
 use Rattle.cu_customize.specs.declared.triangles.Triangle.{Triangle}
 use Rattle.cu_unpack.specs.RebuiltRuns.{IsKnownList, IsSameList, IsSized, Learns, PackedValue}
 use Rattle.cu_unpack.proofs.Learning.{learned_keeps, learned_still}
 use Rattle.cu_edits.specs.declared.learning_packed.Middles.{Middles}
-use Rattle.cu_edits.specs.declared.learning_packed.Middles.TheVariants.{Any, Moved}
 use Rattle.cu_edits.specs.Learned.{ArePackedOf}
 use Rattle.cu_edits.specs.Steps.Packed.{IsAtHand, IsWayAtHand, LearnsPacked}
 use Rattle.cu_edits.specs.Steps.Moving.{BothAre, HalvesAre, MovedValue}
 use Rattle.cu_edits.specs.Steps.Triangles.{AreLearned, halves_by}
+
+-- of a list that has a function it is told whether it is known
+told : (h : HierarchyValue) (before : PackedValue) → ArePackedOf h before → (edge : ℕ) (dir : Dir) (function : List Run)
+    → slice_get before.functions (list_number edge dir) ≡ Some (Some function) → (known : Bool) × (slice_get before.known (list_number edge dir) ≡ Some known)
+told h before are edge dir function there =
+    let inside = slice_get_within before.functions (list_number edge dir) (Some function) there in
+    let long = are.size.functions in
+    let as_long = are.size.known in
+    (get_or before.known (list_number edge dir) false, slice_get-get_or before.known (list_number edge dir) false (omega (arith, inside, long, as_long)))
+
+-- and it is
+has_known : (h : HierarchyValue) (before : PackedValue) → ArePackedOf h before → (edge : ℕ) (dir : Dir) (function : List Run) (known : Bool)
+    → slice_get before.functions (list_number edge dir) ≡ Some (Some function) → slice_get before.known (list_number edge dir) ≡ Some known → IsKnownList before (list_number edge dir)
+has_known h before are edge dir function true there at = at
+has_known h before are edge dir function false there at = absurd (cc (there, are.unknown (list_number edge dir) at))
 
 -- one list was learned, and those that it needs
 pub learns_list : (h : HierarchyValue) (edge : ℕ) (before now : PackedValue) → ArePackedOf h before → IsSized (length h.edges) now → Learns h edge before now → LearnsPacked h before now
@@ -36,6 +52,12 @@ learns_list h edge before now are size learns = record {
         ];
   };
   still = λ e d known. (learned_still h edge before now learns e d known).0;
+  same = λ e d function there. elim (learns e d) [
+    | inl alike ↦ alike.1 ∙ there
+    | inr learned ↦
+        let (known, at) = told h before are e d function there in
+        absurd (learned.unknown (has_known h before are e d function known there at))
+  ];
 }
 
 -- one after the other
@@ -43,6 +65,7 @@ pub learns_then : (h : HierarchyValue) (before mid now : PackedValue) → Learns
 learns_then h before mid now first second = record {
   packed = second.packed;
   still = λ e d known. second.still e d (first.still e d known);
+  same = λ e d function there. second.same e d function (first.same e d function there);
 }
 
 -- what was at hand still is
@@ -66,13 +89,12 @@ module _ (h : HierarchyValue) (moved : MovedValue) (before now : PackedValue) (l
   both_still : (edges : ℕ × ℕ) → BothAre (IsAtHand moved before) edges → BothAre (IsAtHand moved now) edges
   both_still edges known = (still_at_hand edges.0 Down known.0, still_at_hand edges.1 Up known.1)
 
-  triangle_still : (which : Middles) (dir : Dir) (triangle : Triangle) → AreLearned which moved before dir triangle → AreLearned which moved now dir triangle
-  triangle_still Any dir triangle known = both_still (halves_by dir triangle) known
-  triangle_still Moved dir triangle (inl unmoved) = inl unmoved
-  triangle_still Moved dir triangle (inr known) = inr (both_still (halves_by dir triangle) known)
+  triangle_still : (which : Middles) (dir : Dir) (triangle : Triangle) → AreLearned h which moved before dir triangle → AreLearned h which moved now dir triangle
+  triangle_still which dir triangle (inl out) = inl out
+  triangle_still which dir triangle (inr known) = inr (both_still (halves_by dir triangle) known)
 
   -- so it is of the first triangles and one more
   pub learns_more : (which : Middles) (dir : Dir) (triangles : List Triangle) (i : ℕ) (d : Triangle) → i < length triangles
-      → All (AreLearned which moved before dir) (take i triangles) → AreLearned which moved now dir (get_or triangles i d) → All (AreLearned which moved now dir) (take (i + 1) triangles)
+      → All (AreLearned h which moved before dir) (take i triangles) → AreLearned h which moved now dir (get_or triangles i d) → All (AreLearned h which moved now dir) (take (i + 1) triangles)
   learns_more which dir triangles i d inside all one =
-      All-more (AreLearned which moved now dir) triangles i d inside (λ k e lt. triangle_still which dir (get_or (take i triangles) k e) (all k e lt)) one
+      All-more (AreLearned h which moved now dir) triangles i d inside (λ k e lt. triangle_still which dir (get_or (take i triangles) k e) (all k e lt)) one

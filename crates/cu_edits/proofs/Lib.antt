@@ -8,6 +8,8 @@ pub mod EditSettling
 pub mod FirstOnes
 pub mod FoundLaws
 pub mod Frames
+pub mod LimitLaws
+pub mod RebuiltBounds
 pub mod StandingChoices
 pub mod TurnedPlain
 pub mod Halves

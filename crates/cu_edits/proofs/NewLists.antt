@@ -1,5 +1,5 @@
 -- The list of an edge that is settled next: it stands, or it is the settled one of what is known.
-use Rattle.std.proofs.Common.{◌≡◌, ◌≢◌, ◌≤◌, ◌<◌, ◌∙◌, ◌⊎◌, ℕ, zero, suc, Bool, List, [], Option, Some, None, refl, ap, sym, subst, arith, inl, inr, length, get_or, true, false, IsSome, if◌then◌else◌}
+use Rattle.std.proofs.Common.{◌≡◌, ◌≢◌, ◌≤◌, ◌<◌, ◌+◌, ◌^◌, ◌∙◌, ◌⊎◌, ℕ, zero, suc, Bool, List, [], Option, Some, None, refl, ap, sym, subst, arith, inl, inr, length, min, get_or, true, false, IsSome, if◌then◌else◌}
 use Rattle.std.specs.Prelude.{All, slice_get}
 use Rattle.std.proofs.lemmas.List.Elements.{All-contains}
 use Rattle.std.proofs.lemmas.Option.{slice_get-get_or, slice_get_within}
@@ -20,11 +20,12 @@ use Rattle.cu_interval.specs.declared.ways.Way.TheVariants.{Road, Via}
 use Rattle.cu_interval.specs.declared.ways.Entry.{Entry}
 use Rattle.cu_interval.specs.EdgeArcs.{AreArcsFrom}
 use Rattle.cu_interval.specs.Hierarchies.{HierarchyValue, IsWellFormed, end_of, list_number, list_of, start_of}
+use Rattle.cu_interval.specs.LeastBounds.{bound_from, far, least_bound}
 use Rattle.cu_interval.specs.Resettling.{ArrivesIn, IsCandidateIn, IsResettledList}
 use Rattle.cu_interval.specs.WayLists.{GoesFirst, IsFirstEarliest}
 use Rattle.cu_interval.proofs.Lookups.{way_held}
 use Rattle.cu_interval.proofs.Unpacked.{way_there}
-use Rattle.cu_interval.proofs.EndsLaws.{number_within}
+use Rattle.cu_interval.proofs.EndsLaws.{ends_rise, number_within}
 use Rattle.cu_customize.specs.Functions.{FunctionsState, kept_state, road_if}
 use Rattle.cu_runs.specs.Layers.{value_kept, layered}
 use Rattle.cu_customize.specs.Settling.{ArrivesBy, IsCandidateBy, IsDayValueOf, IsSettledList, function_from}
@@ -32,7 +33,8 @@ use Rattle.cu_runs.proofs.Layers.{layered_newer, layered_older}
 use Rattle.cu_unpack.specs.RebuiltRuns.{IsKnownList, IsRebuiltRuns, PackedValue}
 use Rattle.cu_edits.specs.Customized.{AreCustomized}
 use Rattle.cu_edits.specs.Settling.{HasFinalSides, IsLowerSide, SettlingValue, settled_so_far}
-use Rattle.cu_edits.specs.Steps.Packed.{IsAtHand, IsSettlingPacked, IsWayAtHand}
+use Rattle.cu_edits.specs.Steps.Bounds.{HalvesTakeMore, SomeTakeNoMore}
+use Rattle.cu_edits.specs.Steps.Packed.{IsAtHand, IsSettlingPacked, IsWayAtHand, functions_at_hand}
 use Rattle.cu_edits.specs.Steps.Frames.{IsFramed, LeadsOver}
 use Rattle.cu_edits.specs.Steps.Known.{values_of}
 use Rattle.cu_edits.specs.Steps.Moving.{HalvesAre, IsUnmoved, IsUnmovedWay, MayStand, MovedValue, SayValue, StandingPair}
@@ -43,6 +45,7 @@ use Rattle.cu_edits.proofs.SettledValues as values
 use Rattle.cu_edits.proofs.Sides.{halves_at, edge_down, edge_up, list_at, over}
 use Rattle.cu_edits.proofs.StandingChoices as standing
 use Rattle.cu_resettled.proofs.Unchanged.{leads_joins}
+use Rattle.cu_edits.proofs.RebuiltBounds.{bound_of_ends, middle_takes}
 use Rattle.cu_edits.proofs.PackedStay.{packed_stay}
 use Rattle.cu_resettled.specs.ResettlingAll.{IsChangedBySome, edited_all}
 use Rattle.cu_resettled.proofs.TouchedBySome.{all_alike}
@@ -247,10 +250,56 @@ module _ (s : SettlingValue) (graph : ChordalValue) (arcs : List (List ℕ)) (pa
     pub unmoved : All (λ (entry : Entry). IsUnmovedWay s.before.network s.edit s.before.edges moved ends dir entry.way) old
     pub known : All (λ (entry : Entry). KnowsWay now asked u v entry.way) old
 
-  -- both halves by a middle are known, or both stand and the old list was the best that could be made
+  -- the ways that another, by a middle of which both halves have a function, is sooner than at each second
+  pub record IsOvertaken (m : ℕ) : Type 0 where
+    pub limit : ℕ
+    pub few : limit < far
+    pub late : limit < bound_from s.before u m + bound_from s.before m v
+    pub middle : ℕ
+    pub to : middle < u
+    pub on : middle < v
+    pub one : List Run
+    pub first : function_from s.before.edges asked u middle ≡ Some (arrival_value one)
+    pub two : List Run
+    pub second : function_from s.before.edges asked middle v ≡ Some (arrival_value two)
+    pub each : (t : ℕ) → t < day → arrival_value two (arrival_value one t) ≤ t + limit
+
+  -- the function at hand of an edge's list
+  there_at_hand : (e : ℕ) (d : Dir) (x y : ℕ) (function : List Run) → LeadsOver s.before.edges e d x y → slice_get (functions_at_hand moved packed) (list_number e d) ≡ Some (Some function)
+      → function_from s.before.edges asked x y ≡ Some (arrival_value function)
+  there_at_hand e d x y function l at = function_at s.before holds.are.sound asked e d x y l ∙ ap value_kept at
+
+  -- the least bound of a half by a middle
+  bound_between : (e : ℕ) (d : Dir) (ends : Ends) → slice_get s.before.edges e ≡ Some ends → least_bound s.before e d ≡ bound_from s.before (start_of ends d) (end_of ends d)
+  bound_between e d given here = bound_of_ends s.before e d given here
+
+  -- so is a way whose halves take longer than some way by a middle
+  pub overtaken : (limit : ℕ) → SomeTakeNoMore (functions_at_hand moved packed) limit s.before.edges ends dir → (m : ℕ) → HalvesTakeMore s.before limit s.before.edges ends dir m
+      → HasEdge s.before.edges m u → HasEdge s.before.edges m v → IsOvertaken m
+  overtaken limit some m take to on =
+      let halves = halves_at s.before.edges edge dir u v m leads to on in
+      let more = take halves.first halves.second (record { to = halves.to; on = halves.on }) in
+      let late = more.late in
+      let one = bound_between halves.first Down (record { low = m; high = u }) halves.to in
+      let two = bound_between halves.second Up (record { low = m; high = v }) halves.on in
+      record {
+        limit = limit;
+        few = more.few;
+        late = omega (arith, late, one, two);
+        middle = some.middle;
+        to = ends_rise s.before holds.are.sound some.first (record { low = some.middle; high = u }) some.are.to;
+        on = ends_rise s.before holds.are.sound some.second (record { low = some.middle; high = v }) some.are.on;
+        one = some.take.one;
+        first = there_at_hand some.first Down u some.middle some.take.one (over s.before.edges some.first Down (record { low = some.middle; high = u }) some.are.to) some.take.first;
+        two = some.take.two;
+        second = there_at_hand some.second Up some.middle v some.take.two (over s.before.edges some.second Up (record { low = some.middle; high = v }) some.are.on) some.take.second;
+        each = some.take.each;
+      }
+
+  -- both halves by a middle are known, or both stand, and the old list was the best that could be made or another way is sooner at each second
   abbrev pub IsKnownOrBehind : ℕ → Type 0
   IsKnownOrBehind m = m < u → m < v → HasEdge s.before.edges m u → HasEdge s.before.edges m v
-      → (IsHalf now asked u m × IsHalf now asked m v) ⊎ (StandingPair s moved u m × StandingPair s moved m v × IsOldBest)
+      → (IsHalf now asked u m × IsHalf now asked m v) ⊎ (StandingPair s moved u m × StandingPair s moved m v × (IsOldBest ⊎ IsOvertaken m))
 
   module _ (list : List ℕ) (are : AreArcsFrom s.before.network s.before.order u v list) (cases : (m : ℕ) → IsKnownOrBehind m) (es : List Entry)
       (settled : IsSettledList s.before.edges list asked u v es) where
@@ -311,6 +360,36 @@ module _ (s : SettlingValue) (graph : ChordalValue) (arcs : List (List ℕ)) (pa
           ]
         ]
 
+    -- the sooner way is a candidate
+    sooner : (m : ℕ) (o : IsOvertaken m) → IsCandidateBy s.before.edges list asked u v (Via o.middle)
+    sooner m o = (o.to, o.on, subst IsSome (sym o.first) refl, subst IsSome (sym o.second) refl)
+
+    -- and the first earliest of what is known is no later
+    overtaken_first : (t : ℕ) (way : Way) → t < day → (f : IsFirstEarliest (IsCandidateBy s.before.edges list asked u v) (ArrivesBy s.before.edges asked u v t) way) → (m later : ℕ)
+        → ArrivesIn s.before u v t (Via m) later → IsOvertaken m → f.arrival < later
+    overtaken_first t way lt f m later e o =
+        let least = middle_takes s.before holds.are.sound u v m t later lt e in
+        let few = o.few in
+        let late = o.late in
+        let most = o.each t lt in
+        let arrival : ArrivesBy s.before.edges asked u v t (Via o.middle) (min (arrival_value o.two (arrival_value o.one t)) (2 ^ 62)) = rw (o.first, o.second) refl in
+        elim (f.first (Via o.middle) (min (arrival_value o.two (arrival_value o.one t)) (2 ^ 62)) (sooner m o) arrival) [
+          | inl less ↦ omega (arith, least, few, late, most, less)
+          | inr (tie, order) ↦ omega (arith, least, few, late, most, tie)
+        ]
+
+    -- so it is no later than a way that it knows nothing of
+    none_later : (t : ℕ) (way : Way) → t < day → (f : IsFirstEarliest (IsCandidateBy s.before.edges list asked u v) (ArrivesBy s.before.edges asked u v t) way) → (m later : ℕ)
+        → IsCandidateIn s.before u v (Via m) → ArrivesIn s.before u v t (Via m) later → IsOldBest ⊎ IsOvertaken m
+        → (f.arrival < later) ⊎ ((f.arrival ≡ later) × ((way ≡ Via m) ⊎ GoesFirst way (Via m)))
+    none_later t way lt f m later c e (inl best) = behind t way lt f m later c e best
+    none_later t way lt f m later c e (inr over) = inl (overtaken_first t way lt f m later e over)
+
+    -- and something is known
+    some_known : (m : ℕ) → IsCandidateIn s.before u v (Via m) → IsOldBest ⊎ IsOvertaken m → (way : Way) × IsCandidateBy s.before.edges list asked u v way
+    some_known m c (inl best) = let (mid, is) = old_way 0 (omega arith) best (some_old m best c) in (mid, is.candidate)
+    some_known m c (inr over) = (Via over.middle, sooner m over)
+
     first_over : (t : ℕ) (way : Way) → t < day → (f : IsFirstEarliest (IsCandidateBy s.before.edges list asked u v) (ArrivesBy s.before.edges asked u v t) way) → (other : Way) (later : ℕ)
         → IsCandidateIn now u v other → ArrivesIn now u v t other later → (f.arrival < later) ⊎ ((f.arrival ≡ later) × ((way ≡ other) ⊎ GoesFirst way other))
     first_over t way lt f (Road a) later c e =
@@ -321,16 +400,14 @@ module _ (s : SettlingValue) (graph : ChordalValue) (arcs : List (List ℕ)) (pa
           let known : KnowsWay now asked u v (Via m) = λ to on first second. both in
           let by = back (Via m) known c in
           f.first (Via m) later by (arrived t (Via m) later known by e)
-      | inr (first, second, best) ↦ behind t way lt f m later (was_there m first second c) (was_at m t later first second e) best
+      | inr (first, second, which) ↦ none_later t way lt f m later (was_there m first second c) (was_at m t later first second e) which
     ]
 
     none_over : es ≡ [] → (way : Way) → IsCandidateIn now u v way → ⊥
     none_over empty (Road a) c = settled.none empty (Road a) (back (Road a) (knows_road a) c)
     none_over empty (Via m) c = elim (cases m c.0 c.1 (edge_down now u m c.0 c.2) (edge_up now m v c.1 c.3)) [
       | inl both ↦ settled.none empty (Via m) (back (Via m) (λ to on first second. both) c)
-      | inr (first, second, best) ↦
-          let (mid, is) = old_way 0 (omega arith) best (some_old m best (was_there m first second c)) in
-          settled.none empty mid is.candidate
+      | inr (first, second, which) ↦ (let (mid, is) = some_known m (was_there m first second c) which in settled.none empty mid is)
     ]
 
     -- the settled list is the resettled one

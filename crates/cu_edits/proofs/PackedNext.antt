@@ -34,6 +34,7 @@ use Rattle.cu_edits.proofs.NewLists as new
 use Rattle.cu_edits.proofs.Placing.{outcome_in, placed_both}
 use Rattle.cu_edits.proofs.SettledFrames.{settled_with}
 use Rattle.cu_edits.proofs.SettledOnce as once
+use Rattle.cu_edits.proofs.Sides.{halves_at, over}
 use Rattle.cu_edits.proofs.StandingLists.{ArePlaced, moves_more, stands_more}
 use Rattle.cu_resettled.specs.ResettlingAll.{edited_all}
 
@@ -83,18 +84,28 @@ module _ (s : SettlingValue) (graph : ChordalValue) (arcs : List (List ℕ)) (pa
   -- the halves that are at hand
   known_or_behind : (ends : Ends) (at : slice_get s.before.edges edge ≡ Some ends) → AreCandidatesAtHand s.before s.edit marks moved packed edge dir → (m : ℕ)
       → new.IsKnownOrBehind s graph arcs packed moved holds edge dir asked.sides ends at m
-  known_or_behind ends at (inl all) m to on first second = inl (new.both_at_hand s graph arcs packed moved holds edge dir asked.sides ends at m (all ends at m) first second)
+  known_or_behind ends at (inl rivals) m to on first second = elim (rivals.each ends at m) [
+    | inl (unmoved, late) ↦
+        let both = new.both_stand s graph arcs packed moved holds edge dir asked.sides ends at m unmoved first second in
+        let halves = halves_at s.before.edges edge dir (start_of ends dir) (end_of ends dir) m (over s.before.edges edge dir ends at) first second in
+        let few = (late halves.first halves.second (record { to = halves.to; on = halves.on })).few in
+        elim (rivals.in_time ends at) [
+          | inl none ↦ absurd (omega (arith, few, none))
+          | inr some ↦ inr (both.0, both.1, inr (new.overtaken s graph arcs packed moved holds edge dir asked.sides ends at rivals.limit some m late first second))
+        ]
+    | inr hand ↦ inl (new.both_at_hand s graph arcs packed moved holds edge dir asked.sides ends at m hand first second)
+  ]
   known_or_behind ends at (inr (keeps, ways, some)) m to on first second = elim (some ends at m) [
     | inl unmoved ↦
         let both = new.both_stand s graph arcs packed moved holds edge dir asked.sides ends at m unmoved first second in
         inr (
           both.0,
           both.1,
-          record {
+          inl (record {
             resettled = customized edge keeps.marked dir ends at;
             unmoved = keeps.ways ends at;
             known = λ k d lt. new.knows_at_hand s graph arcs packed moved holds edge dir asked.sides ends at _ (ways ends at k d lt);
-          },
+          }),
         )
     | inr hand ↦ inl (new.both_at_hand s graph arcs packed moved holds edge dir asked.sides ends at m hand first second)
   ]

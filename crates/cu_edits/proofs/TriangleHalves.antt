@@ -1,23 +1,26 @@
 -- The halves of the ways by the middles of an edge's lower triangles.
-use Rattle.std.proofs.Common.{◌≡◌, ℕ, List, get_or, inl, inr, subst, sym}
+use Rattle.std.proofs.Common.{◌≡◌, ◌⊎◌, ℕ, List, Option, get_or, inl, inr, subst, sym}
 use Rattle.std.specs.Prelude.{All}
 use Rattle.std.proofs.lemmas.List.Elements.{All-contains, All-map}
+use Rattle.cu_arrival.specs.declared.runs.Run.{Run}
 use Rattle.cu_chordal.specs.declared.graph.Ends.{Ends}
 use Rattle.cu_chordal.specs.Graphs.{HasEdge, IsRising}
 use Rattle.cu_chordal.proofs.Decided.{member_decided}
 use Rattle.cu_chordal.proofs.Members.{member_at}
 use Rattle.cu_interval.specs.declared.ways.Dir.{Dir}
 use Rattle.cu_interval.specs.declared.ways.Dir.TheVariants.{Up, Down}
+use Rattle.cu_interval.specs.Hierarchies.{HierarchyValue}
 use Rattle.cu_interval.specs.Shortcuts.{AreHalfEdges}
 use Rattle.cu_customize.specs.declared.triangles.Triangle.{Triangle}
 use Rattle.cu_customize.specs.Triangles.{AreTriangles, IsTriangle, middles_in}
 use Rattle.cu_unpack.specs.RebuiltRuns.{PackedValue}
 use Rattle.cu_edits.specs.declared.learning_packed.Middles.{Middles}
-use Rattle.cu_edits.specs.declared.learning_packed.Middles.TheVariants.{Any, Moved}
+use Rattle.cu_edits.specs.declared.learning_packed.Middles.TheVariants.{Within, Moved}
+use Rattle.cu_edits.specs.Steps.Bounds.{HalvesTakeMore, SomeTakeNoMore, TakeMoreThan}
 use Rattle.cu_edits.specs.Steps.Moving.{BothAre, HalvesAre, IsUnmoved, MovedValue, TellsBoth}
 use Rattle.cu_edits.specs.Steps.Packed.{AreAtHandIfMoved, IsAtHand}
-use Rattle.cu_edits.specs.Steps.Triangles.{AreLearned, HalvesByAre, TellsSides, halves_by}
-use Rattle.cu_edits.proofs.BothHalves.{halves_are}
+use Rattle.cu_edits.specs.Steps.Triangles.{AreLearned, AreLeftOut, HalvesByAre, SomeTakesNoMore, TellsSides, halves_by}
+use Rattle.cu_edits.proofs.BothHalves.{halves_are, pairs_are}
 
 -- they lie between the ends of the edge
 halves_between : (edges : List Ends) (ends : Ends) (dir : Dir) (triangle : Triangle) → IsTriangle edges ends.low ends.high triangle
@@ -59,30 +62,59 @@ module _ (edges : List Ends) (rising : IsRising edges) (ends : Ends) (dir : Dir)
       by_middles (HalvesAre Good edges ends dir) (λ k d lt. by_triangle Good edges rising ends dir (get_or triangles k d) (are.each k d lt) (all k d lt))
       (λ middle none first second halves. absurd (none first second halves))
 
-  if_moved : (moved : MovedValue) (packed : PackedValue) (triangle : Triangle) → IsTriangle edges ends.low ends.high triangle → AreLearned Moved moved packed dir triangle
+  -- where halves are left out unless they are at hand, so it is by any middle
+  if_moved : (h : HierarchyValue) (moved : MovedValue) (packed : PackedValue) (triangle : Triangle) → IsTriangle edges ends.low ends.high triangle → AreLearned h Moved moved packed dir triangle
       → AreAtHandIfMoved moved packed edges ends dir triangle.middle
-  if_moved moved packed triangle is (inl unmoved) = inl (by_triangle (IsUnmoved moved) edges rising ends dir triangle is unmoved)
-  if_moved moved packed triangle is (inr known) = inr (by_triangle (IsAtHand moved packed) edges rising ends dir triangle is known)
+  if_moved h moved packed triangle is (inl unmoved) = inl (by_triangle (IsUnmoved moved) edges rising ends dir triangle is unmoved)
+  if_moved h moved packed triangle is (inr known) = inr (by_triangle (IsAtHand moved packed) edges rising ends dir triangle is known)
 
-  -- so it is where halves were learned if one of them was moved
-  pub moved_halves : (moved : MovedValue) (packed : PackedValue) → All (AreLearned Moved moved packed dir) triangles → (middle : ℕ) → AreAtHandIfMoved moved packed edges ends dir middle
-  moved_halves moved packed all =
-      by_middles (AreAtHandIfMoved moved packed edges ends dir) (λ k d lt. if_moved moved packed (get_or triangles k d) (are.each k d lt) (all k d lt))
+  pub moved_halves : (h : HierarchyValue) (moved : MovedValue) (packed : PackedValue) → All (AreLearned h Moved moved packed dir) triangles → (middle : ℕ)
+      → AreAtHandIfMoved moved packed edges ends dir middle
+  moved_halves h moved packed all =
+      by_middles (AreAtHandIfMoved moved packed edges ends dir) (λ k d lt. if_moved h moved packed (get_or triangles k d) (are.each k d lt) (all k d lt))
       (λ middle none. inl (λ first second halves. absurd (none first second halves)))
+
+  abbrev pub AreRivals : HierarchyValue → MovedValue → PackedValue → ℕ → ℕ → Type 0
+  AreRivals h moved packed limit middle =
+      (HalvesAre (IsUnmoved moved) edges ends dir middle × HalvesTakeMore h limit edges ends dir middle) ⊎ HalvesAre (IsAtHand moved packed) edges ends dir middle
+
+  if_late : (h : HierarchyValue) (moved : MovedValue) (packed : PackedValue) (limit : ℕ) (triangle : Triangle) → IsTriangle edges ends.low ends.high triangle
+      → AreLearned h (Within limit) moved packed dir triangle → AreRivals h moved packed limit triangle.middle
+  if_late h moved packed limit triangle is (inl (unmoved, late)) = inl (
+    by_triangle (IsUnmoved moved) edges rising ends dir triangle is unmoved,
+    pairs_are (TakeMoreThan h limit) edges rising ends dir triangle.middle (halves_by dir triangle).0 (halves_by dir triangle).1 (halves_between edges ends dir triangle is) late,
+  )
+  if_late h moved packed limit triangle is (inr known) = inr (by_triangle (IsAtHand moved packed) edges rising ends dir triangle is known)
+
+  pub rival_halves : (h : HierarchyValue) (moved : MovedValue) (packed : PackedValue) (limit : ℕ) → All (AreLearned h (Within limit) moved packed dir) triangles → (middle : ℕ)
+      → AreRivals h moved packed limit middle
+  rival_halves h moved packed limit all =
+      by_middles (AreRivals h moved packed limit) (λ k d lt. if_late h moved packed limit (get_or triangles k d) (are.each k d lt) (all k d lt))
+      (λ middle none. inr (λ first second halves. absurd (none first second halves)))
+
+  -- the way by a triangle's middle is one by a middle
+  pub some_take : (functions : List (Option (List Run))) (limit : ℕ) → SomeTakesNoMore functions dir triangles limit → SomeTakeNoMore functions limit edges ends dir
+  some_take functions limit some =
+      let is = All-contains (IsTriangle edges ends.low ends.high) triangles some.triangle are.each some.among in
+      record {
+        middle = some.triangle.middle;
+        first = (halves_by dir some.triangle).0;
+        second = (halves_by dir some.triangle).1;
+        are = halves_between edges ends dir some.triangle is;
+        take = some.take;
+      }
 
 -- it is told of both halves by a triangle's middle whether they were moved
 pub told_halves : (moved : MovedValue) (dir : Dir) (triangle : Triangle) (edges : ℕ × ℕ) → edges ≡ halves_by dir triangle → TellsSides moved triangle → TellsBoth moved edges
 told_halves moved Up triangle edges same sides = subst (TellsBoth moved) (sym same) sides
 told_halves moved Down triangle edges same sides = subst (TellsBoth moved) (sym same) (sides.1, sides.0)
 
--- halves that weren't moved are left out
-pub left_out : (which : Middles) (moved : MovedValue) (packed : PackedValue) (dir : Dir) (triangle : Triangle) (edges : ℕ × ℕ) → edges ≡ halves_by dir triangle → which ≡ Moved
-    → BothAre (IsUnmoved moved) edges → AreLearned which moved packed dir triangle
-left_out which moved packed dir triangle edges same is unmoved =
-    subst (λ (w : Middles). AreLearned w moved packed dir triangle) (sym is) (inl (subst (BothAre (IsUnmoved moved)) same unmoved))
+-- halves that are left out need not be learned
+pub left_out : (h : HierarchyValue) (which : Middles) (moved : MovedValue) (packed : PackedValue) (dir : Dir) (triangle : Triangle) (edges : ℕ × ℕ) → edges ≡ halves_by dir triangle
+    → AreLeftOut h which moved edges → AreLearned h which moved packed dir triangle
+left_out h which moved packed dir triangle edges same out = inl (subst (AreLeftOut h which moved) same out)
 
 -- where both halves are at hand, nothing else is asked
-pub both_learned : (which : Middles) (moved : MovedValue) (packed : PackedValue) (dir : Dir) (triangle : Triangle) (edges : ℕ × ℕ) → edges ≡ halves_by dir triangle
-    → BothAre (IsAtHand moved packed) edges → AreLearned which moved packed dir triangle
-both_learned Any moved packed dir triangle edges same known = subst (BothAre (IsAtHand moved packed)) same known
-both_learned Moved moved packed dir triangle edges same known = inr (subst (BothAre (IsAtHand moved packed)) same known)
+pub both_learned : (h : HierarchyValue) (which : Middles) (moved : MovedValue) (packed : PackedValue) (dir : Dir) (triangle : Triangle) (edges : ℕ × ℕ) → edges ≡ halves_by dir triangle
+    → BothAre (IsAtHand moved packed) edges → AreLearned h which moved packed dir triangle
+both_learned h which moved packed dir triangle edges same known = inr (subst (BothAre (IsAtHand moved packed)) same known)

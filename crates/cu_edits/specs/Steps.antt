@@ -1,5 +1,6 @@
 -- What private functions mean to each other; no public contract speaks of it.
 pub mod Adding
+pub mod Bounds
 pub mod Climbing
 pub mod Found
 pub mod Frames

@@ -1,11 +1,12 @@
 //! What edits are settled over.
 
-ghost use Rattle.std.specs.Prelude.{◌≡◌, ◌<◌, ◌*◌, ◌↔◌, ℕ, IfOk, IsTrue, Some, length, slice_get, true};
+ghost use Rattle.std.specs.Prelude.{◌≡◌, ◌≤◌, ◌<◌, ◌*◌, ◌↔◌, ℕ, IfOk, IsTrue, Some, length, slice_get, true};
 ghost use Rattle.cu_resettled.specs.ResettlingAll.{IsChangedBySome, edited_all};
 ghost use Rattle.std.specs.List.{Contains};
 ghost use Rattle.cu_chordal.specs.Graphs.{FindsEdge, HasEdge, IsChordal};
 ghost use Rattle.cu_interval.specs.EdgeArcs.{AreEdgeArcs};
 ghost use Rattle.cu_interval.specs.Hierarchies.{IsHierarchy, IsHierarchyOf, list_number, list_of};
+ghost use Rattle.cu_interval.specs.LeastBounds.{least_bound};
 ghost use Rattle.cu_interval.specs.Shortcuts.{FindsHalves};
 ghost use Rattle.cu_unpack.specs.Rebuilds.{IsRebuiltFunction, Keeps};
 ghost use Rattle.cu_unpack.specs.RebuiltRuns.{IsKnownList};
@@ -17,16 +18,19 @@ ghost use Rattle.cu_edits.specs.Together.{FitEdits, edits_of};
 
 use crate::edited_roads::EditedRoads;
 use crate::edits::{Edits, is_changed_by_some, read_edits};
+use crate::least_travels::LeastTravels;
 use cu_arrival::Arrival;
 use cu_chordal::{Chordal, Ends};
-use cu_interval::{Dir, EdgeArcs, Entry, Ways, find_halves};
+use cu_interval::{BoundedWays, Dir, EdgeArcs, Entry, Ways, find_halves};
 use cu_model::NoMemory;
 use cu_unpack::{PackedFunctions, Rebuilt};
 use std::alloc::Global;
 use std::marker::Model;
+use std::mem;
 
 /// The hierarchy before some edits, the edits, and the graph and the roads of the hierarchy; and marks of edges whose lists are
-/// known to be what customization makes of the lists below them. Contracts see all of them.
+/// known to be what customization makes of the lists below them. Contracts see all of these. It may also be known how long travels
+/// over each list take at least before the edits.
 #[derive(Drop)]
 pub struct EditParts<'a, W: Ways> {
     ways: &'a W,
@@ -34,9 +38,13 @@ pub struct EditParts<'a, W: Ways> {
     graph: &'a Chordal,
     arcs: &'a EdgeArcs,
     customized: &'a [bool],
+    // None where they aren't known.
+    travels: Option<LeastTravels>,
 }
 
 impl<'a, W: Ways> Model for EditParts<'a, W> {
+    ghost use Rattle.std.specs.Prelude.{◌*◌, IfSome};
+    ghost use Rattle.cu_edits.specs.Steps.Bounds.{AreLeastTravels};
     ghost use Rattle.cu_edits.specs.Steps.Parts.{FitTogether, PartsValue};
     ghost use Rattle.cu_edits.specs.Together.{FitEdits, edits_of};
 
@@ -56,7 +64,8 @@ impl<'a, W: Ways> Model for EditParts<'a, W> {
       graph = parts.graph.now;
       arcs = parts.arcs.now;
       customized = parts.customized.now;
-    }) × FitEdits (W.hierarchy parts.ways.now).network parts.edits };
+    }) × FitEdits (W.hierarchy parts.ways.now).network parts.edits
+        × IfSome parts.travels (AreLeastTravels (W.hierarchy parts.ways.now)) };
 }
 
 impl<'a, W: Ways> EditParts<'a, W> {
@@ -89,6 +98,18 @@ impl<'a, W: Ways> EditParts<'a, W> {
             graph,
             arcs,
             customized,
+            travels: None,
+        }
+    }
+
+    /// The seconds below which no travel over the list of an edge in a direction falls before the edits, as far as that is known,
+    /// else 0.
+    pub fn least(&self, edge: u32, dir: Dir) -> u64
+        ensures { result ≤ least_bound self.now.before edge dir }
+    {
+        match &self.travels {
+            Some(travels) => travels.get(edge, dir),
+            None => 0,
         }
     }
 
@@ -248,5 +269,16 @@ impl<'a, W: Ways> EditParts<'a, W> {
         ensures learns { LearnsPacked self.now.before packed.old packed.new }
     {
         packed.learn(alloc, self.ways, edge, dir)
+    }
+}
+
+impl<'a, W: BoundedWays> EditParts<'a, W> {
+    /// From then on it is known how long travels over each list take at least before the edits.
+    pub fn know_travels(&mut self, alloc: Global) -> Result<(), NoMemory>
+        ensures same { self.new ≡ self.old }
+    {
+        let travels = LeastTravels::of(alloc, self.ways)?;
+        drop(mem::replace(&mut self.travels, Some(travels)));
+        Ok(())
     }
 }

@@ -32,7 +32,7 @@ use crate::settler_state::{PackedState, SettlerState};
 use crate::settling_packed::settle_packed;
 use cu_chordal::Chordal;
 use cu_customize::settle;
-use cu_interval::{Dir, EdgeArcs, TouchedEdge, Ways};
+use cu_interval::{BoundedWays, Dir, EdgeArcs, TouchedEdge, Ways};
 use cu_model::{Edit, NoMemory};
 use cu_unpack::Rebuilt;
 use std::alloc::Global;
@@ -208,6 +208,17 @@ impl<'a, W: Ways> EditSettler<'a, W> {
             SettlerState::Packed(packed) => Learned::after(alloc, packed, edges).ok(),
             SettlerState::Plain(_plain) => None,
         }
+    }
+}
+
+impl<'a, W: BoundedWays> EditSettler<'a, W> {
+    /// From then on it knows the least bound of each list, and leaves ways by a middle aside whose halves the edit left as they are,
+    /// where these alone take longer than another way does at most: functions of such halves aren't rebuilt. What it settles is the
+    /// same.
+    pub fn know_bounds(&mut self, alloc: Global) -> Result<(), NoMemory>
+        ensures same { self.new ≡ self.old }
+    {
+        self.parts.know_travels(alloc)
     }
 }
 

@@ -70,7 +70,8 @@ impl Learned {
         ensures { IfOk result (λ function. (h : HierarchyValue) → ArePackedOf h self.now
             → IsRebuiltFunction h edge dir function) }
     {
-        match &self.functions.functions()[Shortcut { edge, dir }.list()] {
+        let functions = self.functions.functions();
+        match functions.get(Shortcut { edge, dir }.list()) {
             Some(function) => Ok(Some(function.to_arrival(alloc)?)),
             None => Ok(None),
         }
@@ -184,8 +185,7 @@ fn take_list(
         return Ok(());
     };
     let copy = copy_function(alloc, function)?;
-    functions.put(edge, dir, copy);
-    Ok(())
+    functions.put(edge, dir, copy)
 }
 
 // A copy of a function, if there is one.

@@ -1,32 +1,37 @@
 //! Learning functions of lists of the hierarchy before an edit, as packed runs.
 
-ghost use Rattle.std.specs.Prelude.{◌≡◌, ◌<◌, ◌*◌, All, Some, length, slice_get, true};
+ghost use Rattle.std.specs.Prelude.{◌≡◌, ◌<◌, ◌*◌, ◌⊎◌, All, Some, length, slice_get, true};
 ghost use Rattle.cu_chordal.specs.declared.graph.Ends.{Ends};
 ghost use Rattle.cu_interval.specs.declared.ways.Entry.{Entry};
 ghost use Rattle.cu_interval.specs.Hierarchies.{IsWellFormed, end_of, list_number, list_of, start_of};
 ghost use Rattle.cu_edits.specs.Learned.{ArePackedOf};
-ghost use Rattle.cu_edits.specs.declared.learning_packed.Middles.TheVariants.{Moved};
 ghost use Rattle.cu_edits.specs.Steps.Packed.{IfNear, IsAtHand, IsWayAtHand, LearnsPacked};
-ghost use Rattle.cu_edits.specs.Steps.Moving.{BothAre, HalvesAre, IsUnmoved, TellsBoth};
+ghost use Rattle.cu_edits.specs.Steps.Bounds.{ArePlaced, TakeMoreThan, TakeNoMoreThan, no_limit};
+ghost use Rattle.cu_edits.specs.Steps.Moving.{BothAre, HalvesAre, TellsBoth};
 ghost use Rattle.cu_edits.specs.Steps.Parts.{TellsLists};
-ghost use Rattle.cu_edits.specs.Steps.Triangles.{AreLearned, TellsSides};
+ghost use Rattle.cu_edits.specs.Steps.Triangles.{AreLearned, AreLeftOut, HasPlaces, IsLimit, TellsSides};
 
 use crate::edit_parts::EditParts;
 use crate::moved_lists::MovedLists;
 use crate::triangle_halves::{are_both_unmoved, half_edges};
 use cu_chordal::Ends;
 use cu_customize::Triangle;
-use cu_interval::{Dir, Way, Ways};
+use cu_interval::{Dir, Shortcut, Way, Ways};
 use cu_model::NoMemory;
+use cu_runs::LayeredFunctions;
 use cu_unpack::PackedFunctions;
 use std::alloc::Global;
 
-/// Of which middles halves are learned: of any, or of those alone of which a half was moved.
+/// Of which middles halves are learned: of those of which a half was moved; and, in the first case, also of those whose halves may
+/// take no longer than this together.
 #[derive(Clone, Copy)]
 pub enum Middles {
-    Any,
+    Within(u64),
     Moved,
 }
+
+// Longer than any travel: the least bound of a list without ways.
+const FAR: u64 = 1_152_921_504_606_846_976;
 
 /// A list whose candidates are learned: of an edge in a direction. The triangles are the edge's lower ones.
 #[derive(Clone, Copy)]
@@ -50,8 +55,8 @@ pub fn learn_middles<W: Ways>(
     requires sides { All (TellsSides asked.now.moved.now) asked.now.triangles.now }
     requires packed { ArePackedOf parts.now.before packed.old }
     ensures learns { LearnsPacked parts.now.before packed.old packed.new }
-    ensures known { IfNear result (All (AreLearned which asked.now.moved.now packed.new asked.now.dir)
-        asked.now.triangles.now) }
+    ensures known { IfNear result (All (AreLearned parts.now.before which asked.now.moved.now
+        packed.new asked.now.dir) asked.now.triangles.now) }
 {
     for triangle in asked.triangles {
         if !learn_triangle(alloc, parts, asked, which, *triangle, packed)? {
@@ -74,25 +79,79 @@ fn learn_triangle<W: Ways>(
     requires sides { TellsSides asked.now.moved.now triangle }
     requires packed { ArePackedOf parts.now.before packed.old }
     ensures learns { LearnsPacked parts.now.before packed.old packed.new }
-    ensures known { IfNear result
-        (AreLearned which asked.now.moved.now packed.new asked.now.dir triangle) }
+    ensures known { IfNear result (AreLearned parts.now.before which asked.now.moved.now
+        packed.new asked.now.dir triangle) }
 {
     let edges = half_edges(triangle, asked.dir);
-    if is_left_out(asked.moved, which, edges) {
+    if is_left_out(parts, asked.moved, which, edges) {
         return Ok(true);
     }
     learn_halves(alloc, parts, asked.moved, edges, packed)
 }
 
-// Need the halves that these edges have not be learned, since none of them was moved?
-fn is_left_out(moved: &MovedLists, which: Middles, edges: (u32, u32)) -> bool
+// Need the halves that these edges have not be learned, since none of them was moved, and, in the first case, they take too long?
+fn is_left_out<W: Ways>(
+    parts: &EditParts<'_, W>,
+    moved: &MovedLists,
+    which: Middles,
+    edges: (u32, u32),
+) -> bool
     requires { TellsBoth moved.now edges }
-    ensures { result ≡ true → (which ≡ Moved) × BothAre (IsUnmoved moved.now) edges }
+    ensures { result ≡ true → AreLeftOut parts.now.before which moved.now edges }
 {
-    match which {
-        Middles::Any => false,
-        Middles::Moved => are_both_unmoved(moved, edges),
+    if !are_both_unmoved(moved, edges) {
+        return false;
     }
+    match which {
+        Middles::Within(limit) => take_more(parts, edges, limit),
+        Middles::Moved => true,
+    }
+}
+
+// Do the halves that these edges have take longer than this together, by how long travels over them take at least before the edits?
+fn take_more<W: Ways>(parts: &EditParts<'_, W>, edges: (u32, u32), limit: u64) -> bool
+    ensures { result ≡ true → TakeMoreThan parts.now.before limit edges }
+{
+    let first = parts.least(edges.0, Dir::Down);
+    let second = parts.least(edges.1, Dir::Up);
+    limit < FAR && limit < first.saturating_add(second)
+}
+
+/// How long some way by the middle of one of these triangles takes at most, by these functions, where both of its halves have one; the
+/// greatest number where there is no such way.
+pub fn limit_of(triangles: &[Triangle], dir: Dir, functions: &LayeredFunctions<'_>) -> u64
+    requires { All (HasPlaces functions.now dir) triangles.now }
+    ensures { IsLimit functions.now dir triangles.now result }
+{
+    let mut limit = u64::MAX;
+    for triangle in triangles {
+        let edges = half_edges(*triangle, dir);
+        let most = most_by(functions, edges);
+        limit = limit.min(most);
+    }
+    limit
+}
+
+// How long the way by the halves that these edges have takes at most, where both have a function.
+fn most_by(functions: &LayeredFunctions<'_>, edges: (u32, u32)) -> u64
+    requires { ArePlaced functions.now edges }
+    ensures { (result ≡ no_limit) ⊎ TakeNoMoreThan functions.now result edges }
+{
+    let first = Shortcut {
+        edge: edges.0,
+        dir: Dir::Down,
+    };
+    let second = Shortcut {
+        edge: edges.1,
+        dir: Dir::Up,
+    };
+    let Some(first) = functions.get(first.list()) else {
+        return u64::MAX;
+    };
+    let Some(second) = functions.get(second.list()) else {
+        return u64::MAX;
+    };
+    first.most().saturating_add(second.most())
 }
 
 /// The same of the halves by the middles of the list of an edge in a direction, before the edit.

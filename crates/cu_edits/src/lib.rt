@@ -7,7 +7,8 @@
 //! `cu_interval`). [`recustomize`] settles them by rising number, each after those of its lower triangles, by a [`Settler`];
 //! [`EditSettler`] is the one that [`touch`] takes. It settles by functions that are packed runs, whose promise is the same as
 //! that of plain ones; once a way takes longer than packed runs can say, as in a file that isn't built, it goes over to plain
-//! functions.
+//! functions. One that knows the least bounds of lists ([`EditSettler::know_bounds`]) learns no functions of halves that take longer
+//! than another way does at most.
 //!
 //! [`touch_over`] is the same for whoever makes one edit after the other, and knows of lists what earlier edits left:
 //! [`CustomizedEdges`] tells which edges are known to be customized (`specs/Customized.antt`), as all are in a built hierarchy,
@@ -43,6 +44,7 @@ mod in_work;
 mod learned;
 mod learning;
 mod learning_packed;
+mod least_travels;
 mod moved_lists;
 mod new_list;
 mod paused;

@@ -11,7 +11,7 @@ use crate::new_list::Outcome;
 use cu_chordal::MAX_EDGES;
 use cu_interval::{Dir, Shortcut};
 use cu_model::NoMemory;
-use cu_runs::{DayFunction, LayeredFunctions};
+use cu_runs::{DayFunction, LayeredFunctions, PlacedFunctions};
 use std::alloc::Global;
 use std::marker::Model;
 
@@ -74,10 +74,10 @@ impl MovedLists {
     }
 
     /// These functions by list number, but those of moved lists in their place. Takes no memory.
-    pub fn over<'a>(&'a self, functions: &'a [Option<DayFunction>]) -> LayeredFunctions<'a>
-        ensures { result ≡ layered functions.now self.now.places self.now.functions }
+    pub fn over<'a>(&'a self, functions: PlacedFunctions<'a>) -> LayeredFunctions<'a>
+        ensures { result ≡ layered functions.entry self.now.places self.now.functions }
     {
-        LayeredFunctions::with_newer(functions, &self.places, &self.functions)
+        LayeredFunctions::over_placed(functions, &self.places, &self.functions)
     }
 
     /// Keeps what became of a list, until [`place`] says which list it is. Answers where.

@@ -16,7 +16,7 @@ ghost use Rattle.cu_edits.specs.Steps.Parts.{FitTogether, TellsLists, settling_o
 
 use crate::copied_lists::copy_touched;
 use crate::edit_parts::EditParts;
-use crate::learning_packed::{Asked, Middles, learn_middles, learn_ways};
+use crate::learning_packed::{Asked, Middles, learn_middles, learn_ways, limit_of};
 use crate::moved_lists::MovedLists;
 use crate::new_list::{NewList, Outcome};
 use crate::settler_state::PackedState;
@@ -277,12 +277,41 @@ fn learn_candidates<W: Ways>(
     ensures fit { FitTogether parts.now }
 {
     if !keeps_its_ways(parts, asked.moved, asked.edge, asked.dir) {
-        return learn_middles(alloc, parts, asked, Middles::Any, packed);
+        return learn_rivals(alloc, parts, asked, packed);
     }
     if !learn_ways(alloc, parts, asked.moved, asked.edge, asked.dir, packed)? {
         return Ok(false);
     }
     learn_middles(alloc, parts, asked, Middles::Moved, packed)
+}
+
+// Learns the halves of a list's ways before the edit, and those of all candidates but these that take longer than some way by a middle
+// of which both halves are known then.
+fn learn_rivals<W: Ways>(
+    alloc: Global,
+    parts: &EditParts<'_, W>,
+    asked: &Asked<'_>,
+    packed: &mut PackedFunctions,
+) -> Result<bool, NoMemory>
+    requires packed { ArePackedOf parts.now.before packed.old }
+    requires moved { TellsLists parts.now asked.now.moved.now }
+    requires edge { asked.now.edge < length parts.now.graph.edges }
+    requires triangles { AreTrianglesOf parts.now.graph.edges asked.now.edge
+        asked.now.triangles.now }
+    requires fit { FitTogether parts.now }
+    ensures learns { LearnsPacked parts.now.before packed.old packed.new }
+    ensures known { IfNear result (AreCandidatesAtHand parts.now.before parts.now.edit
+        parts.now.customized asked.now.moved.now packed.new asked.now.edge asked.now.dir) }
+{
+    if !learn_ways(alloc, parts, asked.moved, asked.edge, asked.dir, packed)? {
+        return Ok(false);
+    }
+    let limit = limit_of(
+        asked.triangles,
+        asked.dir,
+        &asked.moved.over(packed.functions()),
+    );
+    learn_middles(alloc, parts, asked, Middles::Within(limit), packed)
 }
 
 // Is the list of an edge in a direction known to be what customization makes of the lists below it, and are its ways as they

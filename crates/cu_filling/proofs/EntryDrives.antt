@@ -26,7 +26,7 @@ use Rattle.cu_interval.proofs.Unpacked.{list_of_spelled}
 use Rattle.cu_short.specs.Shortness.{NeverLong}
 use Rattle.cu_store.specs.Known.{IsListFunction, ended}
 use Rattle.cu_store.proofs.KnowsLaws.{ended_same}
-use Rattle.cu_filling.specs.Filling.{IsWayOf, SaysWay, SaysWhole, begin_at, from_of, list_drive, second_of}
+use Rattle.cu_filling.specs.Filling.{DrivesBy, IsDrivenBy, IsWayOf, SaysWhole, begin_at, from_of, list_drive, second_of}
 use Rattle.cu_filling.proofs.ListDrives.{answer_onward, drives_by, drives_later, drives_walk, same_list}
 
 module _ (entries : List Entry) (is : IsWayList entries) where
@@ -83,10 +83,10 @@ module _ (h : HierarchyValue) (f : IsHierarchy h) (shortcut : Shortcut) where
         (ends, at, subst (λ (e : Entry). IsWellFormed h (start_of ends shortcut.dir) (end_of ends shortcut.dir) e.way) same (f.formed shortcut.edge shortcut.dir ends at i entry within))
 
     module _ (never : NeverLong h) where
-      -- what an entry's way says is what the list drives, as long as the entry is in force
-      pub entry_says : (i : ℕ) (entry : Entry) (linked : List Run) → slice_get (ways_of h shortcut) i ≡ Some entry → SaysWay h shortcut entry.way 0 day linked
-          → (t : ℕ) → entry.from ≤ t → t < begin_at (ways_of h shortcut) (i + 1) → arrival_value linked t ≡ list_drive h shortcut.edge shortcut.dir t
-      entry_says i entry linked there says t late early =
+      -- what an entry's way drives is what the list drives, as long as the entry is in force
+      pub entry_driven : (i : ℕ) (entry : Entry) → slice_get (ways_of h shortcut) i ≡ Some entry
+          → IsDrivenBy h shortcut entry.way entry.from (begin_at (ways_of h shortcut) (i + 1)) (list_drive h shortcut.edge shortcut.dir)
+      entry_driven i entry there other here t arrival late early drives =
           let until = (begin_next (ways_of h shortcut) spelled i entry there).1 in
           let on = entry_on (ways_of h shortcut) spelled i entry t there late early in
           let in_day : t % day ≡ t = omega (arith, early, until) in
@@ -94,7 +94,9 @@ module _ (h : HierarchyValue) (f : IsHierarchy h) (shortcut : Shortcut) where
           ap (λ (s : ℕ). way_in (list_from h (start_of ends shortcut.dir) (end_of ends shortcut.dir)) s) in_day
           ∙ ap (λ (es : List Entry). way_in es t) (same_list h f shortcut.edge shortcut.dir ends at)
           ∙ ap (option_map (λ (e : Entry). e.way)) on in
-          sym (ap second_of (drives_by h f shortcut.edge shortcut.dir ends at never t (arrival_value linked t) entry.way way (says ends at t (omega arith) (omega (arith, early, until)))))
+          let same : other ≡ ends = cc (here, at) in
+          let driven = subst (λ (e : Ends). DrivesBy h e shortcut.dir t entry.way arrival) same drives in
+          sym (ap second_of (drives_by h f shortcut.edge shortcut.dir ends at never t arrival entry.way way driven))
 
     -- what the list drives over the day, put together, is its function, where later departures don't arrive earlier
     module _ (never : NeverLong h) (some : ways_of h shortcut ≢ []) where

@@ -22,7 +22,7 @@ use Rattle.cu_interval.proofs.Unpacked.{unpacked-low}
 use Rattle.cu_interval.proofs.Walks.{below-onward}
 use Rattle.cu_short.specs.Shortness.{NeverLong}
 use Rattle.cu_filling.specs.Filling.{DrivesBy, DrivesVia}
-use Rattle.cu_filling.proofs.DayWalks.{drive_days, walk_days}
+use Rattle.cu_interval.proofs.DayWalks.{drive_days, walk_days}
 
 -- the answer of a list with a way, by how long the walk is
 answer_at : (h : HierarchyValue) (es : List Entry) (walk : List ℕ) (t : ℕ) → es ≢ [] → (answer_by h es walk t ≡ Long → ⊥) → answer_by h es walk t ≡ At (drive h.network walk t)

@@ -3,8 +3,8 @@ use Rattle.std.specs.Prelude.{ℕ, List, [], Option, Some, None, ◌≡◌, ◌�
 use Rattle.cu_model.specs.Days.{day}
 use Rattle.cu_model.specs.Roads.{arc_value}
 use Rattle.cu_arrival.specs.declared.runs.Run.{Run}
-use Rattle.cu_arrival.specs.Runs.{arrival_value}
 use Rattle.cu_arrival.specs.declared.runs.RunRule.{RunRule}
+use Rattle.cu_arrival.specs.declared.runs.RunRule.TheVariants.{Shift, Fixed}
 use Rattle.cu_arrival.specs.Runs.{arrives}
 use Rattle.cu_runs.specs.PackedRuns.{IsPackedFunction, end_run}
 use Rattle.cu_model.proofs.Growing.{IsGrown}
@@ -21,6 +21,7 @@ use Rattle.cu_interval.specs.declared.shortcuts.Shortcut.{Shortcut}
 use Rattle.cu_interval.specs.Hierarchies.{IsWellFormed}
 use Rattle.cu_interval.specs.Shortcuts.{AreHalves, number_of, ways_of}
 use Rattle.cu_interval.specs.Unpacking.{relaxed}
+use Rattle.cu_brief.specs.BriefRuns.{brief_value}
 use Rattle.cu_store.specs.Known.{HasNoRuns, IsLeftOut, KnownFunction, StoreValue}
 use Rattle.cu_filling.specs.declared.making.Made.{Made}
 use Rattle.cu_filling.specs.declared.making.Made.TheVariants as made
@@ -54,14 +55,23 @@ DrivesBy h ends dir t (Via m) arrival = DrivesVia h ends dir m t arrival
 abbrev pub SaysUpTo : (ℕ → ℕ) → List Run → ℕ → Type 0
 SaysUpTo f runs t = IsGrown (λ (r : Run). r.from) (λ (r : Run). r.rule) (λ (rule : RunRule) (s : ℕ). arrives rule s ≡ f s) runs t
 
+-- when a second function arrives, leaving when a first one does
+abbrev pub linked_value : ℕ → List ℕ → ℕ → List ℕ → ℕ → ℕ
+linked_value first_base first second_base second t = brief_value second_base second (brief_value first_base first t)
+
+-- what a rule says after so many seconds: what is fixed arrives on the day that begins at midnight
+abbrev pub behind_rule : RunRule → ℕ → ℕ → RunRule
+behind_rule (Shift more) seconds midnight = Shift (seconds + more)
+behind_rule (Fixed arrival) seconds midnight = Fixed (midnight + arrival)
+
 -- a well-formed way of a shortcut
 abbrev pub IsWayOf : HierarchyValue → Shortcut → Way → Type 0
 IsWayOf h shortcut way = (ends : Ends) × (slice_get h.edges shortcut.edge ≡ Some ends) × IsWellFormed h (start_of ends shortcut.dir) (end_of ends shortcut.dir) way
 
 -- from one second of the day until another a function says when a way of a shortcut arrives
-abbrev pub SaysWay : HierarchyValue → Shortcut → Way → ℕ → ℕ → List Run → Type 0
-SaysWay h shortcut way from until runs = (ends : Ends) → slice_get h.edges shortcut.edge ≡ Some ends → (t : ℕ) → from ≤ t → t < until
-    → DrivesBy h ends shortcut.dir t way (arrival_value runs t)
+abbrev pub IsDrivenBy : HierarchyValue → Shortcut → Way → ℕ → ℕ → (ℕ → ℕ) → Type 0
+IsDrivenBy h shortcut way from until f = (ends : Ends) → slice_get h.edges shortcut.edge ≡ Some ends → (t arrival : ℕ) → from ≤ t → t < until
+    → DrivesBy h ends shortcut.dir t way arrival → arrival ≡ f t
 
 -- the second from which an entry holds, and the end of the day behind the last one
 abbrev pub from_of : Option Entry → ℕ

@@ -3,18 +3,17 @@
 ghost use Rattle.std.specs.Prelude.{◌≡◌, ◌≢◌, ◌≤◌, ◌<◌, ◌+◌, ◌*◌, ℕ, [], IfOk, None, OnErr, Some, false, true, length, slice_set};
 ghost use Rattle.cu_model.specs.declared.limits.TheConstants.{DAY};
 ghost use Rattle.cu_model.specs.Days.{day};
-ghost use Rattle.cu_runs.specs.PackedRuns.{IsDayList};
-ghost use Rattle.cu_interval.specs.declared.ways.Way.TheVariants.{Via};
 ghost use Rattle.cu_interval.specs.Hierarchies.{IsHierarchy};
-ghost use Rattle.cu_interval.specs.Shortcuts.{AreHalves, number_of, ways_of};
+ghost use Rattle.cu_interval.specs.Shortcuts.{number_of, ways_of};
 ghost use Rattle.cu_short.specs.Shortness.{NeverLong};
 ghost use Rattle.cu_store.specs.Known.{Knows};
-ghost use Rattle.cu_filling.specs.Filling.{HasLackingWay, IsMade, IsSomething, LacksHalf, IsWayOf, SaysUpTo, SaysWay, SaysWhole, begin_at, list_drive};
+ghost use Rattle.cu_filling.specs.Filling.{HasLackingWay, IsDrivenBy, IsMade, IsSomething, LacksHalf, IsWayOf, SaysUpTo, SaysWhole, begin_at, list_drive};
 
+use crate::linking::add_linked;
 use crate::stretches::{add_runs, is_function};
-use cu_interval::{Shortcut, Way, Ways, halves};
+use cu_interval::{Entry, Shortcut, Way, Ways, halves};
 use cu_model::{DAY, NoMemory};
-use cu_runs::{PackedRun, link, put_road};
+use cu_runs::{PackedRun, put_road};
 use cu_store::{Found, Store};
 use std::alloc::Global;
 
@@ -37,9 +36,7 @@ const LINKED_RUNS: usize = 90_000;
 /// Functions in work, as packed runs, with all the room that they may take.
 #[derive(Drop)]
 pub struct Scratch {
-    first: Vec<PackedRun>,
-    second: Vec<PackedRun>,
-    linked: Vec<PackedRun>,
+    road: Vec<PackedRun>,
     whole: Vec<PackedRun>,
 }
 
@@ -47,18 +44,17 @@ impl Scratch {
     /// Empty ones.
     pub fn new(alloc: Global) -> Result<Scratch, NoMemory> {
         Ok(Scratch {
-            first: Vec::with_capacity(alloc, MOST_RUNS + 1)?,
-            second: Vec::with_capacity(alloc, MOST_RUNS + 1)?,
-            linked: Vec::with_capacity(alloc, LINKED_RUNS)?,
+            road: Vec::with_capacity(alloc, LINKED_RUNS)?,
             whole: Vec::with_capacity(alloc, MOST_RUNS + LINKED_RUNS)?,
         })
     }
 
-    /// About how much work was done with the last list, behind so much before: as many runs as were linked last and put together,
-    /// and twelve beside.
+    /// About how much work was done with the last list, behind so much before: as many runs as were put together, and twelve
+    /// beside.
     pub fn work_behind(&self, before: u64) -> u64 {
-        let runs = self.linked.len().saturating_add(self.whole.len());
-        before.saturating_add(runs as u64).saturating_add(12)
+        before
+            .saturating_add(self.whole.len() as u64)
+            .saturating_add(12)
     }
 }
 
@@ -70,66 +66,47 @@ fn check_few(runs: &[PackedRun]) -> Result<(), NoMemory> {
     Ok(())
 }
 
-// Writes the function of a way of a shortcut over what `linked` holds. False where no function of a half is known.
-fn link_way<W: Ways>(
+// Adds what an entry's way of a shortcut drives, from the entry's second until another, to what is put together. False, and all as
+// it was, where no function of a half is known.
+fn add_way<W: Ways>(
     ways: &W,
     store: &Store,
     scratch: &mut Scratch,
     shortcut: Shortcut,
-    way: Way,
+    entry: Entry,
+    until: u64,
 ) -> Result<bool, NoMemory>
     requires sound { IsHierarchy (W.hierarchy ways.now) }
     requires size { length store.now.known ≡ 2 * length (W.hierarchy ways.now).edges }
     requires knows { Knows (W.hierarchy ways.now) store.now.known }
-    requires way { IsWayOf (W.hierarchy ways.now) shortcut way }
-    ensures over_day { IfOk result (λ is_known. is_known ≡ true → IsDayList scratch.new.linked.items) }
-    ensures says { IfOk result (λ is_known. is_known ≡ true
-        → SaysWay (W.hierarchy ways.now) shortcut way 0 DAY scratch.new.linked.items) }
+    requires way { IsWayOf (W.hierarchy ways.now) shortcut entry.way }
+    requires some { entry.from < until }
+    requires in_day { until ≤ DAY }
+    ensures says { IfOk result (λ is_known. is_known ≡ true → (f : ℕ → ℕ)
+        → IsDrivenBy (W.hierarchy ways.now) shortcut entry.way entry.from until f
+        → SaysUpTo f scratch.old.whole.items entry.from → SaysUpTo f scratch.new.whole.items until) }
     ensures lacks { IfOk result (λ is_known. is_known ≡ false
-        → LacksHalf (W.hierarchy ways.now) store.now.known shortcut way) }
-    ensures whole { scratch.new.whole ≡ scratch.old.whole }
+        → LacksHalf (W.hierarchy ways.now) store.now.known shortcut entry.way) }
 {
-    match way {
+    let from = u64::from(entry.from);
+    match entry.way {
         Way::Road(road) => {
-            put_road(ways, road, &mut scratch.linked)?;
+            put_road(ways, road, &mut scratch.road)?;
+            add_runs(&scratch.road, from, until, &mut scratch.whole)?;
             Ok(true)
         }
         Way::Via(middle) => {
             let (first, second) = halves(ways, shortcut, middle);
-            let is_known = link_halves(ways, store, scratch, shortcut, middle, first, second)?;
-            Ok(is_known)
+            let Some(to) = store.brief(first.list()) else {
+                return Ok(false);
+            };
+            let Some(on) = store.brief(second.list()) else {
+                return Ok(false);
+            };
+            add_linked(&to, &on, from, until, &mut scratch.whole)?;
+            Ok(true)
         }
     }
-}
-
-// The same of a way by a middle with these halves.
-fn link_halves<W: Ways>(
-    ways: &W,
-    store: &Store,
-    scratch: &mut Scratch,
-    shortcut: Shortcut,
-    middle: u32,
-    first: Shortcut,
-    second: Shortcut,
-) -> Result<bool, NoMemory>
-    requires size { length store.now.known ≡ 2 * length (W.hierarchy ways.now).edges }
-    requires knows { Knows (W.hierarchy ways.now) store.now.known }
-    requires halves { AreHalves (W.hierarchy ways.now) shortcut middle first second }
-    ensures over_day { IfOk result (λ is_known. is_known ≡ true → IsDayList scratch.new.linked.items) }
-    ensures says { IfOk result (λ is_known. is_known ≡ true
-        → SaysWay (W.hierarchy ways.now) shortcut (Via middle) 0 DAY scratch.new.linked.items) }
-    ensures lacks { IfOk result (λ is_known. is_known ≡ false
-        → LacksHalf (W.hierarchy ways.now) store.now.known shortcut (Via middle)) }
-    ensures whole { scratch.new.whole ≡ scratch.old.whole }
-{
-    if !store.function(first.list(), &mut scratch.first)? {
-        return Ok(false);
-    }
-    if !store.function(second.list(), &mut scratch.second)? {
-        return Ok(false);
-    }
-    link(&scratch.first, &scratch.second, &mut scratch.linked)?;
-    Ok(true)
 }
 
 // The second of the day before which an entry of a shortcut's list holds.
@@ -159,21 +136,19 @@ fn put_together<W: Ways>(
     requires some { ways_of (W.hierarchy ways.now) shortcut ≢ [] }
     requires size { length store.now.known ≡ 2 * length (W.hierarchy ways.now).edges }
     requires knows { Knows (W.hierarchy ways.now) store.now.known }
+    requires empty { scratch.old.whole.items ≡ [] }
     ensures says { IfOk result (λ is_known. is_known ≡ true
         → SaysUpTo (list_drive (W.hierarchy ways.now) shortcut.edge shortcut.dir) scratch.new.whole.items day) }
     ensures lacks { IfOk result (λ is_known. is_known ≡ false
         → HasLackingWay (W.hierarchy ways.now) store.now.known shortcut) }
 {
-    scratch.whole.clear();
     'entries: for index in 0..ways.entries(shortcut.edge, shortcut.dir) {
         let entry = ways.entry(shortcut.edge, shortcut.dir, index);
         let until = end_of_entry(ways, shortcut, index);
-        if !link_way(ways, store, scratch, shortcut, entry.way)? {
+        check_few(&scratch.whole)?;
+        if !add_way(ways, store, scratch, shortcut, entry, until)? {
             return Ok(false);
         }
-        let from = u64::from(entry.from);
-        check_few(&scratch.whole)?;
-        add_runs(&scratch.linked, from, until, &mut scratch.whole)?;
     }
     Ok(true)
 }
@@ -198,6 +173,7 @@ pub fn make_list<W: Ways>(
     ensures made { IfOk result (IsMade (W.hierarchy ways.now) shortcut store.old store.new) }
     ensures err { OnErr result (store.new ≡ store.old) }
 {
+    scratch.whole.clear();
     if is_known(store, shortcut) {
         return Ok(Made::Known);
     }

@@ -5,6 +5,7 @@ pub mod BoundLaws
 pub mod Bounds
 pub mod BuiltWalks
 pub mod Candidates
+pub mod DayWalks
 pub mod Days
 pub mod EndsLaws
 pub mod EditExamples

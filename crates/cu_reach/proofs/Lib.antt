@@ -10,3 +10,4 @@ pub mod RangeLaws
 pub mod BuiltLaws
 pub mod Blanks
 pub mod Gathering
+pub mod AimLaws

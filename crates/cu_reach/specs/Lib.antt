@@ -5,3 +5,4 @@ pub mod ReachLines
 pub mod ReachTexts
 pub mod ReachAnswers
 pub mod Steps
+pub mod Aims

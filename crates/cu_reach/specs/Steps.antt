@@ -4,3 +4,4 @@ pub mod LineFields
 pub mod Parts
 pub mod TableFields
 pub mod Gathering
+pub mod Aiming

@@ -5,7 +5,10 @@ ghost use Rattle.std.specs.List.{range_with_len};
 ghost use Rattle.cu_elimtree.specs.SweepArcs.{parents_in};
 ghost use Rattle.cu_interval.specs.Hierarchies.{IsHierarchyOf};
 ghost use Rattle.cu_model.specs.declared.limits.TheConstants.{DAY, MAX_NODES};
-ghost use Rattle.cu_reach.specs.Reaching.{HoldsReached, IsAllWhereBuilt, reached, reached_by};
+ghost use Rattle.cu_reach.specs.declared.reaching.Reached.TheVariants.{Done};
+ghost use Rattle.cu_short.specs.Shortness.{NeverLong};
+ghost use Rattle.cu_reach.specs.Aims.{IsPath};
+ghost use Rattle.cu_reach.specs.Reaching.{HoldsLabelsOver, HoldsReached, IsAllWhereBuilt, calls_over, reached, reached_by};
 ghost use Rattle.cu_sweep.specs.Sweeps.{AddsAll, until_long};
 ghost use Rattle.cu_sweep.specs.ToAll.{reach_calls};
 
@@ -102,6 +105,46 @@ pub fn reach<R: Relaxer>(
     let ranks = &desk.ranks;
     let labels = &mut desk.labels;
     reached_of(labels.reach_all(tree, graph, relaxer, from, second, ranks))
+}
+
+/// From which rank a reach leaves, and at which second of the day.
+#[derive(Clone, Copy)]
+pub struct Start {
+    pub from: u32,
+    pub second: u32,
+}
+
+/// Labels the ranks of a path, which has all higher neighbours of its ranks, as [`reach`] would, where no walk is too long. Of the
+/// downward calls only those to its ranks are made. The other labels mean nothing. All else is as of [`reach`].
+pub fn reach_over<R: Relaxer>(
+    tree: &Tree,
+    graph: &Chordal,
+    desk: &mut ReachDesk,
+    relaxer: &mut R,
+    start: Start,
+    path: &[u32],
+)
+    requires from { start.from < graph.now.ranks }
+    requires second { start.second < DAY }
+    requires tree { tree.now ≡ parents_in graph.now }
+    requires desk { length desk.old ≡ graph.now.ranks }
+    requires graph { IsHierarchyOf graph.now (R.hierarchy relaxer.old) }
+    requires path { IsPath graph.now path.now }
+    requires short { NeverLong (R.hierarchy relaxer.old) }
+    ensures reached { reached (R.hierarchy relaxer.old) start.from start.second ≡ Done }
+    ensures told { AddsAll (R.calls relaxer.old) (R.calls relaxer.new)
+        (calls_over (R.hierarchy relaxer.old) start.from start.second path.now) }
+    ensures holds { HoldsLabelsOver (R.hierarchy relaxer.old) start.from start.second
+        path.now desk.new }
+    ensures nodes { length desk.new ≡ length desk.old }
+    ensures stays { R.hierarchy relaxer.new ≡ R.hierarchy relaxer.old }
+{
+    let Start { from, second } = start;
+    let labels = &mut desk.labels;
+    labels.begin(tree, from, second, path);
+    // Neither pass ends early, since no walk is too long.
+    let _none = labels.sweep_up(tree, graph, relaxer, from);
+    let _none = labels.sweep_down(graph, relaxer, path);
 }
 
 // That the reach is done, or ended with this call.

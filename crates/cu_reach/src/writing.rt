@@ -5,7 +5,7 @@ ghost use Rattle.std.specs.List.{range_with_len};
 ghost use Rattle.cu_io.specs.Sinks.{Wrote};
 ghost use Rattle.cu_reach.specs.declared.block.TheConstants.{LONGEST, SIZE};
 ghost use Rattle.cu_reach.specs.declared.reaching.Reached.TheVariants.{Done};
-ghost use Rattle.cu_reach.specs.Reaching.{HoldsLabels, HoldsReached};
+ghost use Rattle.cu_reach.specs.Reaching.{HoldsLabels, HoldsReached, HoldsTimes};
 ghost use Rattle.cu_reach.specs.ReachTexts.{damage_text, dir_text, reach_text, row_then, time_text, times_at, times_text};
 ghost use Rattle.cu_reach.specs.Steps.Gathering.{Gathered};
 
@@ -93,8 +93,11 @@ fn put_all_times<W: Ways, K: Sink>(
     put_all(sink, block.text())
 }
 
-// Writes the times of these nodes.
-fn put_times<W: Ways, K: Sink>(
+/// Writes the row of a table of which the times of these nodes are known: for each a blank and when the reach comes to it, or `-`.
+/// Nodes and desk are of the hierarchy, and no other reach was made on the desk since. Takes no memory.
+///
+/// Refused only where a write is: the count of faults rose, and some first bytes of the text were written.
+pub fn put_times<W: Ways, K: Sink>(
     ways: &W,
     desk: &ReachDesk,
     nodes: NodeFields<'_>,
@@ -102,7 +105,8 @@ fn put_times<W: Ways, K: Sink>(
 ) -> Result<(), SinkFailed>
     requires desk { length desk.now ≡ (W.hierarchy ways.now).network.nodes }
     requires nodes { All (λ node. node < (W.hierarchy ways.now).network.nodes) nodes }
-    ensures wrote { (from second : ℕ) → HoldsLabels (W.hierarchy ways.now) from second desk.now
+    ensures wrote { (from second : ℕ)
+        → HoldsTimes (W.hierarchy ways.now) from second nodes.entry desk.now
         → Wrote (K.state sink.old) (K.state sink.new) result
         (times_text (times_at (W.hierarchy ways.now) from second nodes.entry)) }
 {

@@ -18,7 +18,8 @@ use Rattle.cu_recall.specs.Spans.{IsListFrom, WalkTakes}
 use Rattle.cu_recall.specs.Windows.{HoldsDriven}
 use Rattle.cu_recall.specs.Steps.InWork.{Unpacks}
 use Rattle.cu_recall.specs.Steps.Looks.{IsAsked, edge_asked}
-use Rattle.cu_recall.proofs.DayWalks.{takes_on, walk_on}
+use Rattle.cu_interval.proofs.DayWalks.{walk_on}
+use Rattle.cu_recall.proofs.DayWalks.{takes_on}
 use Rattle.cu_recall.proofs.ListEnds.{edge_entries, edge_list, list_apart, number_dir, number_edge}
 
 -- a walk has a road, and takes no more than eight days for each

@@ -14,7 +14,7 @@ use Rattle.cu_recall.specs.Spans.{IsListFrom}
 use Rattle.cu_recall.specs.Steps.Looks.{edge_asked}
 use Rattle.cu_recall.specs.Steps.Walks.{IsShortWalk}
 use Rattle.cu_recall.proofs.Answering.{relaxed_list}
-use Rattle.cu_recall.proofs.DayWalks.{walk_on}
+use Rattle.cu_interval.proofs.DayWalks.{walk_on}
 use Rattle.cu_recall.proofs.ListEnds.{edge_list, number_dir, number_edge}
 
 -- where a list arrives it has a way, and its walk is short

@@ -1,7 +1,7 @@
 -- When the parts of a walk are entered, of which only the seconds of the day are asked.
-use Rattle.std.proofs.Common.{◌≡◌, ◌+◌, ◌*◌, ◌/◌, ◌%◌, ◌∙◌, ℕ, List, [], ◌∷◌, ◌++◌, Bool, false, get_or, take, drop, refl, ap, subst, sym, arith, length, ◌≤◌, ◌<◌}
+use Rattle.std.proofs.Common.{◌≡◌, ◌+◌, ◌*◌, ◌/◌, ◌%◌, ◌∙◌, ℕ, List, [], ◌∷◌, ◌++◌, Bool, Option, Some, None, false, get_or, take, drop, refl, ap, subst, sym, arith, length, ◌≤◌, ◌<◌}
 use Rattle.std.specs.Borrow.{Bor}
-use Rattle.std.specs.Prelude.{All}
+use Rattle.std.specs.Prelude.{All, IfSome}
 use Rattle.std.proofs.lemmas.List.{drop_more, take-append-drop, take_more}
 use Rattle.std.proofs.lemmas.Nat.{div-add-mod'}
 use Rattle.cu_model.specs.Networks.{NetworkValue}
@@ -14,7 +14,7 @@ use Rattle.cu_drive.specs.RoadTexts.{driven_text, first_after}
 use Rattle.cu_drive.proofs.DrivenTexts.{text_cut, text_more}
 use Rattle.cu_recall.specs.declared.walking.WalkPart.{WalkPart}
 use Rattle.cu_recall.specs.declared.walking.WalkPart.TheVariants as walked
-use Rattle.cu_recall.specs.Steps.Walks.{DrivesPart, IsOpenRoad, roads_of}
+use Rattle.cu_recall.specs.Steps.Walks.{DrivesPart, IsOpenRoad, TakesEachDay, roads_of}
 
 -- a part that is entered at this second of a day arrives as many days later as it is entered
 pub arrives_on : (h : HierarchyValue) (entered t : ℕ) (found : WalkPart) → DrivesPart h t found → entered % day ≡ t
@@ -61,8 +61,24 @@ road_later h at found road travel drives is =
     )
 
 -- the roads of a sequence can be driven
-pub sequence_open : (h : HierarchyValue) (t : ℕ) (found : WalkPart) (roads : Bor (List ℕ)) → DrivesPart h t found → found ≡ walked.Sequence roads → All (IsOpenRoad h.network) roads.now
-sequence_open h t found roads drives is = (subst (DrivesPart h t) is drives).roads
+pub sequence_open : (h : HierarchyValue) (t : ℕ) (found : WalkPart) (roads : Bor (List ℕ)) (travel : Option ℕ) → DrivesPart h t found → found ≡ walked.Sequence roads travel
+    → All (IsOpenRoad h.network) roads.now
+sequence_open h t found roads travel drives is = (subst (DrivesPart h t) is drives).roads.0
+
+taken_later : (g : NetworkValue) (at : ℕ) (roads : List ℕ) (travel : Option ℕ) → IfSome travel (TakesEachDay g (at % day) roads)
+    → IfSome travel (λ (seconds : ℕ). drive g roads at ≡ at + seconds)
+taken_later g at roads None takes = takes
+taken_later g at roads (Some seconds) takes =
+    let k = at / day in
+    let e : k * day + at % day ≡ at = div-add-mod' at day in
+    let later : k * day + (at % day + seconds) ≡ at + seconds = omega (arith, e) in
+    subst (λ (n : ℕ). drive g roads n ≡ k * day + (at % day + seconds)) e (takes k) ∙ later
+
+-- they arrive as much later as is said of them, where it is
+pub sequence_later : (h : HierarchyValue) (at : ℕ) (found : WalkPart) (roads : Bor (List ℕ)) (travel : Option ℕ) → DrivesPart h (at % day) found → found ≡ walked.Sequence roads travel
+    → IfSome travel (λ (seconds : ℕ). drive h.network roads.now at ≡ at + seconds)
+sequence_later h at found roads travel drives is =
+    taken_later h.network at roads.now travel (subst (DrivesPart h (at % day)) is drives).roads.1
 
 -- one more road of those that are driven
 pub taken_more : (roads : List ℕ) (i road : ℕ) → i < length roads → road ≡ get_or roads i road → take (i + 1) roads ≡ take i roads ++ (road ∷ [])
@@ -101,3 +117,22 @@ pub driven_more : (g : NetworkValue) (roads : List ℕ) (i road at entered : ℕ
     → arc_value g road entered ≡ drive g (take (i + 1) roads) at
 driven_more g roads i road at entered lt is here =
     ap (arc_value g road) here ∙ sym (drive-append g (take i roads) (road ∷ []) at) ∙ sym (ap (λ (d : List ℕ). drive g d at) (taken_more roads i road lt is))
+
+-- where the same is written of a road whenever it is entered, one more of those that are written
+pub alike_more : (text : Bool → ℕ → ℕ → List ℕ) → ((begins : Bool) (road s t : ℕ) → text begins road s ≡ text begins road t)
+    → (g : NetworkValue) (begins first : Bool) (roads : List ℕ) (i road at : ℕ) → i < length roads → road ≡ get_or roads i road → first ≡ first_after begins (take i roads)
+    → driven_text text g begins (take i roads) at ++ text first road at ≡ driven_text text g begins (take (i + 1) roads) at
+alike_more text alike g begins first roads i road at lt is same =
+    let before = driven_text text g begins (take i roads) at in
+    let entered = drive g (take i roads) at in
+    ap (λ (w : List ℕ). before ++ w) (alike first road at entered) ∙ written_more text g begins first roads i road at entered lt is same refl
+
+-- and where a write fails
+pub alike_cut : (text : Bool → ℕ → ℕ → List ℕ) → ((begins : Bool) (road s t : ℕ) → text begins road s ≡ text begins road t)
+    → (g : NetworkValue) (begins first : Bool) (roads : List ℕ) (i road at : ℕ) → i < length roads → road ≡ get_or roads i road → first ≡ first_after begins (take i roads)
+    → (rest : List ℕ) × (driven_text text g begins (take i roads) at ++ (text first road at ++ rest) ≡ driven_text text g begins roads at)
+alike_cut text alike g begins first roads i road at lt is same =
+    let before = driven_text text g begins (take i roads) at in
+    let entered = drive g (take i roads) at in
+    let rest = driven_text text g false (drop (i + 1) roads) (arc_value g road entered) in
+    (rest, ap (λ (w : List ℕ). before ++ (w ++ rest)) (alike first road at entered) ∙ written_cut text g begins first roads i road at entered lt is same refl)

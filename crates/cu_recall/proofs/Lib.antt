@@ -16,3 +16,4 @@ pub mod Tops
 pub mod Unpacks
 pub mod DownLaws
 pub mod Entering
+pub mod StoredTravels

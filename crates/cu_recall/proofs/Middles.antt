@@ -17,7 +17,7 @@ use Rattle.cu_recall.specs.declared.spans.Parts.{Parts}
 use Rattle.cu_recall.specs.declared.spans.Parts.TheVariants as part
 use Rattle.cu_recall.specs.Spans.{HoldsParts, IsListFrom, low_of}
 use Rattle.cu_recall.specs.Steps.Looks.{IsMetAt, edge_asked}
-use Rattle.cu_recall.proofs.DayWalks.{way_days}
+use Rattle.cu_interval.proofs.DayWalks.{way_days}
 use Rattle.cu_recall.proofs.ListEnds.{edge_entries, edge_list, list_low}
 
 module _ (h : HierarchyValue) (f : IsHierarchy h) (edge : ℕ) (dir : Dir) (t : ℕ) (inside : edge < length h.edges) (met : Met) (is_met : IsMetAt h (edge_asked edge dir t) met) where

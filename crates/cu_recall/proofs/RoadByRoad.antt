@@ -36,8 +36,8 @@ use Rattle.cu_recall.specs.declared.walking.WalkSpot.{WalkSpot}
 use Rattle.cu_recall.specs.Spans.{HasMoment, HoldsMet, HoldsParts, IsListFrom, Knows, WalkTakes, dir_of, low_of_list, met_of}
 use Rattle.cu_recall.specs.Windows.{HoldsDriven}
 use Rattle.cu_recall.specs.Steps.Looks.{IsAsked, IsMetAt}
-use Rattle.cu_recall.specs.Steps.Walks.{AreWaiting, DrivesPart, FindsPart, HoldsGlance, HoldsTravel, IsAt, IsNext, IsOpenRoad, IsSomewhere, Waits, next_asked}
-use Rattle.cu_recall.proofs.DayWalks.{drive_days, walk_days}
+use Rattle.cu_recall.specs.Steps.Walks.{AreWaiting, DrivesPart, FindsPart, HoldsGlance, HoldsTravel, IsAt, IsNext, IsOpenRoad, IsSomewhere, TakesEachDay, Waits, next_asked}
+use Rattle.cu_interval.proofs.DayWalks.{drive_days, walk_days}
 use Rattle.cu_sequences.specs.Kept.{AreSequences, SequencesValue}
 use Rattle.cu_sequences.specs.Sequences.{IsSequence}
 use Rattle.cu_recall.proofs.ListEnds.{list_apart, list_inside, list_low, number_back}
@@ -244,10 +244,26 @@ sequence_of h kept list roads are read u v (ends, at, from, to) =
     let is = read h (list / 2) (dir_of list) ends are (number_back list) at in
     subst (λ (x : ℕ). IsSequence h u x roads.now) (sym to) (subst (λ (x : ℕ). IsSequence h x (end_of ends (dir_of list)) roads.now) (sym from) is)
 
+-- a list's walk from rank to rank takes as long as is said of the list
+taken_from : (h : HierarchyValue) (list u v t : ℕ) (travel : Option ℕ) → IsListFrom h list u v → IfSome travel (HoldsTravel h list t)
+    → IfSome travel (λ (seconds : ℕ). drive h.network (unpacked_walk h u v t) t ≡ t + seconds)
+taken_from h list u v t None here takes = takes
+taken_from h list u v t (Some seconds) here takes = let (roads, so) = takes u v here in so.2
+
+-- and so do these roads, where they are its walk, on any day
+takes_each_day : (h : HierarchyValue) (u v t : ℕ) (roads : List ℕ) (travel : Option ℕ) → unpacked_walk h u v t ≡ roads
+    → ((k : ℕ) → drive h.network roads (k * day + t) ≡ k * day + drive h.network roads t)
+    → IfSome travel (λ (seconds : ℕ). drive h.network (unpacked_walk h u v t) t ≡ t + seconds) → IfSome travel (TakesEachDay h.network t roads)
+takes_each_day h u v t roads None walk days takes = takes
+takes_each_day h u v t roads (Some seconds) walk days takes =
+    let arrives : drive h.network roads t ≡ t + seconds = ap (λ (w : List ℕ). drive h.network w t) (sym walk) ∙ takes in
+    λ k. days k ∙ ap (λ (n : ℕ). k * day + n) arrives
+
 -- a list that has the same roads at every second is found
 module _ (h : HierarchyValue) (f : IsHierarchy h) (waiting : List Glance) (spot : WalkSpot) (leg : Leg) (legs : List Leg) (went : WentDown h leg legs spot.second waiting spot)
-    (roads : Bor (List ℕ)) (sequence : (u v : ℕ) → IsListFrom h spot.next.list u v → IsSequence h u v roads.now) where
-  pub sequence_found : FindsPart h leg legs spot.second waiting (record { part = walked.Sequence roads; waiting = spot.waiting })
+    (roads : Bor (List ℕ)) (travel : Option ℕ) (sequence : (u v : ℕ) → IsListFrom h spot.next.list u v → IsSequence h u v roads.now)
+    (takes : IfSome travel (HoldsTravel h spot.next.list spot.second)) where
+  pub sequence_found : FindsPart h leg legs spot.second waiting (record { part = walked.Sequence roads travel; waiting = spot.waiting })
   sequence_found =
       let t = spot.second in
       let (some, walk) = sequence went.next.from went.next.to went.place.list in
@@ -258,7 +274,7 @@ module _ (h : HierarchyValue) (f : IsHierarchy h) (waiting : List Glance) (spot 
         omega (arith, room),
       )
 
-  pub sequence_drives : DrivesPart h spot.second (walked.Sequence roads)
+  pub sequence_drives : DrivesPart h spot.second (walked.Sequence roads travel)
   sequence_drives =
       let g = h.network in
       let t = spot.second in
@@ -269,11 +285,12 @@ module _ (h : HierarchyValue) (f : IsHierarchy h) (waiting : List Glance) (spot 
       let apart = list_apart h f spot.next.list u v here in
       let low = subst (λ (w : List ℕ). IsLowWalk g h.order u w v) (walk t) (unpacked-low h f u v t apart some) in
       let one = low_some g h.order u roads.now v low in
+      let days : (k : ℕ) → drive g roads.now (k * day + t) ≡ k * day + drive g roads.now t = λ k. below-days g h.order f.network (min u v) u roads.now v k t low.1 in
       record {
         some = omega (arith, one);
         near = below-near g h.order f.network (min u v) u roads.now v t low.1;
-        days = λ k. below-days g h.order f.network (min u v) u roads.now v k t low.1;
-        roads = open_below h (min u v) u roads.now v low.1;
+        days = days;
+        roads = (open_below h (min u v) u roads.now v low.1, takes_each_day h u v t roads.now travel (walk t) days (taken_from h spot.next.list u v t travel here takes));
       }
 
 -- what is known of driving a list says how long its walk takes

@@ -20,7 +20,7 @@ use Rattle.cu_recall.specs.declared.pending.Spot.{Spot}
 use Rattle.cu_recall.specs.Spans.{IsListFrom}
 use Rattle.cu_recall.specs.Steps.Looks.{HoldsParted, HoldsSeen}
 use Rattle.cu_recall.specs.Steps.InWork.{AreInWork, IsAt, IsHalf, IsParted, roads_before}
-use Rattle.cu_recall.proofs.DayWalks.{walk_days}
+use Rattle.cu_interval.proofs.DayWalks.{walk_days}
 use Rattle.cu_recall.proofs.ListEnds.{list_room}
 
 -- lists in work stay so where more is written above them

@@ -5,7 +5,9 @@
 //! unpacking, and in a built hierarchy those over all low walks, whatever its [`Room`] holds of earlier relaxations, as long
 //! as that is so of the hierarchy (`Fits` in `specs/Rooms.antt`). It writes the walk of one that arrives, by what the room
 //! holds, each road as a form of `cu_drive` says; a list that has the same roads at every second is written at once, by the sequences
-//! of `cu_sequences` that it is lent. It takes no memory, and gives its room back.
+//! of `cu_sequences` that it is lent, and where the form doesn't tell seconds these roads aren't driven: when they arrive is asked only
+//! where a list waits behind them, and told by the functions of `cu_store` that it is lent, as far as these are known. It takes no
+//! memory, and gives its room back.
 //!
 //! A [`Row`] has, for one list, up to four [`Span`]s, over each of which the list's walk takes as long over as many roads,
 //! and an entry that was [`Met`]. Each is a fact of the hierarchy alone (`Knows` in `specs/Spans.antt`), so no query
@@ -25,7 +27,8 @@
 //! its middles until each part is known or a road, while others wait (`pending`); `walking` parts it until each part is a road
 //! or has a sequence, which it writes. What only private functions cite is in `specs/Steps`.
 //!
-//! It stands on `cu_model`, `cu_io`, `cu_drive`, `cu_chordal`, `cu_interval`, `cu_sequences`, `cu_unpack` and `cu_pack`.
+//! It stands on `cu_model`, `cu_io`, `cu_drive`, `cu_arrival`, `cu_chordal`, `cu_interval`, `cu_sequences`, `cu_store`, `cu_unpack` and
+//! `cu_pack`.
 #![tactic(auto)]
 
 mod downs;

@@ -1,6 +1,6 @@
 //! Relaxations over a packed file that remember.
 
-ghost use Rattle.std.specs.Prelude.{◌≡◌, ◌≤◌, ◌<◌, ◌+◌, ◌%◌, ◌^◌, ℕ, None, length};
+ghost use Rattle.std.specs.Prelude.{◌≡◌, ◌≤◌, ◌<◌, ◌+◌, ◌*◌, ◌%◌, ◌^◌, ℕ, None, length};
 ghost use Rattle.cu_io.specs.Sinks.{Wrote};
 ghost use Rattle.cu_model.specs.Days.{day};
 ghost use Rattle.cu_chordal.specs.declared.graph.TheConstants.{MAX_EDGES};
@@ -14,15 +14,16 @@ ghost use Rattle.cu_recall.specs.Rooms.{Fits};
 ghost use Rattle.cu_recall.specs.Spans.{IsListFrom};
 ghost use Rattle.cu_recall.specs.Windows.{HoldsDriven};
 ghost use Rattle.cu_recall.specs.Steps.Looks.{edge_asked};
-ghost use Rattle.cu_recall.specs.Steps.Walks.{IsShortWalk};
+ghost use Rattle.cu_recall.specs.Steps.Walks.{IsGround, IsShortWalk};
 ghost use Rattle.cu_sequences.specs.Kept.{AreSequences};
+ghost use Rattle.cu_store.specs.Known.{Knows};
 
 use crate::looking::known;
 use crate::pending::Asked;
 use crate::room::{Room, make_rows};
 use crate::spans::Driven;
 use crate::unpacking::unpack;
-use crate::walking::{WalkStart, write_walk};
+use crate::walking::{Ground, WalkStart, write_walk};
 use cu_chordal::Chordal;
 use cu_drive::WalkForm;
 use cu_interval::{BoundedWays, Call, Dir, Relaxed, Relaxer, Shortcut, Ways};
@@ -30,6 +31,7 @@ use cu_io::{Sink, SinkFailed};
 use cu_model::{DAY, Roads};
 use cu_pack::PackedView;
 use cu_sequences::Sequences;
+use cu_store::Store;
 use cu_unpack::Walker;
 use std::marker::Model;
 
@@ -40,13 +42,16 @@ pub struct Recall<'a> {
     view: &'a PackedView<'a>,
     graph: &'a Chordal,
     sequences: &'a Sequences,
+    store: &'a Store,
     room: Room,
 }
 
 impl<'a> Model for Recall<'a> {
     ghost use Rattle.cu_interval.specs.Hierarchies.{HierarchyValue, IsHierarchyOf};
     ghost use Rattle.cu_recall.specs.Rooms.{Fits};
+    ghost use Rattle.std.specs.Prelude.{◌≡◌, ◌*◌, length};
     ghost use Rattle.cu_sequences.specs.Kept.{AreSequences};
+    ghost use Rattle.cu_store.specs.Known.{Knows};
 
     ghost Value = { HierarchyValue };
 
@@ -54,20 +59,26 @@ impl<'a> Model for Recall<'a> {
 
     ghost invariant = { λ recall. IsHierarchyOf recall.graph.now recall.view.now
         × Fits recall.view.now recall.room
-        × AreSequences recall.view.now recall.sequences.now };
+        × AreSequences recall.view.now recall.sequences.now
+        × (length recall.store.now.known ≡ 2 * length recall.view.now.edges)
+        × Knows recall.view.now recall.store.now.known };
 }
 
 impl<'a> Recall<'a> {
-    /// Relaxations over this file, whose graph this is, by sequences of its lists, with room that was made for as many nodes and
-    /// edges, and knows nothing but what is so of its hierarchy. Takes no memory.
+    /// Relaxations over this file, whose graph this is, with room that was made for as many nodes and edges; walks are written by
+    /// sequences of its lists and by a store of their functions. All of these know nothing but what is so of its hierarchy. Takes no
+    /// memory.
     pub fn new(
         view: &'a PackedView<'a>,
         graph: &'a Chordal,
         sequences: &'a Sequences,
+        store: &'a Store,
         room: Room,
     ) -> Recall<'a>
         requires graph { IsHierarchyOf graph.now view.now }
         requires sequences { AreSequences view.now sequences.now }
+        requires size { length store.now.known ≡ 2 * length view.now.edges }
+        requires knows { Knows view.now store.now.known }
         requires fits { Fits view.now room }
         ensures view { result ≡ view.now }
     {
@@ -75,6 +86,7 @@ impl<'a> Recall<'a> {
             view,
             graph,
             sequences,
+            store,
             room,
         }
     }
@@ -125,16 +137,20 @@ impl<'a> Walker for Recall<'a> {
         form: &P,
         sink: &mut K,
     ) -> Result<(), SinkFailed> {
-        let view = self.view;
-        let graph = self.graph;
-        let sequences = self.sequences;
+        let ground = Ground {
+            view: self.view,
+            graph: self.graph,
+            sequences: self.sequences,
+            store: self.store,
+        };
         let room = &mut self.room;
         let asked = asked_of(call.edge, call.dir, call.second);
         let start = WalkStart {
             asked,
             at: call.second,
+            first,
         };
-        walk_in(view, graph, sequences, room, start, first, form, sink)
+        walk_in(&ground, room, start, form, sink)
     }
 }
 
@@ -173,33 +189,26 @@ pub fn relax_over(
 
 // Writes the walk of a list, in the room's places.
 fn walk_in<P: WalkForm, K: Sink>(
-    view: &PackedView<'_>,
-    graph: &Chordal,
-    sequences: &Sequences,
+    ground: &Ground<'_>,
     room: &mut Room,
     start: WalkStart,
-    first: bool,
     form: &P,
     sink: &mut K,
 ) -> Result<(), SinkFailed>
-    requires graph { graph.now ≡ graph_of view.now }
-    requires short { IsShortWalk view.now start.asked }
+    requires ground { IsGround ground.now }
+    requires short { IsShortWalk ground.now.view.now start.asked }
     requires at { start.at % day ≡ start.asked.second }
     requires time { start.at < 2 ^ 61 }
-    requires sequences { AreSequences view.now sequences.now }
-    requires fits { Fits view.now room.old }
-    requires sound { IsHierarchy view.now }
-    ensures wrote { (u v : ℕ) → IsListFrom view.now start.asked.list u v
+    requires fits { Fits ground.now.view.now room.old }
+    ensures wrote { (u v : ℕ) → IsListFrom ground.now.view.now start.asked.list u v
         → Wrote (K.state sink.old) (K.state sink.new) result
-        (driven_text (P.text form.now) view.now.network first
-        (unpacked_walk view.now u v start.asked.second) start.at) }
-    ensures fits { Fits view.now room.new }
+        (driven_text (P.text form.now) ground.now.view.now.network start.first
+        (unpacked_walk ground.now.view.now u v start.asked.second) start.at) }
+    ensures fits { Fits ground.now.view.now room.new }
 {
     make_rows(&mut room.rows, room.lists);
     let (rows, waiting) = (&mut room.rows, &mut room.waiting);
-    write_walk(
-        view, graph, sequences, rows, waiting, start, first, form, sink,
-    )
+    write_walk(ground, rows, waiting, start, form, sink)
 }
 
 /// The list of an edge in a direction, asked at the second of the day of an absolute second.

@@ -1,9 +1,10 @@
 //! Writing the walk of a list: it is parted at its middles until its next part is found, a road or a list that has the same roads at
 //! every second, which is written, and so on.
 
-ghost use Rattle.std.specs.Prelude.{◌≡◌, ◌≤◌, ◌<◌, ◌+◌, ◌*◌, ◌%◌, ◌^◌, ℕ, All, IfOk, List, length};
+ghost use Rattle.std.specs.Prelude.{◌≡◌, ◌≤◌, ◌<◌, ◌+◌, ◌*◌, ◌%◌, ◌^◌, ℕ, All, Bool, IfOk, IfSome, List, length};
 ghost use Rattle.cu_model.specs.declared.limits.TheConstants.{MAX_UNTIL};
 ghost use Rattle.cu_model.specs.Days.{day};
+ghost use Rattle.cu_model.specs.Networks.{NetworkValue};
 ghost use Rattle.cu_model.specs.Roads.{drive};
 ghost use Rattle.cu_io.specs.Sinks.{Wrote};
 ghost use Rattle.cu_interval.specs.declared.shortcuts.Leg.{Leg};
@@ -13,8 +14,7 @@ ghost use Rattle.cu_drive.specs.RoadTexts.{driven_text};
 ghost use Rattle.cu_recall.specs.declared.spans.Parts.TheVariants as part;
 ghost use Rattle.cu_recall.specs.Spans.{IsListFrom, Knows, low_of_list};
 ghost use Rattle.cu_recall.specs.Steps.Looks.{IsAsked, IsMetAt};
-ghost use Rattle.cu_recall.specs.Steps.Walks.{DrivesPart, FindsPart, HoldsGlance, HoldsTravel, IsAt, IsNext, IsOpenRoad, IsShortWalk, IsSomewhere, Resumes, Waits, next_asked, roads_of};
-ghost use Rattle.cu_sequences.specs.Kept.{AreSequences};
+ghost use Rattle.cu_recall.specs.Steps.Walks.{DrivesPart, FindsPart, HoldsGlance, HoldsTravel, IsAt, IsGround, IsNext, IsOpenRoad, IsShortWalk, IsSomewhere, Resumes, Waits, next_asked, roads_of};
 
 use crate::kept::Kept;
 use crate::looking::{drive_met, known, met_at};
@@ -26,6 +26,17 @@ use cu_io::{Sink, SinkFailed};
 use cu_model::{DAY, Roads};
 use cu_pack::PackedView;
 use cu_sequences::Sequences;
+use cu_store::{Found, Store};
+
+/// What walks are written over: a file, whose graph this is, and what is known of its lists beside it: the roads of those that have
+/// the same ones at every second, and when lists arrive.
+#[derive(Clone, Copy)]
+pub struct Ground<'a> {
+    pub view: &'a PackedView<'a>,
+    pub graph: &'a Chordal,
+    pub sequences: &'a Sequences,
+    pub store: &'a Store,
+}
 
 /// A list, with the entry that its row met last, and a list below it with what its row met. When a list is parted the rows of both
 /// halves are read, and the row of the second half's own first half, so that the processor fetches all three at once.
@@ -37,11 +48,13 @@ pub struct Glance {
     pub below_met: Kept,
 }
 
-/// Where a walk begins: its list, asked at the second of the day of an absolute second.
+/// Where a walk begins: its list, asked at the second of the day of an absolute second, and whether its first road is the first of
+/// all.
 #[derive(Clone, Copy)]
 pub struct WalkStart {
     pub asked: Asked,
     pub at: u64,
+    pub first: bool,
 }
 
 /// Where a walk stands: the list that is next, the second of the day at which it is asked, and how many wait behind it.
@@ -52,11 +65,18 @@ pub struct WalkSpot {
     pub waiting: usize,
 }
 
-/// A part of a walk: one road and how long it takes, or the roads of a list that has the same ones at every second.
+/// A part of a walk: one road and how long it takes; or the roads of a list that has the same ones at every second, and how long they
+/// take, where that was asked for and is known.
 #[derive(Clone, Copy)]
 pub enum WalkPart<'a> {
-    Road { road: u32, travel: u64 },
-    Sequence(&'a [u32]),
+    Road {
+        road: u32,
+        travel: u64,
+    },
+    Sequence {
+        roads: &'a [u32],
+        travel: Option<u64>,
+    },
 }
 
 /// The next part of a walk, and how many lists wait behind it.
@@ -79,37 +99,33 @@ impl Glance {
 /// Writes the roads of the walk of a list, each as the form says of it and of the absolute second at which it is entered. The walk
 /// has fewer roads than there are nodes.
 pub fn write_walk<P: WalkForm, K: Sink>(
-    view: &PackedView<'_>,
-    graph: &Chordal,
-    sequences: &Sequences,
+    ground: &Ground<'_>,
     rows: &mut [Row],
     waiting: &mut [Glance],
     start: WalkStart,
-    first: bool,
     form: &P,
     sink: &mut K,
 ) -> Result<(), SinkFailed>
-    requires graph { graph.now ≡ graph_of view.now }
-    requires short { IsShortWalk view.now start.asked }
+    requires ground { IsGround ground.now }
+    requires short { IsShortWalk ground.now.view.now start.asked }
     requires at { start.at % day ≡ start.asked.second }
     requires time { start.at < 2 ^ 61 }
-    requires size { length rows.old ≡ 2 * length view.now.edges }
-    requires room { length waiting.old ≡ view.now.network.nodes }
-    requires knows { Knows view.now rows.old }
-    requires sequences { AreSequences view.now sequences.now }
-    requires sound { IsHierarchy view.now }
-    ensures wrote { (u v : ℕ) → IsListFrom view.now start.asked.list u v
+    requires size { length rows.old ≡ 2 * length ground.now.view.now.edges }
+    requires room { length waiting.old ≡ ground.now.view.now.network.nodes }
+    requires knows { Knows ground.now.view.now rows.old }
+    ensures wrote { (u v : ℕ) → IsListFrom ground.now.view.now start.asked.list u v
         → Wrote (K.state sink.old) (K.state sink.new) result
-        (driven_text (P.text form.now) view.now.network first
-        (unpacked_walk view.now u v start.asked.second) start.at) }
-    ensures knows { Knows view.now rows.new }
+        (driven_text (P.text form.now) ground.now.view.now.network start.first
+        (unpacked_walk ground.now.view.now u v start.asked.second) start.at) }
+    ensures knows { Knows ground.now.view.now rows.new }
 {
-    let mut spot = begin(sequences, rows, start.asked);
-    let mut first = first;
+    let alike = !form.tells_seconds();
+    let mut spot = begin(ground.sequences, rows, start.asked);
+    let mut first = start.first;
     let mut entered = start.at;
-    'parts: for _number in 1..view.nodes() {
-        let found = next_part(view, graph, sequences, rows, waiting, spot);
-        entered = put_part(view, found.part, entered, first, form, sink)?;
+    'parts: for _number in 1..ground.view.nodes() {
+        let found = next_part(ground, rows, waiting, spot, alike);
+        entered = put_part(ground.view, found, entered, first, form, sink)?;
         first = false;
         let second = second_of(entered);
         let Some(next) = resume(waiting, found.waiting, second) else {
@@ -129,34 +145,102 @@ fn second_of(at: u64) -> u32
 }
 
 // Writes the roads of a part of a walk, each as the form says of it and of the absolute second at which it is entered, and answers
-// when the last one arrives.
+// when the last one arrives, where a list waits behind them: else nobody asks for it.
 #[inline(always)]
 fn put_part<P: WalkForm, K: Sink>(
     view: &PackedView<'_>,
-    part: WalkPart<'_>,
+    found: NextPart<'_>,
     at: u64,
     first: bool,
     form: &P,
     sink: &mut K,
 ) -> Result<u64, SinkFailed>
-    requires drives { DrivesPart view.now (at % day) part }
-    requires time { at + MAX_UNTIL * length (roads_of part) ≤ 2 ^ 62 }
+    requires drives { DrivesPart view.now (at % day) found.part }
+    requires time { at + MAX_UNTIL * length (roads_of found.part) ≤ 2 ^ 62 }
     requires sound { IsHierarchy view.now }
     ensures wrote { Wrote (K.state sink.old) (K.state sink.new) result
-        (driven_text (P.text form.now) view.now.network first (roads_of part.entry) at) }
-    ensures arrival { IfOk result (λ arrival. arrival
-        ≡ drive view.now.network (roads_of part.entry) at) }
+        (driven_text (P.text form.now) view.now.network first (roads_of found.entry.part) at) }
+    ensures arrival { IfOk result (λ arrival. 0 < found.entry.waiting → arrival
+        ≡ drive view.now.network (roads_of found.entry.part) at) }
 {
-    match part {
+    match found.part {
         WalkPart::Road { road, travel } => {
             form.put(road, at, first, sink)?;
             Ok(at + travel)
         }
-        WalkPart::Sequence(roads) => put_roads(view, roads, at, first, form, sink),
+        WalkPart::Sequence { roads, travel } => {
+            if form.tells_seconds() {
+                return put_roads(view, roads, at, first, form, sink);
+            }
+            put_alike(roads, at, first, form, sink)?;
+            Ok(arrival_of(view, roads, at, travel, found.waiting))
+        }
     }
 }
 
-// The same of roads that are driven one after the other.
+// Writes roads of which the form says the same whenever they are entered.
+fn put_alike<P: WalkForm, K: Sink>(
+    roads: &[u32],
+    at: u64,
+    first: bool,
+    form: &P,
+    sink: &mut K,
+) -> Result<(), SinkFailed>
+    requires alike { (begins : Bool) (road s t : ℕ)
+        → P.text form.now begins road s ≡ P.text form.now begins road t }
+    requires time { at ≤ 2 ^ 62 }
+    ensures wrote { (g : NetworkValue) → Wrote (K.state sink.old) (K.state sink.new) result
+        (driven_text (P.text form.now) g first roads.now at) }
+{
+    let mut first = first;
+    'roads: for road in roads {
+        form.put(*road, at, first, sink)?;
+        first = false;
+    }
+    Ok(())
+}
+
+// When roads arrive that are entered at an absolute second, where a list waits behind them: after so long, if that is known, or else by
+// driving one after the other.
+fn arrival_of(
+    view: &PackedView<'_>,
+    roads: &[u32],
+    at: u64,
+    travel: Option<u64>,
+    waiting: usize,
+) -> u64
+    requires open { All (IsOpenRoad view.now.network) roads.now }
+    requires travel { IfSome travel (λ seconds. drive view.now.network roads.now at ≡ at + seconds) }
+    requires time { at + MAX_UNTIL * length roads.now ≤ 2 ^ 62 }
+    requires near { drive view.now.network roads.now at ≤ 2 ^ 62 }
+    requires sound { IsHierarchy view.now }
+    ensures { 0 < waiting → result ≡ drive view.now.network roads.now at }
+{
+    if waiting == 0 {
+        return at;
+    }
+    match travel {
+        Some(seconds) => at + seconds,
+        None => drive_roads(view, roads, at),
+    }
+}
+
+// The same by driving alone.
+fn drive_roads(view: &PackedView<'_>, roads: &[u32], at: u64) -> u64
+    requires open { All (IsOpenRoad view.now.network) roads.now }
+    requires time { at + MAX_UNTIL * length roads.now ≤ 2 ^ 62 }
+    requires sound { IsHierarchy view.now }
+    ensures { result ≡ drive view.now.network roads.now at }
+{
+    let mut entered = at;
+    'roads: for road in roads {
+        entered = view.drive(*road, entered);
+    }
+    entered
+}
+
+// Writes roads that are driven one after the other, each as the form says of it and of the absolute second at which it is entered, and
+// answers when the last one arrives.
 fn put_roads<P: WalkForm, K: Sink>(
     view: &PackedView<'_>,
     roads: &[u32],
@@ -260,46 +344,64 @@ fn alone(list: u32, met: Kept) -> Glance
 
 // Parts the list that is next at its middle, and its first half, and so on, until one has a sequence or its way is a road.
 fn next_part<'s>(
-    view: &PackedView<'_>,
-    graph: &Chordal,
-    sequences: &'s Sequences,
+    ground: &Ground<'s>,
     rows: &mut [Row],
     waiting: &mut [Glance],
     spot: WalkSpot,
+    alike: bool,
 ) -> NextPart<'s>
-    requires graph { graph.now ≡ graph_of view.now }
-    requires somewhere { IsSomewhere view.now waiting.old spot }
-    requires size { length rows.old ≡ 2 * length view.now.edges }
-    requires room { length waiting.old ≡ view.now.network.nodes }
-    requires knows { Knows view.now rows.old }
-    requires sequences { AreSequences view.now sequences.now }
-    requires sound { IsHierarchy view.now }
-    ensures finds { (leg : Leg) (legs : List Leg) → IsAt view.now waiting.old spot leg legs
-        → FindsPart view.now leg legs spot.second waiting.new result }
-    ensures drives { DrivesPart view.now spot.second result.part }
-    ensures knows { Knows view.now rows.new }
+    requires ground { IsGround ground.now }
+    requires somewhere { IsSomewhere ground.now.view.now waiting.old spot }
+    requires size { length rows.old ≡ 2 * length ground.now.view.now.edges }
+    requires room { length waiting.old ≡ ground.now.view.now.network.nodes }
+    requires knows { Knows ground.now.view.now rows.old }
+    ensures finds { (leg : Leg) (legs : List Leg)
+        → IsAt ground.now.view.now waiting.old spot leg legs
+        → FindsPart ground.now.view.now leg legs spot.second waiting.new result }
+    ensures drives { DrivesPart ground.now.view.now spot.second result.part }
+    ensures knows { Knows ground.now.view.now rows.new }
 {
     let mut spot = spot;
     'parts: loop {
-        if let Some(roads) = sequences.of_list(spot.next.list) {
+        if let Some(roads) = ground.sequences.of_list(spot.next.list) {
+            let travel = travel_known(ground, spot, alike);
             return NextPart {
-                part: WalkPart::Sequence(roads),
+                part: WalkPart::Sequence { roads, travel },
                 waiting: spot.waiting,
             };
         }
-        let met = entry_at(view, graph, rows, spot);
+        let met = entry_at(ground.view, ground.graph, rows, spot);
         match met.parts {
             Parts::Road(road) => {
-                let travel = travel_of(view, rows, spot, met, road);
+                let travel = travel_of(ground.view, rows, spot, met, road);
                 return NextPart {
                     part: WalkPart::Road { road, travel },
                     waiting: spot.waiting,
                 };
             }
             Parts::Halves { first, second } => {
-                spot = part(sequences, rows, waiting, spot, first, second);
+                spot = part(ground.sequences, rows, waiting, spot, first, second);
             }
         }
+    }
+}
+
+// How long the walk of the list that is next takes, as far as the store knows: asked for where the form says the same of roads whenever
+// they are entered, and a list waits behind.
+#[inline(always)]
+fn travel_known(ground: &Ground<'_>, spot: WalkSpot, alike: bool) -> Option<u64>
+    requires ground { IsGround ground.now }
+    requires asked { IsAsked ground.now.view.now (next_asked spot) }
+    ensures { IfSome result (λ travel.
+        HoldsTravel ground.now.view.now spot.next.list spot.second travel) }
+{
+    if !alike || spot.waiting == 0 {
+        return None;
+    }
+    match ground.store.value(spot.next.list as usize, spot.second) {
+        Found::At(arrival) => Some(arrival - u64::from(spot.second)),
+        Found::NoWay => None,
+        Found::Unknown => None,
     }
 }
 

@@ -1,13 +1,15 @@
 -- The rows of a table, one after the other.
 use Rattle.std.proofs.Common.{◌≡◌, ◌∙◌, ◌++◌, ℕ, true, List, [], ◌∷◌, Option, Some, None, ap, append_assoc, refl, subst, sym}
 use Rattle.std.specs.Prelude.{MatchOption, is_some, slice_get}
+use Rattle.std.specs.List.{Contains}
 use Rattle.std.proofs.lemmas.List.{append-nil}
 use Rattle.cu_interval.specs.declared.ways.Dir.{Dir}
 use Rattle.cu_interval.specs.Hierarchies.{HierarchyValue}
 use Rattle.cu_reach.specs.declared.reaching.Reached.{Reached}
 use Rattle.cu_reach.specs.declared.reaching.Reached.TheVariants.{Done, Long}
 use Rattle.cu_reach.specs.declared.lines.ReachAsked.{ReachAsked}
-use Rattle.cu_reach.specs.Reaching.{reached}
+use Rattle.cu_reach.specs.Aims.{HasRanks}
+use Rattle.cu_reach.specs.Reaching.{HoldsLabelsOver, HoldsTimes, reached}
 use Rattle.cu_reach.specs.ReachTexts.{reach_from, reach_reply, reach_text, row_from, row_then, rows_unless_none, table_rows, times_at, times_text}
 
 -- behind a row that is done come those of the other sources, and behind one that isn't nothing does
@@ -38,6 +40,14 @@ row_next h over seen from second at source targets to sources left answer same s
     ap (table_rows h second targets) cut ∙ row_more h from second targets source sources answer starts found
     ∙ ap (λ (g : HierarchyValue). row_then g from second targets answer [] ++ rest) (sym sees)
     ∙ ap (λ (t : ℕ). row_then seen from t targets answer [] ++ rest) (sym when) ∙ ap (λ (nodes : List ℕ). row_then seen from at nodes answer [] ++ rest) (sym which)
+
+-- the labels of a path that has the targets' ranks are those of the targets
+pub times_over : (h over seen : HierarchyValue) (from at : ℕ) (path targets to : List ℕ) (labels : List (Option ℕ)) → over ≡ h → seen ≡ h → to ≡ targets
+    → HasRanks h targets path → HoldsLabelsOver over from at path labels → HoldsTimes seen from at to labels
+times_over h over seen from at path targets to labels same sees which aimed holds node rank member there low =
+    let held = subst (λ (g : HierarchyValue). HoldsLabelsOver g from at path labels) (same ∙ sym sees) holds in
+    held.1 rank (aimed node rank (subst (λ (nodes : List ℕ). Contains nodes node) which member)
+    (subst (λ (g : HierarchyValue). slice_get g.order.rank_of node ≡ Some rank) sees there))
 
 -- behind what isn't too long come the other rows
 pub rest_done : (answer : Reached) (rest : List ℕ) → ((edge : ℕ) (dir : Dir) (second : ℕ) → answer ≡ Long edge dir second → ⊥) → rest_behind answer rest ≡ rest

@@ -297,6 +297,7 @@ fn touch_all_held<P: Progress>(
     let customized = held.customized();
     let edges = edits.touched(alloc, graph.edges())?;
     let mut settler = EditSettler::over_all(alloc, &ways, edits, graph, &room.arcs, customized);
+    settler.know_bounds(alloc)?;
     let lists = recustomize_all(alloc, &edges, &mut settler, progress);
     drop(settler);
     lists

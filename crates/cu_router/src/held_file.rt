@@ -1,7 +1,10 @@
 //! The packed bytes of a hierarchy, and what is kept of it beside them.
 
-ghost use Rattle.std.specs.Prelude.{◌≡◌, ◌≤◌, ◌<◌, All, IfOk, IsTrue, length, true};
+ghost use Rattle.std.specs.Prelude.{◌≡◌, ◌≤◌, ◌<◌, ◌∷◌, ◌++◌, [], All, IfOk, IsTrue, OnErr, length, true};
 ghost use Rattle.std.specs.List.Sorted.{IsStrictlyIncreasing};
+ghost use Rattle.cu_model.specs.Edits.{IsEditInRange};
+ghost use Rattle.cu_model.specs.Networks.{IsNetwork};
+ghost use Rattle.cu_edits.specs.EditLists.{CountsTouched, FitsList};
 ghost use Rattle.cu_edits.specs.Settling.{numbers_of};
 ghost use Rattle.cu_edits.specs.Together.{FitEdits, edits_of};
 ghost use Rattle.cu_elimtree.specs.SweepArcs.{parents_in};
@@ -9,17 +12,18 @@ ghost use Rattle.cu_interval.specs.declared.ways.TouchedEdge.{TouchedEdge};
 ghost use Rattle.cu_interval.specs.Hierarchies.{HierarchyValue, IsBuilt, IsHierarchy, graph_of};
 ghost use Rattle.cu_pack.specs.Checks.{Spells, sealed};
 ghost use Rattle.cu_pack.specs.Reading.{decoded};
-ghost use Rattle.cu_resettled.specs.ResettlingAll.{NumbersTouchedBySome, hierarchy_with_all};
+ghost use Rattle.cu_resettled.specs.ResettlingAll.{NumbersTouchedBySome, edited_all, hierarchy_with_all};
 ghost use Rattle.cu_router.specs.Changes.{IsChange, KnowsCustomized};
 ghost use Rattle.cu_router.specs.Steps.Holding.{IsKnown, IsKnownBut, StaysLed, TellsShort};
 ghost use Rattle.cu_short.specs.Shortness.{NeverLong};
 ghost use Rattle.cu_sweep.specs.Near.{AreNear};
 
+use crate::edit_room::add_held;
 use cu_chordal::Chordal;
-use cu_edits::{CustomizedEdges, EditedRoads, Edits};
+use cu_edits::{CustomizedEdges, EditList, EditedRoads, Edits};
 use cu_elimtree::Tree;
 use cu_interval::{TouchedEdge, Ways};
-use cu_model::NoMemory;
+use cu_model::{Edit, NoMemory};
 use cu_pack::{PackedView, chordal_of, repack_touched, seal};
 use cu_short::RoadCounts;
 use cu_sweep::NearBounds;
@@ -207,6 +211,30 @@ impl HeldFile {
         self.bytes = bytes;
         self.has_digest = false;
         self.customized.mark(lists);
+    }
+
+    /// A list of edits that are to be made together, with none in it yet.
+    pub fn begin_edits(&self, alloc: Global) -> Result<EditList, NoMemory>
+        ensures none { IfOk result (λ edits. edits.edits ≡ []) }
+        ensures fits { IfOk result (FitsList self.now) }
+    {
+        EditList::new(alloc, &self.view())
+    }
+
+    /// Adds an edit to a list of edits, behind the others, and answers how many edges it touches over the network as they leave it.
+    /// Its numbers are in range. Nothing changes of what is held; where memory runs out the list is as before.
+    pub fn add_edit(&self, alloc: Global, edits: &mut EditList, edit: Edit) -> Result<u32, NoMemory>
+        requires edits { FitsList self.now edits.old }
+        requires range { IsEditInRange (edited_all self.now.network edits.old.edits) edit }
+        ensures fits { FitsList self.now edits.new }
+        ensures made { IfOk result (λ count. edits.new.edits ≡ edits.old.edits ++ edit ∷ []) }
+        ensures count { IfOk result
+            (CountsTouched self.now (edited_all self.now.network edits.old.edits) edit) }
+        ensures sound { IfOk result
+            (λ count. IsNetwork (edited_all self.now.network edits.new.edits)) }
+        ensures kept { OnErr result (edits.new ≡ edits.old) }
+    {
+        add_held(alloc, self, edits, edit)
     }
 
     /// The packed file of the hierarchy as it is now. Takes no memory.

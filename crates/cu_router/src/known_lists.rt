@@ -6,9 +6,11 @@ ghost use Rattle.cu_interval.specs.declared.ways.TouchedEdge.{TouchedEdge};
 ghost use Rattle.cu_interval.specs.Hierarchies.{HierarchyValue, IsHierarchy};
 ghost use Rattle.cu_resettled.specs.ResettlingAll.{IsResettledAll, NumbersTouchedBySome};
 ghost use Rattle.cu_short.specs.Shortness.{NeverLong};
+ghost use Rattle.cu_sequences.specs.Kept.{AreSequences};
 ghost use Rattle.cu_router.specs.Lists.{FitsLists};
 
 use crate::held_file::HeldFile;
+use crate::list_room::ListRoom;
 use cu_filling::{Scratch, make_list};
 use cu_interval::{Dir, Shortcut, TouchedEdge, Ways};
 use cu_model::NoMemory;
@@ -21,8 +23,11 @@ use std::alloc::Global;
 // How many queries are answered before anything is made: whoever asks no more waits for nothing.
 const QUERIES_BEFORE: u32 = 1_000;
 
+// How many bytes an edge the rows of its two lists and their roads take, beside the runs of their functions.
+const EDGE_BYTES: u64 = 32 + 72;
+
 // How many runs are put together behind a query for each of its relaxations: in about as long as the query took.
-const RUNS_ASKED: u64 = 15;
+const RUNS_ASKED: u64 = 21;
 
 /// The functions of lists, and the roads of those that have the same ones at every second, as far as they are made: by rising number,
 /// up to the list that is next. What is known is so of the hierarchy that is held.
@@ -38,16 +43,20 @@ pub struct KnownLists {
 
 impl KnownLists {
     /// Room for the lists of a held file, of which nothing is known yet: four bytes for runs for each of the file's, and 104 for each
-    /// edge. The system gives it as it is written. Where it is refused, beside eight bytes more for each of the file's that are left
-    /// free for edits and days, it is half of that, and so on.
-    pub fn new(alloc: Global, held: &HeldFile) -> Result<KnownLists, NoMemory>
+    /// edge, or as much of it as may be taken. Where that is no more than the 104 there is none, and nothing is ever made. The system
+    /// gives it as it is written. Where it is refused, beside eight bytes more for each of the file's that are left free for edits and
+    /// days, it is half of that, and so on.
+    pub fn new(alloc: Global, held: &HeldFile, room: ListRoom) -> Result<KnownLists, NoMemory>
         ensures { IfOk result (FitsLists held.now) }
     {
         let edges = held.view().edges();
         let scratch = Scratch::new(alloc)?;
+        let runs = runs_within(room, edges, held.size());
+        let store = store_of(alloc, 2 * edges as usize, held.size(), runs);
+        let sequences = sequences_of(alloc, edges, store.room());
         Ok(KnownLists {
-            store: store_of(alloc, 2 * edges as usize, held.size()),
-            sequences: Sequences::with_room(alloc, edges),
+            store,
+            sequences,
             scratch,
             next: 0,
             answered: 0,
@@ -142,16 +151,28 @@ impl KnownLists {
     }
 }
 
-// A store for so many lists, with room for a run for each byte of a file, or for as many as are had beside what edits and days
-// may need.
-fn store_of(alloc: Global, lists: usize, bytes: usize) -> Store
+// For how many runs there may be room over so many edges and a file of so many bytes: one for each of these, or as many as fit beside
+// rows and roads. None where those alone are too much.
+fn runs_within(room: ListRoom, edges: u32, bytes: usize) -> u32 {
+    match room.beside(EDGE_BYTES * u64::from(edges)) {
+        Some(left) => (bytes as u64).min(left / 4).min(4_000_000_000) as u32,
+        None => 0,
+    }
+}
+
+// A store for so many lists, with room for so many runs, or for as many as are had beside what edits and days of a file of so many
+// bytes may need.
+fn store_of(alloc: Global, lists: usize, bytes: usize, runs: u32) -> Store
     ensures lists { length result.known ≡ lists }
     ensures unknown { All (λ known. known ≡ None) result.known }
 {
+    if runs == 0 {
+        return Store::without_room(alloc, lists);
+    }
     let Ok(_left_free) = left_free(alloc, bytes) else {
         return Store::without_room(alloc, lists);
     };
-    let mut room = bytes.min(4_000_000_000) as u32;
+    let mut room = runs;
     'rooms: for _ in 0..32u32 {
         if let Ok(store) = Store::new(alloc, lists, room) {
             return store;
@@ -159,6 +180,16 @@ fn store_of(alloc: Global, lists: usize, bytes: usize) -> Store
         room /= 2;
     }
     Store::without_room(alloc, lists)
+}
+
+// Room for the roads of the lists of so many edges, where there is some for so many runs: else it would be taken from edits and days.
+fn sequences_of(alloc: Global, edges: u32, runs: usize) -> Sequences
+    ensures { (h : HierarchyValue) → AreSequences h result }
+{
+    if runs == 0 {
+        return Sequences::none(alloc);
+    }
+    Sequences::with_room(alloc, edges)
 }
 
 // What is left to edits and days of a file of so many bytes, eight bytes for each: held only while other room is taken.

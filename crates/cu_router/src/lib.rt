@@ -13,6 +13,8 @@
 //! known to be those of a built hierarchy: an edit then settles an edge that it touches only where something that its lists may
 //! be made of has changed. A held file keeps which edges are known to be customized; an edit adds those that it settles.
 //!
+//! An [`Editor`] is a held file with room for edits alone, for who makes edits at once and asks for the file.
+//!
 //! An edit may also be made one touched edge a step: [`Router::plan`] tells these edges, [`Router::begin`] and [`Router::go_on`] hand
 //! on a [`Busy`], which borrows nothing (`specs/Working.antt`), and [`Router::publish`] makes the edit once no edge is left;
 //! [`Router::cancel`] lets go of it. A step costs what its own edge costs: all room for all edges is made as the edit begins.
@@ -26,9 +28,11 @@
 mod busy;
 mod days;
 mod edit_room;
+mod editor;
 mod held_file;
 mod known_lists;
 mod learned_days;
+mod list_room;
 mod query_room;
 mod reaches;
 mod router;
@@ -38,8 +42,10 @@ mod writing;
 
 pub use busy::Busy;
 pub use cu_reach::{put_damage, put_dir, put_word_and_long};
+pub use editor::Editor;
 pub use held_file::HeldFile;
 pub use known_lists::KnownLists;
+pub use list_room::ListRoom;
 pub use query_room::QueryRoom;
 pub use router::Router;
 pub use writing::put_word_and_number;

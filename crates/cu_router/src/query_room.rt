@@ -190,7 +190,7 @@ impl QueryRoom {
         let from = view.rank(query.from);
         let to = view.rank(query.to);
         let second = query.second;
-        let recall = Recall::new(&view, held.graph(), &lists.sequences, room);
+        let recall = Recall::new(&view, held.graph(), &lists.sequences, &lists.store, room);
         let mut stored = Stored::new(&lists.store, recall);
         let question = Question { from, to, second };
         let sweeps = &mut self.sweeps;
@@ -220,7 +220,7 @@ impl QueryRoom {
         let from = view.rank(query.from);
         let to = view.rank(query.to);
         let second = query.second;
-        let mut recall = Recall::new(&view, held.graph(), &lists.sequences, room);
+        let mut recall = Recall::new(&view, held.graph(), &lists.sequences, &lists.store, room);
         let question = Question { from, to, second };
         let arrival = find_swept(held, &mut self.sweeps, &mut recall, question, query);
         self.room = Some(recall.into_room());

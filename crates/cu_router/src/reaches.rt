@@ -3,7 +3,9 @@
 ghost use Rattle.std.specs.Prelude.{◌≡◌, ◌≤◌, ◌<◌, ℕ, All, List, Some, length, slice_get};
 ghost use Rattle.cu_io.specs.Sinks.{Wrote};
 ghost use Rattle.cu_model.specs.declared.limits.TheConstants.{DAY};
-ghost use Rattle.cu_interval.specs.Hierarchies.{IsHierarchy};
+ghost use Rattle.cu_interval.specs.Hierarchies.{IsHierarchy, graph_of};
+ghost use Rattle.cu_short.specs.Shortness.{NeverLong};
+ghost use Rattle.cu_reach.specs.Aims.{HasRanks, IsPath};
 ghost use Rattle.cu_reach.specs.Departures.{HoldsDeparture, IsDeparture, latest_by};
 ghost use Rattle.cu_reach.specs.ReachTexts.{reach_reply, table_reply, table_rows};
 ghost use Rattle.cu_recall.specs.Rooms.{Fits};
@@ -19,8 +21,8 @@ use cu_drive::NumberAlone;
 use cu_interval::Ways;
 use cu_io::{Sink, SinkFailed, put_all};
 use cu_reach::{
-    Departure, LatestAsked, ReachAsked, ReachDesk, Reached, TableAsked, latest, put_damage,
-    put_row, put_word_and_long, reach,
+    Aim, Departure, LatestAsked, ReachAsked, ReachDesk, Reached, Start, TableAsked, latest,
+    put_damage, put_row, put_times, put_word_and_long, reach, reach_over,
 };
 use cu_recall::{Recall, SweepRecall};
 use cu_sweep::{Found, Question, SweepDesk};
@@ -115,7 +117,8 @@ impl QueryRoom {
         };
         let view = held.view();
         let mut recall = SweepRecall::new(&view, held.graph(), room, asked.second());
-        let outcome = put_rows(held, desk, &mut recall, asked, sink);
+        let aim = &mut self.sweeps.aim;
+        let outcome = put_aimed_rows(held, desk, aim, &mut recall, asked, sink);
         self.room = Some(recall.into_room());
         outcome
     }
@@ -147,13 +150,75 @@ impl QueryRoom {
         let tree = held.tree();
         let graph = held.graph();
         let desk = &mut self.sweeps.desk;
-        let mut recall = Recall::new(&view, graph, &lists.sequences, room);
+        let mut recall = Recall::new(&view, graph, &lists.sequences, &lists.store, room);
         let departure = latest(tree, graph, desk, &mut recall, from, to, asked.by);
         let ranks = Ranks { from, to };
         let outcome = put_departure(departure, desk, &mut recall, ranks, asked, sink);
         self.room = Some(recall.into_room());
         outcome
     }
+}
+
+// Writes the rows of a table that has targets. Where no walk is too long, its sweeps go down over what its targets need alone.
+fn put_aimed_rows<K: Sink>(
+    held: &HeldFile,
+    desk: &mut ReachDesk,
+    aim: &mut Aim,
+    recall: &mut SweepRecall<'_>,
+    asked: &TableAsked<'_>,
+    sink: &mut K,
+) -> Result<(), SinkFailed>
+    requires same { recall.old ≡ held.now }
+    requires desk { length desk.old ≡ held.now.network.nodes }
+    requires aim { aim.old.nodes ≡ held.now.network.nodes }
+    requires sources { All (λ node. node < held.now.network.nodes) asked.now.sources }
+    requires targets { All (λ node. node < held.now.network.nodes) asked.now.targets }
+    requires second { asked.now.second < DAY }
+    ensures wrote { Wrote (K.state sink.old) (K.state sink.new) result
+        (table_rows held.now asked.now.second asked.now.targets asked.now.sources) }
+    ensures stays { recall.new ≡ recall.old }
+    ensures desk { length desk.new ≡ length desk.old }
+    ensures aim { aim.new.nodes ≡ aim.old.nodes }
+{
+    if !held.is_led() {
+        return put_rows(held, desk, recall, asked, sink);
+    }
+    aim.aim(&held.view(), held.graph(), asked.targets());
+    put_led_rows(held, desk, aim.path(), recall, asked, sink)
+}
+
+// Writes the rows of a table where no walk is too long, each as its source is asked, over a path that has its targets' ranks.
+fn put_led_rows<K: Sink>(
+    held: &HeldFile,
+    desk: &mut ReachDesk,
+    path: &[u32],
+    recall: &mut SweepRecall<'_>,
+    asked: &TableAsked<'_>,
+    sink: &mut K,
+) -> Result<(), SinkFailed>
+    requires same { recall.old ≡ held.now }
+    requires desk { length desk.old ≡ held.now.network.nodes }
+    requires path { IsPath (graph_of held.now) path.now }
+    requires aimed { HasRanks held.now asked.now.targets path.now }
+    requires short { NeverLong held.now }
+    requires sources { All (λ node. node < held.now.network.nodes) asked.now.sources }
+    requires targets { All (λ node. node < held.now.network.nodes) asked.now.targets }
+    requires second { asked.now.second < DAY }
+    ensures wrote { Wrote (K.state sink.old) (K.state sink.new) result
+        (table_rows held.now asked.now.second asked.now.targets asked.now.sources) }
+    ensures stays { recall.new ≡ recall.old }
+    ensures desk { length desk.new ≡ length desk.old }
+{
+    let view = held.view();
+    let tree = held.tree();
+    let graph = held.graph();
+    let second = asked.second();
+    'rows: for source in asked.sources() {
+        let from = view.rank(source);
+        reach_over(tree, graph, desk, recall, Start { from, second }, path);
+        put_times(&view, desk, asked.targets(), sink)?;
+    }
+    Ok(())
 }
 
 // Writes the rows of a table that has targets, each as its source is asked, up to the first call whose walk is too long.

@@ -23,9 +23,10 @@ ghost use Rattle.cu_router.specs.Working.{FitsBusy, edges_left};
 
 use crate::busy::Busy;
 use crate::days::find_day;
-use crate::edit_room::{EditRoom, add_held, edit_all_held, edit_held, fill_edit_room};
+use crate::edit_room::{EditRoom, edit_all_held, edit_held, fill_edit_room};
 use crate::held_file::HeldFile;
 use crate::known_lists::KnownLists;
+use crate::list_room::ListRoom;
 use crate::query_room::QueryRoom;
 use crate::working::{begin_held, finish, give_back, plan_held, settle_next};
 use cu_arrival::Arrival;
@@ -71,42 +72,32 @@ impl Model for Router {
 }
 
 impl Router {
-    /// Room for the queries and edits of the hierarchy whose packed file these bytes are.
-    pub fn new(alloc: Global, bytes: Vec<u8>) -> Result<Router, NoMemory>
+    /// Room for the queries and edits of the hierarchy whose packed file these bytes are, and so much for what is known of its lists.
+    pub fn new(alloc: Global, bytes: Vec<u8>, room: ListRoom) -> Result<Router, NoMemory>
         requires spelled { (h : HierarchyValue) × Spells bytes.items h }
         ensures held { IfOk result (λ router. Spells bytes.items router) }
     {
         let held = HeldFile::new(alloc, bytes)?;
-        Router::over(alloc, held)
+        Router::over(alloc, held, room)
     }
 
     /// [`Router::new`], where the hierarchy is built: an edit settles the lists of an edge that it touches only where something
     /// that they may be made of has changed.
-    pub fn built(alloc: Global, bytes: Vec<u8>) -> Result<Router, NoMemory>
+    pub fn built(alloc: Global, bytes: Vec<u8>, room: ListRoom) -> Result<Router, NoMemory>
         requires spelled { (h : HierarchyValue) × Spells bytes.items h }
         requires built { (h : HierarchyValue) → Spells bytes.items h → IsBuilt h }
         ensures held { IfOk result (λ router. Spells bytes.items router) }
     {
         let held = HeldFile::built(alloc, bytes)?;
-        Router::over(alloc, held)
-    }
-
-    /// [`Router::new`] for edits, after which its file is asked for: it doesn't find out whether walks are too long to lead queries
-    /// to their end, so it is made sooner, and so are edits.
-    pub fn for_edits(alloc: Global, bytes: Vec<u8>) -> Result<Router, NoMemory>
-        requires spelled { (h : HierarchyValue) × Spells bytes.items h }
-        ensures held { IfOk result (λ router. Spells bytes.items router) }
-    {
-        let held = HeldFile::unasked(alloc, bytes)?;
-        Router::over(alloc, held)
+        Router::over(alloc, held, room)
     }
 
     // Room for the queries and edits of a held file.
-    fn over(alloc: Global, held: HeldFile) -> Result<Router, NoMemory>
+    fn over(alloc: Global, held: HeldFile, room: ListRoom) -> Result<Router, NoMemory>
         ensures same { IfOk result (λ router. router ≡ held) }
     {
         let (queries, reaches) = rooms_over(alloc, &held)?;
-        let lists = KnownLists::new(alloc, &held)?;
+        let lists = KnownLists::new(alloc, &held, room)?;
         Ok(Router {
             held,
             queries,
@@ -122,6 +113,13 @@ impl Router {
         ensures sound { IsHierarchy self.now }
     {
         self.held.view()
+    }
+
+    /// What it holds. Takes no memory.
+    pub fn held(&self) -> &HeldFile
+        ensures { result.now ≡ self.now }
+    {
+        &self.held
     }
 
     /// The packed file of the hierarchy as it is now. Takes no memory.
@@ -281,7 +279,7 @@ impl Router {
         ensures none { IfOk result (λ edits. edits.edits ≡ []) }
         ensures fits { IfOk result (FitsList self.now) }
     {
-        EditList::new(alloc, &self.held.view())
+        self.held.begin_edits(alloc)
     }
 
     /// Adds an edit to a list of edits, behind the others, and answers how many edges it touches over the network as they leave it.
@@ -297,7 +295,7 @@ impl Router {
             (λ count. IsNetwork (edited_all self.now.network edits.new.edits)) }
         ensures kept { OnErr result (edits.new ≡ edits.old) }
     {
-        add_held(alloc, &self.held, edits, edit)
+        self.held.add_edit(alloc, edits, edit)
     }
 
     /// Makes all edits of a list: each edge that some of them touches is settled once, and the file is packed once. Where memory

@@ -16,7 +16,7 @@ use cu_drive::WalkForm;
 use cu_interval::Relaxer;
 use cu_io::{Sink, SinkFailed, put_all, put_number};
 use cu_model::NoMemory;
-use cu_reach::put_damage;
+use cu_reach::{Aim, put_damage};
 use cu_sweep::{Found, Ground, Outlook, Question, SweepDesk, led_query, query, route_by};
 use cu_unpack::Walker;
 use std::alloc::Global;
@@ -27,6 +27,8 @@ use std::marker::Model;
 pub(crate) struct Sweeps {
     pub(crate) desk: SweepDesk,
     outlook: Outlook,
+    // The ranks that the sweeps of a table go down over.
+    pub(crate) aim: Aim,
 }
 
 impl Model for Sweeps {
@@ -37,7 +39,8 @@ impl Model for Sweeps {
 
     ghost view = { λ sweeps. sweeps.desk };
 
-    ghost invariant = { λ sweeps. sweeps.outlook.nodes ≡ sweeps.desk.nodes };
+    ghost invariant = { λ sweeps. (sweeps.outlook.nodes ≡ sweeps.desk.nodes)
+        × (sweeps.aim.nodes ≡ sweeps.desk.nodes) };
 }
 
 impl Sweeps {
@@ -49,6 +52,7 @@ impl Sweeps {
         Ok(Sweeps {
             desk: SweepDesk::new(alloc, nodes)?,
             outlook: Outlook::new(alloc, nodes)?,
+            aim: Aim::new(alloc, nodes)?,
         })
     }
 

@@ -1,9 +1,11 @@
 -- Functions in two layers, list by list.
-use Rattle.std.proofs.Common.{◌≡◌, ◌≤◌, ◌<◌, ◌∷◌, ℕ, zero, suc, List, [], Option, Some, ap, refl, sym, arith, length}
-use Rattle.std.specs.Prelude.{slice_get}
-use Rattle.std.proofs.lemmas.Option.{slice_get-get_or}
+use Rattle.std.proofs.Common.{◌≡◌, ◌≤◌, ◌<◌, ◌∷◌, ◌∙◌, ℕ, zero, suc, List, [], Option, Some, None, ap, refl, sym, arith, get_or, length}
+use Rattle.std.specs.Option.{option_map}
+use Rattle.std.specs.Prelude.{All, slice_get}
+use Rattle.std.proofs.lemmas.List.{get_or_default, length-map}
+use Rattle.std.proofs.lemmas.Option.{slice_get-get_or, slice_get-map}
 use Rattle.cu_arrival.specs.declared.runs.Run.{Run}
-use Rattle.cu_runs.specs.Layers.{layered}
+use Rattle.cu_runs.specs.Layers.{layered, placed}
 
 -- they are of as many lists as the older ones
 pub layered_long : (functions : List (Option (List Run))) (places : List ℕ) (newer : List (Option (List Run))) → length (layered functions places newer) ≡ length functions
@@ -48,3 +50,22 @@ layered_newer (f ∷ fs) (suc p ∷ ps) newer zero place within there inside =
     rw same (sym (slice_get-get_or newer place f inside))
 layered_newer (f ∷ fs) (zero ∷ ps) newer (suc n) place within there inside = layered_newer fs ps newer n place (omega (arith, within)) there inside
 layered_newer (f ∷ fs) (suc p ∷ ps) newer (suc n) place within there inside = layered_newer fs ps newer n place (omega (arith, within)) there inside
+
+-- functions with places are as many as the places
+pub placed_long : (places : List ℕ) (kept : List (Option (List Run))) → length (placed places kept) ≡ length places
+placed_long places kept = length-map places (λ place. get_or kept place None)
+
+-- a list has the function at its place
+pub placed_there : (places : List ℕ) (kept : List (Option (List Run))) (number place : ℕ) → slice_get places number ≡ Some place
+    → slice_get (placed places kept) number ≡ Some (get_or kept place None)
+placed_there places kept number place there =
+    slice_get-map (λ place. get_or kept place None) places number ∙ ap (option_map (λ place. get_or kept place None)) there
+
+-- and that is one of those that are kept
+pub placed_at : (places : List ℕ) (kept : List (Option (List Run))) (number : ℕ) (other : Option (List Run)) → All (λ place. place < length kept) places
+    → number < length (placed places kept) → slice_get (placed places kept) number ≡ Some (get_or kept (get_or places number 0) other)
+placed_at places kept number other inside within =
+    let long = placed_long places kept in
+    let few : number < length places = omega (arith, long, within) in
+    placed_there places kept number (get_or places number 0) (slice_get-get_or places number 0 few)
+    ∙ ap Some (get_or_default kept (get_or places number 0) None other (inside number 0 few))

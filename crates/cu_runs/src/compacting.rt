@@ -29,8 +29,8 @@ pub fn compact(alloc: Global, packed: &[PackedRun]) -> Result<Vec<PackedRun>, No
     Ok(list)
 }
 
-// Adds a run, unless the last one's rule is the same.
-fn push_run(list: &mut Vec<PackedRun>, run: PackedRun) -> Result<(), NoMemory>
+/// Adds a run, unless the last one's rule is the same; where there is no memory the list stays as it is.
+pub fn push_run(list: &mut Vec<PackedRun>, run: PackedRun) -> Result<(), NoMemory>
     ensures { IfOk result (λ _. IsPushed (λ (r : Run). r.rule) list.old.items run list.new.items) }
 {
     if ends_with_rule(list, run) {

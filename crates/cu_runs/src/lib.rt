@@ -23,8 +23,9 @@ mod packed_runs;
 mod roads;
 mod windows;
 
+pub use compacting::push_run;
 pub use day_function::DayFunction;
-pub use layered_functions::LayeredFunctions;
+pub use layered_functions::{LayeredFunctions, PlacedFunctions};
 pub use linking::link;
 pub use merger::Merger;
 pub use merging::{PartMerger, WayRun};

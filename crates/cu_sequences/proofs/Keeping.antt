@@ -1,10 +1,10 @@
 -- The sequences that are kept stay right where more is added, forgotten, or put for a list.
-use Rattle.std.proofs.Common.{◌≡◌, ◌≢◌, ◌<◌, ◌+◌, ◌*◌, ◌++◌, ◌∙◌, ◌⊎◌, ℕ, List, [], ◌∷◌, Some, sym, ap, subst, arith, inl, inr, length, get_or, replicate, take}
+use Rattle.std.proofs.Common.{◌≡◌, ◌≢◌, ◌≤◌, ◌<◌, ◌+◌, ◌*◌, ◌++◌, ◌∙◌, ◌⊎◌, ℕ, List, [], ◌∷◌, Some, sym, ap, subst, arith, inl, inr, length, get_or, take}
 use Rattle.std.specs.Prelude.{slice_get, slice_set}
 use Rattle.std.specs.List.{Contains}
 use Rattle.std.proofs.lemmas.Bool.{cases_eq, cases_lt}
-use Rattle.std.proofs.lemmas.List.{get_or-replicate, length-replicate, get_or_append_left, get_or_push, length-set, length_push, take_more}
-use Rattle.std.proofs.lemmas.Option.{get_or_from_slice_get, slice_get_within}
+use Rattle.std.proofs.lemmas.List.{get_or_append_left, get_or_push, length-set, length_push, take_more}
+use Rattle.std.proofs.lemmas.Option.{get_or_from_slice_get, slice_get-get_or, slice_get_within}
 use Rattle.cu_model.proofs.ListLaws.{get_here, get_other}
 use Rattle.cu_model.proofs.OptionLaws.{same_value}
 use Rattle.cu_chordal.specs.declared.graph.Ends.{Ends}
@@ -145,13 +145,17 @@ forgets_more before mid half now edges i edge up inside same is_up gone stay gon
           ]),
     )
 
--- where nothing stands for any list no sequence is wrong
-all_same : (n i x y : ℕ) → slice_get (replicate n x) i ≡ Some y → y ≡ x
-all_same n i x y at =
-    let within = slice_get_within (replicate n x) i y at in
-    let long = length-replicate n x in
-    sym (get_or_from_slice_get (replicate n x) i y 0 at) ∙ get_or-replicate n i x 0 (omega (arith, within, long))
-
-pub sequences_none : (h : HierarchyValue) (n : ℕ) (starts roads : List ℕ) → starts ≡ replicate n NO_START → AreSequences h (record { starts = starts; roads = roads })
-sequences_none h n starts roads is edge dir ends start at there = λ some.
-    absurd (some (all_same n (list_number edge dir) NO_START start (ap (λ (xs : List ℕ). slice_get xs (list_number edge dir)) (sym is) ∙ there)))
+-- where places were made for more lists, at which nothing stands
+pub sequences_longer : (h : HierarchyValue) (before now roads : List ℕ) → ((k d : ℕ) → k < length now → k < length before → get_or now k d ≡ get_or before k d)
+    → ((k d : ℕ) → length before ≤ k → k < length now → get_or now k d ≡ NO_START) → AreSequences h (record { starts = before; roads = roads })
+    → AreSequences h (record { starts = now; roads = roads })
+sequences_longer h before now roads same none are edge dir ends start at there = λ some.
+    let n = list_number edge dir in
+    let within = slice_get_within now n start there in
+    let is = get_or_from_slice_get now n start NO_START there in
+    elim (cases_lt n (length before)) [
+      | inl lt ↦
+          let was : slice_get before n ≡ Some start = slice_get-get_or before n NO_START lt ∙ ap Some (sym (same n NO_START within lt) ∙ is) in
+          are edge dir ends start at was some
+      | inr ge ↦ absurd (some (sym is ∙ none n NO_START ge within))
+    ]

@@ -1,9 +1,9 @@
 //! Making the sequence of a list, and forgetting those of lists.
 
-ghost use Rattle.std.specs.Prelude.{◌≡◌, ◌≢◌, ◌<◌, ℕ, Some, length, map, replicate, slice_get};
+ghost use Rattle.std.specs.Prelude.{◌≡◌, ◌≢◌, ◌<◌, ℕ, List, Some, length, map, slice_get};
 ghost use Rattle.cu_bounds.specs.Steps.InTurn.{IsFinderUpTo, IsWayOf};
 ghost use Rattle.cu_interval.specs.declared.ways.TouchedEdge.{TouchedEdge};
-ghost use Rattle.cu_interval.specs.Hierarchies.{IsHierarchy};
+ghost use Rattle.cu_interval.specs.Hierarchies.{HierarchyValue, IsHierarchy};
 ghost use Rattle.cu_sequences.specs.Kept.{AreSequences};
 ghost use Rattle.cu_sequences.specs.Steps.Putting.{Forgets, Grows, PutsWay};
 
@@ -37,6 +37,22 @@ pub fn make_list<W: Ways, F: Halving>(
     let entry = ways.entry(shortcut.edge, shortcut.dir, 0);
     let start = put_way(ways, finder, starts, roads, shortcut, entry.way);
     starts[list] = start;
+}
+
+/// Makes the places of the lists up to one of them, where they aren't there yet and there is room: nothing stands there. Takes no
+/// memory.
+pub fn make_places(starts: &mut Vec<u32>, list: usize)
+    ensures { (h : HierarchyValue) (roads : List ℕ)
+        → AreSequences h (record { starts = starts.old.items; roads = roads })
+        → AreSequences h (record { starts = starts.new.items; roads = roads }) }
+{
+    if list < starts.len() || list >= starts.capacity() {
+        return;
+    }
+    match starts.resize(list + 1, NO_START) {
+        Ok(()) => {}
+        Err(_) => {}
+    }
 }
 
 // Adds the roads of a way, where both halves have a sequence that is kept and there is room, and answers where they stand.
@@ -101,15 +117,6 @@ fn forget(starts: &mut [u32], list: usize)
     ensures stay { (other : ℕ) → other ≢ list → slice_get starts.new other ≡ slice_get starts.old other }
 {
     if list < starts.len() {
-        starts[list] = NO_START;
-    }
-}
-
-/// Forgets where the roads of all lists stand.
-pub fn forget_all(starts: &mut [u32])
-    ensures { starts.new ≡ replicate (length starts.old) NO_START }
-{
-    'lists: for list in 0..starts.len() {
         starts[list] = NO_START;
     }
 }

@@ -8,7 +8,7 @@ ghost use Rattle.cu_interval.specs.Hierarchies.{HierarchyValue, end_of, list_num
 ghost use Rattle.cu_sequences.specs.Kept.{AreSequences, AreSequencesBut, HasSequence};
 ghost use Rattle.cu_sequences.specs.Sequences.{IsSequence};
 
-use crate::making::{forget_all, forget_lists, make_list, start_at};
+use crate::making::{forget_lists, make_list, make_places, start_at};
 use crate::putting::roads_from;
 use cu_bounds::Searching;
 use cu_interval::{Shortcut, TouchedEdge, Ways};
@@ -19,7 +19,7 @@ use std::marker::Model;
 pub const MOST_ROADS: u32 = 32;
 
 /// In place of where a list's roads stand, where none are kept.
-pub const NO_START: u32 = 4_294_967_295;
+pub const NO_START: u32 = u32::MAX;
 
 // For how many numbers there is room, for each edge.
 const ROOM: usize = 16;
@@ -28,6 +28,7 @@ const ROOM: usize = 16;
 /// room. Contracts see where each list's roads stand, and what stands there.
 #[derive(Drop)]
 pub struct Sequences {
+    // It grows as lists are made, so that nothing is read of lists before.
     starts: Vec<u32>,
     roads: Vec<u32>,
 }
@@ -57,7 +58,7 @@ impl Sequences {
         ensures { (h : HierarchyValue) → AreSequences h result }
     {
         let edges = edges as usize;
-        let Ok(starts) = vec![in alloc; NO_START; 2 * edges] else {
+        let Ok(starts) = Vec::with_capacity(alloc, 2 * edges) else {
             return Sequences::none(alloc);
         };
         let Ok(roads) = Vec::with_capacity(alloc, ROOM * edges) else {
@@ -92,6 +93,7 @@ impl Sequences {
         ensures { AreSequences (W.hierarchy ways.now) self.new }
     {
         let finder = &mut Searching { ways };
+        make_places(&mut self.starts, shortcut.list());
         make_list(ways, finder, &mut self.starts, &mut self.roads, shortcut);
     }
 
@@ -109,7 +111,7 @@ impl Sequences {
     pub fn clear(&mut self)
         ensures { (h : HierarchyValue) → AreSequences h self.new }
     {
-        forget_all(&mut self.starts);
+        self.starts.clear();
         self.roads.clear();
     }
 

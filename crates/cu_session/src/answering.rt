@@ -18,7 +18,7 @@ use crate::questions::put_reply;
 use crate::stops::SessionStop;
 use crate::waiting::{WaitingRouter, keep_all};
 use cu_io::{Line, LineReader, Sink, SinkFailed, Source, end_line, put_line};
-use cu_router::Router;
+use cu_router::{ListRoom, Router};
 use cu_script::MAX_EDIT_LINE;
 use cu_wait::MeasuredProfile;
 use std::alloc::Global;
@@ -30,10 +30,12 @@ pub(crate) const LINE_LIMIT: u32 = MAX_EDIT_LINE;
 const TAKE_LIMIT: u64 = 1 << 40;
 
 /// Answers the lines of the source over the packed bytes of a hierarchy. All that a query needs is made before the first
-/// reply. Edits change the hierarchy for the lines behind them.
+/// reply. Edits change the hierarchy for the lines behind them. What is known of its lists may take so much room, on which no
+/// reply depends.
 pub fn answer_script<S: Source, K: Sink>(
     alloc: Global,
     bytes: Vec<u8>,
+    room: ListRoom,
     source: &mut S,
     sink: &mut K,
 ) -> Result<(), SessionStop>
@@ -42,7 +44,7 @@ pub fn answer_script<S: Source, K: Sink>(
         → EndsSession h (stop_of result) (S.state source.old) (S.state source.new)
         (K.state sink.old) (K.state sink.new) }
 {
-    let router = Router::new(alloc, bytes)?;
+    let router = Router::new(alloc, bytes, room)?;
     answer_by(alloc, router, source, sink)
 }
 
@@ -50,6 +52,7 @@ pub fn answer_script<S: Source, K: Sink>(
 pub fn answer_built<S: Source, K: Sink>(
     alloc: Global,
     bytes: Vec<u8>,
+    room: ListRoom,
     source: &mut S,
     sink: &mut K,
 ) -> Result<(), SessionStop>
@@ -59,7 +62,7 @@ pub fn answer_built<S: Source, K: Sink>(
         → EndsSession h (stop_of result) (S.state source.old) (S.state source.new)
         (K.state sink.old) (K.state sink.new) }
 {
-    let router = Router::built(alloc, bytes)?;
+    let router = Router::built(alloc, bytes, room)?;
     answer_by(alloc, router, source, sink)
 }
 
@@ -69,6 +72,7 @@ pub fn answer_waiting<S: Source, K: Sink>(
     alloc: Global,
     bytes: Vec<u8>,
     measured: Vec<MeasuredProfile>,
+    room: ListRoom,
     source: &mut S,
     sink: &mut K,
 ) -> Result<(), SessionStop>
@@ -80,7 +84,7 @@ pub fn answer_waiting<S: Source, K: Sink>(
         (K.state sink.old) (K.state sink.new) }
 {
     let kept = keep_all(alloc, measured)?;
-    let router = Router::built(alloc, bytes)?;
+    let router = Router::built(alloc, bytes, room)?;
     let mut waiting = WaitingRouter { router, kept };
     answer_lines(alloc, &mut waiting, source, sink)
 }
@@ -130,7 +134,7 @@ pub fn session<S: Source, K: Sink>(
         × EndsSession h why (S.state source.old) (S.state source.new)
         (K.state sink.old) (K.state sink.new) }
 {
-    match answer_script(alloc, bytes, source, sink) {
+    match answer_script(alloc, bytes, ListRoom::as_ever(), source, sink) {
         Ok(()) => 0,
         Err(stop) => stop.status(),
     }

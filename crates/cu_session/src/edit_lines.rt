@@ -20,7 +20,7 @@ use crate::refusals::put_piece_refusal;
 use cu_edits::EditList;
 use cu_io::{Sink, SinkFailed, end_line, put_all, put_number};
 use cu_model::{NoMemory, Roads};
-use cu_router::Router;
+use cu_router::{HeldFile, Router};
 use cu_script::{EditLine, EditRefusal, check_edit};
 use std::alloc::Global;
 
@@ -49,23 +49,23 @@ pub(crate) fn put_edit_reply<K: Sink>(
 // before.
 pub(crate) fn plan_edit(
     alloc: Global,
-    router: &Router,
+    held: &HeldFile,
     edits: &mut EditList,
     line: &[u8],
 ) -> Result<Said, NoMemory>
     requires few { length line.now ≤ line_limit }
-    requires edits { FitsList router.now edits.old }
-    ensures fits { FitsList router.now edits.new }
+    requires edits { FitsList held.now edits.old }
+    ensures fits { FitsList held.now edits.new }
     ensures said { IfOk result (λ said. (made : List Edit)
-        × IsSaidOf (edited_all router.now.network edits.old.edits) router.now.order
-        (edit_asked_of router.now line.now) (said_text said) made
+        × IsSaidOf (edited_all held.now.network edits.old.edits) held.now.order
+        (edit_asked_of held.now line.now) (said_text said) made
         × (edits.new.edits ≡ edits.old.edits ++ made)) }
 {
-    let view = router.view();
+    let view = held.view();
     let arcs = view.arcs();
     let profiles = view.profiles();
     match check_edit(line, arcs, profiles) {
-        Ok(checked) => plan_checked(alloc, router, edits, checked),
+        Ok(checked) => plan_checked(alloc, held, edits, checked),
         Err(refusal) => Ok(Said::Refused(refusal)),
     }
 }
@@ -73,23 +73,23 @@ pub(crate) fn plan_edit(
 // Adds the edit of a line to a list, and tells how many edges it touches over the network as those before it leave it.
 fn plan_checked(
     alloc: Global,
-    router: &Router,
+    held: &HeldFile,
     edits: &mut EditList,
     checked: EditLine<'_>,
 ) -> Result<Said, NoMemory>
-    requires arcs { checked.arcs ≡ length router.now.network.arcs }
-    requires profiles { checked.profiles ≡ length router.now.network.profiles }
-    requires sound { IsHierarchy router.now }
-    requires edits { FitsList router.now edits.old }
-    ensures fits { FitsList router.now edits.new }
+    requires arcs { checked.arcs ≡ length held.now.network.arcs }
+    requires profiles { checked.profiles ≡ length held.now.network.profiles }
+    requires sound { IsHierarchy held.now }
+    requires edits { FitsList held.now edits.old }
+    ensures fits { FitsList held.now edits.new }
     ensures said { IfOk result (λ said. (made : List Edit)
-        × IsSaidOf (edited_all router.now.network edits.old.edits) router.now.order
+        × IsSaidOf (edited_all held.now.network edits.old.edits) held.now.order
         (asked_by_edit (edit_of checked.entry.arcs checked.entry.profiles checked.entry.line))
         (said_text said) made
         × (edits.new.edits ≡ edits.old.edits ++ made)) }
 {
     let edit = checked.take(alloc)?;
-    let count = router.add_edit(alloc, edits, edit)?;
+    let count = held.add_edit(alloc, edits, edit)?;
     Ok(Said::Done(count))
 }
 

@@ -17,7 +17,7 @@ use cu_edits::EditList;
 use cu_io::{Sink, SinkFailed, put_line};
 use cu_model::NoMemory;
 use cu_progress::{Progress, Silent, Stage, Telling, begin};
-use cu_router::Router;
+use cu_router::{Editor, HeldFile, Router};
 use cu_script::EditRefusal;
 use std::alloc::Global;
 
@@ -27,22 +27,22 @@ use std::alloc::Global;
 /// made. How much of the text is read, and how many edges are settled, is told as it goes.
 pub fn answer_edits_telling<K: Sink, P: Progress>(
     alloc: Global,
-    router: &mut Router,
+    editor: &mut Editor,
     text: &[u8],
     sink: &mut K,
     progress: &mut P,
 ) -> Result<(), SessionStop>
-    ensures ended { EndsEdits router.old router.new text.now (stop_of result)
+    ensures ended { EndsEdits editor.old editor.new text.now (stop_of result)
         (K.state sink.old) (K.state sink.new) }
 {
-    let (edits, said) = plan_edits(alloc, router, text, progress)?;
-    router.edit_all(alloc, &edits, progress)?;
+    let (edits, said) = plan_edits(alloc, editor.held(), text, progress)?;
+    editor.edit_all(alloc, &edits, progress)?;
     begin(progress, Stage::Done);
     put_all_said(&said, sink)?;
     Ok(())
 }
 
-/// [`answer_edits_telling`], which tells nothing.
+/// [`answer_edits_telling`] in a router, which tells nothing.
 pub fn answer_edits<K: Sink>(
     alloc: Global,
     router: &mut Router,
@@ -52,7 +52,10 @@ pub fn answer_edits<K: Sink>(
     ensures ended { EndsEdits router.old router.new text.now (stop_of result)
         (K.state sink.old) (K.state sink.new) }
 {
-    answer_edits_telling(alloc, router, text, sink, &mut Silent)
+    let (list, replies) = plan_edits(alloc, router.held(), text, &mut Silent)?;
+    router.edit_all(alloc, &list, &mut Silent)?;
+    put_all_said(&replies, sink)?;
+    Ok(())
 }
 
 /// What is said of a line of edits.
@@ -69,21 +72,21 @@ pub(crate) enum Said {
 // The edits of the lines of a text, in turn, and what is said of each line. None is made yet.
 fn plan_edits<P: Progress>(
     alloc: Global,
-    router: &Router,
+    held: &HeldFile,
     text: &[u8],
     progress: &mut P,
 ) -> Result<(EditList, Vec<Said>), NoMemory>
-    ensures fits { IfOk result (λ (edits, said). FitsList router.now edits) }
-    ensures said { IfOk result (λ (edits, said). AreSaid router.now.network router.now.order
+    ensures fits { IfOk result (λ (edits, said). FitsList held.now edits) }
+    ensures said { IfOk result (λ (edits, said). AreSaid held.now.network held.now.order
         (lines_of text.now) (said_texts said.items) edits.edits) }
 {
     let mut telling = Telling::begin(progress, Stage::Editing, text.len() as u64);
-    let mut edits = router.begin_edits(alloc)?;
+    let mut edits = held.begin_edits(alloc)?;
     let mut said = Vec::new(alloc);
     let mut rest = text;
     'lines: while !rest.is_empty() {
         let (line, behind) = cut_line(rest);
-        said.push(plan_line(alloc, router, &mut edits, line)?)?;
+        said.push(plan_line(alloc, held, &mut edits, line)?)?;
         telling.add((line.len() as u64).saturating_add(1));
         rest = behind;
     }
@@ -93,20 +96,20 @@ fn plan_edits<P: Progress>(
 // Adds the edit of a line to a list, if it is one, and tells what is said of the line.
 fn plan_line(
     alloc: Global,
-    router: &Router,
+    held: &HeldFile,
     edits: &mut EditList,
     line: &[u8],
 ) -> Result<Said, NoMemory>
-    requires edits { FitsList router.now edits.old }
-    ensures fits { FitsList router.now edits.new }
+    requires edits { FitsList held.now edits.old }
+    ensures fits { FitsList held.now edits.new }
     ensures said { IfOk result (λ said. (made : List Edit)
-        × IsSaid (edited_all router.now.network edits.old.edits) router.now.order line.now
+        × IsSaid (edited_all held.now.network edits.old.edits) held.now.order line.now
         (said_text said) made × (edits.new.edits ≡ edits.old.edits ++ made)) }
 {
     if line.len() > LINE_LIMIT as usize {
         return Ok(Said::Long);
     }
-    plan_edit(alloc, router, edits, trim_return(line))
+    plan_edit(alloc, held, edits, trim_return(line))
 }
 
 // Writes what is said of all lines, each ended by a line feed.

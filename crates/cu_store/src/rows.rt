@@ -1,15 +1,13 @@
 //! Rows of lists, and the pool of their runs.
 
-ghost use Rattle.std.specs.Prelude.{◌≡◌, ◌≤◌, ◌<◌, ◌+◌, ◌++◌, ◌∷◌, [], ℕ, IfOk, length, vec_capacity};
+ghost use Rattle.std.specs.Prelude.{◌≡◌, ◌≤◌, ◌<◌, ◌+◌, length, vec_capacity};
 ghost use Rattle.cu_model.specs.declared.limits.TheConstants.{DAY};
 ghost use Rattle.cu_arrival.specs.Runs.{arrival_value};
-ghost use Rattle.cu_runs.specs.PackedRuns.{end_run};
 ghost use Rattle.cu_brief.specs.BriefRuns.{IsBrief, runs_of};
 ghost use Rattle.cu_store.specs.Pool.{rows_of, runs_in};
 
-use cu_brief::{decode, value_at};
-use cu_model::{DAY, NoMemory};
-use cu_runs::PackedRun;
+use cu_brief::value_at;
+use cu_model::DAY;
 
 /// What is known of a list: nothing; that it is empty; or where its runs stand in the pool, and beside which base.
 #[derive(Clone, Copy)]
@@ -59,20 +57,11 @@ pub(crate) fn value_in(pool: &[u32], base: u32, start: u32, count: u32, second: 
     value_at(&pool[start..start + count as usize], base, second)
 }
 
-/// Writes the function of so many runs of the pool from one on over what `packed` holds.
-pub(crate) fn decode_in(
-    pool: &[u32],
-    base: u32,
-    start: u32,
-    count: u32,
-    packed: &mut Vec<PackedRun>,
-) -> Result<(), NoMemory>
-    requires within { start + count ≤ length pool.now }
-    requires brief { IsBrief (runs_in pool.now start count) }
-    ensures { IfOk result (λ _. packed.new.items
-        ≡ runs_of base (runs_in pool.now start count) ++ end_run ∷ []) }
+/// So many runs of the pool from one on.
+pub(crate) fn runs_of_row(pool: &[u32], start: u32, count: u32) -> &[u32]
+    requires { start + count ≤ length pool.now }
+    ensures { result.now ≡ runs_in pool.now start count }
 {
     let start = start as usize;
-    decode(&pool[start..start + count as usize], base, packed)?;
-    Ok(())
+    &pool[start..start + count as usize]
 }

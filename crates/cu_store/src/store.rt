@@ -1,14 +1,15 @@
 //! A store of functions by list number.
 
-ghost use Rattle.std.specs.Prelude.{◌≡◌, ◌≤◌, ◌<◌, ◌+◌, ◌-◌, ℕ, All, IfOk, Some, None, length, slice_get, slice_set, true, false};
+ghost use Rattle.std.specs.Prelude.{◌≡◌, ◌≤◌, ◌<◌, ◌+◌, ◌-◌, ◌++◌, ◌∷◌, [], ℕ, All, IfOk, IfSome, Some, None, length, slice_get, slice_set, true, false};
 ghost use Rattle.cu_model.specs.declared.limits.TheConstants.{DAY};
 ghost use Rattle.cu_model.specs.Days.{IsOnward};
 ghost use Rattle.cu_arrival.specs.Runs.{arrival_value};
-ghost use Rattle.cu_runs.specs.PackedRuns.{IsDayList};
+ghost use Rattle.cu_runs.specs.PackedRuns.{IsDayList, end_run};
+ghost use Rattle.cu_brief.specs.BriefRuns.{IsBrief, runs_of};
 ghost use Rattle.cu_store.specs.Known.{HasNoRuns, HasRuns, IsLeftOut, ended, found_at};
 
-use crate::rows::{Row, decode_in, make_row, value_in};
-use cu_brief::encode;
+use crate::rows::{Row, make_row, runs_of_row, value_in};
+use cu_brief::{Brief, encode};
 use cu_model::{DAY, NoMemory};
 use cu_runs::{PackedRun, least_travel};
 use std::alloc::Global;
@@ -115,23 +116,23 @@ impl Store {
         }
     }
 
-    /// Writes the function of a list over what `packed` holds. False where none is known. After a refusal for want of memory
-    /// `packed` may hold anything.
-    pub fn function(&self, list: usize, packed: &mut Vec<PackedRun>) -> Result<bool, NoMemory>
+    /// The runs of the function of a list, but for the one that ends it. None where no function is known. Takes no memory.
+    pub fn brief(&self, list: usize) -> Option<Brief<'_>>
         requires { list < length self.now.known }
-        ensures known { IfOk result (λ is_known. is_known ≡ true
-            → HasRuns (slice_get self.now.known list) packed.new.items) }
-        ensures unknown { IfOk result (λ is_known. is_known ≡ false
-            → HasNoRuns (slice_get self.now.known list)) }
+        ensures known { IfSome result (λ brief. IsBrief brief.runs.now
+            × HasRuns (slice_get self.now.known list) (runs_of brief.base brief.runs.now ++ end_run ∷ [])) }
+        ensures unknown { result ≡ None → HasNoRuns (slice_get self.now.known list) }
     {
         if list >= self.rows.len() {
-            return Ok(false);
+            return None;
         }
         let Row::Runs { base, start, count } = self.rows[list] else {
-            return Ok(false);
+            return None;
         };
-        decode_in(&self.pool, base, start, count, packed)?;
-        Ok(true)
+        Some(Brief {
+            base,
+            runs: runs_of_row(&self.pool, start, count),
+        })
     }
 
     /// Nothing is known of the list from then on. Takes no memory.
@@ -184,7 +185,7 @@ impl Store {
             return false;
         }
         let base = least_travel(packed);
-        if base > 4_294_967_295 {
+        if base > u64::from(u32::MAX) {
             return false;
         }
         if !encode(packed, base as u32, &mut self.pool) {

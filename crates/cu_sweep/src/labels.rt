@@ -210,6 +210,7 @@ impl<K: Linking> Labels<K> {
         requires from { from < graph.now.ranks }
         requires tree { tree.now ≡ parents_in graph.now }
         requires graph { IsHierarchyOf graph.now (R.hierarchy relaxer.old) }
+        requires known { L.knows limits.now (R.hierarchy relaxer.old) }
         requires nodes { self.old.nodes ≡ graph.now.ranks }
         requires unturned { self.old.turned ≡ false }
         ensures nodes { self.new.nodes ≡ self.old.nodes }
@@ -249,6 +250,7 @@ impl<K: Linking> Labels<K> {
         requires upwards { (low high : ℕ) → Contains path.now low
             → HasEdge graph.now.edges low high → Contains path.now high }
         requires graph { IsHierarchyOf graph.now (R.hierarchy relaxer.old) }
+        requires known { L.knows limits.now (R.hierarchy relaxer.old) }
         requires nodes { self.old.nodes ≡ graph.now.ranks }
         requires unturned { self.old.turned ≡ false }
         ensures nodes { self.new.nodes ≡ self.old.nodes }

@@ -75,26 +75,26 @@ pub fn led_query<R: Relaxer>(
         bounds,
     } = ground;
     outlook.look_near(tree, graph, &mut desk.path, bounds, question);
-    query_along(tree, graph, desk, outlook, relaxer, question)
+    query_along(ground, desk, outlook, relaxer, question)
 }
 
 // The same where what is ahead was found.
 fn query_along<R: Relaxer>(
-    tree: &Tree,
-    graph: &Chordal,
+    ground: Ground<'_>,
     desk: &mut SweepDesk,
     outlook: &Outlook,
     relaxer: &mut R,
     question: Question,
 ) -> Found
-    requires ranks { (question.from < graph.now.ranks) × (question.to < graph.now.ranks) }
+    requires ranks { (question.from < ground.graph.now.ranks) × (question.to < ground.graph.now.ranks) }
     requires second { question.second < DAY }
-    requires tree { tree.now ≡ parents_in graph.now }
-    requires desk { desk.old.nodes ≡ graph.now.ranks }
-    requires outlook { outlook.now.nodes ≡ graph.now.ranks }
+    requires tree { ground.tree.now ≡ parents_in ground.graph.now }
+    requires desk { desk.old.nodes ≡ ground.graph.now.ranks }
+    requires outlook { outlook.now.nodes ≡ ground.graph.now.ranks }
     requires ahead { IsAhead (R.hierarchy relaxer.old) question.from question.to
         outlook.now.up outlook.now.down }
-    requires graph { IsHierarchyOf graph.now (R.hierarchy relaxer.old) }
+    requires graph { IsHierarchyOf ground.graph.now (R.hierarchy relaxer.old) }
+    requires bounds { AreNear (R.hierarchy relaxer.old) ground.bounds.now }
     requires short { NeverLong (R.hierarchy relaxer.old) }
     ensures found { result ≡ found (R.hierarchy relaxer.old)
         question.from question.to question.second }
@@ -109,6 +109,11 @@ fn query_along<R: Relaxer>(
     ensures real { IsReal (R.hierarchy relaxer.old)
         question.from question.to question.second desk.new.calls result }
 {
+    let Ground {
+        tree,
+        graph,
+        bounds,
+    } = ground;
     let count = climb(tree, question.to, &mut desk.path);
     let path = &desk.path[..count];
     let Some(by) = drive_way(graph, outlook, path, relaxer, question) else {
@@ -122,7 +127,7 @@ fn query_along<R: Relaxer>(
             question.second,
         );
     };
-    let limits = outlook.within(by);
+    let limits = outlook.within(bounds, by);
     query_until(tree, graph, desk, relaxer, limits, question)
 }
 
@@ -141,6 +146,7 @@ fn query_until<R: Relaxer>(
     requires desk { desk.old.nodes ≡ graph.now.ranks }
     requires graph { IsHierarchyOf graph.now (R.hierarchy relaxer.old) }
     requires places { length limits.up.now ≡ graph.now.ranks }
+    requires bounds { AreNear (R.hierarchy relaxer.old) limits.bounds.now }
     requires ahead { IsAhead (R.hierarchy relaxer.old) question.from question.to
         limits.up.now limits.down.now }
     requires short { NeverLong (R.hierarchy relaxer.old) }
@@ -186,6 +192,7 @@ fn query_in_time<R: Relaxer>(
     requires desk { desk.old.nodes ≡ graph.now.ranks }
     requires graph { IsHierarchyOf graph.now (R.hierarchy relaxer.old) }
     requires places { length limits.up.now ≡ graph.now.ranks }
+    requires bounds { AreNear (R.hierarchy relaxer.old) limits.bounds.now }
     requires ahead { IsAhead (R.hierarchy relaxer.old) question.from question.to
         limits.up.now limits.down.now }
     requires short { NeverLong (R.hierarchy relaxer.old) }
@@ -230,6 +237,7 @@ fn sweep_in_time<R: Relaxer>(
     requires labels { labels.old.nodes ≡ graph.now.ranks }
     requires path { path.now ≡ ancestors_in graph.now goal.question.to }
     requires places { length goal.limits.up.now ≡ graph.now.ranks }
+    requires bounds { AreNear (R.hierarchy relaxer.old) goal.limits.bounds.now }
     requires ahead { IsAhead (R.hierarchy relaxer.old) goal.question.from goal.question.to
         goal.limits.up.now goal.limits.down.now }
     requires short { NeverLong (R.hierarchy relaxer.old) }

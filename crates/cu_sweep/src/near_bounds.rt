@@ -83,5 +83,5 @@ fn write_bounds<W: BoundedWays>(ways: &W, dir: Dir, bounds: &mut [u32])
 fn near_of(least: u64) -> u32
     ensures { result ≡ near least }
 {
-    least.min(4_294_967_295) as u32
+    least.min(u64::from(u32::MAX)) as u32
 }

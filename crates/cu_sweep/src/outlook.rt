@@ -147,16 +147,18 @@ impl Outlook {
         );
     }
 
-    // The limit of calls that may be in time for the end to be reached by a second.
-    pub(crate) fn within(&self, by: u64) -> InTime<'_>
+    // The limit of calls that may be in time for the end to be reached by a second, with these bounds.
+    pub(crate) fn within<'a>(&'a self, bounds: &'a NearBounds, by: u64) -> InTime<'a>
         ensures up { result.up.now ≡ self.now.up }
         ensures places { length result.up.now ≡ self.now.nodes }
         ensures down { result.down.now ≡ self.now.down }
+        ensures bounds { result.bounds.now ≡ bounds.now }
     {
         InTime {
             up: &self.up,
             down: &self.down,
             by,
+            bounds,
         }
     }
 

@@ -29,6 +29,7 @@ pub fn pass_up<R: Relaxer, L: Limits, K: Linking>(
     requires from { from < graph.now.ranks }
     requires tree { tree.now ≡ parents_in graph.now }
     requires graph { IsHierarchyOf graph.now (R.hierarchy relaxer.old) }
+    requires known { L.knows limits.now (R.hierarchy relaxer.old) }
     requires ready { IsReadyBy K.links K.turned graph.now.ranks labels.old chain.old }
     requires unturned { K.turned chain.old ≡ false }
     ensures ready { IsReadyBy K.links K.turned graph.now.ranks labels.new chain.new }
@@ -63,6 +64,7 @@ pub fn pass_down<R: Relaxer, L: Limits, K: Linking>(
     requires upwards { (low high : ℕ) → Contains path.now low → HasEdge graph.now.edges low high
         → Contains path.now high }
     requires graph { IsHierarchyOf graph.now (R.hierarchy relaxer.old) }
+    requires known { L.knows limits.now (R.hierarchy relaxer.old) }
     requires ready { IsReadyBy K.links K.turned graph.now.ranks labels.old chain.old }
     requires unturned { K.turned chain.old ≡ false }
     ensures ready { IsReadyBy K.links K.turned graph.now.ranks labels.new chain.new }

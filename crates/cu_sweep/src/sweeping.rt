@@ -39,6 +39,7 @@ pub(crate) fn relax_up<R: Relaxer, L: Limits, K: Linking>(
 ) -> Option<Call>
     requires rank { rank < graph.now.ranks }
     requires graph { IsHierarchyOf graph.now (R.hierarchy relaxer.old) }
+    requires known { L.knows limits.now (R.hierarchy relaxer.old) }
     requires ready { IsReadyBy K.links K.turned graph.now.ranks labels.old chain.old }
     requires unturned { K.turned chain.old ≡ false }
     ensures ready { IsReadyBy K.links K.turned graph.now.ranks labels.new chain.new }
@@ -91,6 +92,7 @@ pub(crate) fn relax_down<R: Relaxer, L: Limits, K: Linking>(
 ) -> Option<Call>
     requires rank { rank < graph.now.ranks }
     requires graph { IsHierarchyOf graph.now (R.hierarchy relaxer.old) }
+    requires known { L.knows limits.now (R.hierarchy relaxer.old) }
     requires ready { IsReadyBy K.links K.turned graph.now.ranks labels.old chain.old }
     requires unturned { K.turned chain.old ≡ false }
     ensures ready { IsReadyBy K.links K.turned graph.now.ranks labels.new chain.new }
@@ -160,6 +162,7 @@ fn relax_into<R: Relaxer, L: Limits, K: Linking>(
     requires unturned { K.turned chain.old ≡ false }
     requires apart { IsOnChainTo (K.links chain.old) leg.into leg.from → ⊥ }
     requires sound { IsHierarchy (R.hierarchy relaxer.old) }
+    requires known { L.knows limits.now (R.hierarchy relaxer.old) }
     ensures labels { labels.new ≡ seconds_after labels.old leg.into
         (answer_in (R.hierarchy relaxer.old) (L.allows limits.now leg.into) leg.edge leg.dir
         (second_at labels.old leg.from)) }
@@ -187,7 +190,7 @@ fn relax_into<R: Relaxer, L: Limits, K: Linking>(
     let Some(second) = labels[from as usize] else {
         return None;
     };
-    let soonest = second + relaxer.least(edge, dir);
+    let soonest = second + limits.least(relaxer, edge, dir);
     if !limits.allow(into, soonest) {
         return None;
     }

@@ -1,21 +1,33 @@
-//! Calls that may still be in time for a query's end.
+//! Calls that may still be in time for a query's end, by bounds in memory.
 
-ghost use Rattle.std.specs.Prelude.{◌≡◌, ◌+◌, nat_le};
+ghost use Rattle.std.specs.Prelude.{◌≡◌, ◌≤◌, ◌<◌, ◌+◌, length, nat_le};
+ghost use Rattle.cu_interval.specs.LeastBounds.{far, least_bound};
+ghost use Rattle.cu_sweep.specs.Near.{AreNear};
 ghost use Rattle.cu_sweep.specs.Steps.Ahead.{ahead_of, is_in_time};
 
+use crate::bounding::Bounds;
 use crate::limits::Limits;
+use crate::near_bounds::NearBounds;
+use cu_interval::{Dir, Relaxer};
 
-/// What is at least still to go from each rank, upwards and downwards, and by when the end is to be reached.
+// A bound that found no room is kept as this.
+const NO_ROOM: u64 = u32::MAX as u64;
+
+/// What is at least still to go from each rank, upwards and downwards, by when the end is to be reached, and the least bounds of
+/// all lists.
 #[derive(Clone, Copy)]
 pub struct InTime<'a> {
     pub up: &'a [u64],
     pub down: &'a [u64],
     pub by: u64,
+    pub bounds: &'a NearBounds,
 }
 
 impl<'a> Limits for InTime<'a> {
     ghost allows = { λ limits place soonest.
         is_in_time limits.up.now limits.down.now limits.by place soonest };
+
+    ghost knows = { λ limits h. AreNear h limits.bounds.now };
 
     fn allow(&self, place: u32, soonest: u64) -> bool {
         is_by(
@@ -24,6 +36,27 @@ impl<'a> Limits for InTime<'a> {
             self.by,
         )
     }
+
+    // The packed bytes of a bound are far apart, so they are read only where it found no room.
+    #[inline(always)]
+    fn least<R: Relaxer>(&self, relaxer: &R, edge: u32, dir: Dir) -> u64 {
+        let bound = self.bounds.bound(edge, dir);
+        if bound < NO_ROOM {
+            return bound;
+        }
+        least_asked(relaxer, edge, dir)
+    }
+}
+
+// What whoever relaxes says. It stands apart so that the sweeps' loops stay small.
+#[cold]
+#[inline(never)]
+fn least_asked<R: Relaxer>(relaxer: &R, edge: u32, dir: Dir) -> u64
+    requires edge { edge < length (R.hierarchy relaxer.now).edges }
+    ensures bound { result ≡ least_bound (R.hierarchy relaxer.now) edge dir }
+    ensures most { result ≤ far }
+{
+    relaxer.least(edge, dir)
 }
 
 // Whether what begins at a second and takes so long ends by another.

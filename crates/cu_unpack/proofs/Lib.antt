@@ -14,3 +14,4 @@ pub mod PackedWays
 pub mod VisitedOnce
 pub mod LeastValues
 pub mod FarBounds
+pub mod Places

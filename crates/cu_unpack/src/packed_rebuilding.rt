@@ -1,6 +1,6 @@
 //! Functions of shortcuts over the day as packed runs, rebuilt from their ways or put in.
 
-ghost use Rattle.std.specs.Prelude.{◌≡◌, ◌<◌, ◌+◌, ◌≤◌, ◌↔◌, All, IfOk, IfSome, IsTrue, None, OnErr, Some, false, length, take, true};
+ghost use Rattle.std.specs.Prelude.{◌≡◌, ◌<◌, ◌+◌, ◌≤◌, ◌↔◌, All, IfOk, IfSome, IsTrue, None, OnErr, OnOk, Some, false, length, take, true};
 ghost use Rattle.cu_chordal.specs.declared.graph.TheConstants.{MAX_EDGES};
 ghost use Rattle.cu_interval.specs.Hierarchies.{IsHierarchy, list_number};
 ghost use Rattle.cu_interval.specs.Shortcuts.{ways_of};
@@ -15,7 +15,7 @@ use crate::shortcuts::{is_among, take_next};
 use cu_chordal::MAX_EDGES;
 use cu_interval::{Dir, Shortcut, Way, Ways, halves};
 use cu_model::NoMemory;
-use cu_runs::{DayFunction, Windows};
+use cu_runs::{DayFunction, PlacedFunctions, Windows};
 use std::alloc::Global;
 use std::marker::Model;
 
@@ -60,8 +60,8 @@ impl PackedFunctions {
     }
 
     /// The functions, by list number: none where a list is empty or isn't known.
-    pub fn functions(&self) -> &[Option<DayFunction>]
-        ensures { result.now ≡ self.now.functions }
+    pub fn functions(&self) -> PlacedFunctions<'_>
+        ensures { result ≡ self.now.functions }
     {
         self.table.functions()
     }
@@ -74,13 +74,20 @@ impl PackedFunctions {
         self.table.is_known(Shortcut { edge, dir })
     }
 
-    /// The list of an edge in a direction is known from then on, with this function. The edge's number is in range.
-    pub fn put(&mut self, edge: u32, dir: Dir, function: Option<DayFunction>)
+    /// The list of an edge in a direction is known from then on, with this function. The edge's number is in range. Where memory
+    /// runs out nothing changes.
+    pub fn put(
+        &mut self,
+        edge: u32,
+        dir: Dir,
+        function: Option<DayFunction>,
+    ) -> Result<(), NoMemory>
         requires known { list_number edge dir < length self.old.known }
         requires functions { list_number edge dir < length self.old.functions }
-        ensures { self.new ≡ with_list self.old (list_number edge dir) function }
+        ensures put { OnOk result (self.new ≡ with_list self.old (list_number edge dir) function) }
+        ensures same { OnErr result (self.new ≡ self.old) }
     {
-        self.table.put(Shortcut { edge, dir }, function);
+        self.table.put(Shortcut { edge, dir }, function)
     }
 
     /// Learns the list of an edge in a direction over these ways, and those that it needs: the least of its ways at
@@ -178,7 +185,7 @@ fn learn_asked<W: Ways>(
         return Ok(true);
     }
     if ways.entries(shortcut.edge, shortcut.dir) == 0 {
-        table.put(shortcut, None);
+        table.put(shortcut, None)?;
         return Ok(true);
     }
     learn_all(alloc, ways, table, room, shortcut)
@@ -244,7 +251,7 @@ fn learn_list<W: Ways>(
     let Some(function) = least_function(alloc, ways, table, room, shortcut)? else {
         return Ok(false);
     };
-    table.put(shortcut, Some(function));
+    table.put(shortcut, Some(function))?;
     Ok(true)
 }
 

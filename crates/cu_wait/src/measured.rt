@@ -79,6 +79,10 @@ impl<'a, R: Roads> WalkForm for WithLeft<'a, R> {
         b" drive="
     }
 
+    fn tells_seconds(&self) -> bool {
+        true
+    }
+
     fn put<K: Sink>(
         &self,
         road: u32,

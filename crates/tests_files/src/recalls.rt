@@ -4,6 +4,7 @@ ghost use Rattle.std.specs.Prelude.{◌≡◌, ◌<◌, IfOk, length};
 ghost use Rattle.cu_interval.specs.Hierarchies.{IsHierarchyOf};
 ghost use Rattle.cu_recall.specs.Rooms.{Fits};
 
+use crate::stored::empty_store;
 use cu_chordal::Chordal;
 use cu_interval::{BoundedWays, Dir, Relaxed, Relaxer, Ways};
 use cu_io::{MemorySink, SinkFailed};
@@ -144,7 +145,8 @@ fn recalled(
 {
     let edges = view.edges();
     let none = Sequences::none(alloc);
-    let mut recall = Recall::new(view, graph, &none, room);
+    let empty = empty_store(alloc, view);
+    let mut recall = Recall::new(view, graph, &none, &empty, room);
     answers(rt, &mut recall, edges, rows);
     recall.into_room()
 }
@@ -332,7 +334,8 @@ fn recall_knows(rt: &impl Abort, alloc: Global, view: &PackedView<'_>, graph: &C
 {
     let edges = view.edges();
     let none = Sequences::none(alloc);
-    let recall = Recall::new(view, graph, &none, room);
+    let empty = empty_store(alloc, view);
+    let recall = Recall::new(view, graph, &none, &empty, room);
     bounds(rt, &recall, edges, &LEAST);
 }
 
@@ -381,7 +384,8 @@ fn met(alloc: Global, view: &PackedView<'_>, graph: &Chordal, room: Room, second
     ensures fits { Fits view.now result }
 {
     let none = Sequences::none(alloc);
-    let mut recall = Recall::new(view, graph, &none, room);
+    let empty = empty_store(alloc, view);
+    let mut recall = Recall::new(view, graph, &none, &empty, room);
     recall.relax(4, Dir::Up, u64::from(second));
     recall.into_room()
 }

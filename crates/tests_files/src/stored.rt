@@ -7,6 +7,7 @@ ghost use Rattle.cu_short.specs.Shortness.{NeverLong};
 ghost use Rattle.cu_store.specs.Known.{Knows};
 
 use crate::recalls::BESIDE;
+use cu_brief::brief_of;
 use cu_filling::{Made, Scratch, make_list};
 use cu_interval::{Dir, Relaxed, Relaxer, Shortcut, Ways};
 use cu_model::{DAY, NoMemory, Roads};
@@ -76,6 +77,41 @@ fn make_all(
     Ok(())
 }
 
+/// A store that knows nothing of a file's lists.
+pub(crate) fn empty_store(alloc: Global, view: &PackedView<'_>) -> Store
+    ensures size { length result.known ≡ 2 * length view.now.edges }
+    ensures knows { Knows view.now result.known }
+{
+    Store::without_room(alloc, 2 * view.edges() as usize)
+}
+
+// Makes all lists of a file in a store that knows nothing.
+fn filled_store(alloc: Global, view: &PackedView<'_>, edges: u32) -> Result<Store, NoMemory>
+    requires known { edges ≡ length view.now.edges }
+    requires sound { IsHierarchy view.now }
+    requires never { NeverLong view.now }
+    ensures size { IfOk result (λ store. length store.known ≡ 2 * length view.now.edges) }
+    ensures knows { IfOk result (λ store. Knows view.now store.known) }
+{
+    let mut scratch = Scratch::new(alloc)?;
+    let mut made = Vec::new(alloc);
+    let mut store = Store::new(alloc, 2 * edges as usize, 1_000)?;
+    make_all(view, &mut store, &mut scratch, &mut made, edges)?;
+    Ok(store)
+}
+
+/// A store that knows the functions of a file's lists, or nothing of them where a walk may be too long.
+pub(crate) fn made_store(alloc: Global, view: &PackedView<'_>) -> Result<Store, Fail>
+    ensures size { IfOk result (λ store. length store.known ≡ 2 * length view.now.edges) }
+    ensures knows { IfOk result (λ store. Knows view.now store.known) }
+{
+    if !is_never_long(alloc, view)? {
+        return Ok(empty_store(alloc, view));
+    }
+    let edges = view.edges();
+    Ok(filled_store(alloc, view, edges)?)
+}
+
 // What is found of a list at a second of the day, if there is one with this number.
 fn found(store: &Store, lists: usize, list: usize, second: u32) -> Option<Found>
     requires { lists ≡ length store.now.known }
@@ -102,18 +138,27 @@ fn are_found(store: &Store, lists: usize, rows: &[Value]) -> bool
     true
 }
 
-// Are these the runs that are known of a list?
-fn has_runs(
-    alloc: Global,
-    store: &Store,
-    lists: usize,
-    list: usize,
-    runs: &[PackedRun],
-) -> Result<bool, NoMemory>
+// Is this a run in four bytes, above a base?
+fn is_brief(run: PackedRun, base: u32, bits: u32) -> bool {
+    run.from() < u64::from(DAY) && brief_of(run, base) == Some(bits)
+}
+
+// Are these, and the end, the runs that are known of a list?
+fn has_runs(store: &Store, lists: usize, list: usize, runs: &[PackedRun]) -> bool
     requires { lists ≡ length store.now.known }
 {
-    let mut packed = Vec::new(alloc);
-    Ok(list < lists && store.function(list, &mut packed)? && packed.as_slice() == runs)
+    if list >= lists {
+        return false;
+    }
+    let Some(brief) = store.brief(list) else {
+        return false;
+    };
+    let count = brief.runs.len();
+    let mut same = count < runs.len() && runs[count..] == [PackedRun::end()];
+    'runs: for index in 0..count.min(runs.len()) {
+        same &= is_brief(runs[index], brief.base, brief.runs[index]);
+    }
+    same
 }
 
 // Does a store answer as another relaxer does?
@@ -242,7 +287,7 @@ fn is_as_wanted(
     let lists = 2 * edges as usize;
     Ok(
         are_found(store, lists, case.values)
-            && (case.runs.is_empty() || has_runs(alloc, store, lists, case.list, case.runs)?)
+            && (case.runs.is_empty() || has_runs(store, lists, case.list, case.runs))
             && answers_alike(alloc, view, store)?,
     )
 }

@@ -3,7 +3,7 @@
 use cu_io::{MemorySink, MemorySource};
 use cu_pack::PackedView;
 use cu_samples::{BUILT, RUSH_HOUR, SCRIPTS, Star, forged, later, packed};
-use cu_session::{Router, answer_edits, session};
+use cu_session::{ListRoom, Router, answer_edits, answer_script, session};
 use std::alloc::Global;
 use std::test::Fail;
 
@@ -44,6 +44,44 @@ fn sessions_are_answered(rt: HostRuntime) -> Result<(), Fail> {
     Ok(())
 }
 
+// However much memory may be taken for what is known of shortcuts, the replies are the same.
+#[test]
+fn replies_are_the_same_with_any_room(rt: HostRuntime) -> Result<(), Fail> {
+    let alloc = rt.alloc();
+    let rooms = [
+        ListRoom::none(),
+        ListRoom::of_mib(0),
+        ListRoom::of_mib(1),
+        ListRoom::of_mib(u64::MAX),
+    ];
+    for script in &SCRIPTS {
+        for room in &rooms {
+            let (status, said) = answer_within(alloc, script.file, script.lines, *room)?;
+            assert_eq!(rt; said.as_slice(), script.replies.as_bytes());
+            assert_eq!(rt; status, 0);
+        }
+    }
+    Ok(())
+}
+
+// What a session answers to a script over a packed file, with so much room, and its status.
+fn answer_within(
+    alloc: Global,
+    file: &[u8],
+    script: &str,
+    room: ListRoom,
+) -> Result<(u8, Vec<u8>), Fail> {
+    let bytes = Vec::from_slice(alloc, file)?;
+    let _view = PackedView::open(alloc, &bytes)?;
+    let mut source = MemorySource::of(Vec::from_slice(alloc, script.as_bytes())?, Vec::new(alloc));
+    let mut sink = MemorySink::new(alloc, 131_072, Vec::new(alloc))?;
+    let status = match answer_script(alloc, bytes, room, &mut source, &mut sink) {
+        Ok(()) => 0,
+        Err(stop) => stop.status(),
+    };
+    Ok((status, Vec::from_slice(alloc, sink.bytes())?))
+}
+
 // Days leave the functions that they learned to those behind them and to edits. Those that an edit moves are learned anew: the days
 // behind it are those of a fresh process over the edited file.
 #[test]
@@ -53,7 +91,7 @@ fn days_behind_an_edit_are_those_of_a_fresh_process(rt: HostRuntime) -> Result<(
     let edit = "s,0,0,travel,200\n";
     let lines = "d,0,2\nd,0,1\nd,1,2\ns,0,0,travel,200\nd,0,2\nd,0,1\nd,1,2\nd,2,0\nd,0,2\n";
     let (status, said) = answer(alloc, &packed(alloc, RUSH_HOUR)?, lines)?;
-    let router = Router::new(alloc, packed(alloc, RUSH_HOUR)?)?;
+    let router = Router::new(alloc, packed(alloc, RUSH_HOUR)?, ListRoom::as_ever())?;
     let (done, after) = edited(alloc, router, edit)?;
     let (fresh_status, fresh) = answer(alloc, &after, days)?;
     assert_eq!(rt; done.as_slice(), b"done 2\n".as_slice());
@@ -66,7 +104,7 @@ fn days_behind_an_edit_are_those_of_a_fresh_process(rt: HostRuntime) -> Result<(
 #[test]
 fn edits_are_made(rt: HostRuntime) -> Result<(), Fail> {
     let alloc = rt.alloc();
-    let router = Router::new(alloc, packed(alloc, RUSH_HOUR)?)?;
+    let router = Router::new(alloc, packed(alloc, RUSH_HOUR)?, ListRoom::as_ever())?;
     let text = "s,0,0,travel,200\nq,0,2,0\r\nd,0,2\nr,0,0\nt,0,0\nl,0,2,160\ns,0,0,travel,60";
     let (said, bytes) = edited(alloc, router, text)?;
     assert_eq!(rt;
@@ -81,10 +119,10 @@ fn edits_are_made(rt: HostRuntime) -> Result<(), Fail> {
 fn edits_are_the_same_where_edges_are_known(rt: HostRuntime) -> Result<(), Fail> {
     let alloc = rt.alloc();
     let text = "s,0,0,travel,200\na,2,0\n";
-    let router = Router::built(alloc, packed(alloc, RUSH_HOUR)?)?;
+    let router = Router::built(alloc, packed(alloc, RUSH_HOUR)?, ListRoom::as_ever())?;
     let (said, known) = edited(alloc, router, text)?;
     assert_eq!(rt; said.as_slice(), b"done 2\ndone 1\n".as_slice());
-    let router = Router::new(alloc, packed(alloc, RUSH_HOUR)?)?;
+    let router = Router::new(alloc, packed(alloc, RUSH_HOUR)?, ListRoom::as_ever())?;
     let (said, unknown) = edited(alloc, router, text)?;
     assert_eq!(rt; said.as_slice(), b"done 2\ndone 1\n".as_slice());
     assert_eq!(rt; known.as_slice(), unknown.as_slice());
@@ -110,7 +148,7 @@ fn after_line(
     said: &mut Vec<u8>,
 ) -> Result<Vec<u8>, Fail> {
     let _view = PackedView::open(alloc, &file)?;
-    let (reply, after) = edited(alloc, Router::new(alloc, file)?, line)?;
+    let (reply, after) = edited(alloc, Router::new(alloc, file, ListRoom::as_ever())?, line)?;
     said.extend_from_slice(&reply)?;
     Ok(after)
 }
@@ -129,7 +167,11 @@ fn in_turn(alloc: Global, text: &str) -> Result<(Vec<u8>, Vec<u8>), Fail> {
 fn lines_together_leave_what_they_leave_in_turn(rt: HostRuntime) -> Result<(), Fail> {
     let alloc = rt.alloc();
     for text in MANY {
-        let (said, file) = edited(alloc, Router::new(alloc, packed(alloc, RUSH_HOUR)?)?, text)?;
+        let (said, file) = edited(
+            alloc,
+            Router::new(alloc, packed(alloc, RUSH_HOUR)?, ListRoom::as_ever())?,
+            text,
+        )?;
         let (turns, last) = in_turn(alloc, text)?;
         assert!(rt; said.as_slice() == turns.as_slice(), "{text}");
         assert!(rt; file.as_slice() == last.as_slice(), "{text}");

@@ -129,7 +129,7 @@ fn learned(
     if !packed.learn(alloc, hierarchy, edge, Dir::Up)? {
         return Ok(None);
     }
-    let Some(function) = &packed.functions()[2 * edge as usize] else {
+    let Some(function) = packed.functions().get(2 * edge as usize) else {
         return Ok(None);
     };
     let function = function.to_arrival(alloc)?;

@@ -5,6 +5,7 @@ ghost use Rattle.cu_cli.specs.Commands.Ask.{ask_of};
 ghost use Rattle.cu_cli.specs.Steps.Asks.{Parses, ask_asked};
 ghost use Rattle.cu_cli.specs.Steps.Outcomes.{Works, stop_of, world_of};
 
+use crate::manner::Manner;
 use crate::opening::open_file;
 use crate::stops::Stop;
 use cu_io::{Shelf, Sink, Source};
@@ -38,14 +39,15 @@ pub fn ask<H: Shelf, S: Source, K: Sink, P: Progress>(
     shelf: &mut H,
     source: &mut S,
     sink: &mut K,
-    progress: &mut P,
+    manner: Manner<'_, P>,
 ) -> Result<(), Stop>
     ensures works { Works (ask_asked asked.entry) (stop_of result)
         (world_of (H.state shelf.old) (S.state source.old) (K.state sink.old))
         (world_of (H.state shelf.new) (S.state source.new) (K.state sink.new)) }
 {
+    let Manner { progress, room } = manner;
     let bytes = open_file(alloc, asked.hierarchy, shelf, progress)?;
     begin(progress, Stage::Done);
-    answer_script(alloc, bytes, source, sink)?;
+    answer_script(alloc, bytes, room, source, sink)?;
     Ok(())
 }

@@ -6,6 +6,7 @@ ghost use Rattle.cu_cli.specs.Commands.Desk.{desk_of};
 ghost use Rattle.cu_cli.specs.Steps.Asks.{Parses, desk_asked};
 ghost use Rattle.cu_cli.specs.Steps.Outcomes.{Works, stop_of, world_of};
 
+use crate::manner::Manner;
 use crate::opening::open_file;
 use crate::saying::put_numbers_line;
 use crate::stops::{Role, Stop};
@@ -46,14 +47,15 @@ pub fn desk<H: Shelf, S: Source, K: Sink, P: Progress>(
     shelf: &mut H,
     source: &mut S,
     sink: &mut K,
-    progress: &mut P,
+    manner: Manner<'_, P>,
 ) -> Result<(), Stop>
     ensures works { Works (desk_asked asked.entry) (stop_of result)
         (world_of (H.state shelf.old) (S.state source.old) (K.state sink.old))
         (world_of (H.state shelf.new) (S.state source.new) (K.state sink.new)) }
 {
+    let Manner { progress, room } = manner;
     let bytes = open_file(alloc, asked.hierarchy, shelf, progress)?;
-    let router = Router::new(alloc, bytes)?;
+    let router = Router::new(alloc, bytes, room)?;
     let mut desk = Desk::over(router);
     begin(progress, Stage::Done);
     let answered = answer_lines(alloc, &mut desk, source, sink);

@@ -12,7 +12,7 @@ use crate::stops::{Role, Stop};
 use crate::storing::store_file;
 use cu_io::{Shelf, Sink};
 use cu_progress::{Progress, Stage, begin};
-use cu_session::{Router, answer_edits_telling};
+use cu_session::{Editor, answer_edits_telling};
 use std::alloc::Global;
 
 /// The file of a packed hierarchy, the file of its edits, and the file that gets the packed hierarchy after them.
@@ -53,9 +53,9 @@ pub fn edit<H: Shelf, K: Sink, P: Progress>(
         (world_of (H.state shelf.new) source (K.state sink.new)) }
 {
     let file = open_edited(alloc, asked.hierarchy, asked.edits, shelf, progress)?;
-    let mut router = Router::for_edits(alloc, file.hierarchy)?;
-    let answered = answer_edits_telling(alloc, &mut router, &file.edits, sink, progress);
-    let packed = router.into_file();
+    let mut editor = Editor::new(alloc, file.hierarchy)?;
+    let answered = answer_edits_telling(alloc, &mut editor, &file.edits, sink, progress);
+    let packed = editor.into_file();
     answered?;
     let bytes = packed.as_slice();
     let length = bytes.len() as u64;

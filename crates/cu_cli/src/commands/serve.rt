@@ -9,6 +9,7 @@ ghost use Rattle.cu_cli.specs.Steps.Asks.{Parses, order_asked, serve_asked, tabl
 ghost use Rattle.cu_cli.specs.Steps.Loading.{HasBuilt, OnlyLoads};
 ghost use Rattle.cu_cli.specs.Steps.Outcomes.{IsBeforeScript, Works, stop_of, world_of};
 
+use crate::manner::Manner;
 use crate::preparing::{pack_prepared, prepare};
 use crate::stops::Stop;
 use crate::words::{OrderWord, TableNames, parse_order};
@@ -49,15 +50,16 @@ pub fn serve<H: Shelf, S: Source, K: Sink, P: Progress>(
     shelf: &mut H,
     source: &mut S,
     sink: &mut K,
-    progress: &mut P,
+    manner: Manner<'_, P>,
 ) -> Result<(), Stop>
     ensures works { Works (serve_asked asked.entry) (stop_of result)
         (world_of (H.state shelf.old) (S.state source.old) (K.state sink.old))
         (world_of (H.state shelf.new) (S.state source.new) (K.state sink.new)) }
 {
+    let Manner { progress, room } = manner;
     let bytes = pack_tables(alloc, asked, shelf, progress)?;
     begin(progress, Stage::Done);
-    answer_built(alloc, bytes, source, sink)?;
+    answer_built(alloc, bytes, room, source, sink)?;
     Ok(())
 }
 

@@ -30,7 +30,7 @@ use cu_model::{DAY, Edit, Network, NoMemory, Profile, Query, Roads};
 use cu_pack::PackedView;
 use cu_progress::Silent;
 use cu_roads::{Draws, Places, draw_day, draw_grid};
-use cu_session::Router;
+use cu_session::{ListRoom, Router};
 use std::alloc::Global;
 
 mod turns;
@@ -172,7 +172,8 @@ fn packed_router(alloc: Global, prepared: Prepared) -> Result<Router, NoMemory>
     ensures built { IfOk result IsBuilt }
 {
     let bytes = pack_prepared(alloc, prepared, &mut Silent)?;
-    Router::built(alloc, bytes)
+    // Only replies make lists known, and a trial asks for none.
+    Router::built(alloc, bytes, ListRoom::none())
 }
 
 // Takes so many turns.

@@ -10,6 +10,7 @@ ghost use Rattle.cu_cli.specs.Steps.Loading.{OnlyLoads};
 ghost use Rattle.cu_cli.specs.Steps.Measuring.{HasBuiltMeasured};
 ghost use Rattle.cu_cli.specs.Steps.Outcomes.{IsBeforeScript, Works, stop_of, world_of};
 
+use crate::manner::Manner;
 use crate::measuring::{PreparedWaiting, prepare_measured};
 use crate::preparing::pack_prepared;
 use crate::stops::Stop;
@@ -60,15 +61,16 @@ pub fn wait<H: Shelf, S: Source, K: Sink, P: Progress>(
     shelf: &mut H,
     source: &mut S,
     sink: &mut K,
-    progress: &mut P,
+    manner: Manner<'_, P>,
 ) -> Result<(), Stop>
     ensures works { Works (wait_asked asked.entry) (stop_of result)
         (world_of (H.state shelf.old) (S.state source.old) (K.state sink.old))
         (world_of (H.state shelf.new) (S.state source.new) (K.state sink.new)) }
 {
+    let Manner { progress, room } = manner;
     let packed = pack_measured(alloc, asked, shelf, progress)?;
     begin(progress, Stage::Done);
-    answer_waiting(alloc, packed.bytes, packed.measured, source, sink)?;
+    answer_waiting(alloc, packed.bytes, packed.measured, room, source, sink)?;
     Ok(())
 }
 

@@ -9,12 +9,14 @@ use Rattle.cu_interval.specs.declared.ways.Entry.{Entry}
 use Rattle.cu_interval.specs.declared.ways.Way.{Way}
 use Rattle.cu_interval.specs.declared.ways.Way.TheVariants.{Road, Via}
 use Rattle.cu_interval.specs.Hierarchies.{HierarchyValue, end_of, list_number, list_of, start_of}
+use Rattle.cu_runs.specs.Layers.{layered}
 use Rattle.cu_customize.specs.declared.pulling.SettledRuns.{SettledRuns}
 use Rattle.cu_customize.specs.Functions.{FunctionsState}
 use Rattle.cu_customize.specs.Settling.{IsDayValueOf, IsSettledList}
 use Rattle.cu_unpack.specs.RebuiltRuns.{IsKnownList, IsRebuiltRuns, PackedValue}
 use Rattle.cu_edits.specs.Learned.{ArePackedOf}
 use Rattle.cu_edits.specs.Settling.{IsSettled, SettlingValue, settled_so_far}
+use Rattle.cu_edits.specs.Steps.Bounds.{HalvesTakeMore, SomeTakeNoMore, no_limit}
 use Rattle.cu_edits.specs.Steps.Frames.{IsFrame}
 use Rattle.cu_edits.specs.Steps.Parts.{AreParts}
 use Rattle.cu_edits.specs.Steps.Moving.{HalvesAre, IsMovedTo, IsUnmoved, KeepsWays, MovedValue, StandingPair}
@@ -24,10 +26,12 @@ use Rattle.cu_edits.specs.Steps.Settled.{AreSettled}
 abbrev pub IfNear : {E : Type 0} → Result Bool E → Type 0 → Type 0
 IfNear result P = IfOk result (λ is_near. is_near ≡ true → P)
 
--- more lists were learned; what was known still is
+-- more lists were learned; what was known still is, and by the same function
 pub record LearnsPacked (h : HierarchyValue) (before now : PackedValue) : Type 0 where
   pub packed : ArePackedOf h now
   pub still : (edge : ℕ) (dir : Dir) → IsKnownList before (list_number edge dir) → IsKnownList now (list_number edge dir)
+  pub same : (edge : ℕ) (dir : Dir) (function : List Run) → slice_get before.functions (list_number edge dir) ≡ Some (Some function)
+      → slice_get now.functions (list_number edge dir) ≡ Some (Some function)
 
 -- a list is known, unless it was moved
 abbrev pub IsAtHand : MovedValue → PackedValue → ℕ → Dir → Type 0
@@ -43,11 +47,26 @@ abbrev pub IsWayAtHand : MovedValue → PackedValue → List Ends → Ends → D
 IsWayAtHand moved packed edges ends dir (Road a) = Unit {0}
 IsWayAtHand moved packed edges ends dir (Via m) = HalvesAre (IsAtHand moved packed) edges ends dir m
 
--- the halves of candidates of the list of an edge in a direction are at hand: of all; or, where the list was the best that could be made and its
--- ways are as they were, of these ways and of those by a middle of which a half was moved
+-- functions by list number: of moved lists those after the edit
+abbrev pub functions_at_hand : MovedValue → PackedValue → List (Option (List Run))
+functions_at_hand moved packed = layered packed.functions moved.places moved.functions
+
+-- both halves of the way by a middle are at hand, or none was moved and they take longer than this
+abbrev pub AreAtHandOrLate : HierarchyValue → MovedValue → PackedValue → ℕ → Ends → Dir → ℕ → Type 0
+AreAtHandOrLate h moved packed limit ends dir middle =
+    (HalvesAre (IsUnmoved moved) h.edges ends dir middle × HalvesTakeMore h limit h.edges ends dir middle) ⊎ HalvesAre (IsAtHand moved packed) h.edges ends dir middle
+
+-- so it is of all middles of the list of an edge in a direction, where some way is known to take no longer
+pub record AreRivalsAtHand (h : HierarchyValue) (moved : MovedValue) (packed : PackedValue) (edge : ℕ) (dir : Dir) : Type 0 where
+  pub limit : ℕ
+  pub in_time : (ends : Ends) → slice_get h.edges edge ≡ Some ends → (limit ≡ no_limit) ⊎ SomeTakeNoMore (functions_at_hand moved packed) limit h.edges ends dir
+  pub each : (ends : Ends) → slice_get h.edges edge ≡ Some ends → (middle : ℕ) → AreAtHandOrLate h moved packed limit ends dir middle
+
+-- the halves of candidates of the list of an edge in a direction are at hand: of all that may be in time; or, where the list was the best that could
+-- be made and its ways are as they were, of these ways and of those by a middle of which a half was moved
 abbrev pub AreCandidatesAtHand : HierarchyValue → List Edit → List Bool → MovedValue → PackedValue → ℕ → Dir → Type 0
 AreCandidatesAtHand h edit marks moved packed edge dir =
-    ((ends : Ends) → slice_get h.edges edge ≡ Some ends → (middle : ℕ) → HalvesAre (IsAtHand moved packed) h.edges ends dir middle)
+    AreRivalsAtHand h moved packed edge dir
     ⊎ (KeepsWays h edit marks moved edge dir
     × ((ends : Ends) → slice_get h.edges edge ≡ Some ends → All (λ (entry : Entry). IsWayAtHand moved packed h.edges ends dir entry.way) (list_of h edge dir))
     × ((ends : Ends) → slice_get h.edges edge ≡ Some ends → (middle : ℕ) → AreAtHandIfMoved moved packed h.edges ends dir middle))

@@ -1,22 +1,33 @@
 -- A walk that is written road by road: the list that is next, those that wait behind it, and what is read of each.
-use Rattle.std.specs.Prelude.{ℕ, List, [], ◌∷◌, ◌++◌, Option, Some, None, ◌≡◌, ◌≢◌, ◌≤◌, ◌<◌, ◌+◌, ◌*◌, All, false, length, min, slice_get, slice_set}
+use Rattle.std.specs.Prelude.{ℕ, List, [], ◌∷◌, ◌++◌, Option, Some, None, ◌≡◌, ◌≢◌, ◌≤◌, ◌<◌, ◌+◌, ◌*◌, All, IfSome, false, length, min, slice_get, slice_set}
 use Rattle.cu_model.specs.declared.limits.TheConstants.{MAX_UNTIL}
 use Rattle.cu_model.specs.Days.{day}
 use Rattle.cu_model.specs.Networks.{NetworkValue}
 use Rattle.cu_model.specs.Roads.{drive, is_closed_arc}
 use Rattle.cu_interval.specs.declared.shortcuts.Leg.{Leg}
-use Rattle.cu_interval.specs.Hierarchies.{HierarchyValue, list_from}
+use Rattle.cu_interval.specs.Hierarchies.{HierarchyValue, IsHierarchy, graph_of, list_from}
 use Rattle.cu_interval.specs.Unpacking.{unpacked_walk}
 use Rattle.cu_unpack.specs.Steps.Legs.{walk_on}
 use Rattle.cu_recall.specs.declared.pending.Asked.{Asked}
 use Rattle.cu_recall.specs.declared.spans.Row.{Row}
 use Rattle.cu_recall.specs.declared.walking.Glance.{Glance}
+use Rattle.cu_recall.specs.declared.walking.Ground.{Ground}
 use Rattle.cu_recall.specs.declared.walking.NextPart.{NextPart}
 use Rattle.cu_recall.specs.declared.walking.WalkPart.{WalkPart}
 use Rattle.cu_recall.specs.declared.walking.WalkPart.TheVariants as part
 use Rattle.cu_recall.specs.declared.walking.WalkSpot.{WalkSpot}
 use Rattle.cu_recall.specs.Spans.{HoldsMet, IsListFrom, Knows, WalkTakes, met_of}
 use Rattle.cu_recall.specs.Steps.Looks.{IsAsked}
+use Rattle.cu_sequences.specs.Kept.{AreSequences}
+use Rattle.cu_store.specs.Known.{Knows as KnowsFunctions}
+
+-- what walks are written over: a sound hierarchy with its graph, and what is known of its lists, which is so of it
+pub record IsGround (ground : Ground) : Type 0 where
+  pub sound : IsHierarchy ground.view.now
+  pub graph : ground.graph.now ≡ graph_of ground.view.now
+  pub sequences : AreSequences ground.view.now ground.sequences.now
+  pub size : length ground.store.now.known ≡ 2 * length ground.view.now.edges
+  pub knows : KnowsFunctions ground.view.now ground.store.now.known
 
 -- a list that is asked, whose walk has fewer roads than there are nodes
 abbrev pub IsShortWalk : HierarchyValue → Asked → Type 0
@@ -71,7 +82,7 @@ Resumes waiting count second (Some spot) = (count ≡ spot.waiting + 1) × (slic
 -- the roads of a part of a walk
 abbrev pub roads_of : WalkPart → List ℕ
 roads_of (part.Road road travel) = road ∷ []
-roads_of (part.Sequence roads) = roads.now
+roads_of (part.Sequence roads travel) = roads.now
 
 -- the walk over these legs begins with the part, and goes on with those that wait then
 abbrev pub FindsPart : HierarchyValue → Leg → List Leg → ℕ → List Glance → NextPart → Type 0
@@ -84,10 +95,14 @@ FindsPart h leg legs t waiting found =
 abbrev pub IsOpenRoad : NetworkValue → ℕ → Type 0
 IsOpenRoad g road = (road < length g.arcs) × (is_closed_arc g road ≡ false)
 
--- a road takes as long at this second of any day as is said of it, and others can be driven
+-- roads take so long at this second of any day
+abbrev pub TakesEachDay : NetworkValue → ℕ → List ℕ → ℕ → Type 0
+TakesEachDay g t roads travel = (k : ℕ) → drive g roads (k * day + t) ≡ k * day + (t + travel)
+
+-- a road takes as long at this second of any day as is said of it; and so do others, where it is said, and they can be driven
 abbrev pub DrivesRoads : HierarchyValue → ℕ → WalkPart → Type 0
-DrivesRoads h t (part.Road road travel) = (k : ℕ) → drive h.network (road ∷ []) (k * day + t) ≡ k * day + (t + travel)
-DrivesRoads h t (part.Sequence roads) = All (IsOpenRoad h.network) roads.now
+DrivesRoads h t (part.Road road travel) = TakesEachDay h.network t (road ∷ []) travel
+DrivesRoads h t (part.Sequence roads travel) = All (IsOpenRoad h.network) roads.now × IfSome travel (TakesEachDay h.network t roads.now)
 
 -- whoever enters a part at this second of any day drives over it within its limits
 pub record DrivesPart (h : HierarchyValue) (t : ℕ) (found : WalkPart) : Type 0 where

@@ -1,5 +1,5 @@
 -- How functions of shortcuts are rebuilt as packed runs: which are known, and what a merger holds of the first ways of a list.
-use Rattle.std.specs.Prelude.{ℕ, List, [], ◌∷◌, Bool, true, false, Option, Some, ◌≡◌, ◌≤◌, ◌<◌, min, slice_get}
+use Rattle.std.specs.Prelude.{ℕ, suc, List, [], ◌∷◌, Bool, true, false, Option, Some, All, ◌≡◌, ◌≤◌, ◌<◌, length, min, slice_get}
 use Rattle.cu_model.specs.Days.{day, IsOnward}
 use Rattle.cu_arrival.specs.declared.runs.Run.{Run}
 use Rattle.cu_arrival.specs.Runs.{arrival_value}
@@ -16,6 +16,11 @@ use Rattle.cu_interval.specs.declared.shortcuts.Shortcut.{Shortcut}
 use Rattle.cu_interval.specs.Shortcuts.{number_of}
 use Rattle.cu_unpack.specs.RebuiltRuns.{IsFarList, IsKnownList, IsNeeded, IsRebuiltRuns, PackedValue, with_list}
 use Rattle.cu_unpack.specs.Steps.Rebuilding.{IsMissing, way_value}
+
+-- each list has a place among those that are kept, and no two share one that isn't the first
+pub record HavePlaces (places : List ℕ) (kept : List (Option (List Run))) : Type 0 where
+  pub inside : All (λ place. place < length kept) places
+  pub own : (i j place : ℕ) → slice_get places i ≡ Some (suc place) → slice_get places j ≡ Some (suc place) → i ≡ j
 
 -- the list of a shortcut is known
 abbrev pub IsKnown : PackedValue → Shortcut → Type 0

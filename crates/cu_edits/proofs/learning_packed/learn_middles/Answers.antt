@@ -24,5 +24,5 @@ loop-triangle-preserved g c =
 pub returns-clause-known : goal.returns-clause-known
 returns-clause-known g c is =
     let asked = c.args.asked.now in
-    all_of_first (AreLearned c.args.which asked.moved.now c.loop-triangle.packed asked.dir) asked.triangles.now c.loop-triangle.triangle-index (omega (arith, c.loop-triangle-test.false))
-    c.loop-triangle.invariant.known
+    all_of_first (AreLearned c.args.parts.now.before c.args.which asked.moved.now c.loop-triangle.packed asked.dir) asked.triangles.now c.loop-triangle.triangle-index
+    (omega (arith, c.loop-triangle-test.false)) c.loop-triangle.invariant.known

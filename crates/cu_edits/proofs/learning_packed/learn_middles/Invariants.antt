@@ -8,5 +8,5 @@ use Rattle.cu_edits.proofs.learning_packed.learn_middles.Given as goal
 abbrev pub invariant-loop-triangle : goal.invariant-loop-triangle
 invariant-loop-triangle g l = record {
   learns : LearnsPacked l.parts.before l.fn.packed l.packed;
-  known : All (AreLearned l.which l.asked.moved.now l.packed l.asked.dir) (take l.triangle-index l.asked.triangles.now);
+  known : All (AreLearned l.parts.before l.which l.asked.moved.now l.packed l.asked.dir) (take l.triangle-index l.asked.triangles.now);
 }

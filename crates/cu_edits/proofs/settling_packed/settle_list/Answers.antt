@@ -16,7 +16,7 @@ use Rattle.cu_resettled.specs.ResettlingAll.{edited_all}
 
 pub settle_runs-requires-clause-functions : goal.settle_runs-requires-clause-functions
 settle_runs-requires-clause-functions g c =
-    ap length c.over-functions.ensures ∙ layered_long c.functions.result.now c.args.state.now.moved.places c.args.state.now.moved.functions ∙ ap length c.functions.ensures
+    ap length c.over-functions.ensures ∙ layered_long c.functions.result c.args.state.now.moved.places c.args.state.now.moved.functions ∙ ap length c.functions.ensures
     ∙ c.learn_candidates.ensures.learns.packed.size.functions
     ∙ ap (λ (es : List Ends). 2 * length es) (sym (same_edges c.args.parts.now.before c.args.parts.now.graph c.learn_candidates.ensures.fit.0.hierarchy))
 

@@ -1,5 +1,4 @@
 use Rattle.std.proofs.Common.{arith, ◌≡◌, ◌<◌, ◌+◌, ◌-◌, ◌∙◌, ℕ, ap, sym, length}
-use Rattle.cu_model.specs.Days.{day}
 use Rattle.cu_arrival.specs.Runs.{arrival_value, arrives, rule_number}
 use Rattle.cu_arrival.specs.declared.runs.Run.{Run}
 use Rattle.cu_runs.proofs.DayLists.{two_packed}

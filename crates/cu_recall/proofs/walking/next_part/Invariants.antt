@@ -9,9 +9,9 @@ use Rattle.cu_recall.proofs.walking.next_part.Given as goal
 abbrev pub invariant-parts : goal.invariant-parts
 invariant-parts l = record {
   second : l.spot.second ≡ l.fn.spot.second;
-  knows : Knows l.view l.rows;
-  went : (leg : Leg) (legs : List Leg) → IsAt l.view l.fn.waiting l.fn.spot leg legs → WentDown l.view leg legs l.spot.second l.waiting l.spot;
+  knows : Knows l.ground.view.now l.rows;
+  went : (leg : Leg) (legs : List Leg) → IsAt l.ground.view.now l.fn.waiting l.fn.spot leg legs → WentDown l.ground.view.now leg legs l.spot.second l.waiting l.spot;
 }
 
 abbrev pub decreases-parts : goal.decreases-parts
-decreases-parts l = low_of_list l.view l.spot.next.list
+decreases-parts l = low_of_list l.ground.view.now l.spot.next.list

@@ -9,13 +9,13 @@ use Rattle.cu_session.proofs.edit_lines.plan_checked.Goals as goal
 
 pub add_edit-requires-clause-range : goal.add_edit-requires-clause-range
 add_edit-requires-clause-range c =
-    let h = c.args.router.now in
+    let h = c.args.held.now in
     let edits = c.args.edits.now.edits in
     c.in_ok-edit.ensures.in_range (edited_all h.network edits) (arcs_all h.network edits ∙ sym c.requires.arcs) (profiles_all h.network edits ∙ sym c.requires.profiles)
 
 pub returns-clause-said : goal.returns-clause-said
 returns-clause-said c =
-    let h = c.args.router.now in
+    let h = c.args.held.now in
     let edits = c.args.edits.now.edits in
     let edit = c.in_ok-edit.edit in
     let range = c.in_ok-edit.ensures.in_range (edited_all h.network edits) (arcs_all h.network edits ∙ sym c.requires.arcs) (profiles_all h.network edits ∙ sym c.requires.profiles) in

@@ -10,7 +10,7 @@ use Rattle.cu_session.proofs.edit_lines.plan_edit.Goals as goal
 
 pub returns-in-Err-clause-said : goal.returns-in-Err-clause-said
 returns-in-Err-clause-said c =
-    let h = c.args.router.now in
+    let h = c.args.held.now in
     let arcs : c.arcs-arcs.result ≡ length h.network.arcs = c.arcs-arcs.ensures.count ∙ ap (λ (v : HierarchyValue). length v.network.arcs) c.view-view.ensures.same in
     let profiles : c.profiles-profiles.result ≡ length h.network.profiles =
     c.profiles-profiles.ensures.count ∙ ap (λ (v : HierarchyValue). length v.network.profiles) c.view-view.ensures.same in

@@ -8,13 +8,13 @@ use Rattle.cu_session.proofs.editing.plan_line.Goals as goal
 
 pub returns-then-line-clause-said : goal.returns-then-line-clause-said
 returns-then-line-clause-said c =
-    let h = c.args.router.now in
+    let h = c.args.held.now in
     let edits = c.args.edits.now.edits in
     ([], said_long (edited_all h.network edits) h.order c.args.line.now (omega (arith, c.if-line.true)), sym (append-nil edits))
 
 pub returns-clause-said : goal.returns-clause-said
 returns-clause-said c =
-    let h = c.args.router.now in
+    let h = c.args.held.now in
     let edits = c.args.edits.now.edits in
     IfOk-weaker c.plan_edit.result _ _
     (λ said made. (made.0, said_short h edits c.args.line.now c.trim_return.result.now (said_text said) made.0 (omega (arith, c.if-line.false)) c.trim_return.ensures made.1, made.2))

@@ -32,9 +32,9 @@ returns-in_err-file g c =
           c.in_err-file.ensures.err c.in_err-file.ensures.before);
     })
 
-pub returns-in_err-router : goal.returns-in_err-router
-returns-in_err-router g c =
-    rw (err_is c.from_residual-in_err-router.result stop.NoMemory c.from_residual-in_err-router.ensures.1)
+pub returns-in_err-editor : goal.returns-in_err-editor
+returns-in_err-editor g c =
+    rw (err_is c.from_residual-in_err-editor.result stop.NoMemory c.from_residual-in_err-editor.ensures.1)
     (record {
       works = λ source. edit_works c.args.asked (edit_stopped _ _ source _ c.args.asked.hierarchy.now c.args.asked.edits.now c.args.asked.out.now stop.NoMemory
           (only_refused stop.NoMemory tt c.in_ok-file.ensures.loads) (inl (inl tt)) tt);
@@ -43,25 +43,25 @@ returns-in_err-router g c =
 pub returns-in_err-answered : goal.returns-in_err-answered
 returns-in_err-answered g c =
     let (first, opened, spells) = c.in_ok-file.ensures.ok in
-    let h = c.in_ok-router.router in
+    let h = c.in_ok-editor.editor in
     let text = c.in_ok-file.file.edits.items in
     let opens : Opens (g.H.Shelf.state c.args.shelf.now) (editing_files c.args.asked.hierarchy.now c.args.asked.edits.now) h (text ∷ []) =
-    opens_held (g.H.Shelf.state c.args.shelf.now) (editing_files c.args.asked.hierarchy.now c.args.asked.edits.now) (text ∷ []) opened spells c.in_ok-router.ensures.held in
+    opens_held (g.H.Shelf.state c.args.shelf.now) (editing_files c.args.asked.hierarchy.now c.args.asked.edits.now) (text ∷ []) opened spells c.in_ok-editor.ensures.held in
     let done = rw c.deref.ensures.value at c.in_err-answered.ensures.ended in
     rw (stop_is c.from_residual-in_err-answered.result _ c.from_residual-in_err-answered.ensures.1)
     (record {
-      works = λ source. edit_works c.args.asked (edits_stopped _ _ source _ c.args.asked.hierarchy.now c.args.asked.edits.now c.args.asked.out.now _ h c.answer_edits_telling-answered.new.router
+      works = λ source. edit_works c.args.asked (edits_stopped _ _ source _ c.args.asked.hierarchy.now c.args.asked.edits.now c.args.asked.out.now _ h c.answer_edits_telling-answered.new.editor
           text c.in_ok-file.ensures.loads opens c.in_err-answered.field-0.0 done);
     })
 
 pub returns-then-length-limit : goal.returns-then-length-limit
 returns-then-length-limit g c =
     let (first, opened, spells) = c.in_ok-file.ensures.ok in
-    let h = c.in_ok-router.router in
-    let after = c.answer_edits_telling-answered.new.router in
+    let h = c.in_ok-editor.editor in
+    let after = c.answer_edits_telling-answered.new.editor in
     let text = c.in_ok-file.file.edits.items in
     let opens : Opens (g.H.Shelf.state c.args.shelf.now) (editing_files c.args.asked.hierarchy.now c.args.asked.edits.now) h (text ∷ []) =
-    opens_held (g.H.Shelf.state c.args.shelf.now) (editing_files c.args.asked.hierarchy.now c.args.asked.edits.now) (text ∷ []) opened spells c.in_ok-router.ensures.held in
+    opens_held (g.H.Shelf.state c.args.shelf.now) (editing_files c.args.asked.hierarchy.now c.args.asked.edits.now) (text ∷ []) opened spells c.in_ok-editor.ensures.held in
     let done = rw c.deref.ensures.value at c.in_ok-answered.ensures.ended in
     let file : c.as_slice-bytes.result.now ≡ spelling after = c.as_slice-bytes.ensures.value ∙ c.into_file-packed.ensures.spelled.spelled in
     let same : length c.as_slice-bytes.result.now ≡ length (spelling after) = ap (λ (bytes : List ℕ). length bytes) file in
@@ -74,11 +74,11 @@ returns-then-length-limit g c =
 pub returns-in_err-store_file : goal.returns-in_err-store_file
 returns-in_err-store_file g c =
     let (first, opened, spells) = c.in_ok-file.ensures.ok in
-    let h = c.in_ok-router.router in
-    let after = c.answer_edits_telling-answered.new.router in
+    let h = c.in_ok-editor.editor in
+    let after = c.answer_edits_telling-answered.new.editor in
     let text = c.in_ok-file.file.edits.items in
     let opens : Opens (g.H.Shelf.state c.args.shelf.now) (editing_files c.args.asked.hierarchy.now c.args.asked.edits.now) h (text ∷ []) =
-    opens_held (g.H.Shelf.state c.args.shelf.now) (editing_files c.args.asked.hierarchy.now c.args.asked.edits.now) (text ∷ []) opened spells c.in_ok-router.ensures.held in
+    opens_held (g.H.Shelf.state c.args.shelf.now) (editing_files c.args.asked.hierarchy.now c.args.asked.edits.now) (text ∷ []) opened spells c.in_ok-editor.ensures.held in
     let done = rw c.deref.ensures.value at c.in_ok-answered.ensures.ended in
     let file : c.as_slice-bytes.result.now ≡ spelling after = c.as_slice-bytes.ensures.value ∙ c.into_file-packed.ensures.spelled.spelled in
     let same : length c.as_slice-bytes.result.now ≡ length (spelling after) = ap (λ (bytes : List ℕ). length bytes) file in
@@ -95,11 +95,11 @@ returns-in_err-store_file g c =
 pub returns-in_err-put_numbers_line : goal.returns-in_err-put_numbers_line
 returns-in_err-put_numbers_line g c =
     let (first, opened, spells) = c.in_ok-file.ensures.ok in
-    let h = c.in_ok-router.router in
-    let after = c.answer_edits_telling-answered.new.router in
+    let h = c.in_ok-editor.editor in
+    let after = c.answer_edits_telling-answered.new.editor in
     let text = c.in_ok-file.file.edits.items in
     let opens : Opens (g.H.Shelf.state c.args.shelf.now) (editing_files c.args.asked.hierarchy.now c.args.asked.edits.now) h (text ∷ []) =
-    opens_held (g.H.Shelf.state c.args.shelf.now) (editing_files c.args.asked.hierarchy.now c.args.asked.edits.now) (text ∷ []) opened spells c.in_ok-router.ensures.held in
+    opens_held (g.H.Shelf.state c.args.shelf.now) (editing_files c.args.asked.hierarchy.now c.args.asked.edits.now) (text ∷ []) opened spells c.in_ok-editor.ensures.held in
     let done = rw c.deref.ensures.value at c.in_ok-answered.ensures.ended in
     let file : c.as_slice-bytes.result.now ≡ spelling after = c.as_slice-bytes.ensures.value ∙ c.into_file-packed.ensures.spelled.spelled in
     let same : length c.as_slice-bytes.result.now ≡ length (spelling after) = ap (λ (bytes : List ℕ). length bytes) file in
@@ -117,11 +117,11 @@ returns-in_err-put_numbers_line g c =
 pub returns : goal.returns
 returns g c =
     let (first, opened, spells) = c.in_ok-file.ensures.ok in
-    let h = c.in_ok-router.router in
-    let after = c.answer_edits_telling-answered.new.router in
+    let h = c.in_ok-editor.editor in
+    let after = c.answer_edits_telling-answered.new.editor in
     let text = c.in_ok-file.file.edits.items in
     let opens : Opens (g.H.Shelf.state c.args.shelf.now) (editing_files c.args.asked.hierarchy.now c.args.asked.edits.now) h (text ∷ []) =
-    opens_held (g.H.Shelf.state c.args.shelf.now) (editing_files c.args.asked.hierarchy.now c.args.asked.edits.now) (text ∷ []) opened spells c.in_ok-router.ensures.held in
+    opens_held (g.H.Shelf.state c.args.shelf.now) (editing_files c.args.asked.hierarchy.now c.args.asked.edits.now) (text ∷ []) opened spells c.in_ok-editor.ensures.held in
     let done = rw c.deref.ensures.value at c.in_ok-answered.ensures.ended in
     let file : c.as_slice-bytes.result.now ≡ spelling after = c.as_slice-bytes.ensures.value ∙ c.into_file-packed.ensures.spelled.spelled in
     let same : length c.as_slice-bytes.result.now ≡ length (spelling after) = ap (λ (bytes : List ℕ). length bytes) file in

@@ -11,6 +11,7 @@ invariant_of-result g c =
         c.requires.customized,
       ),
       c.requires.edits,
+      tt,
     )
 
 pub returns-clause-fit : goal.returns-clause-fit

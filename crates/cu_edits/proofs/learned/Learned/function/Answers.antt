@@ -9,9 +9,9 @@ use Rattle.cu_edits.proofs.learned.Learned.function.Goals as goal
 pub returns-in_ok-to_arrival-in-Some : goal.returns-in_ok-to_arrival-in-Some
 returns-in_ok-to_arrival-in-Some c h are =
     let packed = c.args.self.now in
-    let same : c.functions.result.now ≡ packed.functions = c.functions.ensures ∙ ap (λ (p : PackedValue). p.functions) c.self.view_is in
-    let at = read_at packed.functions c.functions.result.now (list_number c.args.edge c.args.dir) c.list.result c.index-functions-list.result
-    same c.list.ensures.number c.requires.place c.index-functions-list.is in
+    let same : c.functions-functions.result ≡ packed.functions = c.functions-functions.ensures ∙ ap (λ (p : PackedValue). p.functions) c.self.view_is in
+    let at = read_at packed.functions c.functions-functions.result (list_number c.args.edge c.args.dir) c.list.result c.get.result.now
+    same c.list.ensures.number c.get.ensures in
     let here = subst (λ (o : Option (List Run)). slice_get packed.functions (list_number c.args.edge c.args.dir) ≡ Some o) c.in-Some.is at in
     let is = known_runs h packed c.args.edge c.args.dir (Some c.in-Some.function) are c.requires.known here in
     rebuilt_copy h c.args.edge c.args.dir c.in-Some.function c.in_ok-to_arrival-in-Some.field-0 is c.in_ok-to_arrival-in-Some.ensures.sound
@@ -20,8 +20,8 @@ returns-in_ok-to_arrival-in-Some c h are =
 pub returns-in-None : goal.returns-in-None
 returns-in-None c h are =
     let packed = c.args.self.now in
-    let same : c.functions.result.now ≡ packed.functions = c.functions.ensures ∙ ap (λ (p : PackedValue). p.functions) c.self.view_is in
-    let at = read_at packed.functions c.functions.result.now (list_number c.args.edge c.args.dir) c.list.result c.index-functions-list.result
-    same c.list.ensures.number c.requires.place c.index-functions-list.is in
+    let same : c.functions-functions.result ≡ packed.functions = c.functions-functions.ensures ∙ ap (λ (p : PackedValue). p.functions) c.self.view_is in
+    let at = read_at packed.functions c.functions-functions.result (list_number c.args.edge c.args.dir) c.list.result c.get.result.now
+    same c.list.ensures.number c.get.ensures in
     let here = subst (λ (o : Option (List Run)). slice_get packed.functions (list_number c.args.edge c.args.dir) ≡ Some o) c.in-None.is at in
     known_runs h packed c.args.edge c.args.dir None are c.requires.known here

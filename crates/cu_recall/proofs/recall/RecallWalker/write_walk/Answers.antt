@@ -18,6 +18,17 @@ asked_of-asked-requires g c =
     let few = c.self.invariant.0.1.graph.few_edges in
     omega (arith, inside, few)
 
+pub walk_in-requires-clause-ground : goal.walk_in-requires-clause-ground
+walk_in-requires-clause-ground g c =
+    let invariant = c.self.invariant in
+    record {
+      sound = invariant.0.1;
+      graph = invariant.0.0;
+      sequences = invariant.2;
+      size = invariant.3;
+      knows = invariant.4;
+    }
+
 pub walk_in-requires-clause-short : goal.walk_in-requires-clause-short
 walk_in-requires-clause-short g c =
     let h = c.self.inside.view.now in

@@ -7,7 +7,7 @@ pub returns : goal.returns
 returns c =
     let held = c.args.held.now in
     let edges = ap (λ (h : HierarchyValue). length h.edges) c.view.ensures.same in record {
-      size = omega (arith, c.store_of.ensures.lists, c.edges-edges.ensures.count, edges);
-      knows = knows_nothing held c.store_of.result.known c.store_of.ensures.unknown;
-      sequences = c.with_room.ensures held;
+      size = omega (arith, c.store_of-store.ensures.lists, c.edges-edges.ensures.count, edges);
+      knows = knows_nothing held c.store_of-store.result.known c.store_of-store.ensures.unknown;
+      sequences = c.sequences_of-sequences.ensures held;
     }

@@ -13,6 +13,12 @@ use Rattle.cu_router.proofs.query_room.QueryRoom.put_in.Goals as goal
 pub new-recall-requires-clause-sequences : goal.new-recall-requires-clause-sequences
 new-recall-requires-clause-sequences g c = subst (λ (h : HierarchyValue). AreSequences h c.args.lists.now.sequences) (sym c.view-view.ensures.same) c.requires.lists.sequences
 
+pub new-recall-requires-clause-size : goal.new-recall-requires-clause-size
+new-recall-requires-clause-size g c = c.requires.lists.size ∙ ap (λ (h : HierarchyValue). 2 * length h.edges) (sym c.view-view.ensures.same)
+
+pub new-recall-requires-clause-knows : goal.new-recall-requires-clause-knows
+new-recall-requires-clause-knows g c = subst (λ (h : HierarchyValue). Knows h c.args.lists.now.store.known) (sym c.view-view.ensures.same) c.requires.lists.knows
+
 pub new-stored-requires-clause-sound : goal.new-stored-requires-clause-sound
 new-stored-requires-clause-sound g c = subst IsHierarchy (sym (c.new-recall.ensures.view ∙ c.view-view.ensures.same)) c.view-view.ensures.sound
 

@@ -1,4 +1,4 @@
-use Rattle.std.proofs.Common.{◌≡◌, ◌∙◌, Some, subst, sym}
+use Rattle.std.proofs.Common.{◌≡◌, ◌*◌, ◌∙◌, Some, ap, length, subst, sym}
 use Rattle.std.specs.Prelude.{slice_get}
 use Rattle.cu_io.specs.Sinks.{Wrote}
 use Rattle.cu_interval.specs.Hierarchies.{HierarchyValue, IsHierarchy}
@@ -7,10 +7,17 @@ use Rattle.cu_router.specs.Reaches.{IsHeldLatestReply}
 use Rattle.cu_router.specs.Steps.Departing.{departure_text}
 use Rattle.cu_router.proofs.DepartureLaws.{departure_told}
 use Rattle.cu_sequences.specs.Kept.{AreSequences}
+use Rattle.cu_store.specs.Known.{Knows}
 use Rattle.cu_router.proofs.query_room.QueryRoom.put_latest.Goals as goal
 
 pub new-recall-requires-clause-sequences : goal.new-recall-requires-clause-sequences
 new-recall-requires-clause-sequences g c = subst (λ (h : HierarchyValue). AreSequences h c.args.lists.now.sequences) (sym c.view-view.ensures.same) c.requires.lists.sequences
+
+pub new-recall-requires-clause-size : goal.new-recall-requires-clause-size
+new-recall-requires-clause-size g c = c.requires.lists.size ∙ ap (λ (h : HierarchyValue). 2 * length h.edges) (sym c.view-view.ensures.same)
+
+pub new-recall-requires-clause-knows : goal.new-recall-requires-clause-knows
+new-recall-requires-clause-knows g c = subst (λ (h : HierarchyValue). Knows h c.args.lists.now.store.known) (sym c.view-view.ensures.same) c.requires.lists.knows
 
 pub put_departure-outcome-requires-clause-departs : goal.put_departure-outcome-requires-clause-departs
 put_departure-outcome-requires-clause-departs g c =

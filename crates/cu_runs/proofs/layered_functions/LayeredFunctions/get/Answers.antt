@@ -1,8 +1,8 @@
-use Rattle.std.proofs.Common.{◌≡◌, ◌<◌, ◌-◌, ◌∙◌, List, Option, Some, ap, arith, length, rules, slice_index_or, suc, sym}
+use Rattle.std.proofs.Common.{◌≡◌, ◌<◌, ◌-◌, ◌∙◌, List, Option, Some, ap, arith, length, slice_index_or, suc, sym}
 use Rattle.std.specs.Prelude.{slice_get}
 use Rattle.std.proofs.lemmas.Option.{slice_get-get_or}
 use Rattle.cu_arrival.specs.declared.runs.Run.{Run}
-use Rattle.cu_runs.specs.Layers.{layered}
+use Rattle.cu_runs.specs.Layers.{layered, older}
 use Rattle.cu_runs.proofs.Layers.{layered_behind, layered_long, layered_newer, layered_older}
 use Rattle.cu_runs.proofs.MergeLaws.{read_there}
 use Rattle.cu_runs.proofs.layered_functions.LayeredFunctions.get.Goals.{else-number-self, then-number-self+else-place-gt0}
@@ -10,7 +10,7 @@ use Rattle.cu_runs.proofs.layered_functions.LayeredFunctions.get.Goals as goal
 
 pub returns-then-place-gt0 : goal.returns-then-place-gt0
 returns-then-place-gt0 c =
-    let functions = c.self.inside.functions.now in
+    let functions = older c.self.inside.with_places c.self.inside.functions.now in
     let places = c.self.inside.places.now in
     let newer = c.self.inside.newer.now in
     let number = c.args.number in
@@ -22,26 +22,22 @@ returns-then-place-gt0 c =
     let is_newer = layered_newer functions places newer number (place - 1) (omega (arith, long, c.requires)) there inside in
     rw (← c.self.view_is) (is_newer ∙ read_there newer (place - 1) c.index-self-place.result inside c.index-self-place.is ∙ ap Some c.index-self-place.is)
 
-pub bounds-self-inside-number-2 : goal.bounds-self-inside-number-2
-bounds-self-inside-number-2 c =
-    let long =
-    ap (λ (fs : List (Option (List Run))). length fs) (sym c.self.view_is) ∙ layered_long c.self.inside.functions.now c.self.inside.places.now c.self.inside.newer.now in
+pub older_at-requires : goal.older_at-requires
+older_at-requires c =
+    let functions = older c.self.inside.with_places c.self.inside.functions.now in
+    let long = ap (λ (fs : List (Option (List Run))). length fs) (sym c.self.view_is) ∙ layered_long functions c.self.inside.places.now c.self.inside.newer.now in
     omega (arith, long, c.requires)
-
-pub offset_bounds-self-inside-number-2 : goal.offset_bounds-self-inside-number-2
-offset_bounds-self-inside-number-2 c = let inside = bounds-self-inside-number-2 c in search rules
 
 pub returns : goal.returns
 returns c =
-    let functions = c.self.inside.functions.now in
+    let functions = older c.self.inside.with_places c.self.inside.functions.now in
     let places = c.self.inside.places.now in
     let newer = c.self.inside.newer.now in
     let number = c.args.number in
-    let long = ap (λ (fs : List (Option (List Run))). length fs) (sym c.self.view_is) ∙ layered_long functions places newer in
     let is_older : slice_get (layered functions places newer) number ≡ slice_get functions number = elim c.if-number-self.branch [
       | then-number-self+else-place-gt0 w ↦
           layered_older functions places newer number (slice_get-get_or places number 0 w.if-number-self.true ∙ ap Some (omega (arith, w.if-place-gt0.false)))
       | else-number-self w ↦ layered_behind functions places newer number (omega (arith, w.if-number-self.false))
     ] in
     rw (← c.self.view_is)
-    (is_older ∙ read_there functions number c.index-self-number.result (omega (arith, long, c.requires)) c.index-self-number.is ∙ ap Some c.index-self-number.is)
+    (is_older ∙ c.older_at.ensures)
