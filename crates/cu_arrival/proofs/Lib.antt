@@ -5,3 +5,4 @@ pub mod Built
 pub mod ComposeLaws
 pub mod MinimumLaws
 pub mod PieceLaws
+pub mod Slacks

@@ -1,3 +1,4 @@
 pub mod Runs
 pub mod Choices
+pub mod Behind
 pub mod Steps

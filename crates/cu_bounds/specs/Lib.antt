@@ -1,2 +1,3 @@
 pub mod KeptBounds
 pub mod Steps
+pub mod Near

@@ -18,7 +18,7 @@ use crate::pulling::{SettledRuns, pull};
 use crate::task::Task;
 use crate::triangles::Triangle;
 use cu_chordal::{Chordal, Ends};
-use cu_interval::{Dir, EdgeArcs, leg_of};
+use cu_interval::{EdgeArcs, Shortcut, leg_of};
 use cu_model::{DAY, NoMemory, Roads};
 use cu_runs::{LayeredFunctions, MAX_NUMBER, Windows, staying};
 use std::alloc::Global;
@@ -75,7 +75,7 @@ impl PackedSettling {
         &self.triangles
     }
 
-    /// Settles the shortcut of an edge, whose triangles were found last, in a direction by the functions of these roads and
+    /// Settles a shortcut, the triangles of whose edge were found last, by the functions of these roads and
     /// these functions of shortcuts, by list number: the maximal runs, over a day, of its first candidate that arrives
     /// earliest, and when that arrives. The candidates are the edge's roads that aren't closed, by rising number, and then
     /// the middles of which both halves have a function, by rising rank. None where a way takes longer than packed runs can
@@ -87,31 +87,31 @@ impl PackedSettling {
         graph: &Chordal,
         arcs: &EdgeArcs,
         functions: LayeredFunctions<'_>,
-        edge: u32,
-        dir: Dir,
+        shortcut: Shortcut,
     ) -> Result<Option<SettledRuns>, NoMemory>
-        requires edge { edge < length graph.now.edges }
+        requires edge { shortcut.edge < length graph.now.edges }
         requires lists { length arcs.now ≡ 2 * length graph.now.edges }
-        requires arcs { (list : List ℕ) → slice_get arcs.now (list_number edge dir) ≡ Some list
+        requires arcs { (list : List ℕ) → slice_get arcs.now (list_number shortcut.edge shortcut.dir) ≡ Some list
             → IsStrictlyIncreasing list × All (λ a. a < length (R.network roads.now).arcs) list }
         requires functions { length functions ≡ 2 * length graph.now.edges }
-        requires triangles { AreTrianglesOf graph.now.edges edge self.old }
+        requires triangles { AreTrianglesOf graph.now.edges shortcut.edge self.old }
         ensures ways { (ends : Ends) (list : List ℕ)
-            → slice_get graph.now.edges edge ≡ Some ends
-            → slice_get arcs.now (list_number edge dir) ≡ Some list
+            → slice_get graph.now.edges shortcut.edge ≡ Some ends
+            → slice_get arcs.now (list_number shortcut.edge shortcut.dir) ≡ Some list
             → IfOk result (λ found. IfSome found (λ settled. IsSettledList graph.now.edges list
             (kept_state (R.network roads.now) functions.entry)
-            (start_of ends dir) (end_of ends dir) settled.ways)) }
-        ensures function { (ends : Ends) → slice_get graph.now.edges edge ≡ Some ends
+            (start_of ends shortcut.dir) (end_of ends shortcut.dir) settled.ways)) }
+        ensures function { (ends : Ends) → slice_get graph.now.edges shortcut.edge ≡ Some ends
             → IfOk result (λ found. IfSome found (λ settled. IsDayValueOf graph.now.edges
             (kept_state (R.network roads.now) functions.entry)
-            (start_of ends dir) (end_of ends dir) settled.ways settled.function)) }
-        ensures far { (ends : Ends) → slice_get graph.now.edges edge ≡ Some ends
+            (start_of ends shortcut.dir) (end_of ends shortcut.dir) settled.ways settled.function)) }
+        ensures far { (ends : Ends) → slice_get graph.now.edges shortcut.edge ≡ Some ends
             → IfOk result (λ found. found ≡ None → HasFarWay graph.now.edges
             (kept_state (R.network roads.now) functions.entry)
-            (start_of ends dir) (end_of ends dir)) }
+            (start_of ends shortcut.dir) (end_of ends shortcut.dir)) }
         ensures triangles { self.new ≡ self.old }
     {
+        let Shortcut { edge, dir } = shortcut;
         let ends = graph.ends(edge);
         let stay = staying();
         let task = Task {

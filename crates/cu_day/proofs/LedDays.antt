@@ -8,7 +8,8 @@ use Rattle.cu_interval.specs.Hierarchies.{HierarchyValue, IsHierarchy}
 use Rattle.cu_sweep.specs.Outlooks.{IsAhead}
 use Rattle.cu_day.specs.DayAnswers.{IsLeastWhereBuilt}
 use Rattle.cu_day.specs.DayChains.{IsDayFunction, IsLeastChain}
-use Rattle.cu_day.specs.Steps.InTime.{InTime, IsBehind, IsEarly}
+use Rattle.cu_arrival.specs.Behind.{IsBehind}
+use Rattle.cu_day.specs.Steps.InTime.{InTime, IsEarly}
 use Rattle.cu_day.specs.Steps.Ranks.{HasSwept}
 use Rattle.cu_day.specs.Steps.Sweeping.{label_at, value_at}
 use Rattle.cu_day.proofs.BuiltDays.{least_of_walks}

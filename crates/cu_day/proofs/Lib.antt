@@ -10,7 +10,6 @@ pub mod BuiltDays
 pub mod Whole
 pub mod Calls
 pub mod LineFields
-pub mod Slacks
 pub mod Bounded
 pub mod Leaving
 pub mod Counted

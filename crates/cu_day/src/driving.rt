@@ -9,8 +9,7 @@ ghost use Rattle.cu_day.specs.Steps.LedSteps.{AddsLegs, AddsLegsOn, AddsWay};
 
 use crate::days::staying;
 use crate::functions::DayFunctions;
-use crate::slack::slack_of;
-use cu_arrival::{Arrival, compose};
+use cu_arrival::{Arrival, compose, slack_of};
 use cu_chordal::Chordal;
 use cu_interval::{Dir, Leg, Shortcut};
 use cu_model::NoMemory;

@@ -24,7 +24,6 @@ mod functions;
 mod leading;
 mod lines;
 mod rebuilding;
-mod slack;
 mod timing;
 mod writing;
 

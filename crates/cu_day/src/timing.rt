@@ -1,7 +1,9 @@
 //! Sweeps over functions that leave out the arcs which can't be in time for the end at any second of the day.
 
-ghost use Rattle.std.specs.Prelude.{◌≡◌, ◌≢◌, ◌≤◌, ◌<◌, ◌∷◌, [], Some, IfOk, OnOk, All, length, reverse, slice_get, true};
+ghost use Rattle.std.specs.Prelude.{◌≡◌, ◌≢◌, ◌≤◌, ◌<◌, ◌+◌, ◌∷◌, [], ℕ, Some, IfOk, OnOk, All, length, reverse, slice_get, true};
 ghost use Rattle.std.specs.List.{AllPairs};
+ghost use Rattle.cu_model.specs.declared.limits.TheConstants.{DAY};
+ghost use Rattle.cu_arrival.specs.Runs.{arrival_value};
 ghost use Rattle.cu_chordal.specs.declared.graph.Ends.{Ends};
 ghost use Rattle.cu_chordal.specs.Graphs.{up_of};
 ghost use Rattle.cu_elimtree.specs.SweepArcs.{parents_in};
@@ -12,12 +14,11 @@ ghost use Rattle.cu_day.specs.Steps.InTime.{AreSlacks, InTime, IsEarly, IsNoEarl
 ghost use Rattle.cu_sweep.specs.LedCalls.{arcs_of_rank, arcs_of_ranks};
 ghost use Rattle.cu_day.specs.Steps.LedSteps.{AddsInSweeps, AddsSomeOf};
 ghost use Rattle.cu_day.specs.Steps.Ranks.{GathersFrom, HasSwept, HasSweptDown, HasSweptUp, SpreadsTo};
-ghost use Rattle.cu_day.specs.Steps.Sweeping.{TakesList};
+ghost use Rattle.cu_day.specs.Steps.Sweeping.{TakesList, value_at};
 
 use crate::days::{begun_labels, list_ancestors, take_list};
 use crate::functions::DayFunctions;
-use crate::slack::{slack_at, slack_of};
-use cu_arrival::Arrival;
+use cu_arrival::{Arrival, slack_of};
 use cu_chordal::Chordal;
 use cu_elimtree::Tree;
 use cu_interval::{Dir, Leg, Relaxer, Shortcut};
@@ -240,6 +241,17 @@ fn settle(reached: &mut Reached, by: &Arrival, rank: u32)
 {
     let slack = slack_at(by, &reached.labels[rank as usize]);
     reached.slacks[rank as usize] = slack;
+}
+
+// A number of seconds by which a limit is later than a label by less, if there is one.
+fn slack_at(limit: &Arrival, label: &Option<Arrival>) -> u64
+    ensures { (t b : ℕ) → t < DAY → value_at (Some label.now) t ≡ Some b
+        → arrival_value limit.now t < b + result }
+{
+    match label {
+        Some(function) => slack_of(limit, function, u64::MAX),
+        None => 0,
+    }
 }
 
 // Takes the arc of a shortcut, which leads from one rank to another, unless its list is empty or it can't be in time.

@@ -1,13 +1,10 @@
 -- No rebuilt value of a list falls below its least bound.
-use Rattle.std.proofs.Common.{◌≡◌, ◌≤◌, ◌<◌, ◌+◌, ◌*◌, ◌/◌, ◌%◌, ◌^◌, ◌∷◌, ℕ, zero, suc, List, [], Option, Some, None, ap, refl, subst, arith, inl, inr, get_or, length, min}
+use Rattle.std.proofs.Common.{◌≡◌, ◌≤◌, ◌<◌, ◌+◌, ◌*◌, ◌/◌, ◌%◌, ◌^◌, ◌∷◌, ℕ, zero, suc, List, [], Option, Some, None, ap, refl, subst, arith, min}
 use Rattle.std.specs.Prelude.{All, option_map, slice_get}
-use Rattle.std.proofs.lemmas.Bool.{cases_lt}
-use Rattle.std.proofs.lemmas.List.{get_or_past}
 use Rattle.std.proofs.lemmas.Nat.{div-add-mod', mod_below}
 use Rattle.cu_model.specs.Days.{day}
 use Rattle.cu_chordal.specs.declared.graph.Ends.{Ends}
 use Rattle.cu_interval.specs.declared.ways.Dir.{Dir}
-use Rattle.cu_interval.specs.declared.ways.Dir.TheVariants.{Up, Down}
 use Rattle.cu_interval.specs.declared.ways.Way.{Way}
 use Rattle.cu_interval.specs.declared.ways.Way.TheVariants.{Road, Via}
 use Rattle.cu_interval.specs.declared.ways.Entry.{Entry}
@@ -15,7 +12,6 @@ use Rattle.cu_interval.specs.Hierarchies.{HierarchyValue, IsHierarchy, IsWellFor
 use Rattle.cu_interval.specs.LeastBounds.{bound_by, bound_ends, bound_from, far, least_bound, least_of, road_bound, way_bound}
 use Rattle.cu_interval.specs.Resettling.{ArrivesIn, least_in, lesser_of, rebuilt, rebuilt_by, then_at, value_by}
 use Rattle.cu_interval.proofs.BoundLaws.{road_takes}
-use Rattle.cu_edits.specs.Steps.Bounds.{AreLeastIn, AreLeastTravels, TravelsValue, kept_travel}
 use Rattle.cu_interval.proofs.Lookups.{list_formed}
 
 -- a value, if there is one, is no less than this
@@ -96,14 +92,3 @@ module _ (h : HierarchyValue) (sound : IsHierarchy h) where
 -- the least bound of an edge's list is that of the list between its ends
 pub bound_of_ends : (h : HierarchyValue) (edge : ℕ) (dir : Dir) (ends : Ends) → slice_get h.edges edge ≡ Some ends → least_bound h edge dir ≡ bound_from h (start_of ends dir) (end_of ends dir)
 bound_of_ends h edge dir ends at = ap (λ (o : Option Ends). bound_ends (road_bound h.network) h o dir) at
-
--- what is kept of a list is no more than its least bound
-in_below : (h : HierarchyValue) (dir : Dir) (seconds : List ℕ) → AreLeastIn h dir seconds → (edge : ℕ) → get_or seconds edge 0 ≤ least_bound h edge dir
-in_below h dir seconds (long, each) edge = elim (cases_lt edge (length h.edges)) [
-  | inl inside ↦ (let same = each edge inside in omega (arith, same))
-  | inr past ↦ (let none = get_or_past seconds edge 0 (omega (arith, long, past)) in omega (arith, none))
-]
-
-pub travel_below : (h : HierarchyValue) (travels : TravelsValue) → AreLeastTravels h travels → (edge : ℕ) (dir : Dir) → kept_travel travels edge dir ≤ least_bound h edge dir
-travel_below h travels are edge Up = in_below h Up travels.ups are.up edge
-travel_below h travels are edge Down = in_below h Down travels.downs are.down edge

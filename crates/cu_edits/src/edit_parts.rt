@@ -1,6 +1,6 @@
 //! What edits are settled over.
 
-ghost use Rattle.std.specs.Prelude.{◌≡◌, ◌≤◌, ◌<◌, ◌*◌, ◌↔◌, ℕ, IfOk, IsTrue, Some, length, slice_get, true};
+ghost use Rattle.std.specs.Prelude.{◌≡◌, ◌≤◌, ◌<◌, ◌*◌, ◌↔◌, ℕ, IfOk, IfSome, IsTrue, Some, length, slice_get, true};
 ghost use Rattle.cu_resettled.specs.ResettlingAll.{IsChangedBySome, edited_all};
 ghost use Rattle.std.specs.List.{Contains};
 ghost use Rattle.cu_chordal.specs.Graphs.{FindsEdge, HasEdge, IsChordal};
@@ -8,6 +8,7 @@ ghost use Rattle.cu_interval.specs.EdgeArcs.{AreEdgeArcs};
 ghost use Rattle.cu_interval.specs.Hierarchies.{IsHierarchy, IsHierarchyOf, list_number, list_of};
 ghost use Rattle.cu_interval.specs.LeastBounds.{least_bound};
 ghost use Rattle.cu_interval.specs.Shortcuts.{FindsHalves};
+ghost use Rattle.cu_bounds.specs.Near.{AreNear};
 ghost use Rattle.cu_unpack.specs.Rebuilds.{IsRebuiltFunction, Keeps};
 ghost use Rattle.cu_unpack.specs.RebuiltRuns.{IsKnownList};
 ghost use Rattle.cu_edits.specs.Customized.{AreCustomized};
@@ -16,21 +17,21 @@ ghost use Rattle.cu_edits.specs.Steps.Packed.{IfNear, LearnsPacked};
 ghost use Rattle.cu_edits.specs.Steps.Parts.{FitTogether};
 ghost use Rattle.cu_edits.specs.Together.{FitEdits, edits_of};
 
+use crate::edit_ground::EditGround;
 use crate::edited_roads::EditedRoads;
 use crate::edits::{Edits, is_changed_by_some, read_edits};
-use crate::least_travels::LeastTravels;
 use cu_arrival::Arrival;
+use cu_bounds::NearBounds;
 use cu_chordal::{Chordal, Ends};
-use cu_interval::{BoundedWays, Dir, EdgeArcs, Entry, Ways, find_halves};
+use cu_interval::{Dir, EdgeArcs, Entry, Ways, find_halves};
 use cu_model::NoMemory;
 use cu_unpack::{PackedFunctions, Rebuilt};
 use std::alloc::Global;
 use std::marker::Model;
-use std::mem;
 
 /// The hierarchy before some edits, the edits, and the graph and the roads of the hierarchy; and marks of edges whose lists are
-/// known to be what customization makes of the lists below them. Contracts see all of these. It may also be known how long travels
-/// over each list take at least before the edits.
+/// known to be what customization makes of the lists below them. Contracts see all of these. The least bounds of lists before the
+/// edits may be known too.
 #[derive(Drop)]
 pub struct EditParts<'a, W: Ways> {
     ways: &'a W,
@@ -39,12 +40,12 @@ pub struct EditParts<'a, W: Ways> {
     arcs: &'a EdgeArcs,
     customized: &'a [bool],
     // None where they aren't known.
-    travels: Option<LeastTravels>,
+    bounds: Option<&'a NearBounds>,
 }
 
 impl<'a, W: Ways> Model for EditParts<'a, W> {
     ghost use Rattle.std.specs.Prelude.{◌*◌, IfSome};
-    ghost use Rattle.cu_edits.specs.Steps.Bounds.{AreLeastTravels};
+    ghost use Rattle.cu_bounds.specs.Near.{AreNear};
     ghost use Rattle.cu_edits.specs.Steps.Parts.{FitTogether, PartsValue};
     ghost use Rattle.cu_edits.specs.Together.{FitEdits, edits_of};
 
@@ -65,29 +66,25 @@ impl<'a, W: Ways> Model for EditParts<'a, W> {
       arcs = parts.arcs.now;
       customized = parts.customized.now;
     }) × FitEdits (W.hierarchy parts.ways.now).network parts.edits
-        × IfSome parts.travels (AreLeastTravels (W.hierarchy parts.ways.now)) };
+        × IfSome parts.bounds (λ bounds. AreNear (W.hierarchy parts.ways.now) bounds.now) };
 }
 
 impl<'a, W: Ways> EditParts<'a, W> {
     /// These, of one hierarchy. Takes no memory.
-    pub fn of(
-        ways: &'a W,
-        edits: Edits<'a>,
-        graph: &'a Chordal,
-        arcs: &'a EdgeArcs,
-        customized: &'a [bool],
-    ) -> EditParts<'a, W>
+    pub fn of(ways: &'a W, edits: Edits<'a>, ground: EditGround<'a>) -> EditParts<'a, W>
         requires edits { FitEdits (W.hierarchy ways.now).network edits }
-        requires graph { IsHierarchyOf graph.now (W.hierarchy ways.now) }
+        requires graph { IsHierarchyOf ground.graph.now (W.hierarchy ways.now) }
         requires arcs { AreEdgeArcs (W.hierarchy ways.now).network (W.hierarchy ways.now).order
-            graph.now.edges arcs.now }
-        requires customized { AreCustomized (W.hierarchy ways.now) customized.now }
+            ground.graph.now.edges ground.arcs.now }
+        requires customized { AreCustomized (W.hierarchy ways.now) ground.customized.now }
+        requires bounds { IfSome ground.bounds
+            (λ bounds. AreNear (W.hierarchy ways.now) bounds.now) }
         ensures parts { result ≡ record {
           before = W.hierarchy ways.now;
           edit = edits_of edits.entry;
-          graph = graph.now;
-          arcs = arcs.now;
-          customized = customized.now;
+          graph = ground.entry.graph.now;
+          arcs = ground.entry.arcs.now;
+          customized = ground.entry.customized.now;
         } }
         ensures fit { FitTogether result }
     {
@@ -95,10 +92,10 @@ impl<'a, W: Ways> EditParts<'a, W> {
         EditParts {
             ways,
             edits,
-            graph,
-            arcs,
-            customized,
-            travels: None,
+            graph: ground.graph,
+            arcs: ground.arcs,
+            customized: ground.customized,
+            bounds: ground.bounds,
         }
     }
 
@@ -107,10 +104,13 @@ impl<'a, W: Ways> EditParts<'a, W> {
     pub fn least(&self, edge: u32, dir: Dir) -> u64
         ensures { result ≤ least_bound self.now.before edge dir }
     {
-        match &self.travels {
-            Some(travels) => travels.get(edge, dir),
-            None => 0,
+        let Some(bounds) = self.bounds else {
+            return 0;
+        };
+        if edge >= self.graph.edges() {
+            return 0;
         }
+        bounds.get(edge, dir)
     }
 
     /// The ways before the edits.
@@ -269,16 +269,5 @@ impl<'a, W: Ways> EditParts<'a, W> {
         ensures learns { LearnsPacked self.now.before packed.old packed.new }
     {
         packed.learn(alloc, self.ways, edge, dir)
-    }
-}
-
-impl<'a, W: BoundedWays> EditParts<'a, W> {
-    /// From then on it is known how long travels over each list take at least before the edits.
-    pub fn know_travels(&mut self, alloc: Global) -> Result<(), NoMemory>
-        ensures same { self.new ≡ self.old }
-    {
-        let travels = LeastTravels::of(alloc, self.ways)?;
-        drop(mem::replace(&mut self.travels, Some(travels)));
-        Ok(())
     }
 }

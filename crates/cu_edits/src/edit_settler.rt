@@ -6,6 +6,7 @@ ghost use Rattle.cu_model.specs.Edits.{IsEditInRange};
 ghost use Rattle.cu_interval.specs.declared.ways.TouchedEdge.{TouchedEdge};
 ghost use Rattle.cu_interval.specs.EdgeArcs.{AreEdgeArcs};
 ghost use Rattle.cu_interval.specs.Hierarchies.{HierarchyValue, IsHierarchyOf};
+ghost use Rattle.cu_bounds.specs.Near.{AreNear};
 ghost use Rattle.cu_edits.specs.Customized.{AreCustomized};
 ghost use Rattle.cu_edits.specs.EditLists.{FitsNetwork};
 ghost use Rattle.cu_edits.specs.Learned.{ArePackedOf};
@@ -17,8 +18,8 @@ ghost use Rattle.cu_edits.specs.Steps.Known.{HasFunctions, functions_of};
 ghost use Rattle.cu_edits.specs.Steps.Parts.{FitTogether, settling_over};
 
 use crate::copied_lists::push_copy;
-use crate::customized::CustomizedEdges;
 use crate::edge_functions::{EdgeFunctions, KnownFunctions, know};
+use crate::edit_ground::EditGround;
 use crate::edit_list::EditList;
 use crate::edit_parts::EditParts;
 use crate::edits::Edits;
@@ -32,7 +33,7 @@ use crate::settler_state::{PackedState, SettlerState};
 use crate::settling_packed::settle_packed;
 use cu_chordal::Chordal;
 use cu_customize::settle;
-use cu_interval::{BoundedWays, Dir, EdgeArcs, TouchedEdge, Ways};
+use cu_interval::{Dir, EdgeArcs, TouchedEdge, Ways};
 use cu_model::{Edit, NoMemory};
 use cu_unpack::Rebuilt;
 use std::alloc::Global;
@@ -81,52 +82,54 @@ impl<'a, W: Ways> EditSettler<'a, W> {
         ensures { IfOk result (λ settler. settler
             ≡ record { before = W.hierarchy ways.now; edit = edit.now ∷ []; settled = [] }) }
     {
-        EditSettler::over(alloc, ways, edit, graph, arcs, &[], None)
+        let ground = EditGround::new(graph, arcs);
+        EditSettler::over(alloc, ways, edit, ground, None)
     }
 
-    /// The same, where edges with a mark are known to have the lists that customization makes of the lists below them, and
-    /// functions of lists are known.
+    /// The same, where edges with a mark are known to have the lists that customization makes of the lists below them, and functions of
+    /// lists are known. Where the least bounds of lists are known too, ways by a middle are left aside whose halves the edit left as they
+    /// are, where these alone take longer than another way does at most: what it settles is the same.
     pub fn over(
         alloc: Global,
         ways: &'a W,
         edit: &'a Edit,
-        graph: &'a Chordal,
-        arcs: &'a EdgeArcs,
-        customized: &'a [bool],
+        ground: EditGround<'a>,
         learned: Option<Learned>,
     ) -> Result<EditSettler<'a, W>, NoMemory>
         requires edit { IsEditInRange (W.hierarchy ways.now).network edit.now }
-        requires graph { IsHierarchyOf graph.now (W.hierarchy ways.now) }
+        requires graph { IsHierarchyOf ground.graph.now (W.hierarchy ways.now) }
         requires arcs { AreEdgeArcs (W.hierarchy ways.now).network (W.hierarchy ways.now).order
-            graph.now.edges arcs.now }
-        requires customized { AreCustomized (W.hierarchy ways.now) customized.now }
+            ground.graph.now.edges ground.arcs.now }
+        requires customized { AreCustomized (W.hierarchy ways.now) ground.customized.now }
+        requires bounds { IfSome ground.bounds
+            (λ bounds. AreNear (W.hierarchy ways.now) bounds.now) }
         requires learned { IfSome learned (ArePackedOf (W.hierarchy ways.now)) }
         ensures { IfOk result (λ settler. settler
             ≡ record { before = W.hierarchy ways.now; edit = edit.now ∷ []; settled = [] }) }
     {
-        let parts = EditParts::of(ways, Edits::One(edit), graph, arcs, customized);
+        let parts = EditParts::of(ways, Edits::One(edit), ground);
         Ok(EditSettler::of_parts(alloc, parts, learned))
     }
 
-    /// A settler that settled none yet, for all edits of a list, where edges with a mark are known to be customized.
+    /// A settler that settled none yet, for all edits of a list, where edges with a mark are known to be customized, and maybe the least
+    /// bounds of lists.
     pub fn over_all(
         alloc: Global,
         ways: &'a W,
         edits: &'a EditList,
-        graph: &'a Chordal,
-        arcs: &'a EdgeArcs,
-        customized: &'a CustomizedEdges,
+        ground: EditGround<'a>,
     ) -> EditSettler<'a, W>
         requires edits { FitsNetwork (W.hierarchy ways.now).network edits.now }
-        requires graph { IsHierarchyOf graph.now (W.hierarchy ways.now) }
+        requires graph { IsHierarchyOf ground.graph.now (W.hierarchy ways.now) }
         requires arcs { AreEdgeArcs (W.hierarchy ways.now).network (W.hierarchy ways.now).order
-            graph.now.edges arcs.now }
-        requires customized { AreCustomized (W.hierarchy ways.now) customized.now }
+            ground.graph.now.edges ground.arcs.now }
+        requires customized { AreCustomized (W.hierarchy ways.now) ground.customized.now }
+        requires bounds { IfSome ground.bounds
+            (λ bounds. AreNear (W.hierarchy ways.now) bounds.now) }
         ensures { result
             ≡ record { before = W.hierarchy ways.now; edit = edits.now.edits; settled = [] } }
     {
-        let marks = customized.marks();
-        let parts = EditParts::of(ways, Edits::All(edits), graph, arcs, marks);
+        let parts = EditParts::of(ways, Edits::All(edits), ground);
         EditSettler::of_parts(alloc, parts, None)
     }
 
@@ -160,16 +163,16 @@ impl<'a, W: Ways> EditSettler<'a, W> {
     pub fn resume(
         ways: &'a W,
         edit: &'a Edit,
-        graph: &'a Chordal,
-        arcs: &'a EdgeArcs,
-        customized: &'a [bool],
+        ground: EditGround<'a>,
         paused: PausedSettler,
     ) -> EditSettler<'a, W>
         requires edit { IsEditInRange (W.hierarchy ways.now).network edit.now }
-        requires graph { IsHierarchyOf graph.now (W.hierarchy ways.now) }
+        requires graph { IsHierarchyOf ground.graph.now (W.hierarchy ways.now) }
         requires arcs { AreEdgeArcs (W.hierarchy ways.now).network (W.hierarchy ways.now).order
-            graph.now.edges arcs.now }
-        requires customized { AreCustomized (W.hierarchy ways.now) customized.now }
+            ground.graph.now.edges ground.arcs.now }
+        requires customized { AreCustomized (W.hierarchy ways.now) ground.customized.now }
+        requires bounds { IfSome ground.bounds
+            (λ bounds. AreNear (W.hierarchy ways.now) bounds.now) }
         requires fits { FitsPaused (W.hierarchy ways.now) (edit.now ∷ []) paused }
         ensures { result ≡ record {
           before = W.hierarchy ways.now;
@@ -177,7 +180,7 @@ impl<'a, W: Ways> EditSettler<'a, W> {
           settled = paused.settled;
         } }
     {
-        let parts = EditParts::of(ways, Edits::One(edit), graph, arcs, customized);
+        let parts = EditParts::of(ways, Edits::One(edit), ground);
         let PausedSettler { settled, state } = paused;
         EditSettler {
             parts,
@@ -208,17 +211,6 @@ impl<'a, W: Ways> EditSettler<'a, W> {
             SettlerState::Packed(packed) => Learned::after(alloc, packed, edges).ok(),
             SettlerState::Plain(_plain) => None,
         }
-    }
-}
-
-impl<'a, W: BoundedWays> EditSettler<'a, W> {
-    /// From then on it knows the least bound of each list, and leaves ways by a middle aside whose halves the edit left as they are,
-    /// where these alone take longer than another way does at most: functions of such halves aren't rebuilt. What it settles is the
-    /// same.
-    pub fn know_bounds(&mut self, alloc: Global) -> Result<(), NoMemory>
-        ensures same { self.new ≡ self.old }
-    {
-        self.parts.know_travels(alloc)
     }
 }
 

@@ -154,55 +154,53 @@ fn most_by(functions: &LayeredFunctions<'_>, edges: (u32, u32)) -> u64
     first.most().saturating_add(second.most())
 }
 
-/// The same of the halves by the middles of the list of an edge in a direction, before the edit.
+/// The same of the halves by the middles of the list before the edit.
 pub fn learn_ways<W: Ways>(
     alloc: Global,
     parts: &EditParts<'_, W>,
-    moved: &MovedLists,
-    edge: u32,
-    dir: Dir,
+    asked: &Asked<'_>,
     packed: &mut PackedFunctions,
 ) -> Result<bool, NoMemory>
-    requires edge { edge < length parts.now.graph.edges }
-    requires moved { TellsLists parts.now moved.now }
+    requires edge { asked.now.edge < length parts.now.graph.edges }
+    requires moved { TellsLists parts.now asked.now.moved.now }
     requires packed { ArePackedOf parts.now.before packed.old }
     ensures learns { LearnsPacked parts.now.before packed.old packed.new }
-    ensures known { IfNear result ((ends : Ends) → slice_get parts.now.graph.edges edge ≡ Some ends
-        → All (λ (entry : Entry). IsWayAtHand moved.now packed.new parts.now.graph.edges ends
-        dir entry.way) (list_of parts.now.before edge dir)) }
+    ensures known { IfNear result ((ends : Ends) → slice_get parts.now.graph.edges asked.now.edge ≡ Some ends
+        → All (λ (entry : Entry). IsWayAtHand asked.now.moved.now packed.new parts.now.graph.edges
+        ends asked.now.dir entry.way) (list_of parts.now.before asked.now.edge asked.now.dir)) }
 {
-    let ends = parts.ends(edge);
-    for index in 0..parts.entries(edge, dir) {
-        let entry = parts.entry(edge, dir, index);
-        if !learn_way(alloc, parts, moved, ends, dir, entry.way, packed)? {
+    let ends = parts.ends(asked.edge);
+    for index in 0..parts.entries(asked.edge, asked.dir) {
+        let entry = parts.entry(asked.edge, asked.dir, index);
+        if !learn_way(alloc, parts, asked, ends, entry.way, packed)? {
             return Ok(false);
         }
     }
     Ok(true)
 }
 
-// The same of one way.
+// The same of one way between these ends.
 fn learn_way<W: Ways>(
     alloc: Global,
     parts: &EditParts<'_, W>,
-    moved: &MovedLists,
+    asked: &Asked<'_>,
     ends: Ends,
-    dir: Dir,
     way: Way,
     packed: &mut PackedFunctions,
 ) -> Result<bool, NoMemory>
     requires formed { IsWellFormed parts.now.before
-        (start_of ends dir) (end_of ends dir) way }
+        (start_of ends asked.now.dir) (end_of ends asked.now.dir) way }
     requires ranks { (ends.low < parts.now.graph.ranks)
         × (ends.high < parts.now.graph.ranks) }
-    requires moved { TellsLists parts.now moved.now }
+    requires moved { TellsLists parts.now asked.now.moved.now }
     requires packed { ArePackedOf parts.now.before packed.old }
     ensures learns { LearnsPacked parts.now.before packed.old packed.new }
-    ensures known { IfNear result (IsWayAtHand moved.now packed.new parts.now.graph.edges ends dir way) }
+    ensures known { IfNear result (IsWayAtHand asked.now.moved.now packed.new
+        parts.now.graph.edges ends asked.now.dir way) }
 {
     match way {
         Way::Road(_) => Ok(true),
-        Way::Via(middle) => learn_both(alloc, parts, moved, ends, dir, middle, packed),
+        Way::Via(middle) => learn_both(alloc, parts, asked, ends, middle, packed),
     }
 }
 
@@ -210,22 +208,22 @@ fn learn_way<W: Ways>(
 fn learn_both<W: Ways>(
     alloc: Global,
     parts: &EditParts<'_, W>,
-    moved: &MovedLists,
+    asked: &Asked<'_>,
     ends: Ends,
-    dir: Dir,
     middle: u32,
     packed: &mut PackedFunctions,
 ) -> Result<bool, NoMemory>
     requires middle { middle < parts.now.graph.ranks }
-    requires moved { TellsLists parts.now moved.now }
+    requires moved { TellsLists parts.now asked.now.moved.now }
     requires packed { ArePackedOf parts.now.before packed.old }
     ensures learns { LearnsPacked parts.now.before packed.old packed.new }
-    ensures known { IfNear result (HalvesAre (IsAtHand moved.now packed.new) parts.now.graph.edges ends dir middle) }
+    ensures known { IfNear result (HalvesAre (IsAtHand asked.now.moved.now packed.new)
+        parts.now.graph.edges ends asked.now.dir middle) }
 {
-    let Some((first, second)) = parts.find_halves(ends, dir, middle) else {
+    let Some((first, second)) = parts.find_halves(ends, asked.dir, middle) else {
         return Ok(true);
     };
-    learn_halves(alloc, parts, moved, (first, second), packed)
+    learn_halves(alloc, parts, asked.moved, (first, second), packed)
 }
 
 // The same of the halves that these edges have.

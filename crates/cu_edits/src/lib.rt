@@ -7,13 +7,14 @@
 //! `cu_interval`). [`recustomize`] settles them by rising number, each after those of its lower triangles, by a [`Settler`];
 //! [`EditSettler`] is the one that [`touch`] takes. It settles by functions that are packed runs, whose promise is the same as
 //! that of plain ones; once a way takes longer than packed runs can say, as in a file that isn't built, it goes over to plain
-//! functions. One that knows the least bounds of lists ([`EditSettler::know_bounds`]) learns no functions of halves that take longer
-//! than another way does at most.
+//! functions. One that knows the least bounds of lists ([`EditGround`]) learns no functions of halves that take longer than another
+//! way does at most.
 //!
 //! [`touch_over`] is the same for whoever makes one edit after the other, and knows of lists what earlier edits left:
 //! [`CustomizedEdges`] tells which edges are known to be customized (`specs/Customized.antt`), as all are in a built hierarchy,
 //! and an edit keeps those that are and adds those that it settles; [`Learned`] has functions of lists (`specs/Learned.antt`),
-//! and an edit puts the new ones in the place of those of lists that it moved.
+//! and an edit puts the new ones in the place of those of lists that it moved. What such an edit borrows is an [`EditGround`]: the graph,
+//! the roads of its edges, these marks, and the least bounds.
 //!
 //! Many edits are made at once by a list of them ([`EditList`], `specs/EditLists.antt`; [`Edits`] is one or such a list).
 //! [`plan_all`] adds one behind the others, and tells how many edges it touches; [`EditList::touched`] answers the edges that some
@@ -24,15 +25,16 @@
 //! and [`EditSettler::resume`] takes it again (`specs/Paused.antt`), while [`WorkPapers`] keep the rest.
 //! [`PausedSettler::into_earlier`] gives back what was learned of the hierarchy before an edit that isn't made.
 //!
-//! It stands on `cu_progress`, `cu_model`, `cu_links`, `cu_arrival`, `cu_runs`, `cu_chordal`, `cu_interval`, `cu_customize`, `cu_unpack`, and on
-//! `cu_resettled` for its laws. Private are how touched edges spread, what an edit is settled over, and what a settler holds;
-//! `specs/Steps` is cited by private functions alone.
+//! It stands on `cu_progress`, `cu_model`, `cu_links`, `cu_arrival`, `cu_runs`, `cu_chordal`, `cu_interval`, `cu_bounds`, `cu_customize`,
+//! `cu_unpack`, and on `cu_resettled` for its laws. Private are how touched edges spread, what an edit is settled over, and what a settler
+//! holds; `specs/Steps` is cited by private functions alone.
 #![tactic(auto)]
 
 mod climbing;
 mod copied_lists;
 mod customized;
 mod edge_functions;
+mod edit_ground;
 mod edit_list;
 mod edit_parts;
 mod edit_settler;
@@ -44,7 +46,6 @@ mod in_work;
 mod learned;
 mod learning;
 mod learning_packed;
-mod least_travels;
 mod moved_lists;
 mod new_list;
 mod paused;
@@ -62,6 +63,7 @@ mod unchanged_lists;
 mod work_papers;
 
 pub use customized::CustomizedEdges;
+pub use edit_ground::EditGround;
 pub use edit_list::EditList;
 pub use edit_settler::EditSettler;
 pub use edited_roads::EditedRoads;

@@ -25,7 +25,7 @@ use crate::unchanged_lists::{
     are_old_entries, are_roads_unchanged, are_ways_unmoved, copy_old_list,
 };
 use cu_customize::{PackedSettling, SettledRuns};
-use cu_interval::{Dir, Entry, TouchedEdge, Ways};
+use cu_interval::{Dir, Entry, Shortcut, TouchedEdge, Ways};
 use cu_model::NoMemory;
 use cu_runs::LayeredFunctions;
 use cu_unpack::PackedFunctions;
@@ -254,7 +254,8 @@ fn settle_runs<W: Ways>(
     let roads = parts.edited_roads();
     let graph = parts.graph();
     let arcs = parts.edge_arcs();
-    let found = settling.settle(alloc, &roads, graph, arcs, functions, edge, dir)?;
+    let shortcut = Shortcut { edge, dir };
+    let found = settling.settle(alloc, &roads, graph, arcs, functions, shortcut)?;
     Ok(found)
 }
 
@@ -279,7 +280,7 @@ fn learn_candidates<W: Ways>(
     if !keeps_its_ways(parts, asked.moved, asked.edge, asked.dir) {
         return learn_rivals(alloc, parts, asked, packed);
     }
-    if !learn_ways(alloc, parts, asked.moved, asked.edge, asked.dir, packed)? {
+    if !learn_ways(alloc, parts, asked, packed)? {
         return Ok(false);
     }
     learn_middles(alloc, parts, asked, Middles::Moved, packed)
@@ -303,7 +304,7 @@ fn learn_rivals<W: Ways>(
     ensures known { IfNear result (AreCandidatesAtHand parts.now.before parts.now.edit
         parts.now.customized asked.now.moved.now packed.new asked.now.edge asked.now.dir) }
 {
-    if !learn_ways(alloc, parts, asked.moved, asked.edge, asked.dir, packed)? {
+    if !learn_ways(alloc, parts, asked, packed)? {
         return Ok(false);
     }
     let limit = limit_of(

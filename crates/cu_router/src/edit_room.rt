@@ -1,8 +1,9 @@
 //! What edits need beside a held file.
 
-ghost use Rattle.std.specs.Prelude.{◌≡◌, ◌∷◌, ◌++◌, [], IfOk, IsSome, OnErr, OnOk};
+ghost use Rattle.std.specs.Prelude.{◌≡◌, ◌∷◌, ◌++◌, [], IfOk, IfSome, IsSome, OnErr, OnOk};
 ghost use Rattle.cu_model.specs.Edits.{IsEditInRange};
 ghost use Rattle.cu_model.specs.Networks.{IsNetwork};
+ghost use Rattle.cu_edits.specs.Customized.{AreCustomized};
 ghost use Rattle.cu_edits.specs.EditLists.{CountsTouched, FitsList};
 ghost use Rattle.cu_edits.specs.Settling.{numbers_of};
 ghost use Rattle.cu_interval.specs.EdgeArcs.{AreEdgeArcs};
@@ -10,6 +11,7 @@ ghost use Rattle.cu_interval.specs.Hierarchies.{IsHierarchy, graph_of};
 ghost use Rattle.cu_interval.specs.Replacing.{hierarchy_with};
 ghost use Rattle.cu_interval.specs.Resettling.{IsResettled};
 ghost use Rattle.cu_interval.specs.Touching.{NumbersTouched};
+ghost use Rattle.cu_bounds.specs.Near.{AreNear};
 ghost use Rattle.cu_resettled.specs.ResettlingAll.{IsResettledAll, NumbersTouchedBySome, edited_all, hierarchy_with_all};
 ghost use Rattle.cu_pack.specs.Checks.{Spells, sealed};
 ghost use Rattle.cu_recall.specs.Spans.{Knows};
@@ -18,7 +20,8 @@ ghost use Rattle.cu_router.specs.Steps.Rooms.{FitsEdits, HasEditRoom};
 use crate::held_file::HeldFile;
 use cu_chordal::Chordal;
 use cu_edits::{
-    EditList, EditSettler, Edits, Learned, Touched, plan_all, recustomize_all, touch_over,
+    EditGround, EditList, EditSettler, Edits, Learned, Touched, plan_all, recustomize_all,
+    touch_over,
 };
 use cu_interval::{EdgeArcs, TouchedEdge, Ways};
 use cu_links::RankBuckets;
@@ -76,6 +79,21 @@ fn arcs_of(alloc: Global, view: &PackedView<'_>, graph: &Chordal) -> Result<Edge
 {
     let order = order_of(alloc, view)?;
     EdgeArcs::of(alloc, view, &order, graph)
+}
+
+/// What edits of a held file need beside its ways, by the roads of its edges. Takes no memory.
+pub(crate) fn ground_of<'a>(held: &'a HeldFile, arcs: &'a EdgeArcs) -> EditGround<'a>
+    ensures graph { result.graph.now ≡ graph_of held.now }
+    ensures arcs { result.arcs.now ≡ arcs.now }
+    ensures customized { AreCustomized held.now result.customized.now }
+    ensures bounds { IfSome result.bounds (λ bounds. AreNear held.now bounds.now) }
+{
+    EditGround {
+        graph: held.graph(),
+        arcs,
+        customized: held.customized().marks(),
+        bounds: Some(held.bounds()),
+    }
 }
 
 /// The edges that an edit touches, whose numbers are in range, with their lists after it, and the packed bytes, but for their digest,
@@ -171,10 +189,8 @@ fn touch_held(
         alloc,
         &ways,
         edit,
-        graph,
-        &room.arcs,
+        ground_of(held, &room.arcs),
         &mut room.buckets,
-        held.customized(),
         &mut room.learned,
     )
 }
@@ -294,10 +310,9 @@ fn touch_all_held<P: Progress>(
     let view = held.view();
     let graph = held.graph();
     let ways = RecalledWays::new(&view, graph, rows);
-    let customized = held.customized();
     let edges = edits.touched(alloc, graph.edges())?;
-    let mut settler = EditSettler::over_all(alloc, &ways, edits, graph, &room.arcs, customized);
-    settler.know_bounds(alloc)?;
+    let ground = ground_of(held, &room.arcs);
+    let mut settler = EditSettler::over_all(alloc, &ways, edits, ground);
     let lists = recustomize_all(alloc, &edges, &mut settler, progress);
     drop(settler);
     lists

@@ -10,15 +10,16 @@ ghost use Rattle.cu_edits.specs.Together.{FitEdits, edits_of};
 ghost use Rattle.cu_elimtree.specs.SweepArcs.{parents_in};
 ghost use Rattle.cu_interval.specs.declared.ways.TouchedEdge.{TouchedEdge};
 ghost use Rattle.cu_interval.specs.Hierarchies.{HierarchyValue, IsBuilt, IsHierarchy, graph_of};
+ghost use Rattle.cu_bounds.specs.Near.{AreNear};
 ghost use Rattle.cu_pack.specs.Checks.{Spells, sealed};
 ghost use Rattle.cu_pack.specs.Reading.{decoded};
 ghost use Rattle.cu_resettled.specs.ResettlingAll.{NumbersTouchedBySome, edited_all, hierarchy_with_all};
 ghost use Rattle.cu_router.specs.Changes.{IsChange, KnowsCustomized};
 ghost use Rattle.cu_router.specs.Steps.Holding.{IsKnown, IsKnownBut, StaysLed, TellsShort};
 ghost use Rattle.cu_short.specs.Shortness.{NeverLong};
-ghost use Rattle.cu_sweep.specs.Near.{AreNear};
 
 use crate::edit_room::add_held;
+use cu_bounds::NearBounds;
 use cu_chordal::Chordal;
 use cu_edits::{CustomizedEdges, EditList, EditedRoads, Edits};
 use cu_elimtree::Tree;
@@ -26,7 +27,6 @@ use cu_interval::{TouchedEdge, Ways};
 use cu_model::{Edit, NoMemory};
 use cu_pack::{PackedView, chordal_of, repack_touched, seal};
 use cu_short::RoadCounts;
-use cu_sweep::NearBounds;
 use std::alloc::Global;
 use std::marker::Model;
 
@@ -53,11 +53,11 @@ pub(crate) enum Known {
 }
 
 impl Model for HeldFile {
+    ghost use Rattle.cu_bounds.specs.Near.{AreNear};
     ghost use Rattle.cu_interval.specs.Hierarchies.{HierarchyValue};
     ghost use Rattle.cu_pack.specs.Checks.{sealed};
     ghost use Rattle.cu_pack.specs.Reading.{decoded};
     ghost use Rattle.cu_router.specs.Steps.Holding.{HoldsFile, IsKnown};
-    ghost use Rattle.cu_sweep.specs.Near.{AreNear};
 
     ghost Value = { HierarchyValue };
 

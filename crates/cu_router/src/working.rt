@@ -14,7 +14,7 @@ ghost use Rattle.cu_router.specs.Steps.Rooms.{FitsEdits, HasEditRoom};
 ghost use Rattle.cu_router.specs.Working.{FitsBusy, edges_left};
 
 use crate::busy::Busy;
-use crate::edit_room::EditRoom;
+use crate::edit_room::{EditRoom, ground_of};
 use crate::held_file::HeldFile;
 use cu_edits::{EditSettler, InWork, PausedSettler, Settler, WorkPapers, plan};
 use cu_model::{Edit, NoMemory};
@@ -59,9 +59,8 @@ pub(crate) fn begin_held(
 {
     let learned = room.learned.take();
     let view = held.view();
-    let graph = held.graph();
-    let marks = held.customized().marks();
-    let mut settler = EditSettler::over(alloc, &view, &edit, graph, &room.arcs, marks, learned)?;
+    let ground = ground_of(held, &room.arcs);
+    let mut settler = EditSettler::over(alloc, &view, &edit, ground, learned)?;
     settler.make_room(alloc)?;
     let work = InWork::begin(alloc, client, edges, settler)?;
     let (papers, settler) = work.into_parts();
@@ -99,10 +98,9 @@ pub(crate) fn settle_next(
         settler,
     } = busy;
     let view = held.view();
-    let graph = held.graph();
-    let ways = RecalledWays::new(&view, graph, rows);
-    let marks = held.customized().marks();
-    let settler = EditSettler::resume(&ways, &edit, graph, &room.arcs, marks, settler);
+    let ways = RecalledWays::new(&view, held.graph(), rows);
+    let ground = ground_of(held, &room.arcs);
+    let settler = EditSettler::resume(&ways, &edit, ground, settler);
     let mut work = InWork::resume(papers, settler);
     let left = step_if_left(alloc, &mut work);
     let (papers, settler) = work.into_parts();
@@ -153,10 +151,9 @@ pub(crate) fn finish(
         settler,
     } = busy;
     let view = held.view();
-    let graph = held.graph();
-    let ways = RecalledWays::new(&view, graph, rows);
-    let marks = held.customized().marks();
-    let settler = EditSettler::resume(&ways, &edit, graph, &room.arcs, marks, settler);
+    let ways = RecalledWays::new(&view, held.graph(), rows);
+    let ground = ground_of(held, &room.arcs);
+    let settler = EditSettler::resume(&ways, &edit, ground, settler);
     room.learned = settler.into_learned(alloc);
     papers
 }

@@ -7,7 +7,7 @@ use Rattle.cu_interval.specs.Hierarchies.{HierarchyValue, graph_of, number_from}
 use Rattle.cu_interval.specs.LeastBounds.{least_bound}
 use Rattle.cu_interval.proofs.Lookups.{number_found}
 use Rattle.cu_chordal.specs.declared.graph.Ends.{Ends}
-use Rattle.cu_sweep.specs.Near.{AreNear, NearValue, kept_bound}
+use Rattle.cu_bounds.specs.Near.{AreNear, NearValue, kept_bound}
 use Rattle.cu_sweep.specs.Outlooks.{FallsBy, IsAhead}
 
 -- an edge that has a number is among all

@@ -9,4 +9,3 @@ pub mod Outlooks
 pub mod ArcsOnce
 pub mod LedCalls
 pub mod Steps
-pub mod Near

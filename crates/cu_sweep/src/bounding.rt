@@ -3,7 +3,9 @@
 ghost use Rattle.std.specs.Prelude.{◌≡◌, ◌≤◌, ◌<◌, ℕ, length};
 ghost use Rattle.cu_interval.specs.declared.ways.Dir.{Dir};
 ghost use Rattle.cu_interval.specs.LeastBounds.{far, least_bound};
+ghost use Rattle.cu_bounds.specs.Near.{kept_bound};
 
+use cu_bounds::NearBounds;
 use cu_interval::{Dir, Relaxer};
 
 /// Says of each edge what a call over it takes at least.
@@ -32,5 +34,15 @@ impl<'a, R: Relaxer> Bounds for RelaxerBounds<'a, R> {
 
     fn bound(&self, edge: u32, dir: Dir) -> u64 {
         self.relaxer.least(edge, dir)
+    }
+}
+
+impl Bounds for NearBounds {
+    ghost count = { λ bounds. length bounds.ups };
+
+    ghost bounds = { λ bounds edge dir. kept_bound bounds edge dir };
+
+    fn bound(&self, edge: u32, dir: Dir) -> u64 {
+        self.get(edge, dir)
     }
 }

@@ -21,11 +21,11 @@
 //!
 //! [`led_query`] finds the same where no walk is too long, by fewer calls: along a way that is driven first, and then of each sweep
 //! those that may still be in time for the end (`specs/LedCalls.antt`). They too are over sweep arcs alone, each at most once along
-//! the way and at most once a sweep: [`led_queries_take_arcs_once`]. What is at least still to go is found by [`NearBounds`], the
-//! least bounds of all lists in 8 bytes an edge (`specs/Near.antt`, `specs/Outlooks.antt`), of which only "no more" is needed. The
+//! the way and at most once a sweep: [`led_queries_take_arcs_once`]. What is at least still to go (`specs/Outlooks.antt`) is found by
+//! the `NearBounds` of `cu_bounds`, the least bounds of all lists in 8 bytes an edge, of which only "no more" is needed. The
 //! sweeps by the calls in time take a bound from there too where it is kept as it is, and ask whoever relaxes only for a greater one.
 //!
-//! It stands on `cu_model`, `cu_io`, `cu_drive`, `cu_links`, `cu_chordal`, `cu_elimtree`, `cu_interval` and `cu_unpack`. Private are the steps
+//! It stands on `cu_model`, `cu_io`, `cu_drive`, `cu_links`, `cu_chordal`, `cu_elimtree`, `cu_interval`, `cu_bounds` and `cu_unpack`. Private are the steps
 //! of both sweeps, and where a desk keeps its labels and links. `specs/Steps` is cited by private functions alone.
 #![tactic(auto)]
 
@@ -39,7 +39,6 @@ mod leading;
 mod limits;
 mod linking;
 mod looking;
-mod near_bounds;
 mod outlook;
 mod over_ranks;
 mod querying;
@@ -54,7 +53,6 @@ pub use labels::Labels;
 pub use laws::{led_queries_take_arcs_once, routes_are_drives, sweeps_take_arcs_once};
 pub use leading::{Ground, led_query};
 pub use linking::{Linking, Unlinked};
-pub use near_bounds::NearBounds;
 pub use outlook::Outlook;
 pub use querying::{Question, query};
 pub use routing::{route, route_by};

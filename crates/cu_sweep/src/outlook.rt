@@ -4,14 +4,14 @@ ghost use Rattle.std.specs.Prelude.{◌≡◌, ◌<◌, IfOk, length};
 ghost use Rattle.cu_elimtree.specs.SweepArcs.{parents_in};
 ghost use Rattle.cu_chordal.specs.Graphs.{IsChordal};
 ghost use Rattle.cu_interval.specs.Hierarchies.{HierarchyValue, IsHierarchyOf, graph_of};
-ghost use Rattle.cu_sweep.specs.Near.{AreNear};
+ghost use Rattle.cu_bounds.specs.Near.{AreNear};
 ghost use Rattle.cu_sweep.specs.Outlooks.{FallsBy, IsAhead};
 
 use crate::bounding::{Bounds, RelaxerBounds};
 use crate::looking::{look_back, look_up, start_up};
-use crate::near_bounds::NearBounds;
 use crate::querying::{Question, climb};
 use crate::timing::InTime;
+use cu_bounds::NearBounds;
 use cu_chordal::Chordal;
 use cu_elimtree::Tree;
 use cu_interval::Relaxer;

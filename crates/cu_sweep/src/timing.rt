@@ -2,12 +2,12 @@
 
 ghost use Rattle.std.specs.Prelude.{◌≡◌, ◌≤◌, ◌<◌, ◌+◌, length, nat_le};
 ghost use Rattle.cu_interval.specs.LeastBounds.{far, least_bound};
-ghost use Rattle.cu_sweep.specs.Near.{AreNear};
+ghost use Rattle.cu_bounds.specs.Near.{AreNear};
 ghost use Rattle.cu_sweep.specs.Steps.Ahead.{ahead_of, is_in_time};
 
 use crate::bounding::Bounds;
 use crate::limits::Limits;
-use crate::near_bounds::NearBounds;
+use cu_bounds::NearBounds;
 use cu_interval::{Dir, Relaxer};
 
 // A bound that found no room is kept as this.

@@ -4,7 +4,7 @@ ghost use Rattle.std.specs.Prelude.{◌≡◌, ◌<◌, IfOk, OnOk, length};
 ghost use Rattle.cu_model.specs.Edits.{IsEditInRange};
 ghost use Rattle.cu_interval.specs.EdgeArcs.{AreEdgeArcs};
 
-use cu_edits::{CustomizedEdges, EditSettler, plan, recustomize, touch, touch_over};
+use cu_edits::{EditGround, EditSettler, plan, recustomize, touch, touch_over};
 use cu_interval::{Dir, EdgeArcs, Entry, Hierarchy, TouchedEdge, Way, Ways};
 use cu_links::RankBuckets;
 use cu_model::{Edit, Piece, Profile, Roads, Rule};
@@ -174,18 +174,11 @@ fn settles_and_learns(
     requires edges { length buckets.old.states ≡ length edited.hierarchy.now.edges }
 {
     let hierarchy = edited.hierarchy;
-    let none = CustomizedEdges::none(alloc, hierarchy.edges())?;
+    let _edges = hierarchy.edges();
+    let ground = EditGround::new(hierarchy.graph(), edited.arcs);
     let mut learned = None;
-    let again = touch_over(
-        alloc,
-        hierarchy,
-        edit(alloc, edited)?,
-        hierarchy.graph(),
-        edited.arcs,
-        buckets,
-        &none,
-        &mut learned,
-    )?;
+    let edit = edit(alloc, edited)?;
+    let again = touch_over(alloc, hierarchy, edit, ground, buckets, &mut learned)?;
     Ok(learned.is_some() && are_all(&again.lists, wanted))
 }
 

@@ -1,6 +1,6 @@
 //! Arrival functions of roads, and of two roads one behind the other.
 
-use cu_arrival::{Arrival, Choice, compose, lesser};
+use cu_arrival::{Arrival, Choice, compose, lesser, slack_of};
 use cu_model::{Network, Roads};
 use cu_samples::{RUSH_HOUR, Tables, network};
 use std::alloc::Global;
@@ -116,5 +116,30 @@ fn lesser_of_a_road_and_two(rt: HostRuntime) -> Result<(), Fail> {
     let both = both_roads(&rt, rt.alloc())?;
     let (least, choices) = lesser(rt.alloc(), &straight, &both)?;
     is_lesser(&rt, &least, &choices);
+    Ok(())
+}
+
+// Both roads take 110 seconds more than the straight one at 28,740, and 90 less when they take the least. A limit is later by less
+// than one second more.
+#[test]
+fn slack_of_a_road_and_two(rt: HostRuntime) -> Result<(), Fail> {
+    let straight = straight_road(&rt, rt.alloc())?;
+    let both = both_roads(&rt, rt.alloc())?;
+    assert_eq!(rt; slack_of(&both, &straight, 1_000), 111);
+    assert_eq!(rt; slack_of(&straight, &both, 1_000), 91);
+    assert_eq!(rt; slack_of(&both, &both, 1_000), 1);
+    assert!(rt; slack_of(&both, &straight, 110) > 110);
+    Ok(())
+}
+
+// A road that is a second later from noon on.
+#[test]
+fn slack_by_one_second(rt: HostRuntime) -> Result<(), Fail> {
+    let alloc = rt.alloc();
+    let network = network(alloc, TIES)?;
+    let earlier = road(&rt, alloc, &network, 2)?;
+    let later = road(&rt, alloc, &network, 3)?;
+    assert_eq!(rt; slack_of(&later, &earlier, 9), 2);
+    assert_eq!(rt; slack_of(&earlier, &later, 9), 1);
     Ok(())
 }

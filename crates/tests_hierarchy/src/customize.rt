@@ -9,7 +9,7 @@ use crate::ranked::Ranked;
 use crate::runs::taking;
 use cu_chordal::{Chordal, close};
 use cu_customize::{PackedSettling, SettledRuns, built_lists};
-use cu_interval::{Dir, EdgeArcs, Entry, Hierarchy, Way, WayList, Ways};
+use cu_interval::{Dir, EdgeArcs, Entry, Hierarchy, Shortcut, Way, WayList, Ways};
 use cu_model::{Network, NoMemory};
 use cu_runs::{DayFunction, LayeredFunctions};
 use cu_samples::{RANKED, RUSH_HOUR, Tables, hierarchy};
@@ -147,14 +147,14 @@ fn settle(
     requires functions { length functions ≡ 2 * length parts.now.graph.now.edges }
 {
     settling.find(parts.graph, edge)?;
+    let shortcut = Shortcut { edge, dir };
     settling.settle(
         alloc,
         parts.network,
         parts.graph,
         parts.arcs,
         functions,
-        edge,
-        dir,
+        shortcut,
     )
 }
 

@@ -7,6 +7,7 @@ ghost use Rattle.cu_interval.specs.Hierarchies.{IsHierarchyOf};
 ghost use Rattle.cu_short.specs.Shortness.{NeverLong};
 ghost use Rattle.cu_sweep.specs.Desks.{AreArriving, HoldsFound};
 
+use cu_bounds::NearBounds;
 use cu_chordal::Chordal;
 use cu_elimtree::Tree;
 use cu_interval::{Call, Dir, Ways};
@@ -15,7 +16,7 @@ use cu_model::{DAY, Roads};
 use cu_pack::{PackedView, chordal_of};
 use cu_samples::{RUSH_HOUR, packed};
 use cu_short::RoadCounts;
-use cu_sweep::{Found, Ground, NearBounds, Outlook, Question, SweepDesk, led_query, query, route};
+use cu_sweep::{Found, Ground, Outlook, Question, SweepDesk, led_query, query, route};
 use cu_unpack::{Listed, Unpacker, Work};
 use std::alloc::Global;
 use std::process::Abort;

@@ -8,10 +8,6 @@ use Rattle.cu_interval.specs.declared.ways.Dir.TheVariants.{Up, Down}
 use Rattle.cu_sweep.specs.Outlooks.{OutlookValue, ahead_at}
 use Rattle.cu_day.specs.Steps.Sweeping.{label_at}
 
--- a limit is later than a function by less than so many seconds, at each second of the day
-abbrev pub IsBehind : List Run → List Run → ℕ → Type 0
-IsBehind limit function slack = (t : ℕ) → t < day → arrival_value limit t < arrival_value function t + slack
-
 -- a limit that isn't late at any second of the day
 abbrev pub IsEarly : List Run → Type 0
 IsEarly by = (t : ℕ) → t < day → arrival_value by t < 2 ^ 61

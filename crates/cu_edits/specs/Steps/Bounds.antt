@@ -1,5 +1,5 @@
 -- Ways by a middle that are left out, since they take too long, whatever their halves' functions are.
-use Rattle.std.specs.Prelude.{ℕ, List, Option, Some, ◌≡◌, ◌≤◌, ◌<◌, ◌+◌, ◌-◌, ◌^◌, length, min, slice_get, slice_index_or}
+use Rattle.std.specs.Prelude.{ℕ, List, Option, Some, ◌≡◌, ◌≤◌, ◌<◌, ◌+◌, ◌-◌, ◌^◌, length, slice_get}
 use Rattle.cu_model.specs.Days.{day}
 use Rattle.cu_arrival.specs.declared.runs.Run.{Run}
 use Rattle.cu_arrival.specs.Runs.{arrival_value}
@@ -9,30 +9,6 @@ use Rattle.cu_interval.specs.declared.ways.Dir.TheVariants.{Up, Down}
 use Rattle.cu_interval.specs.Hierarchies.{HierarchyValue, list_number}
 use Rattle.cu_interval.specs.LeastBounds.{far, least_bound}
 use Rattle.cu_interval.specs.Shortcuts.{AreHalfEdges}
-
--- seconds of the lists over each edge, upwards and downwards
-pub record TravelsValue : Type 0 where
-  pub ups : List ℕ
-  pub downs : List ℕ
-
--- those that are kept of the list over an edge in a direction, 0 where there are none
-abbrev pub kept_travel : TravelsValue → ℕ → Dir → ℕ
-kept_travel travels edge Up = slice_index_or travels.ups edge 0
-kept_travel travels edge Down = slice_index_or travels.downs edge 0
-
--- a least bound as far as it finds room
-abbrev pub within_room : ℕ → ℕ
-within_room least = min least 4294967295
-
--- these are the least bounds of all lists in a direction
-abbrev pub AreLeastIn : HierarchyValue → Dir → List ℕ → Type 0
-AreLeastIn h dir seconds = (length seconds ≡ length h.edges)
-    × ((edge : ℕ) → edge < length h.edges → slice_index_or seconds edge 0 ≡ within_room (least_bound h edge dir))
-
--- these are those of all lists
-pub record AreLeastTravels (h : HierarchyValue) (travels : TravelsValue) : Type 0 where
-  pub up : AreLeastIn h Up travels.ups
-  pub down : AreLeastIn h Down travels.downs
 
 -- the halves that a pair of edges has take longer than this together
 pub record TakeMoreThan (h : HierarchyValue) (limit : ℕ) (edges : ℕ × ℕ) : Type 0 where

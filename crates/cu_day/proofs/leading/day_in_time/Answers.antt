@@ -3,7 +3,7 @@ use Rattle.std.specs.Prelude.{slice_get}
 use Rattle.std.proofs.lemmas.Option.{slice_get_read}
 use Rattle.cu_arrival.specs.declared.runs.Run.{Run}
 use Rattle.cu_chordal.specs.Graphs.{ChordalValue}
-use Rattle.cu_day.specs.Steps.InTime.{IsBehind}
+use Rattle.cu_arrival.specs.Behind.{IsBehind}
 use Rattle.cu_day.proofs.LedDays.{led_found, led_least}
 use Rattle.cu_day.proofs.leading.day_in_time.Goals as goal
 

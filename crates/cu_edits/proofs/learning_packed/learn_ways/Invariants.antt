@@ -9,6 +9,6 @@ use Rattle.cu_edits.proofs.learning_packed.learn_ways.Given as goal
 abbrev pub invariant-loop-index : goal.invariant-loop-index
 invariant-loop-index g l = record {
   learns : LearnsPacked l.parts.before l.fn.packed l.packed;
-  known : All (λ (entry : Entry). IsWayAtHand l.moved l.packed l.parts.graph.edges l.ends l.dir entry.way)
-      (take l.index (list_of l.parts.before l.edge l.dir));
+  known : All (λ (entry : Entry). IsWayAtHand l.asked.moved.now l.packed l.parts.graph.edges l.ends l.asked.dir entry.way)
+      (take l.index (list_of l.parts.before l.asked.edge l.asked.dir));
 }

@@ -4,6 +4,7 @@ use Rattle.std.proofs.lemmas.Result.{IfOk-weaker}
 use Rattle.cu_edits.specs.declared.recustomizing.Touched.{Touched}
 use Rattle.cu_edits.specs.Customized.{AreCustomized}
 use Rattle.cu_edits.specs.Learned.{ArePackedOf}
+use Rattle.cu_bounds.specs.Near.{AreNear}
 use Rattle.cu_interval.specs.Hierarchies.{HierarchyValue}
 use Rattle.cu_interval.specs.Replacing.{hierarchy_with}
 use Rattle.cu_resettled.proofs.TouchedBySome.{all_of_one}
@@ -16,7 +17,12 @@ use Rattle.cu_router.proofs.edit_room.touch_held.Goals as goal
 pub touch_over-requires-clause-customized : goal.touch_over-requires-clause-customized
 touch_over-requires-clause-customized c =
     let same = c.new-ways.ensures.view ∙ c.view-view.ensures.same in
-    subst (λ (h : HierarchyValue). AreCustomized h c.customized.result.now) (sym same) c.customized.ensures.customized
+    subst (λ (h : HierarchyValue). AreCustomized h c.ground_of.result.customized.now) (sym same) c.ground_of.ensures.customized
+
+pub touch_over-requires-clause-bounds : goal.touch_over-requires-clause-bounds
+touch_over-requires-clause-bounds c =
+    let same = c.new-ways.ensures.view ∙ c.view-view.ensures.same in
+    subst (λ (h : HierarchyValue). IfSome c.ground_of.result.bounds (λ bounds. AreNear h bounds.now)) (sym same) c.ground_of.ensures.bounds
 
 pub touch_over-requires-clause-learned : goal.touch_over-requires-clause-learned
 touch_over-requires-clause-learned c =

@@ -1,4 +1,6 @@
 use Rattle.std.proofs.Common.{◌∷◌, ◌∙◌, [], ap, subst, sym}
+use Rattle.std.specs.Prelude.{IfSome}
+use Rattle.cu_bounds.specs.Near.{AreNear}
 use Rattle.cu_edits.specs.Customized.{AreCustomized}
 use Rattle.cu_edits.specs.InWork.{InWorkValue}
 use Rattle.cu_edits.specs.Settling.{SettlingValue}
@@ -10,8 +12,11 @@ use Rattle.cu_router.proofs.working.begin_held.Goals as goal
 
 pub over-requires-clause-customized : goal.over-requires-clause-customized
 over-requires-clause-customized c =
-    subst (λ (h : HierarchyValue). AreCustomized h c.marks-marks.result.now) (sym c.view-view.ensures.same)
-    (subst (AreCustomized c.args.held.now) (sym c.marks-marks.ensures) c.customized.ensures.customized)
+    subst (λ (h : HierarchyValue). AreCustomized h c.ground_of-ground.result.customized.now) (sym c.view-view.ensures.same) c.ground_of-ground.ensures.customized
+
+pub over-requires-clause-bounds : goal.over-requires-clause-bounds
+over-requires-clause-bounds c =
+    subst (λ (h : HierarchyValue). IfSome c.ground_of-ground.result.bounds (λ bounds. AreNear h bounds.now)) (sym c.view-view.ensures.same) c.ground_of-ground.ensures.bounds
 
 pub begin-requires-clause-touched : goal.begin-requires-clause-touched
 begin-requires-clause-touched c =

@@ -1,4 +1,6 @@
 use Rattle.std.proofs.Common.{◌∷◌, ◌∙◌, [], ap, subst, sym}
+use Rattle.std.specs.Prelude.{IfSome}
+use Rattle.cu_bounds.specs.Near.{AreNear}
 use Rattle.cu_edits.specs.Customized.{AreCustomized}
 use Rattle.cu_edits.specs.InWork.{InWorkValue}
 use Rattle.cu_edits.specs.Paused.{FitsPaused}
@@ -14,8 +16,12 @@ new-ways-requires-clause-knows c = subst (λ (h : HierarchyValue). Knows h c.arg
 pub resume-settler-requires-clause-customized : goal.resume-settler-requires-clause-customized
 resume-settler-requires-clause-customized c =
     let same = c.new-ways.ensures.view ∙ c.view-view.ensures.same in
-    subst (λ (h : HierarchyValue). AreCustomized h c.marks-marks.result.now) (sym same)
-    (subst (AreCustomized c.args.held.now) (sym c.marks-marks.ensures) c.customized.ensures.customized)
+    subst (λ (h : HierarchyValue). AreCustomized h c.ground_of-ground.result.customized.now) (sym same) c.ground_of-ground.ensures.customized
+
+pub resume-settler-requires-clause-bounds : goal.resume-settler-requires-clause-bounds
+resume-settler-requires-clause-bounds c =
+    let same = c.new-ways.ensures.view ∙ c.view-view.ensures.same in
+    subst (λ (h : HierarchyValue). IfSome c.ground_of-ground.result.bounds (λ bounds. AreNear h bounds.now)) (sym same) c.ground_of-ground.ensures.bounds
 
 pub resume-settler-requires-clause-fits : goal.resume-settler-requires-clause-fits
 resume-settler-requires-clause-fits c =

@@ -14,7 +14,7 @@ are_near-requires g c =
     let found = subst (λ (ts : List Triangle). AreTriangles c.args.graph.now.edges c.ends-ends.result.low c.ends-ends.result.high ts) (sym c.self.view_is ∙ sym c.deref.ensures.value)
     (c.requires.triangles c.ends-ends.result c.ends-ends.ensures.there) in (
       g.R.Roads.network c.args.roads.now,
-      edge_triangles (g.R.Roads.network c.args.roads.now) _ c.args.edge c.args.dir c.ends-ends.result c.ends-ends.ensures.sound c.ends-ends.ensures.there found
+      edge_triangles (g.R.Roads.network c.args.roads.now) _ c.args.shortcut.edge c.args.shortcut.dir c.ends-ends.result c.ends-ends.ensures.sound c.ends-ends.ensures.there found
           c.leg_of.ensures.from c.leg_of.ensures.to c.requires.functions,
     )
 
@@ -23,9 +23,9 @@ gather-requires g c =
     let found = subst (λ (ts : List Triangle). AreTriangles c.args.graph.now.edges c.ends-ends.result.low c.ends-ends.result.high ts) (sym c.self.view_is ∙ sym c.deref.ensures.value)
     (c.requires.triangles c.ends-ends.result c.ends-ends.ensures.there) in
     let near : c.are_near.result ≡ true = search rules in
-    let triangles = edge_triangles (g.R.Roads.network c.args.roads.now) _ c.args.edge c.args.dir c.ends-ends.result c.ends-ends.ensures.sound c.ends-ends.ensures.there found c.leg_of.ensures.from
+    let triangles = edge_triangles (g.R.Roads.network c.args.roads.now) _ c.args.shortcut.edge c.args.shortcut.dir c.ends-ends.result c.ends-ends.ensures.sound c.ends-ends.ensures.there found c.leg_of.ensures.from
     c.leg_of.ensures.to c.requires.functions in
-    edge_task (g.R.Roads.network c.args.roads.now) _ c.args.edge c.args.dir c.ends-ends.result c.ends-ends.ensures.sound c.ends-ends.ensures.there found c.leg_of.ensures.from c.leg_of.ensures.to
+    edge_task (g.R.Roads.network c.args.roads.now) _ c.args.shortcut.edge c.args.shortcut.dir c.ends-ends.result c.ends-ends.ensures.sound c.ends-ends.ensures.there found c.leg_of.ensures.from c.leg_of.ensures.to
     c.requires.functions c.arcs.ensures.rising c.arcs.ensures.few (c.requires.arcs c.arcs.result.now c.arcs.ensures.there).1 c.staying-stay.ensures.function
     c.staying-stay.ensures.value (c.are_near.ensures.near (g.R.Roads.network c.args.roads.now) triangles near)
 
@@ -34,10 +34,10 @@ pull-requires-clause-task g c =
     let found = subst (λ (ts : List Triangle). AreTriangles c.args.graph.now.edges c.ends-ends.result.low c.ends-ends.result.high ts) (sym c.self.view_is ∙ sym c.deref.ensures.value)
     (c.requires.triangles c.ends-ends.result c.ends-ends.ensures.there) in
     let near : c.are_near.result ≡ true = search rules in
-    let triangles = edge_triangles (g.R.Roads.network c.args.roads.now) _ c.args.edge c.args.dir c.ends-ends.result c.ends-ends.ensures.sound c.ends-ends.ensures.there found c.leg_of.ensures.from
+    let triangles = edge_triangles (g.R.Roads.network c.args.roads.now) _ c.args.shortcut.edge c.args.shortcut.dir c.ends-ends.result c.ends-ends.ensures.sound c.ends-ends.ensures.there found c.leg_of.ensures.from
     c.leg_of.ensures.to c.requires.functions in (
       g.R.Roads.network c.args.roads.now,
-      edge_task (g.R.Roads.network c.args.roads.now) _ c.args.edge c.args.dir c.ends-ends.result c.ends-ends.ensures.sound c.ends-ends.ensures.there found c.leg_of.ensures.from
+      edge_task (g.R.Roads.network c.args.roads.now) _ c.args.shortcut.edge c.args.shortcut.dir c.ends-ends.result c.ends-ends.ensures.sound c.ends-ends.ensures.there found c.leg_of.ensures.from
           c.leg_of.ensures.to c.requires.functions c.arcs.ensures.rising c.arcs.ensures.few (c.requires.arcs c.arcs.result.now c.arcs.ensures.there).1 c.staying-stay.ensures.function
           c.staying-stay.ensures.value (c.are_near.ensures.near (g.R.Roads.network c.args.roads.now) triangles near),
     )
@@ -50,18 +50,18 @@ returns-clause-ways g c ends list at listed =
     let found = subst (λ (ts : List Triangle). AreTriangles c.args.graph.now.edges c.ends-ends.result.low c.ends-ends.result.high ts) (sym c.self.view_is ∙ sym c.deref.ensures.value)
     (c.requires.triangles c.ends-ends.result c.ends-ends.ensures.there) in
     let near : c.are_near.result ≡ true = search rules in
-    let triangles = edge_triangles (g.R.Roads.network c.args.roads.now) _ c.args.edge c.args.dir c.ends-ends.result c.ends-ends.ensures.sound c.ends-ends.ensures.there found c.leg_of.ensures.from
+    let triangles = edge_triangles (g.R.Roads.network c.args.roads.now) _ c.args.shortcut.edge c.args.shortcut.dir c.ends-ends.result c.ends-ends.ensures.sound c.ends-ends.ensures.there found c.leg_of.ensures.from
     c.leg_of.ensures.to c.requires.functions in
-    let task = edge_task (g.R.Roads.network c.args.roads.now) _ c.args.edge c.args.dir c.ends-ends.result c.ends-ends.ensures.sound c.ends-ends.ensures.there found c.leg_of.ensures.from
+    let task = edge_task (g.R.Roads.network c.args.roads.now) _ c.args.shortcut.edge c.args.shortcut.dir c.ends-ends.result c.ends-ends.ensures.sound c.ends-ends.ensures.there found c.leg_of.ensures.from
     c.leg_of.ensures.to c.requires.functions c.arcs.ensures.rising c.arcs.ensures.few (c.requires.arcs c.arcs.result.now c.arcs.ensures.there).1 c.staying-stay.ensures.function
     c.staying-stay.ensures.value (c.are_near.ensures.near (g.R.Roads.network c.args.roads.now) triangles near) in
-    let (settled, value) = edge_settled (g.R.Roads.network c.args.roads.now) _ c.args.edge c.args.dir c.ends-ends.result c.ends-ends.ensures.sound c.ends-ends.ensures.there found
+    let (settled, value) = edge_settled (g.R.Roads.network c.args.roads.now) _ c.args.shortcut.edge c.args.shortcut.dir c.ends-ends.result c.ends-ends.ensures.sound c.ends-ends.ensures.there found
     c.leg_of.ensures.from c.leg_of.ensures.to c.requires.functions c.gather.new.self.merger c.in_ok-settled.settled.ways c.in_ok-settled.settled.function task c.in_ok-gather.ensures.gathered
     c.in_ok-settled.ensures in
     let same : c.ends-ends.result ≡ ends = cc (c.ends-ends.ensures.there, at) in
     let same_list : c.arcs.result.now ≡ list = cc (c.arcs.ensures.there, listed) in
     let state = kept_state (g.R.Roads.network c.args.roads.now) c.args.functions in
-    let List' : List ℕ → Ends → Type 0 = λ xs e. IsSettledList c.args.graph.now.edges xs state (start_of e c.args.dir) (end_of e c.args.dir) c.in_ok-settled.settled.ways in
+    let List' : List ℕ → Ends → Type 0 = λ xs e. IsSettledList c.args.graph.now.edges xs state (start_of e c.args.shortcut.dir) (end_of e c.args.shortcut.dir) c.in_ok-settled.settled.ways in
     subst (λ (e : Ends). List' list e) same (subst (λ (xs : List ℕ). List' xs c.ends-ends.result) same_list settled)
 
 pub returns-clause-function : goal.returns-clause-function
@@ -69,17 +69,17 @@ returns-clause-function g c ends at =
     let found = subst (λ (ts : List Triangle). AreTriangles c.args.graph.now.edges c.ends-ends.result.low c.ends-ends.result.high ts) (sym c.self.view_is ∙ sym c.deref.ensures.value)
     (c.requires.triangles c.ends-ends.result c.ends-ends.ensures.there) in
     let near : c.are_near.result ≡ true = search rules in
-    let triangles = edge_triangles (g.R.Roads.network c.args.roads.now) _ c.args.edge c.args.dir c.ends-ends.result c.ends-ends.ensures.sound c.ends-ends.ensures.there found c.leg_of.ensures.from
+    let triangles = edge_triangles (g.R.Roads.network c.args.roads.now) _ c.args.shortcut.edge c.args.shortcut.dir c.ends-ends.result c.ends-ends.ensures.sound c.ends-ends.ensures.there found c.leg_of.ensures.from
     c.leg_of.ensures.to c.requires.functions in
-    let task = edge_task (g.R.Roads.network c.args.roads.now) _ c.args.edge c.args.dir c.ends-ends.result c.ends-ends.ensures.sound c.ends-ends.ensures.there found c.leg_of.ensures.from
+    let task = edge_task (g.R.Roads.network c.args.roads.now) _ c.args.shortcut.edge c.args.shortcut.dir c.ends-ends.result c.ends-ends.ensures.sound c.ends-ends.ensures.there found c.leg_of.ensures.from
     c.leg_of.ensures.to c.requires.functions c.arcs.ensures.rising c.arcs.ensures.few (c.requires.arcs c.arcs.result.now c.arcs.ensures.there).1 c.staying-stay.ensures.function
     c.staying-stay.ensures.value (c.are_near.ensures.near (g.R.Roads.network c.args.roads.now) triangles near) in
-    let (settled, value) = edge_settled (g.R.Roads.network c.args.roads.now) _ c.args.edge c.args.dir c.ends-ends.result c.ends-ends.ensures.sound c.ends-ends.ensures.there found
+    let (settled, value) = edge_settled (g.R.Roads.network c.args.roads.now) _ c.args.shortcut.edge c.args.shortcut.dir c.ends-ends.result c.ends-ends.ensures.sound c.ends-ends.ensures.there found
     c.leg_of.ensures.from c.leg_of.ensures.to c.requires.functions c.gather.new.self.merger c.in_ok-settled.settled.ways c.in_ok-settled.settled.function task c.in_ok-gather.ensures.gathered
     c.in_ok-settled.ensures in
     let same : c.ends-ends.result ≡ ends = cc (c.ends-ends.ensures.there, at) in
     let state = kept_state (g.R.Roads.network c.args.roads.now) c.args.functions in
-    subst (λ (e : Ends). IsDayValueOf c.args.graph.now.edges state (start_of e c.args.dir) (end_of e c.args.dir) c.in_ok-settled.settled.ways c.in_ok-settled.settled.function) same value
+    subst (λ (e : Ends). IsDayValueOf c.args.graph.now.edges state (start_of e c.args.shortcut.dir) (end_of e c.args.shortcut.dir) c.in_ok-settled.settled.ways c.in_ok-settled.settled.function) same value
 
 pub returns-then-not-are_near-clause-far : goal.returns-then-not-are_near-clause-far
 returns-then-not-are_near-clause-far g c ends at none =
@@ -87,12 +87,12 @@ returns-then-not-are_near-clause-far g c ends at none =
     (c.requires.triangles c.ends-ends.result c.ends-ends.ensures.there) in
     let far : c.are_near.result ≡ false = search rules in
     let task_far = c.are_near.ensures.far (g.R.Roads.network c.args.roads.now)
-    (edge_triangles (g.R.Roads.network c.args.roads.now) _ c.args.edge c.args.dir c.ends-ends.result c.ends-ends.ensures.sound c.ends-ends.ensures.there found c.leg_of.ensures.from
+    (edge_triangles (g.R.Roads.network c.args.roads.now) _ c.args.shortcut.edge c.args.shortcut.dir c.ends-ends.result c.ends-ends.ensures.sound c.ends-ends.ensures.there found c.leg_of.ensures.from
     c.leg_of.ensures.to c.requires.functions) far in
     let state = kept_state (g.R.Roads.network c.args.roads.now) c.args.functions in
-    let is_far = far_between c.args.graph.now.edges state _ _ (start_of c.ends-ends.result c.args.dir) (end_of c.ends-ends.result c.args.dir) c.leg_of.ensures.from c.leg_of.ensures.to task_far in
+    let is_far = far_between c.args.graph.now.edges state _ _ (start_of c.ends-ends.result c.args.shortcut.dir) (end_of c.ends-ends.result c.args.shortcut.dir) c.leg_of.ensures.from c.leg_of.ensures.to task_far in
     let same : c.ends-ends.result ≡ ends = cc (c.ends-ends.ensures.there, at) in
-    subst (λ (e : Ends). HasFarWay c.args.graph.now.edges state (start_of e c.args.dir) (end_of e c.args.dir)) same is_far
+    subst (λ (e : Ends). HasFarWay c.args.graph.now.edges state (start_of e c.args.shortcut.dir) (end_of e c.args.shortcut.dir)) same is_far
 
 pub pull-requires-clause-order : goal.pull-requires-clause-order
 pull-requires-clause-order g c = c.in_ok-gather.ensures.order

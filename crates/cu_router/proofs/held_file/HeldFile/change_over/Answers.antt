@@ -6,7 +6,7 @@ use Rattle.cu_resettled.specs.ResettlingAll.{hierarchy_with_all}
 use Rattle.cu_pack.specs.Checks.{Spells, sealed}
 use Rattle.cu_pack.specs.Reading.{decoded}
 use Rattle.cu_pack.proofs.Viewed.Views.{said_again}
-use Rattle.cu_sweep.specs.Near.{AreNear}
+use Rattle.cu_bounds.specs.Near.{AreNear}
 use Rattle.cu_router.specs.Changes.{IsChange}
 use Rattle.cu_router.specs.Steps.Holding.{HoldsFile, IsKnown, IsKnownBut}
 use Rattle.cu_router.proofs.HeldLaws.{change_below, changed_over, decoded_is, edges_stay, known_over, touched_below}

@@ -3,7 +3,7 @@ use Rattle.cu_pack.specs.Checks.{Spells, sealed}
 use Rattle.cu_pack.specs.Reading.{decoded}
 use Rattle.cu_pack.proofs.Read.Bodies.{spelled_sealed}
 use Rattle.cu_interval.specs.Hierarchies.{HierarchyValue}
-use Rattle.cu_sweep.specs.Near.{AreNear}
+use Rattle.cu_bounds.specs.Near.{AreNear}
 use Rattle.cu_router.proofs.HeldLaws.{decoded_is, held_new, sealed_spells, spells_sealed}
 use Rattle.cu_router.proofs.held_file.HeldFile.knowing.Goals as goal
 

@@ -1,6 +1,6 @@
 use Rattle.std.proofs.Common.{◌≡◌, ℕ, subst}
 use Rattle.cu_chordal.specs.Graphs.{ChordalValue}
-use Rattle.cu_sweep.specs.Near.{kept_bound}
+use Rattle.cu_bounds.specs.Near.{kept_bound}
 use Rattle.cu_sweep.specs.Outlooks.{FallsBy}
 use Rattle.cu_sweep.proofs.Falling.{ahead_by, kept_below}
 use Rattle.cu_sweep.proofs.outlook.Outlook.look_near.Goals as goal

@@ -1,8 +1,8 @@
 -- The bounds of so many edges were written.
 use Rattle.std.proofs.Common.{◌≡◌, ◌<◌, ℕ, length, get_or}
 use Rattle.cu_interval.specs.LeastBounds.{least_bound}
-use Rattle.cu_sweep.specs.Near.{near}
-use Rattle.cu_sweep.proofs.near_bounds.write_bounds.Given as goal
+use Rattle.cu_bounds.specs.Near.{near}
+use Rattle.cu_bounds.proofs.near_bounds.write_bounds.Given as goal
 
 abbrev pub invariant-edges : goal.invariant-edges
 invariant-edges g l =

@@ -1,10 +1,9 @@
 //! The least bounds of all lists, in memory.
 
-ghost use Rattle.std.specs.Prelude.{◌≡◌, IfOk, length};
+ghost use Rattle.std.specs.Prelude.{◌≡◌, ◌<◌, ◌^◌, IfOk, length};
 ghost use Rattle.cu_interval.specs.declared.ways.Dir.TheVariants.{Up, Down};
-ghost use Rattle.cu_sweep.specs.Near.{AreNear, AreNearIn, kept_bound, near};
+ghost use Rattle.cu_bounds.specs.Near.{AreNear, AreNearIn, kept_bound, near};
 
-use crate::bounding::Bounds;
 use cu_interval::{BoundedWays, Dir, Ways};
 use cu_model::NoMemory;
 use std::alloc::Global;
@@ -21,7 +20,7 @@ pub struct NearBounds {
 
 impl Model for NearBounds {
     ghost use Rattle.std.specs.Prelude.{◌≡◌, length};
-    ghost use Rattle.cu_sweep.specs.Near.{NearValue};
+    ghost use Rattle.cu_bounds.specs.Near.{NearValue};
 
     ghost Value = { NearValue };
 
@@ -54,14 +53,14 @@ impl NearBounds {
         write_bounds(ways, Dir::Up, &mut self.ups);
         write_bounds(ways, Dir::Down, &mut self.downs);
     }
-}
 
-impl Bounds for NearBounds {
-    ghost count = { λ bounds. length bounds.ups };
-
-    ghost bounds = { λ bounds edge dir. kept_bound bounds edge dir };
-
-    fn bound(&self, edge: u32, dir: Dir) -> u64 {
+    /// The bound that is kept of the list over an edge in a direction. Takes no memory.
+    #[inline(always)]
+    pub fn get(&self, edge: u32, dir: Dir) -> u64
+        requires edge { edge < length self.now.ups }
+        ensures kept { result ≡ kept_bound self.now edge dir }
+        ensures most { result < 2 ^ 32 }
+    {
         u64::from(match dir {
             Dir::Up => self.ups[edge as usize],
             Dir::Down => self.downs[edge as usize],

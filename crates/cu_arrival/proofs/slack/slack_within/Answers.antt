@@ -1,6 +1,6 @@
 use Rattle.std.proofs.Common.{arith}
-use Rattle.cu_day.proofs.Slacks.{behind_between}
-use Rattle.cu_day.proofs.slack.slack_within.Goals as goal
+use Rattle.cu_arrival.proofs.Slacks.{behind_between}
+use Rattle.cu_arrival.proofs.slack.slack_within.Goals as goal
 
 pub returns : goal.returns
 returns c = λ t le lt.
