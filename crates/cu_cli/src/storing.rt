@@ -4,7 +4,7 @@ ghost use Rattle.std.specs.Prelude.{◌∷◌, []};
 ghost use Rattle.cu_cli.specs.Steps.Storing.{StoresInTurn};
 
 use crate::stops::{Role, Stop};
-use cu_io::{Shelf, StoreFailed};
+use cu_io::{Content, Shelf, StoreFailed};
 use std::alloc::Global;
 
 /// Stores the file under a role's word.
@@ -18,7 +18,21 @@ pub fn store_file<H: Shelf>(
     ensures stores { StoresInTurn (H.state shelf.old) (H.state shelf.new)
         (record { role = role; name = name.now; bytes = bytes.now } ∷ []) result }
 {
-    match shelf.store(alloc, name, bytes) {
+    store_content(alloc, role, name, &bytes, shelf)
+}
+
+/// [`store_file`] of bytes that needn't be in memory all at once.
+pub fn store_content<H: Shelf, C: Content>(
+    alloc: Global,
+    role: Role,
+    name: &str,
+    content: &C,
+    shelf: &mut H,
+) -> Result<(), Stop>
+    ensures stores { StoresInTurn (H.state shelf.old) (H.state shelf.new)
+        (record { role = role; name = name.now; bytes = C.bytes content.now } ∷ []) result }
+{
+    match shelf.store_content(alloc, name, content) {
         Ok(()) => Ok(()),
         Err(StoreFailed::Fault) => Err(Stop::Fault(role)),
         Err(StoreFailed::NoMemory) => Err(Stop::NoMemory),

@@ -16,6 +16,7 @@ pub mod Halves
 pub mod KnownLists
 pub mod LearntSides
 pub mod LearntPacked
+pub mod Spared
 pub mod MovedPlaces
 pub mod Reached
 pub mod ClimbLaws

@@ -52,6 +52,7 @@ pub fn settle_packed<W: Ways>(
     ensures kept { OnErr result (settled.new.items ≡ settled.old.items) }
     ensures holds { HoldsPacked parts.now settled.new.items state.new }
 {
+    state.functions.spare();
     let Some((up, down)) = next_lists(alloc, parts, state, settled, edge)? else {
         return Ok(None);
     };

@@ -1,10 +1,11 @@
 //! A shelf of the files of a file system.
-ghost use Rattle.std.specs.Prelude.{◌≡◌, ℕ, ◌+◌, ◌<◌, ◌≤◌, List, [], ◌++◌, length, is_some, Ok, IfOk, IfSome, OnOk, OnErr};
+ghost use Rattle.std.specs.Prelude.{◌≡◌, ℕ, ◌+◌, ◌<◌, ◌≤◌, List, [], ◌++◌, length, is_some, Ok, IsOk, IfOk, IfSome, OnOk, OnErr};
 ghost use Rattle.std.specs.Io.KnownBytes.{Appends};
 ghost use Rattle.cu_io.specs.Adapters.{SomeGives, SomeGivesMore, SomeTakes, disk_state};
 ghost use Rattle.cu_io.specs.Counts.{Rose};
 ghost use Rattle.cu_io.specs.Holdings.{Holds, HoldsMore, KeepsOthers, OnTooLong, OnLoadFault, OnStoreFault, UnlessLoadFault, UnlessStoreFault};
 
+use crate::content::Content;
 use crate::faults::Faults;
 use crate::fresh::fresh_file;
 use crate::shelf::{LoadFailed, Shelf, StoreFailed};
@@ -91,18 +92,6 @@ where
         loaded
     }
 
-    /// Where the name is a regular file, a link to one, or nothing is there, a fresh file is made in the same folder,
-    /// under a name `.catchup-stored-N` that is free: it is given the old file's mode, written, synced and renamed over
-    /// the old file, and then the folder is synced, where its file system can do so. Where the fresh file can't be filled
-    /// or renamed, it is removed. It is locked while it is open, where its file system has locks; so a file of such a
-    /// name that isn't locked was left by a store that was killed, and the next store in the folder removes it. A link
-    /// stays as it is, and what it leads to is replaced. Anything else, as a device, a pipe or a link to nothing, is
-    /// written in place.
-    ///
-    /// Of all this a clause says that some opened file took the bytes. The order of these steps, that mode and links
-    /// stay, and what a name holds after a store that met no fault are tested. What each step does is trusted to the
-    /// system: so the fresh file belongs to who runs the program, other hard links to the old file keep the old bytes,
-    /// and an old file that may not be written is replaced too, where its folder may be written.
     fn store(&mut self, alloc: Global, name: &str, bytes: &[u8]) -> Result<(), StoreFailed>
         ensures limit { (disk_state self.new).most ≡ (disk_state self.old).most }
         ensures loads { (disk_state self.new).load_faults ≡ (disk_state self.old).load_faults }
@@ -120,7 +109,44 @@ where
             ((disk_state self.new).store_faults name.now)) }
         ensures taken { OnOk result (SomeTakes R.File.contents bytes.now) }
     {
-        let stored = store_file(alloc, &self.files, name, bytes);
+        self.store_content(alloc, name, &bytes)
+    }
+
+    /// Where the name is a regular file, a link to one, or nothing is there, a fresh file is made in the same folder,
+    /// under a name `.catchup-stored-N` that is free: it is given the old file's mode, written, synced and renamed over
+    /// the old file, and then the folder is synced, where its file system can do so. Where the fresh file can't be filled
+    /// or renamed, it is removed. It is locked while it is open, where its file system has locks; so a file of such a
+    /// name that isn't locked was left by a store that was killed, and the next store in the folder removes it. A link
+    /// stays as it is, and what it leads to is replaced. Anything else, as a device, a pipe or a link to nothing, is
+    /// written in place.
+    ///
+    /// Of all this a clause says that some opened file took the bytes. The order of these steps, that mode and links
+    /// stay, and what a name holds after a store that met no fault are tested. What each step does is trusted to the
+    /// system: so the fresh file belongs to who runs the program, other hard links to the old file keep the old bytes,
+    /// and an old file that may not be written is replaced too, where its folder may be written.
+    fn store_content<C: Content>(
+        &mut self,
+        alloc: Global,
+        name: &str,
+        content: &C,
+    ) -> Result<(), StoreFailed>
+        ensures limit { (disk_state self.new).most ≡ (disk_state self.old).most }
+        ensures loads { (disk_state self.new).load_faults ≡ (disk_state self.old).load_faults }
+        ensures tells { is_some (disk_state self.new).held
+            ≡ is_some (disk_state self.old).held }
+        ensures ok { OnOk result (Holds (disk_state self.new).held name.now (C.bytes content.now)) }
+        ensures others { KeepsOthers (disk_state self.old).held
+            (disk_state self.new).held name.now }
+        ensures later { (other : List ℕ) → (disk_state self.old).store_faults other
+            ≤ (disk_state self.new).store_faults other }
+        ensures counts { UnlessStoreFault result
+            ((disk_state self.new).store_faults ≡ (disk_state self.old).store_faults) }
+        ensures cause { OnStoreFault result
+            (Rose ((disk_state self.old).store_faults name.now)
+            ((disk_state self.new).store_faults name.now)) }
+        ensures taken { OnOk result (SomeTakes R.File.contents (C.bytes content.now)) }
+    {
+        let stored = store_file(alloc, &self.files, name, content);
         if stored == Err(StoreFailed::Fault) {
             self.store_faults = self.store_faults.saturating_add(1);
         }
@@ -200,22 +226,24 @@ pub(crate) fn stored<T: Drop>(answer: io::Result<T>) -> Result<T, StoreFailed>
 }
 
 // Sets the bytes of what stands under a name; a link is followed.
-fn store_file<R: Files>(
+fn store_file<R: Files, C: Content>(
     alloc: Global,
     files: &R,
     name: &str,
-    bytes: &[u8],
+    content: &C,
 ) -> Result<(), StoreFailed>
 where
     R::File: ShelfFile,
-    ensures { OnOk result (SomeTakes R.File.contents bytes.now) }
+    ensures { OnOk result (SomeTakes R.File.contents (C.bytes content.now)) }
 {
     if !stored(is_link(files, name))? {
-        return store_at(alloc, files, name, bytes);
+        return store_at(alloc, files, name, content);
     }
     match files.canonicalize(alloc, name) {
-        Ok(path) => store_at(alloc, files, path.as_str(), bytes),
-        Err(error) if error.kind() == ErrorKind::NotFound => stored(write(files, name, bytes)),
+        Ok(path) => store_at(alloc, files, path.as_str(), content),
+        Err(error) if error.kind() == ErrorKind::NotFound => {
+            stored(write(alloc, files, name, content))
+        }
         Err(error) => stored(Err(error)),
     }
 }
@@ -247,42 +275,48 @@ fn standing_of<R: Files>(files: &R, name: &str) -> io::Result<Standing> {
 }
 
 // Sets the bytes under a name that is no link.
-fn store_at<R: Files>(alloc: Global, files: &R, name: &str, bytes: &[u8]) -> Result<(), StoreFailed>
+fn store_at<R: Files, C: Content>(
+    alloc: Global,
+    files: &R,
+    name: &str,
+    content: &C,
+) -> Result<(), StoreFailed>
 where
     R::File: ShelfFile,
-    ensures { OnOk result (SomeTakes R.File.contents bytes.now) }
+    ensures { OnOk result (SomeTakes R.File.contents (C.bytes content.now)) }
 {
     match stored(standing_of(files, name))? {
-        Standing::Nothing => replace(alloc, files, name, None, bytes),
-        Standing::File(permissions) => replace(alloc, files, name, Some(permissions), bytes),
-        Standing::Other => stored(write(files, name, bytes)),
+        Standing::Nothing => replace(alloc, files, name, None, content),
+        Standing::File(permissions) => replace(alloc, files, name, Some(permissions), content),
+        Standing::Other => stored(write(alloc, files, name, content)),
     }
 }
 
 // Writes the bytes in place.
-fn write<R: Files>(files: &R, name: &str, bytes: &[u8]) -> io::Result<()>
-    ensures { OnOk result (SomeTakes R.File.contents bytes.now) }
+fn write<R: Files, C: Content>(alloc: Global, files: &R, name: &str, content: &C) -> io::Result<()>
+    ensures { OnOk result (SomeTakes R.File.contents (C.bytes content.now)) }
 {
     let mut file = fs::create(files, name)?;
-    file.write_all(bytes)
+    content.put_in(alloc, &mut file)
 }
 
 // Writes a new file beside `name`, and lets it take that name.
-fn replace<R: Files>(
+fn replace<R: Files, C: Content>(
     alloc: Global,
     files: &R,
     name: &str,
     permissions: Option<Permissions>,
-    bytes: &[u8],
+    content: &C,
 ) -> Result<(), StoreFailed>
 where
     R::File: ShelfFile,
-    ensures { OnOk result (SomeTakes R.File.contents bytes.now) }
+    ensures { OnOk result (SomeTakes R.File.contents (C.bytes content.now)) }
 {
     let folder = folder_of(name);
     let (mut file, fresh) = fresh_file(alloc, files, folder)?;
     let path = fresh.as_str();
-    let moved = fill_and_rename(files, &mut file, permissions, bytes, path, name);
+    let filled = fill(alloc, &mut file, permissions, content);
+    let moved = rename_filled(files, filled, path, name);
     if let Err(error) = moved {
         let _ = fs::remove_file(files, path);
         return stored(Err(error));
@@ -290,18 +324,16 @@ where
     stored(sync_folder(files, folder))
 }
 
-// Fills a new file, and lets it take a name.
-fn fill_and_rename<R: Files>(
+// Lets a new file take a name, if it could be filled.
+fn rename_filled<R: Files>(
     files: &R,
-    file: &mut R::File,
-    permissions: Option<Permissions>,
-    bytes: &[u8],
+    filled: io::Result<()>,
     path: &str,
     name: &str,
 ) -> io::Result<()>
-    ensures { OnOk result (SomeTakes R.File.contents bytes.now) }
+    ensures { OnOk result (IsOk filled) }
 {
-    fill(file, permissions, bytes)?;
+    filled?;
     fs::rename(files, path, name)
 }
 
@@ -314,17 +346,19 @@ fn folder_of(name: &str) -> &str {
 }
 
 // Gives a new file its permissions and bytes, and syncs it.
-fn fill<F: Write + OpenFile>(
+fn fill<F: Write + OpenFile, C: Content>(
+    alloc: Global,
     file: &mut F,
     permissions: Option<Permissions>,
-    bytes: &[u8],
+    content: &C,
 ) -> io::Result<()>
-    ensures { OnOk result (Appends (F.contents file.old) (F.contents file.new) bytes.now) }
+    ensures { OnOk result
+        (Appends (F.contents file.old) (F.contents file.new) (C.bytes content.now)) }
 {
     if let Some(permissions) = permissions {
         file.set_permissions(permissions)?;
     }
-    file.write_all(bytes)?;
+    content.put_in(alloc, file)?;
     file.sync_all()
 }
 

@@ -8,6 +8,7 @@
 //! Private is how the adapters call the system, and how a line reader keeps its bytes.
 #![tactic(auto)]
 
+mod content;
 mod disk;
 mod faults;
 mod fresh;
@@ -21,6 +22,7 @@ mod standard;
 mod sure;
 mod text;
 
+pub use content::Content;
 pub use disk::DiskShelf;
 pub use line_reader::{Line, LineReader, MAX_LINE};
 pub use memory::{MemoryShelf, MemorySink, MemorySource};

@@ -6,6 +6,8 @@ ghost use Rattle.cu_io.specs.declared.shelf.StoreFailed.TheVariants as store;
 ghost use Rattle.cu_io.specs.Holdings.{Holds, HoldsMore, KeepsOthers, OnLoadFault, OnTooLong, OnStoreFault, UnlessLoadFault, UnlessStoreFault};
 ghost use Rattle.cu_io.specs.Shelves.{ShelfState};
 
+use crate::content::Content;
+use cu_model::NoMemory;
 use std::alloc::{AllocError, AllocFailed, Global};
 use thiserror::Error;
 
@@ -81,6 +83,29 @@ pub trait Shelf {
             ((state self.new).store_faults ≡ (state self.old).store_faults) }
         ensures cause { OnStoreFault result
             (Rose ((state self.old).store_faults name.now)
+            ((state self.new).store_faults name.now)) }
+    {
+        self.store_content(alloc, name, &bytes)
+    }
+
+    /// [`Shelf::store`] of bytes that needn't be in memory all at once.
+    fn store_content<C: Content>(
+        &mut self,
+        alloc: Global,
+        name: &str,
+        content: &C,
+    ) -> Result<(), StoreFailed>
+        ensures limit { (state self.new).most ≡ (state self.old).most }
+        ensures loads { (state self.new).load_faults ≡ (state self.old).load_faults }
+        ensures tells { is_some (state self.new).held ≡ is_some (state self.old).held }
+        ensures ok { OnOk result (Holds (state self.new).held name.now (C.bytes content.now)) }
+        ensures others { KeepsOthers (state self.old).held (state self.new).held name.now }
+        ensures later { (other : List ℕ) → (state self.old).store_faults other
+            ≤ (state self.new).store_faults other }
+        ensures counts { UnlessStoreFault result
+            ((state self.new).store_faults ≡ (state self.old).store_faults) }
+        ensures cause { OnStoreFault result
+            (Rose ((state self.old).store_faults name.now)
             ((state self.new).store_faults name.now)) };
 }
 
@@ -96,6 +121,14 @@ impl From<AllocError> for StoreFailed {
     ghost from_gives = { λ _ e. e ≡ store.NoMemory };
 
     fn from(_error: AllocError) -> StoreFailed {
+        StoreFailed::NoMemory
+    }
+}
+
+impl From<NoMemory> for StoreFailed {
+    ghost from_gives = { λ _ e. e ≡ store.NoMemory };
+
+    fn from(_error: NoMemory) -> StoreFailed {
         StoreFailed::NoMemory
     }
 }

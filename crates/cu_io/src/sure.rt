@@ -4,6 +4,7 @@ ghost use Rattle.cu_io.specs.Counts.{Rose};
 ghost use Rattle.cu_io.specs.Transfers.{Appends, Moves};
 ghost use Rattle.cu_io.specs.Sure.{file_or_empty, sure_limit, sure_sink, sure_source};
 
+use crate::content::{Content, gather};
 use crate::memory::copy_front;
 use crate::shelf::{LoadFailed, Shelf, StoreFailed};
 use crate::sink::{Sink, SinkFailed};
@@ -143,9 +144,14 @@ impl Shelf for SureShelf {
         Ok(())
     }
 
-    fn store(&mut self, alloc: Global, name: &str, bytes: &[u8]) -> Result<(), StoreFailed> {
+    fn store_content<C: Content>(
+        &mut self,
+        alloc: Global,
+        name: &str,
+        content: &C,
+    ) -> Result<(), StoreFailed> {
         let key = String::from_str(alloc, name)?;
-        let file = Vec::from_slice(alloc, bytes)?;
+        let file = gather(alloc, content)?;
         self.files.insert(key, file)?;
         Ok(())
     }

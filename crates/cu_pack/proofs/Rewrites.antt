@@ -3,3 +3,4 @@ pub mod Replaced
 pub mod Rewritten
 pub mod Edited
 pub mod OtherBounds
+pub mod EditedLists

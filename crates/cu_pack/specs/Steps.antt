@@ -6,7 +6,8 @@ pub mod Entries
 pub mod Fronts
 pub mod Parts
 pub mod Pieces
-pub mod Renewing
+pub mod Replacing
 pub mod Slices
 pub mod Starts
+pub mod Taken
 pub mod Ways

@@ -7,13 +7,13 @@ ghost use Rattle.cu_bounds.specs.KeptBounds.{bounds_of};
 ghost use Rattle.cu_pack.specs.Checks.{sealed};
 ghost use Rattle.cu_pack.specs.Spelling.{long, spelling};
 ghost use Rattle.cu_pack.specs.Steps.Fronts.{IsFrontOf, SpellsSections, front};
-ghost use Rattle.cu_pack.specs.Steps.Renewing.{AreOthersRight};
 
 use crate::cutting::Sections;
 use crate::numbers::put_long;
+use crate::targets::Target;
 use crate::ways_in_file::WaysInFile;
-use cu_bounds::{least_bounds, renew_bounds};
-use cu_interval::{TouchedEdge, Ways};
+use cu_bounds::least_bounds;
+use cu_interval::Ways;
 use cu_model::NoMemory;
 use std::alloc::Global;
 
@@ -31,8 +31,8 @@ pub fn put_least_bounds<W: Ways>(
 }
 
 // Appends these bounds.
-pub fn put_bounds(bytes: &mut Vec<u8>, bounds: &[u64]) -> Result<(), NoMemory>
-    ensures { OnOk result (bytes.new.items ≡ bytes.old.items ++ flat_map long bounds.now) }
+pub fn put_bounds<T: Target>(bytes: &mut T, bounds: &[u64]) -> Result<(), T::Failed>
+    ensures { OnOk result (T.grows bytes.old bytes.new (flat_map long bounds.now)) }
 {
     for bound in bounds {
         put_long(bytes, *bound)?;
@@ -88,36 +88,4 @@ fn bounds_before(alloc: Global, bytes: &[u8]) -> Result<Vec<u64>, NoMemory>
 {
     let sections = Sections::unsealed(bytes);
     least_bounds(alloc, &WaysInFile::of(&sections))
-}
-
-// Finds the least bounds of the lists of some edges anew, for the hierarchy with so many edges whose file of version 2
-// these bytes are, up to the bounds. What is put behind them meanwhile is taken away.
-pub fn renew_behind(
-    bytes: &mut Vec<u8>,
-    edges: u32,
-    bounds: &mut [u64],
-    lists: &[TouchedEdge],
-) -> Result<(), NoMemory>
-    requires front { (h : HierarchyValue) × IsFrontOf bytes.old.items edges h
-        × AreOthersRight h bounds.old lists.now }
-    ensures bounds { (h : HierarchyValue) → IsFrontOf bytes.old.items edges h
-        → OnOk result (bounds.new ≡ bounds_of h) }
-    ensures same { OnOk result (bytes.new.items ≡ bytes.old.items) }
-{
-    let end = bytes.len();
-    put_room(bytes, edges)?;
-    renew_before(bytes.as_slice(), bounds, lists);
-    bytes.truncate(end);
-    Ok(())
-}
-
-// The same for a hierarchy whose file these bytes are, but for the bounds and the digest.
-fn renew_before(bytes: &[u8], bounds: &mut [u64], lists: &[TouchedEdge])
-    requires spelled { (h : HierarchyValue) × SpellsSections (sealed bytes.now) h
-        × AreOthersRight h bounds.old lists.now }
-    ensures bounds { (h : HierarchyValue) → SpellsSections (sealed bytes.now) h
-        → bounds.new ≡ bounds_of h }
-{
-    let sections = Sections::unsealed(bytes);
-    renew_bounds(&WaysInFile::of(&sections), bounds, lists);
 }

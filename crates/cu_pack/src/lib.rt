@@ -10,7 +10,8 @@
 //! a view's hierarchy with other roads and the way lists of some edges replaced, as edits leave it: its order, its graph
 //! and way lists that stay are copied as they lie, and the least bounds are found anew. [`repack_unsealed`] saves the digest, [`PackedView::adopt_unsealed`] reads its
 //! bytes as they are, and [`seal`] writes the digest once the whole file is asked for. [`repack_touched`] is for edits that
-//! leave the least bounds of all other lists: it finds those of the replaced lists alone.
+//! leave the least bounds of all other lists: it finds those of the replaced lists alone. [`Repacked`] is the same file before any
+//! of its bytes is made: it is written piece by piece, and the digest is made on the way.
 //!
 //! A file has a version. The first keeps no least bounds; all calls mean the second, but for [`migrate`], which makes a
 //! file of version 2 from one of version 1.
@@ -26,11 +27,12 @@
 //! passed; the later checks (`checks`) and the view call the same ones. `ways_in_file` stands for the hierarchy of sections
 //! whose bounds nobody has looked at, `bounds_in_file` for the numbers in their place, and `halving` finds the halves of
 //! its shortcuts by rising edge, for the check of the bounds and for a view. `sections` puts the sections of a
-//! hierarchy, `replacing` the way lists of a view's after edits, `bounding` the bounds. What only private functions
-//! cite is in `specs/Steps`.
+//! hierarchy, `replacing` the way lists of a view's after edits, `bounding` the bounds. They put them into any `Target`: a
+//! vector, or the `SealedWriter` that makes the digest as it writes. `edited_ways` stands for a view's hierarchy as edits leave
+//! it. What only private functions cite is in `specs/Steps`.
 //!
-//! It stands on `cu_model`, `cu_chordal` and `cu_interval`, on `cu_bounds` for the least bounds, and on the crate `sha2`
-//! for the digest (FIPS 180-4).
+//! It stands on `cu_model`, `cu_chordal` and `cu_interval`, on `cu_bounds` for the least bounds, on `cu_io` for what a file is
+//! stored from, and on the crate `sha2` for the digest (FIPS 180-4).
 #![tactic(auto)]
 
 mod body;
@@ -43,6 +45,7 @@ mod copying;
 mod counting;
 mod cutting;
 mod driving;
+mod edited_ways;
 mod halving;
 mod joining;
 mod laws;
@@ -52,11 +55,14 @@ mod numbers;
 mod opening;
 mod packing;
 mod refusals;
+mod repacked;
 mod repacking;
 mod replacing;
+mod sealed_writer;
 mod sealing;
 mod searching;
 mod sections;
+mod targets;
 mod view;
 mod way_slices;
 mod ways_in_file;
@@ -68,7 +74,8 @@ pub use layout::{Counts, Layout};
 pub use migrating::{migrate, migrate_telling};
 pub use packing::{pack, pack_telling};
 pub use refusals::{Field, PackRefusal};
-pub use repacking::{repack, repack_touched, repack_unsealed};
+pub use repacked::Repacked;
+pub use repacking::{bounds_after, repack, repack_touched, repack_unsealed};
 pub use sealing::seal;
 pub use view::PackedView;
 pub use view::copies::{chordal_of, order_of};

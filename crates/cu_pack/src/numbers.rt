@@ -1,50 +1,52 @@
 //! Numbers and rows of three numbers as bytes, the lowest byte first.
 
-ghost use Rattle.std.specs.Prelude.{◌≡◌, ◌++◌, OnOk};
+ghost use Rattle.std.specs.Prelude.{◌≡◌, OnOk};
 ghost use Rattle.cu_pack.specs.Spelling.{arc_bytes, entry_bytes, long, piece_bytes, triple, short};
 
+use crate::targets::Target;
 use cu_interval::{Entry, Way};
-use cu_model::{NoMemory, Piece, RoadArc, Rule};
+use cu_model::{Piece, RoadArc, Rule};
 
 // Appends a number in four bytes.
-pub fn put_short(bytes: &mut Vec<u8>, number: u32) -> Result<(), NoMemory>
-    ensures { OnOk result (bytes.new.items ≡ bytes.old.items ++ short number) }
+pub fn put_short<T: Target>(bytes: &mut T, number: u32) -> Result<(), T::Failed>
+    ensures { OnOk result (T.grows bytes.old bytes.new (short number)) }
 {
-    bytes.extend_from_slice(&number.to_le_bytes())?;
-    Ok(())
+    bytes.put(&number.to_le_bytes())
 }
 
 // Appends a number in eight bytes.
-pub fn put_long(bytes: &mut Vec<u8>, number: u64) -> Result<(), NoMemory>
-    ensures { OnOk result (bytes.new.items ≡ bytes.old.items ++ long number) }
+pub fn put_long<T: Target>(bytes: &mut T, number: u64) -> Result<(), T::Failed>
+    ensures { OnOk result (T.grows bytes.old bytes.new (long number)) }
 {
-    bytes.extend_from_slice(&number.to_le_bytes())?;
-    Ok(())
+    bytes.put(&number.to_le_bytes())
 }
 
 // Appends a road's tail, head and profile.
-#[tactic(auto, unfolding(crate::specs::Spelling::arc_bytes))]
-pub fn put_arc(bytes: &mut Vec<u8>, arc: RoadArc) -> Result<(), NoMemory>
-    ensures { OnOk result (bytes.new.items ≡ bytes.old.items ++ arc_bytes arc) }
+pub fn put_arc<T: Target>(bytes: &mut T, arc: RoadArc) -> Result<(), T::Failed>
+    ensures { OnOk result (T.grows bytes.old bytes.new (arc_bytes arc)) }
 {
-    bytes.extend_from_slice(&row(arc.tail, arc.head, arc.profile))?;
-    Ok(())
+    bytes.put(&arc_row(arc))
 }
 
 // Appends a piece's second, kind and value.
-pub fn put_piece(bytes: &mut Vec<u8>, piece: Piece) -> Result<(), NoMemory>
-    ensures { OnOk result (bytes.new.items ≡ bytes.old.items ++ piece_bytes piece) }
+pub fn put_piece<T: Target>(bytes: &mut T, piece: Piece) -> Result<(), T::Failed>
+    ensures { OnOk result (T.grows bytes.old bytes.new (piece_bytes piece)) }
 {
-    bytes.extend_from_slice(&piece_row(piece))?;
-    Ok(())
+    bytes.put(&piece_row(piece))
 }
 
 // Appends an entry's second, kind and number.
-pub fn put_entry(bytes: &mut Vec<u8>, entry: Entry) -> Result<(), NoMemory>
-    ensures { OnOk result (bytes.new.items ≡ bytes.old.items ++ entry_bytes entry) }
+pub fn put_entry<T: Target>(bytes: &mut T, entry: Entry) -> Result<(), T::Failed>
+    ensures { OnOk result (T.grows bytes.old bytes.new (entry_bytes entry)) }
 {
-    bytes.extend_from_slice(&entry_row(entry))?;
-    Ok(())
+    bytes.put(&entry_row(entry))
+}
+
+#[tactic(auto, unfolding(crate::specs::Spelling::arc_bytes))]
+fn arc_row(arc: RoadArc) -> [u8; 12]
+    ensures { result ≡ arc_bytes arc }
+{
+    row(arc.tail, arc.head, arc.profile)
 }
 
 #[tactic(auto, unfolding(crate::specs::Spelling::piece_bytes))]

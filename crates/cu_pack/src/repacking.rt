@@ -4,20 +4,23 @@ ghost use Rattle.std.specs.Prelude.{◌≡◌, ◌≤◌, ◌<◌, ◌++◌, All
 ghost use Rattle.std.specs.List.Sorted.{IsStrictlyIncreasing};
 ghost use Rattle.cu_interval.specs.declared.ways.TouchedEdge.{TouchedEdge};
 ghost use Rattle.cu_interval.specs.Hierarchies.{IsHierarchy};
+ghost use Rattle.cu_bounds.specs.KeptBounds.{bounds_of};
 ghost use Rattle.cu_pack.specs.Checks.{sealed};
 ghost use Rattle.cu_pack.specs.Layouts.{AreInLimits};
 ghost use Rattle.cu_pack.specs.Repacking.{KeepsOtherBounds, with_roads};
 ghost use Rattle.cu_pack.specs.Spelling.{arcs_section, counts_of, edges_section, order_section, profiles_section, spelling, ways_section};
 ghost use Rattle.cu_pack.specs.Steps.Fronts.{front};
 
-use crate::bounding::{bounds_behind, renew_behind, with_bounds};
+use crate::bounding::{bounds_behind, with_bounds};
 use crate::counting::count_pieces;
+use crate::edited_ways::EditedWays;
 use crate::layout::{Counts, Layout};
 use crate::replacing::{count_replaced, put_replaced};
 use crate::sealing::seal;
 use crate::sections::{put_arcs, put_header, put_profiles};
+use crate::targets::Target;
 use crate::view::PackedView;
-use cu_bounds::copy_bounds;
+use cu_bounds::{copy_bounds, renew_bounds};
 use cu_interval::{TouchedEdge, Ways};
 use cu_model::{NoMemory, Roads};
 use std::alloc::Global;
@@ -88,10 +91,33 @@ pub fn repack_touched<R: Roads>(
         (λ bytes. sealed bytes.items ≡ spelling (with_roads view.now (R.network roads.now) lists.now)) }
     ensures long { IfOk result (λ bytes. 32 ≤ length bytes.items) }
 {
-    let mut bytes = edited_front(alloc, view, roads, lists)?;
-    let mut bounds = copy_bounds(alloc, view)?;
-    renew_behind(&mut bytes, view.edges(), bounds.as_mut_slice(), lists)?;
+    let bounds = bounds_after(alloc, view, roads, lists)?;
+    let bytes = edited_front(alloc, view, roads, lists)?;
     with_bounds(bytes, &bounds)
+}
+
+/// The least bounds after edits that leave those of all other lists: these are copied, and those of these edges found anew from the
+/// bounds of their halves. Takes eight bytes for each list.
+pub fn bounds_after<R: Roads>(
+    alloc: Global,
+    view: &PackedView<'_>,
+    roads: &R,
+    lists: &[TouchedEdge],
+) -> Result<Vec<u64>, NoMemory>
+    requires nodes { (R.network roads.now).nodes ≡ view.now.network.nodes }
+    requires rising { IsStrictlyIncreasing
+        (map (λ (touched : TouchedEdge). touched.edge) lists.now) }
+    requires edges { All
+        (λ (touched : TouchedEdge). touched.edge < length view.now.edges) lists.now }
+    requires sound { IsHierarchy (with_roads view.now (R.network roads.now) lists.now) }
+    requires stays { KeepsOtherBounds view.now (R.network roads.now) lists.now }
+    ensures { IfOk result (λ bounds. bounds.items
+        ≡ bounds_of (with_roads view.now (R.network roads.now) lists.now)) }
+{
+    let mut bounds = copy_bounds(alloc, view)?;
+    let after = EditedWays::of(view, roads, lists);
+    renew_bounds(&after, bounds.as_mut_slice(), lists);
+    Ok(bounds)
 }
 
 // All of the file that is before the bounds. It has room for the rest.
@@ -119,7 +145,7 @@ fn edited_front<R: Roads>(
 }
 
 // How many of each there are then, for a file of version 2. None is past its limit.
-fn recount<R: Roads>(view: &PackedView<'_>, roads: &R, lists: &[TouchedEdge]) -> Counts
+pub(crate) fn recount<R: Roads>(view: &PackedView<'_>, roads: &R, lists: &[TouchedEdge]) -> Counts
     requires nodes { (R.network roads.now).nodes ≡ view.now.network.nodes }
     requires rising { IsStrictlyIncreasing
         (map (λ (touched : TouchedEdge). touched.edge) lists.now) }
@@ -141,28 +167,28 @@ fn recount<R: Roads>(view: &PackedView<'_>, roads: &R, lists: &[TouchedEdge]) ->
 }
 
 // All sections between the header and the bounds.
-fn put_edited<R: Roads>(
-    bytes: &mut Vec<u8>,
+pub(crate) fn put_edited<T: Target, R: Roads>(
+    bytes: &mut T,
     view: &PackedView<'_>,
     roads: &R,
     lists: &[TouchedEdge],
-) -> Result<(), NoMemory>
+) -> Result<(), T::Failed>
     requires nodes { (R.network roads.now).nodes ≡ view.now.network.nodes }
     requires rising { IsStrictlyIncreasing
         (map (λ (touched : TouchedEdge). touched.edge) lists.now) }
     requires edges { All
         (λ (touched : TouchedEdge). touched.edge < length view.now.edges) lists.now }
     requires sound { IsHierarchy (with_roads view.now (R.network roads.now) lists.now) }
-    ensures { OnOk result (bytes.new.items ≡ bytes.old.items
-        ++ (order_section (with_roads view.now (R.network roads.now) lists.now)
+    ensures { OnOk result (T.grows bytes.old bytes.new
+        (order_section (with_roads view.now (R.network roads.now) lists.now)
         ++ (arcs_section (with_roads view.now (R.network roads.now) lists.now)
         ++ (profiles_section (with_roads view.now (R.network roads.now) lists.now)
         ++ (edges_section (with_roads view.now (R.network roads.now) lists.now)
         ++ ways_section (with_roads view.now (R.network roads.now) lists.now)))))) }
 {
-    bytes.extend_from_slice(view.order_part())?;
+    bytes.put(view.order_part())?;
     put_arcs(bytes, roads)?;
     put_profiles(bytes, roads)?;
-    bytes.extend_from_slice(view.edges_part())?;
+    bytes.put(view.edges_part())?;
     put_replaced(bytes, view, lists)
 }

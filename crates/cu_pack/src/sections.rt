@@ -12,16 +12,17 @@ ghost use Rattle.cu_pack.specs.Spelling.{arc_bytes, entry_bytes, header, long, p
 
 use crate::layout::Counts;
 use crate::numbers::{put_arc, put_entry, put_long, put_piece, put_short};
+use crate::targets::Target;
 use cu_chordal::Chordal;
 use cu_interval::{Dir, Hierarchy, Ways};
 use cu_model::{NoMemory, Order, Roads};
 
 // Whose file it is, the version, the counts and the length of the whole file.
-pub fn put_header(bytes: &mut Vec<u8>, counts: &Counts, length: u64) -> Result<(), NoMemory>
+pub fn put_header<T: Target>(bytes: &mut T, counts: &Counts, length: u64) -> Result<(), T::Failed>
     requires { length ≡ file_length counts.now }
-    ensures { OnOk result (bytes.new.items ≡ bytes.old.items ++ header counts.now) }
+    ensures { OnOk result (T.grows bytes.old bytes.new (header counts.now)) }
 {
-    bytes.extend_from_slice(b"CATCHUPH")?;
+    bytes.put(b"CATCHUPH")?;
     put_short(bytes, counts.version)?;
     put_short(bytes, counts.nodes)?;
     put_short(bytes, counts.arcs)?;
@@ -62,9 +63,9 @@ fn put_ranks(bytes: &mut Vec<u8>, order: &Order) -> Result<(), NoMemory>
 }
 
 // The roads.
-pub fn put_arcs<R: Roads>(bytes: &mut Vec<u8>, roads: &R) -> Result<(), NoMemory>
+pub fn put_arcs<T: Target, R: Roads>(bytes: &mut T, roads: &R) -> Result<(), T::Failed>
     ensures { OnOk result
-        (bytes.new.items ≡ bytes.old.items ++ flat_map arc_bytes (R.network roads.now).arcs) }
+        (T.grows bytes.old bytes.new (flat_map arc_bytes (R.network roads.now).arcs)) }
 {
     for arc in 0..roads.arcs() {
         put_arc(bytes, roads.arc(arc))?;
@@ -73,18 +74,18 @@ pub fn put_arcs<R: Roads>(bytes: &mut Vec<u8>, roads: &R) -> Result<(), NoMemory
 }
 
 // How many pieces are before each profile, and in all; and the pieces.
-pub fn put_profiles<R: Roads>(bytes: &mut Vec<u8>, roads: &R) -> Result<(), NoMemory>
-    ensures { OnOk result (bytes.new.items ≡ bytes.old.items
-        ++ (flat_map long (starts_from 0 (R.network roads.now).profiles)
+pub fn put_profiles<T: Target, R: Roads>(bytes: &mut T, roads: &R) -> Result<(), T::Failed>
+    ensures { OnOk result (T.grows bytes.old bytes.new
+        (flat_map long (starts_from 0 (R.network roads.now).profiles)
         ++ flat_map (flat_map piece_bytes) (R.network roads.now).profiles)) }
 {
     put_profile_starts(bytes, roads)?;
     put_all_pieces(bytes, roads)
 }
 
-fn put_profile_starts<R: Roads>(bytes: &mut Vec<u8>, roads: &R) -> Result<(), NoMemory>
-    ensures { OnOk result (bytes.new.items
-        ≡ bytes.old.items ++ flat_map long (starts_from 0 (R.network roads.now).profiles)) }
+fn put_profile_starts<T: Target, R: Roads>(bytes: &mut T, roads: &R) -> Result<(), T::Failed>
+    ensures { OnOk result (T.grows bytes.old bytes.new
+        (flat_map long (starts_from 0 (R.network roads.now).profiles))) }
 {
     let mut start = 0;
     for profile in 0..roads.profiles() {
@@ -94,9 +95,9 @@ fn put_profile_starts<R: Roads>(bytes: &mut Vec<u8>, roads: &R) -> Result<(), No
     put_long(bytes, start)
 }
 
-fn put_all_pieces<R: Roads>(bytes: &mut Vec<u8>, roads: &R) -> Result<(), NoMemory>
-    ensures { OnOk result (bytes.new.items
-        ≡ bytes.old.items ++ flat_map (flat_map piece_bytes) (R.network roads.now).profiles) }
+fn put_all_pieces<T: Target, R: Roads>(bytes: &mut T, roads: &R) -> Result<(), T::Failed>
+    ensures { OnOk result (T.grows bytes.old bytes.new
+        (flat_map (flat_map piece_bytes) (R.network roads.now).profiles)) }
 {
     for profile in 0..roads.profiles() {
         put_pieces(bytes, roads, profile)?;
@@ -104,10 +105,10 @@ fn put_all_pieces<R: Roads>(bytes: &mut Vec<u8>, roads: &R) -> Result<(), NoMemo
     Ok(())
 }
 
-fn put_pieces<R: Roads>(bytes: &mut Vec<u8>, roads: &R, profile: u32) -> Result<(), NoMemory>
+fn put_pieces<T: Target, R: Roads>(bytes: &mut T, roads: &R, profile: u32) -> Result<(), T::Failed>
     requires { profile < length (R.network roads.now).profiles }
-    ensures { OnOk result (bytes.new.items
-        ≡ bytes.old.items ++ flat_map piece_bytes (pieces_of (R.network roads.now) profile)) }
+    ensures { OnOk result (T.grows bytes.old bytes.new
+        (flat_map piece_bytes (pieces_of (R.network roads.now) profile))) }
 {
     for index in 0..roads.pieces(profile) {
         put_piece(bytes, roads.piece(profile, index))?;

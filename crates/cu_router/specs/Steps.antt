@@ -4,3 +4,4 @@ pub mod Rebuilt
 pub mod Rooms
 pub mod Departing
 pub mod Asking
+pub mod Edits

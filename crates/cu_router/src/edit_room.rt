@@ -283,6 +283,28 @@ fn repack_all_held<P: Progress>(
     Ok((bytes, lists))
 }
 
+/// The edges that some edits of a list touch, each settled once, with their lists after all of them. The room for edits is made, and let
+/// go of again.
+pub(crate) fn settle_all_held<P: Progress>(
+    alloc: Global,
+    held: &HeldFile,
+    edits: &EditList,
+    progress: &mut P,
+) -> Result<Vec<TouchedEdge>, NoMemory>
+    requires edits { FitsList held.now edits.now }
+    ensures held { IfOk result (λ _. IsHierarchy held.now) }
+    ensures touched { IfOk result
+        (λ lists. NumbersTouchedBySome held.now edits.now.edits (numbers_of lists.items)) }
+    ensures resettled { IfOk result (λ lists. IsResettledAll held.now edits.now.edits
+        (hierarchy_with_all held.now edits.now.edits lists.items)) }
+    ensures sound { IfOk result
+        (λ lists. IsHierarchy (hierarchy_with_all held.now edits.now.edits lists.items)) }
+{
+    let mut room = make_edit_room(alloc, held)?;
+    let lists = touch_all_held(alloc, held, &[], edits, &mut room, progress)?;
+    Ok(lists)
+}
+
 // The edges that some edits of a list touch, with their lists after all of them; these rows say what is so of the hierarchy. The
 // room fits the hierarchy after them. What edits learned is let go of, so that there is room to pack.
 fn touch_all_held<P: Progress>(

@@ -13,7 +13,8 @@
 //! known to be those of a built hierarchy: an edit then settles an edge that it touches only where something that its lists may
 //! be made of has changed. A held file keeps which edges are known to be customized; an edit adds those that it settles.
 //!
-//! An [`Editor`] is a held file with room for edits alone, for who makes edits at once and asks for the file.
+//! An [`Editor`] is a held file for who makes edits at once and asks for the file after them: an [`EditedFile`], which is packed as
+//! it is written.
 //!
 //! An edit may also be made one touched edge a step: [`Router::plan`] tells these edges, [`Router::begin`] and [`Router::go_on`] hand
 //! on a [`Busy`], which borrows nothing (`specs/Working.antt`), and [`Router::publish`] makes the edit once no edge is left;
@@ -28,6 +29,7 @@
 mod busy;
 mod days;
 mod edit_room;
+mod edited_file;
 mod editor;
 mod held_file;
 mod known_lists;
@@ -42,6 +44,7 @@ mod writing;
 
 pub use busy::Busy;
 pub use cu_reach::{put_damage, put_dir, put_word_and_long};
+pub use edited_file::EditedFile;
 pub use editor::Editor;
 pub use held_file::HeldFile;
 pub use known_lists::KnownLists;

@@ -12,7 +12,6 @@ use Rattle.cu_router.specs.Answers.{IsHeldAnswer, IsHeldDrive}
 use Rattle.cu_router.specs.Days.{IsHeldDay}
 use Rattle.cu_day.specs.declared.lines.DayAsked.{DayAsked}
 use Rattle.cu_day.specs.declared.lines.DayRefusal.{DayRefusal}
-use Rattle.cu_reach.specs.declared.departures.Departure.{Departure}
 use Rattle.cu_reach.specs.declared.lines.LatestAsked.{LatestAsked}
 use Rattle.cu_reach.specs.declared.lines.ManyRefusal.{ManyRefusal}
 use Rattle.cu_reach.specs.declared.lines.ReachAsked.{ReachAsked}

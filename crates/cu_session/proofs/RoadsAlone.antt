@@ -1,5 +1,5 @@
 -- Edges, and which of them an edit touches, follow from the roads alone, whatever the profiles are.
-use Rattle.std.proofs.Common.{◌≡◌, ◌⊎◌, ◌↔◌, ◌<◌, ◌∙◌, ℕ, List, [], ◌∷◌, sym, ap, inl, inr, min}
+use Rattle.std.proofs.Common.{◌≡◌, ◌⊎◌, ◌∙◌, ℕ, List, [], ◌∷◌, sym, ap, inl, inr, min}
 use Rattle.std.specs.Prelude.{Some, slice_get}
 use Rattle.cu_model.specs.declared.roads.Edit.{Edit}
 use Rattle.cu_model.specs.declared.roads.Edit.TheVariants.{Set, Assign}

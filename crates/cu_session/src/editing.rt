@@ -1,9 +1,10 @@
 //! A text of edits, made together, and answered line by line.
 
-ghost use Rattle.std.specs.Prelude.{◌≡◌, ◌∷◌, ◌++◌, ◌<◌, ◌==◌, List, IfOk, position, length};
+ghost use Rattle.std.specs.Prelude.{◌≡◌, ◌∷◌, ◌++◌, ◌<◌, ◌==◌, List, IfErr, IfOk, None, Some, position, length};
 ghost use Rattle.cu_io.specs.Lines.{lines_of, without_return};
 ghost use Rattle.cu_io.specs.Sinks.{WroteLine};
 ghost use Rattle.cu_model.specs.declared.roads.Edit.{Edit};
+ghost use Rattle.cu_interval.specs.Hierarchies.{HierarchyValue};
 ghost use Rattle.cu_resettled.specs.ResettlingAll.{edited_all};
 ghost use Rattle.cu_edits.specs.EditLists.{FitsList};
 ghost use Rattle.cu_session.specs.AtOnce.{AreSaid, IsSaid};
@@ -17,32 +18,34 @@ use cu_edits::EditList;
 use cu_io::{Sink, SinkFailed, put_line};
 use cu_model::NoMemory;
 use cu_progress::{Progress, Silent, Stage, Telling, begin};
-use cu_router::{Editor, HeldFile, Router};
+use cu_router::{EditedFile, Editor, HeldFile, Router};
 use cu_script::EditRefusal;
 use std::alloc::Global;
 
-/// Makes the edits of a text in a hierarchy, all of them together, and then writes the replies to its lines: each is that of the
+/// The packed file that the edits of a text leave, made all together; then it writes the replies to its lines: each is that of the
 /// network as the edits before it leave it, and each edge that some of them touches is settled once. A query line is refused, as
 /// it is no edit line. Where memory runs out nothing is made or written; where the sink fails in the reply to a line, all were
 /// made. How much of the text is read, and how many edges are settled, is told as it goes.
-pub fn answer_edits_telling<K: Sink, P: Progress>(
+pub fn answer_edits_telling<'a, K: Sink, P: Progress>(
     alloc: Global,
-    editor: &mut Editor,
+    editor: &'a Editor,
     text: &[u8],
     sink: &mut K,
     progress: &mut P,
-) -> Result<(), SessionStop>
-    ensures ended { EndsEdits editor.old editor.new text.now (stop_of result)
-        (K.state sink.old) (K.state sink.new) }
+) -> Result<EditedFile<'a>, SessionStop>
+    ensures ended { IfOk result (λ file. EndsEdits editor.now file text.now None
+        (K.state sink.old) (K.state sink.new)) }
+    ensures stopped { IfErr result (λ stop. (after : HierarchyValue)
+        × EndsEdits editor.now after text.now (Some stop) (K.state sink.old) (K.state sink.new)) }
 {
     let (edits, said) = plan_edits(alloc, editor.held(), text, progress)?;
-    editor.edit_all(alloc, &edits, progress)?;
+    let file = editor.edit_all(alloc, edits, progress)?;
     begin(progress, Stage::Done);
     put_all_said(&said, sink)?;
-    Ok(())
+    Ok(file)
 }
 
-/// [`answer_edits_telling`] in a router, which tells nothing.
+/// The same in a router, which makes the edits in what it holds, and tells nothing.
 pub fn answer_edits<K: Sink>(
     alloc: Global,
     router: &mut Router,

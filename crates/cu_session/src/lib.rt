@@ -4,8 +4,8 @@
 //! hierarchy that the bytes spell, each question for a whole day by its day function, each edit by the touched edges, after which the bytes are those of the resettled hierarchy
 //! (`specs/Held.antt`). Where the first hierarchy is built, the replies are right over all walks of the network as edited so
 //! far (`specs/Replies.antt`), and no clause of those speaks of a hierarchy but for the choice among equal walks and the number of
-//! touched edges. [`answer_edits`] makes the lines of a file of edits, and [`answer_edits_telling`] in an [`Editor`], which has no
-//! room for queries. [`Router`] is what all others answer from: it adopts its bytes anew for each line, takes no memory for a
+//! touched edges. [`answer_edits`] makes the lines of a file of edits, and [`answer_edits_telling`] gives the file
+//! that they leave, by an [`Editor`], which has no room for queries. [`Router`] is what all others answer from: it adopts its bytes anew for each line, takes no memory for a
 //! query, and keeps what queries learn of the hierarchy until the next edit.
 //! An edit writes no digest; [`Router::into_file`] does, once the file is asked for.
 //!
@@ -34,7 +34,9 @@ mod waiting;
 
 pub use answerer::LineAnswerer;
 pub use answering::{answer_built, answer_lines, answer_script, answer_waiting, session};
-pub use cu_router::{Editor, ListRoom, Router, put_dir, put_word_and_long, put_word_and_number};
+pub use cu_router::{
+    EditedFile, Editor, ListRoom, Router, put_dir, put_word_and_long, put_word_and_number,
+};
 pub use editing::{answer_edits, answer_edits_telling};
 pub use refusals::put_piece_refusal;
 pub use stops::SessionStop;

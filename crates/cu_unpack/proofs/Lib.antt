@@ -15,3 +15,4 @@ pub mod VisitedOnce
 pub mod LeastValues
 pub mod FarBounds
 pub mod Places
+pub mod Forgotten

@@ -1,5 +1,5 @@
 -- Functions of lists as packed runs: which lists are known, with which function, and what may be asked for on the way to one.
-use Rattle.std.specs.Prelude.{ℕ, List, [], ◌∷◌, Bool, true, Option, Some, None, ◌≡◌, ◌≢◌, ◌-◌, ◌*◌, ◌⊎◌, length, slice_get, slice_set}
+use Rattle.std.specs.Prelude.{ℕ, List, [], ◌∷◌, Bool, true, false, Option, Some, None, ◌≡◌, ◌≢◌, ◌-◌, ◌*◌, ◌⊎◌, length, slice_get, slice_set}
 use Rattle.std.specs.List.{Contains}
 use Rattle.cu_model.specs.Days.{day, IsOnward}
 use Rattle.cu_arrival.specs.declared.runs.Run.{Run}
@@ -76,6 +76,16 @@ IsClosedUnder edges IsOwn = (edge side : ℕ) → IsOwn edge → IsSide edges ed
 -- the list with this number is as it was
 abbrev pub IsSameList : PackedValue → PackedValue → ℕ → Type 0
 IsSameList before now number = (slice_get now.known number ≡ slice_get before.known number) × (slice_get now.functions number ≡ slice_get before.functions number)
+
+-- the list with this number isn't known, and has no function
+abbrev pub IsForgotten : PackedValue → ℕ → Type 0
+IsForgotten value number = (slice_get value.known number ≡ Some false) × (slice_get value.functions number ≡ Some None)
+
+-- each list is as it was, or it isn't known any more
+pub record AreSpared (before now : PackedValue) : Type 0 where
+  pub known : length now.known ≡ length before.known
+  pub functions : length now.functions ≡ length before.functions
+  pub each : (number : ℕ) → IsSameList before now number ⊎ IsForgotten now number
 
 -- the list of an edge in a direction wasn't known and now is, with its function; and what is asked for needs it
 pub record IsLearned (h : HierarchyValue) (asked edge : ℕ) (dir : Dir) (before now : PackedValue) : Type 0 where

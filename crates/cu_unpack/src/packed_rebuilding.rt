@@ -4,7 +4,7 @@ ghost use Rattle.std.specs.Prelude.{◌≡◌, ◌<◌, ◌+◌, ◌≤◌, ◌�
 ghost use Rattle.cu_chordal.specs.declared.graph.TheConstants.{MAX_EDGES};
 ghost use Rattle.cu_interval.specs.Hierarchies.{IsHierarchy, list_number};
 ghost use Rattle.cu_interval.specs.Shortcuts.{ways_of};
-ghost use Rattle.cu_unpack.specs.RebuiltRuns.{IsFarList, IsFarWay, IsKnownList, IsNeeded, IsRebuiltRuns, IsSized, KeepsPacked, Learns, NeedsFarList, with_list};
+ghost use Rattle.cu_unpack.specs.RebuiltRuns.{AreSpared, IsFarList, IsFarWay, IsKnownList, IsNeeded, IsRebuiltRuns, IsSized, KeepsPacked, Learns, NeedsFarList, with_list};
 ghost use Rattle.cu_unpack.specs.Steps.Rebuilding.{FindsMissing, HasHalves, HasWays, IsWayOf};
 ghost use Rattle.cu_unpack.specs.Steps.PackedRebuilding.{AddsWay, HoldsLeast, IsKnown, LearnsIf};
 
@@ -22,6 +22,9 @@ use std::marker::Model;
 // How many higher neighbours are many: from a lower end with fewer a function is compared too seldom to be bounded.
 const MANY: u32 = 5;
 
+// How many runs for each edge functions have before any is forgotten.
+const RUNS_AN_EDGE: usize = 18;
+
 /// Functions of lists as packed runs, by list number: rebuilt from their ways, or put in. Contracts see which lists are
 /// known, and their functions.
 #[derive(Drop)]
@@ -29,8 +32,10 @@ pub struct PackedFunctions {
     table: PackedTable,
     room: Room,
     windows: Windows,
-    // The lists that were asked for, by number.
+    // The lists that were asked for since some were last forgotten, by number.
     asked: Vec<bool>,
+    // How many runs the functions may have before some are forgotten.
+    most_runs: usize,
 }
 
 impl Model for PackedFunctions {
@@ -56,6 +61,7 @@ impl PackedFunctions {
             room: Room::new(alloc)?,
             windows,
             asked: vec![in alloc; false; 2 * edges as usize]?,
+            most_runs: RUNS_AN_EDGE * edges as usize,
         })
     }
 
@@ -90,6 +96,20 @@ impl PackedFunctions {
         self.table.put(Shortcut { edge, dir }, function)
     }
 
+    /// Forgets the lists that weren't asked for since this last forgot some, where the functions take much room. Each time they may
+    /// take a quarter more, so that the time it costs to learn lists again has a bound. Takes no memory.
+    pub fn spare(&mut self)
+        requires { length self.old.known ≡ length self.old.functions }
+        ensures { AreSpared self.old self.new }
+    {
+        if self.table.runs() <= self.most_runs {
+            return;
+        }
+        forget_unasked(&mut self.table, &self.asked);
+        self.asked.fill(false);
+        self.most_runs = self.most_runs.saturating_add(self.most_runs / 4);
+    }
+
     /// Learns the list of an edge in a direction over these ways, and those that it needs: the least of its ways at
     /// each second of the day, as in this hierarchy. False only where the halves of a way that it needs take so long
     /// that, with a day more, packed runs can't say it. What was known is taken as it is, and stays, after a refusal
@@ -113,7 +133,7 @@ impl PackedFunctions {
         ensures learns { Learns (W.hierarchy ways.now) edge self.old self.new }
     {
         let shortcut = Shortcut { edge, dir };
-        if self.table.is_known(shortcut) && is_noted(&self.asked, shortcut) {
+        if self.table.is_known(shortcut) && is_noted(&self.asked, shortcut.list()) {
             return Ok(true);
         }
         if !learn_asked(alloc, ways, &mut self.table, &mut self.room, shortcut)? {
@@ -127,10 +147,21 @@ impl PackedFunctions {
     }
 }
 
-// Is a list noted?
-fn is_noted(notes: &[bool], shortcut: Shortcut) -> bool {
-    let place = shortcut.list();
-    place < notes.len() && notes[place]
+// Forgets the lists that weren't asked for.
+fn forget_unasked(table: &mut PackedTable, asked: &[bool])
+    requires { length table.old.known ≡ length table.old.functions }
+    ensures { AreSpared table.old table.new }
+{
+    for number in 0..table.lists() {
+        if !is_noted(asked, number) {
+            table.forget(number);
+        }
+    }
+}
+
+// Is the list with a number noted?
+fn is_noted(notes: &[bool], number: usize) -> bool {
+    number < notes.len() && notes[number]
 }
 
 // Notes a list, if there is room for it.

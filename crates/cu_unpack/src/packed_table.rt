@@ -4,7 +4,7 @@ ghost use Rattle.std.specs.Prelude.{◌≡◌, ◌≤◌, ◌<◌, ◌*◌, ◌�
 ghost use Rattle.cu_chordal.specs.declared.graph.TheConstants.{MAX_EDGES};
 ghost use Rattle.cu_interval.specs.Shortcuts.{number_of};
 ghost use Rattle.cu_runs.specs.Layers.{placed};
-ghost use Rattle.cu_unpack.specs.RebuiltRuns.{IsSized, with_list};
+ghost use Rattle.cu_unpack.specs.RebuiltRuns.{AreSpared, IsSized, with_list};
 ghost use Rattle.cu_unpack.specs.Steps.PackedRebuilding.{HasPacked, HavePlaces, IsKnown};
 
 use crate::missing::Known;
@@ -23,6 +23,8 @@ pub struct PackedTable {
     // For each list where its function stands: at 0, where none does, unless one was put in. No two share another place.
     places: Vec<u32>,
     kept: Vec<Option<DayFunction>>,
+    // How many runs the functions have together, to know when they take much room.
+    runs: usize,
 }
 
 impl Model for PackedTable {
@@ -57,7 +59,20 @@ impl PackedTable {
             known,
             places,
             kept,
+            runs: 0,
         })
+    }
+
+    /// How many lists there are.
+    pub fn lists(&self) -> usize
+        ensures { result ≡ length self.now.known }
+    {
+        self.known.len()
+    }
+
+    /// How many runs the functions have together.
+    pub fn runs(&self) -> usize {
+        self.runs
     }
 
     /// The functions, by list number.
@@ -85,9 +100,37 @@ impl PackedTable {
         ensures put { OnOk result (self.new ≡ with_list self.old (number_of shortcut) function) }
         ensures same { OnErr result (self.new ≡ self.old) }
     {
-        let number = shortcut.list();
+        self.put_at(shortcut.list(), function)
+    }
+
+    /// The list with a number isn't known any more.
+    pub fn forget(&mut self, number: usize)
+        requires known { number < length self.old.known }
+        requires functions { number < length self.old.functions }
+        ensures { AreSpared self.old self.new }
+    {
+        if !self.known[number] {
+            return;
+        }
+        let runs = runs_of(self.functions().get(number));
+        let Ok(()) = self.put_at(number, None) else {
+            return;
+        };
+        self.known[number] = false;
+        self.runs = self.runs.saturating_sub(runs);
+    }
+
+    // The list with a number is known from then on, with this function. Where memory runs out nothing changes.
+    fn put_at(&mut self, number: usize, function: Option<DayFunction>) -> Result<(), NoMemory>
+        requires known { number < length self.old.known }
+        requires functions { number < length self.old.functions }
+        ensures put { OnOk result (self.new ≡ with_list self.old number function) }
+        ensures same { OnErr result (self.new ≡ self.old) }
+    {
+        let runs = runs_of(&function);
         put_at(&mut self.places, &mut self.kept, number, function)?;
         self.known[number] = true;
+        self.runs = self.runs.saturating_add(runs);
         Ok(())
     }
 
@@ -168,4 +211,12 @@ fn push_last(
     }
     kept.push(function)?;
     Ok(last as u32)
+}
+
+// How many runs a function has, if there is one.
+fn runs_of(function: &Option<DayFunction>) -> usize {
+    match function {
+        Some(function) => function.packed().len(),
+        None => 0,
+    }
 }

@@ -21,6 +21,17 @@ const CLOSED: Tables<'static> = Tables {
     ..RANKED
 };
 
+// Two roads that take a second more or less from each hour on.
+const HOURLY: Tables<'static> = Tables {
+    profiles: b"profile,from,kind,value\n\
+        0,0,travel,60\n0,3600,travel,61\n0,7200,travel,60\n0,10800,travel,61\n0,14400,travel,60\n0,18000,travel,61\n\
+        0,21600,travel,60\n0,25200,travel,61\n0,28800,travel,60\n0,32400,travel,61\n0,36000,travel,60\n0,39600,travel,61\n\
+        0,43200,travel,60\n0,46800,travel,61\n0,50400,travel,60\n0,54000,travel,61\n0,57600,travel,60\n0,61200,travel,61\n\
+        0,64800,travel,60\n0,68400,travel,61\n0,72000,travel,60\n0,75600,travel,61\n0,79200,travel,60\n0,82800,travel,61\n",
+    roads: b"arc,tail,head,profile\n0,1,0,0\n1,0,2,0\n",
+    ..RANKED
+};
+
 // A list without ways, asked where steps are counted, takes one.
 fn takes_one_step(rt: &impl Abort, view: &PackedView<'_>, work: &mut Work)
     requires edges { length view.now.edges ≡ 3 }
@@ -179,4 +190,43 @@ fn rebuilds_and_learns_functions(rt: HostRuntime) -> Result<(), Fail> {
     let hierarchy = hierarchy(rt.alloc(), RANKED)?;
     assert!(rt; hierarchy.edges() == 3);
     all_arrive(&rt, rt.alloc(), &hierarchy)
+}
+
+// Which lists are known: those of both halves of the third edge upwards, and its own.
+fn known(packed: &PackedFunctions) -> [bool; 3]
+    requires { length packed.now.known ≡ 6 }
+{
+    let first = packed.knows(0, Dir::Down);
+    let second = packed.knows(1, Dir::Up);
+    [first, second, packed.knows(2, Dir::Up)]
+}
+
+// Which are, once the third edge was learned upwards, and once room was spared.
+fn known_and_spared(alloc: Global, hierarchy: &Hierarchy) -> Result<([bool; 3], [bool; 3]), Fail>
+    requires { length hierarchy.now.edges ≡ 3 }
+{
+    let mut packed = PackedFunctions::new(alloc, hierarchy.edges(), Windows::of(hierarchy))?;
+    packed.learn(alloc, hierarchy, 2, Dir::Up)?;
+    let learned = known(&packed);
+    packed.spare();
+    Ok((learned, known(&packed)))
+}
+
+#[test]
+fn forgets_lists_that_were_not_asked_for(rt: HostRuntime) -> Result<(), Fail> {
+    let alloc = rt.alloc();
+    let hourly = hierarchy(alloc, HOURLY)?;
+    assert!(rt; hourly.edges() == 3);
+    assert_eq!(rt;
+        known_and_spared(alloc, &hourly)?,
+        ([true; 3], [false, false, true])
+    );
+    let rush = hierarchy(alloc, RANKED)?;
+    assert!(rt; rush.edges() == 3);
+    assert_eq!(rt;
+        known_and_spared(alloc, &rush)?,
+        ([true; 3], [true; 3]),
+        "few runs"
+    );
+    Ok(())
 }

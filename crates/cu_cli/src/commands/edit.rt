@@ -9,7 +9,7 @@ ghost use Rattle.cu_cli.specs.Steps.Outcomes.{Works, stop_of, world_of};
 use crate::opening::open_edited;
 use crate::saying::put_numbers_line;
 use crate::stops::{Role, Stop};
-use crate::storing::store_file;
+use crate::storing::store_content;
 use cu_io::{Shelf, Sink};
 use cu_progress::{Progress, Stage, begin};
 use cu_session::{Editor, answer_edits_telling};
@@ -53,17 +53,14 @@ pub fn edit<H: Shelf, K: Sink, P: Progress>(
         (world_of (H.state shelf.new) source (K.state sink.new)) }
 {
     let file = open_edited(alloc, asked.hierarchy, asked.edits, shelf, progress)?;
-    let mut editor = Editor::new(alloc, file.hierarchy)?;
-    let answered = answer_edits_telling(alloc, &mut editor, &file.edits, sink, progress);
-    let packed = editor.into_file();
-    answered?;
-    let bytes = packed.as_slice();
-    let length = bytes.len() as u64;
+    let editor = Editor::new(alloc, file.hierarchy)?;
+    let packed = answer_edits_telling(alloc, &editor, &file.edits, sink, progress)?;
+    let length = packed.length();
     if length > shelf.limit() {
         return Err(Stop::TooLarge(length));
     }
     begin(progress, Stage::Storing);
-    store_file(alloc, Role::Out, asked.out, bytes, shelf)?;
+    store_content(alloc, Role::Out, asked.out, &packed, shelf)?;
     begin(progress, Stage::Done);
     put_numbers_line(sink, b"stored", &[length])?;
     Ok(())

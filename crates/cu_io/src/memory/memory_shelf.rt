@@ -6,6 +6,7 @@ ghost use Rattle.cu_io.specs.Memory.{is_failing, after_call};
 ghost use Rattle.cu_io.specs.MemoryShelves.{file_under, times_named, shelf_limit, failed_loads_of, failed_stores_of, shelf_calls};
 
 use super::calls::Calls;
+use crate::content::{Content, gather};
 use crate::shelf::{LoadFailed, Shelf, StoreFailed};
 use std::alloc::{AllocError, Global};
 use std::collections::BTreeMap;
@@ -135,12 +136,42 @@ impl Shelf for MemoryShelf {
         ensures named { OnOk result (is_failing (shelf_calls self.old) ≡ false) }
         ensures calls { shelf_calls self.new ≡ after_call (shelf_calls self.old) }
     {
+        self.store_content(alloc, name, &bytes)
+    }
+
+    fn store_content<C: Content>(
+        &mut self,
+        alloc: Global,
+        name: &str,
+        content: &C,
+    ) -> Result<(), StoreFailed>
+        ensures limit { shelf_limit self.new ≡ shelf_limit self.old }
+        ensures loads { failed_loads_of self.new ≡ failed_loads_of self.old }
+        ensures tells { is_some (Some (file_under self.new))
+            ≡ is_some (Some (file_under self.old)) }
+        ensures ok { OnOk result (Holds (Some (file_under self.new)) name.now (C.bytes content.now)) }
+        ensures others { KeepsOthers (Some (file_under self.old))
+            (Some (file_under self.new)) name.now }
+        ensures later { (other : List ℕ) → failed_stores_of self.old other
+            ≤ failed_stores_of self.new other }
+        ensures counts { UnlessStoreFault result
+            (failed_stores_of self.new ≡ failed_stores_of self.old) }
+        ensures cause { OnStoreFault result
+            (Rose (failed_stores_of self.old name.now) (failed_stores_of self.new name.now)) }
+        ensures once { OnStoreFault result
+            (failed_stores_of self.new name.now ≡ failed_stores_of self.old name.now + 1) }
+        ensures kept { (other : List ℕ) → other ≢ name.now → failed_stores_of self.new other
+            ≡ failed_stores_of self.old other }
+        ensures due { OnStoreFault result (is_failing (shelf_calls self.old) ≡ true) }
+        ensures named { OnOk result (is_failing (shelf_calls self.old) ≡ false) }
+        ensures calls { shelf_calls self.new ≡ after_call (shelf_calls self.old) }
+    {
         if self.calls.take() {
             note(alloc, &mut self.failed_stores, name)?;
             return Err(StoreFailed::Fault);
         }
         let key = String::from_str(alloc, name)?;
-        let file = Vec::from_slice(alloc, bytes)?;
+        let file = gather(alloc, content)?;
         self.files.insert(key, file)?;
         Ok(())
     }

@@ -7,10 +7,16 @@ use Rattle.cu_edits.specs.Steps.Holding.{IsNext}
 use Rattle.cu_edits.specs.Steps.Moving.{IsNewList}
 use Rattle.cu_edits.specs.Steps.Parts.{settling_over}
 use Rattle.cu_edits.specs.Steps.SettlerStates.{HoldsPacked}
+use Rattle.cu_edits.proofs.Spared.{holds_spared}
 use Rattle.cu_edits.proofs.settling_packed.settle_packed.Goals as goal
 
 pub next_lists-requires-clause-holds : goal.next_lists-requires-clause-holds
-next_lists-requires-clause-holds g c = subst (λ (done : List TouchedEdge). HoldsPacked c.args.parts.now done c.args.state.now) (sym c.deref.ensures.value) c.requires.holds
+next_lists-requires-clause-holds g c =
+    let parts = c.args.parts.now in
+    let state = c.args.state.now in
+    let settling = settling_over parts c.deref.result.now in
+    let holds = subst (λ (done : List TouchedEdge). HoldsPacked parts done state) (sym c.deref.ensures.value) c.requires.holds in
+    holds_spared settling parts.graph parts.arcs state.functions c.spare.new.self state.moved holds c.spare.ensures
 
 pub next_lists-requires-clause-asked : goal.next_lists-requires-clause-asked
 next_lists-requires-clause-asked g c = subst (λ (done : List TouchedEdge). IsNext (settling_over c.args.parts.now done) c.args.edge) (sym c.deref.ensures.value) c.requires.asked

@@ -1,7 +1,7 @@
 -- The first roads are put.
-use Rattle.std.proofs.Common.{◌≡◌, ◌++◌, take, flat_map}
+use Rattle.std.proofs.Common.{take, flat_map}
 use Rattle.cu_pack.specs.Spelling.{arc_bytes}
 use Rattle.cu_pack.proofs.sections.put_arcs.Given as goal
 
 abbrev pub invariant-loop-arc : goal.invariant-loop-arc
-invariant-loop-arc g l = l.bytes.items ≡ l.fn.bytes.items ++ flat_map arc_bytes (take l.arc (g.R.Roads.network l.roads).arcs)
+invariant-loop-arc g l = g.T.Target.grows l.fn.bytes l.bytes (flat_map arc_bytes (take l.arc (g.R.Roads.network l.roads).arcs))

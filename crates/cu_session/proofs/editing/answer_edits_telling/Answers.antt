@@ -13,14 +13,12 @@ use Rattle.cu_session.proofs.editing.answer_edits_telling.Goals as goal
 pub returns-in_err-edits : goal.returns-in_err-edits
 returns-in_err-edits g c =
     rw (err_is c.from_residual.result stop.NoMemory c.from_residual.ensures.1)
-    (record { ended = nothing_made c.args.editor.now c.args.editor.now c.args.text.now (g.K.Sink.state c.args.sink.now) refl })
+    (record { ended = tt; stopped = (c.args.editor.now, nothing_made c.args.editor.now c.args.editor.now c.args.text.now (g.K.Sink.state c.args.sink.now) refl) })
 
-pub returns-in_err-edit_all : goal.returns-in_err-edit_all
-returns-in_err-edit_all g c =
-    rw (err_is c.from_residual-in_err-edit_all.result stop.NoMemory c.from_residual-in_err-edit_all.ensures.1)
-    (record {
-      ended = nothing_made c.args.editor.now c.edit_all.new.self c.args.text.now (g.K.Sink.state c.args.sink.now) c.in_err-edit_all.ensures.kept;
-    })
+pub returns-in_err-file : goal.returns-in_err-file
+returns-in_err-file g c =
+    rw (err_is c.from_residual-in_err-file.result stop.NoMemory c.from_residual-in_err-file.ensures.1)
+    (record { ended = tt; stopped = (c.args.editor.now, nothing_made c.args.editor.now c.args.editor.now c.args.text.now (g.K.Sink.state c.args.sink.now) refl) })
 
 pub returns-in_err-put_all_said : goal.returns-in_err-put_all_said
 returns-in_err-put_all_said g c =
@@ -34,7 +32,7 @@ returns-in_err-put_all_said g c =
     subst (λ (v : HierarchyValue). AreSaid v.network v.order (lines_of c.args.text.now) (said_texts said) edits) c.held.ensures c.in_ok-edits.ensures.said in
     let wrote = subst (λ (xs : List Said). WritesText (Err failed) (said_texts xs) before now) c.deref.ensures.value c.in_err-put_all_said.ensures.wrote in
     rw (err_is c.from_residual-in_err-put_all_said.result stop.Sink c.from_residual-in_err-put_all_said.ensures.1)
-    (record { ended = edits_broken h c.edit_all.new.self c.args.text.now edits said planned c.in_ok-edit_all.ensures.edited before now failed wrote })
+    (record { ended = tt; stopped = (c.in_ok-file.file, edits_broken h c.in_ok-file.file c.args.text.now edits said planned c.in_ok-file.ensures.edited before now failed wrote) })
 
 pub returns : goal.returns
 returns g c =
@@ -46,4 +44,4 @@ returns g c =
     let planned : AreSaid h.network h.order (lines_of c.args.text.now) (said_texts said) edits =
     subst (λ (v : HierarchyValue). AreSaid v.network v.order (lines_of c.args.text.now) (said_texts said) edits) c.held.ensures c.in_ok-edits.ensures.said in
     let wrote = subst (λ (xs : List Said). WritesText (Ok tt) (said_texts xs) before now) c.deref.ensures.value c.in_ok-put_all_said.ensures.wrote in
-    record { ended = edits_ended h c.edit_all.new.self c.args.text.now edits said planned c.in_ok-edit_all.ensures.edited before now wrote }
+    record { ended = edits_ended h c.in_ok-file.file c.args.text.now edits said planned c.in_ok-file.ensures.edited before now wrote; stopped = tt }

@@ -1,5 +1,5 @@
 use Rattle.std.proofs.Common.{◌≡◌, ◌<◌, ◌≤◌, ◌∙◌, ◌∷◌, [], ℕ, List, length, ap, arith, inl, inr, false}
-use Rattle.std.specs.Prelude.{Option, None}
+use Rattle.std.specs.Prelude.{Option}
 use Rattle.cu_io.specs.Shelves.{ShelfState}
 use Rattle.cu_io.specs.Sinks.{SinkState}
 use Rattle.cu_io.specs.Sources.{SourceState}
@@ -9,7 +9,6 @@ use Rattle.cu_cli.specs.declared.stops.Stop.{Stop}
 use Rattle.cu_cli.specs.declared.stops.Stop.TheVariants as stop
 use Rattle.cu_cli.specs.Commands.Build.{built_text}
 use Rattle.cu_cli.specs.Endings.{packed_file}
-use Rattle.cu_cli.specs.Steps.Loading.{OnlyLoads}
 use Rattle.cu_cli.specs.Steps.Outcomes.{Did, world_of}
 use Rattle.cu_cli.specs.Steps.Storing.{EndsBuilt}
 use Rattle.cu_session.proofs.SessionLaws.{err_is}

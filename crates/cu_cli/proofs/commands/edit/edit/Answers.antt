@@ -1,4 +1,4 @@
-use Rattle.std.proofs.Common.{◌≡◌, ◌∙◌, ◌<◌, ◌≤◌, ◌∷◌, [], ℕ, List, length, ap, arith, inl, false}
+use Rattle.std.proofs.Common.{◌≡◌, ◌<◌, ◌≤◌, ◌∷◌, [], length, arith, inl, false}
 use Rattle.std.specs.Prelude.{Option, codes}
 use Rattle.cu_cli.specs.declared.commands.edit.EditWords.{EditWords}
 use Rattle.cu_cli.specs.declared.stops.Stop.{Stop}
@@ -40,51 +40,49 @@ returns-in_err-editor g c =
           (only_refused stop.NoMemory tt c.in_ok-file.ensures.loads) (inl (inl tt)) tt);
     })
 
-pub returns-in_err-answered : goal.returns-in_err-answered
-returns-in_err-answered g c =
+pub returns-in_err-packed : goal.returns-in_err-packed
+returns-in_err-packed g c =
     let (first, opened, spells) = c.in_ok-file.ensures.ok in
     let h = c.in_ok-editor.editor in
     let text = c.in_ok-file.file.edits.items in
     let opens : Opens (g.H.Shelf.state c.args.shelf.now) (editing_files c.args.asked.hierarchy.now c.args.asked.edits.now) h (text ∷ []) =
     opens_held (g.H.Shelf.state c.args.shelf.now) (editing_files c.args.asked.hierarchy.now c.args.asked.edits.now) (text ∷ []) opened spells c.in_ok-editor.ensures.held in
-    let done = rw c.deref.ensures.value at c.in_err-answered.ensures.ended in
-    rw (stop_is c.from_residual-in_err-answered.result _ c.from_residual-in_err-answered.ensures.1)
+    let (after, done) = rw c.deref.ensures.value at c.in_err-packed.ensures.stopped in
+    rw (stop_is c.from_residual-in_err-packed.result _ c.from_residual-in_err-packed.ensures.1)
     (record {
-      works = λ source. edit_works c.args.asked (edits_stopped _ _ source _ c.args.asked.hierarchy.now c.args.asked.edits.now c.args.asked.out.now _ h c.answer_edits_telling-answered.new.editor
-          text c.in_ok-file.ensures.loads opens c.in_err-answered.field-0.0 done);
+      works = λ source. edit_works c.args.asked (edits_stopped _ _ source _ c.args.asked.hierarchy.now c.args.asked.edits.now c.args.asked.out.now _ h after
+          text c.in_ok-file.ensures.loads opens c.in_err-packed.field-0.0 done);
     })
 
 pub returns-then-length-limit : goal.returns-then-length-limit
 returns-then-length-limit g c =
     let (first, opened, spells) = c.in_ok-file.ensures.ok in
     let h = c.in_ok-editor.editor in
-    let after = c.answer_edits_telling-answered.new.editor in
+    let after = c.in_ok-packed.packed in
     let text = c.in_ok-file.file.edits.items in
     let opens : Opens (g.H.Shelf.state c.args.shelf.now) (editing_files c.args.asked.hierarchy.now c.args.asked.edits.now) h (text ∷ []) =
     opens_held (g.H.Shelf.state c.args.shelf.now) (editing_files c.args.asked.hierarchy.now c.args.asked.edits.now) (text ∷ []) opened spells c.in_ok-editor.ensures.held in
-    let done = rw c.deref.ensures.value at c.in_ok-answered.ensures.ended in
-    let file : c.as_slice-bytes.result.now ≡ spelling after = c.as_slice-bytes.ensures.value ∙ c.into_file-packed.ensures.spelled.spelled in
-    let same : length c.as_slice-bytes.result.now ≡ length (spelling after) = ap (λ (bytes : List ℕ). length bytes) file in
+    let done = rw c.deref.ensures.value at c.in_ok-packed.ensures.ended in
+    let same : c.length-length.result ≡ length (spelling after) = c.length-length.ensures in
     let large : (g.H.Shelf.state c.args.shelf.now).most < length (spelling after) = omega (arith, same, c.limit.ensures, c.in_ok-file.ensures.loads.most, c.if-length-limit.true) in
     rw same (record {
       works = λ source. edit_works c.args.asked (edits_large _ _ source _ c.args.asked.hierarchy.now c.args.asked.edits.now c.args.asked.out.now _ h after text
           c.in_ok-file.ensures.loads opens done large);
     })
 
-pub returns-in_err-store_file : goal.returns-in_err-store_file
-returns-in_err-store_file g c =
+pub returns-in_err-store_content : goal.returns-in_err-store_content
+returns-in_err-store_content g c =
     let (first, opened, spells) = c.in_ok-file.ensures.ok in
     let h = c.in_ok-editor.editor in
-    let after = c.answer_edits_telling-answered.new.editor in
+    let after = c.in_ok-packed.packed in
     let text = c.in_ok-file.file.edits.items in
     let opens : Opens (g.H.Shelf.state c.args.shelf.now) (editing_files c.args.asked.hierarchy.now c.args.asked.edits.now) h (text ∷ []) =
     opens_held (g.H.Shelf.state c.args.shelf.now) (editing_files c.args.asked.hierarchy.now c.args.asked.edits.now) (text ∷ []) opened spells c.in_ok-editor.ensures.held in
-    let done = rw c.deref.ensures.value at c.in_ok-answered.ensures.ended in
-    let file : c.as_slice-bytes.result.now ≡ spelling after = c.as_slice-bytes.ensures.value ∙ c.into_file-packed.ensures.spelled.spelled in
-    let same : length c.as_slice-bytes.result.now ≡ length (spelling after) = ap (λ (bytes : List ℕ). length bytes) file in
+    let done = rw c.deref.ensures.value at c.in_ok-packed.ensures.ended in
+    let same : c.length-length.result ≡ length (spelling after) = c.length-length.ensures in
     let few : length (spelling after) ≤ (g.H.Shelf.state c.args.shelf.now).most = omega (arith, same, c.limit.ensures, c.in_ok-file.ensures.loads.most, c.if-length-limit.false) in
-    let stores = rw file at c.in_err-store_file.ensures.stores in
-    rw (err_is c.from_residual-in_err-store_file.result c.in_err-store_file.field-0.0 c.from_residual-in_err-store_file.ensures.1)
+    let stores = c.in_err-store_content.ensures.stores in
+    rw (err_is c.from_residual-in_err-store_content.result c.in_err-store_content.field-0.0 c.from_residual-in_err-store_content.ensures.1)
     (record {
       works = λ source.
           edit_works c.args.asked (edits_stored _ _ source _ c.args.asked.hierarchy.now c.args.asked.edits.now c.args.asked.out.now _ h after text c.in_ok-file.ensures.loads opens done few
@@ -96,15 +94,14 @@ pub returns-in_err-put_numbers_line : goal.returns-in_err-put_numbers_line
 returns-in_err-put_numbers_line g c =
     let (first, opened, spells) = c.in_ok-file.ensures.ok in
     let h = c.in_ok-editor.editor in
-    let after = c.answer_edits_telling-answered.new.editor in
+    let after = c.in_ok-packed.packed in
     let text = c.in_ok-file.file.edits.items in
     let opens : Opens (g.H.Shelf.state c.args.shelf.now) (editing_files c.args.asked.hierarchy.now c.args.asked.edits.now) h (text ∷ []) =
     opens_held (g.H.Shelf.state c.args.shelf.now) (editing_files c.args.asked.hierarchy.now c.args.asked.edits.now) (text ∷ []) opened spells c.in_ok-editor.ensures.held in
-    let done = rw c.deref.ensures.value at c.in_ok-answered.ensures.ended in
-    let file : c.as_slice-bytes.result.now ≡ spelling after = c.as_slice-bytes.ensures.value ∙ c.into_file-packed.ensures.spelled.spelled in
-    let same : length c.as_slice-bytes.result.now ≡ length (spelling after) = ap (λ (bytes : List ℕ). length bytes) file in
+    let done = rw c.deref.ensures.value at c.in_ok-packed.ensures.ended in
+    let same : c.length-length.result ≡ length (spelling after) = c.length-length.ensures in
     let few : length (spelling after) ≤ (g.H.Shelf.state c.args.shelf.now).most = omega (arith, same, c.limit.ensures, c.in_ok-file.ensures.loads.most, c.if-length-limit.false) in
-    let stores = rw file at c.in_ok-store_file.ensures.stores in
+    let stores = c.in_ok-store_content.ensures.stores in
     let said = rw same at c.in_err-put_numbers_line.ensures.wrote in
     rw (err_is c.from_residual-in_err-put_numbers_line.result stop.Sink c.from_residual-in_err-put_numbers_line.ensures.1)
     (record {
@@ -118,15 +115,14 @@ pub returns : goal.returns
 returns g c =
     let (first, opened, spells) = c.in_ok-file.ensures.ok in
     let h = c.in_ok-editor.editor in
-    let after = c.answer_edits_telling-answered.new.editor in
+    let after = c.in_ok-packed.packed in
     let text = c.in_ok-file.file.edits.items in
     let opens : Opens (g.H.Shelf.state c.args.shelf.now) (editing_files c.args.asked.hierarchy.now c.args.asked.edits.now) h (text ∷ []) =
     opens_held (g.H.Shelf.state c.args.shelf.now) (editing_files c.args.asked.hierarchy.now c.args.asked.edits.now) (text ∷ []) opened spells c.in_ok-editor.ensures.held in
-    let done = rw c.deref.ensures.value at c.in_ok-answered.ensures.ended in
-    let file : c.as_slice-bytes.result.now ≡ spelling after = c.as_slice-bytes.ensures.value ∙ c.into_file-packed.ensures.spelled.spelled in
-    let same : length c.as_slice-bytes.result.now ≡ length (spelling after) = ap (λ (bytes : List ℕ). length bytes) file in
+    let done = rw c.deref.ensures.value at c.in_ok-packed.ensures.ended in
+    let same : c.length-length.result ≡ length (spelling after) = c.length-length.ensures in
     let few : length (spelling after) ≤ (g.H.Shelf.state c.args.shelf.now).most = omega (arith, same, c.limit.ensures, c.in_ok-file.ensures.loads.most, c.if-length-limit.false) in
-    let stores = rw file at c.in_ok-store_file.ensures.stores in
+    let stores = c.in_ok-store_content.ensures.stores in
     let said = rw same at c.in_ok-put_numbers_line.ensures.wrote in
     record {
       works = λ source.

@@ -1,0 +1,5 @@
+use Rattle.std.proofs.lemmas.Result.{on_ok_weaker}
+use Rattle.cu_pack.proofs.replacing.put_replaced.Goals as goal
+
+pub returns : goal.returns
+returns g c = on_ok_weaker c.put_entries.result (λ e. g.met.T.Target.more _ _ _ _ _ c.in_ok-put_starts.ensures e) c.put_entries.ensures
