@@ -64,6 +64,34 @@ pub fn lesser(
     Ok((Arrival::of_runs(runs), choices))
 }
 
+/// [`lesser`] without its choices.
+pub fn least(alloc: Global, first: &Arrival, second: &Arrival) -> Result<Arrival, NoMemory>
+    ensures value { IfOk result (λ f. (t : ℕ) → t < DAY
+        → arrival_value f t ≡ min (arrival_value first.now t) (arrival_value second.now t)) }
+    ensures sound { IfOk result IsArrivalFunction }
+    ensures compact { IfOk result IsCompact }
+{
+    let first_runs = first.runs();
+    let second_runs = second.runs();
+    let mut runs = RunList::with_capacity(alloc, first_runs.len() + second_runs.len())?;
+    let mut first_stretch = stretch_at(first_runs, 0);
+    let mut second_stretch = stretch_at(second_runs, 0);
+    let mut at = 0;
+    'day: while at < u64::from(DAY) {
+        first_stretch = reach(first_runs, first_stretch, at);
+        second_stretch = reach(second_runs, second_stretch, at);
+        let end = first_stretch.end.min(second_stretch.end);
+        let step = earlier_rule(first_stretch.rule, second_stretch.rule, at, end);
+        let run = Run {
+            from: at as u32,
+            rule: step.rule,
+        };
+        push_run(&mut runs, run)?;
+        at = step.end;
+    }
+    Ok(Arrival::of_runs(runs))
+}
+
 // The earlier of two rules at a second, and until when it is the earlier, at most until `end`. The first one takes a tie.
 fn earlier_rule(first: RunRule, second: RunRule, at: u64, end: u64) -> Earlier
     requires now { at < end }

@@ -20,7 +20,7 @@ ghost use Rattle.cu_day.specs.Steps.Sweeping.{Always, TakesList};
 ghost use Rattle.cu_day.specs.Steps.Taking.{HasEarlier, IsEarlier, TakesArc};
 
 use crate::functions::DayFunctions;
-use cu_arrival::{Arrival, Run, RunRule, compose, lesser};
+use cu_arrival::{Arrival, Run, RunRule, compose, least};
 use cu_chordal::Chordal;
 use cu_elimtree::Tree;
 use cu_interval::{Dir, Leg, Shortcut};
@@ -314,6 +314,6 @@ fn earlier(alloc: Global, first: Option<Arrival>, second: Arrival) -> Result<Arr
     let Some(first) = first else {
         return Ok(second);
     };
-    let (function, _choices) = lesser(alloc, &first, &second)?;
+    let function = least(alloc, &first, &second)?;
     Ok(function)
 }

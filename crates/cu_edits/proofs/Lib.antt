@@ -8,6 +8,7 @@ pub mod EditSettling
 pub mod FirstOnes
 pub mod FoundLaws
 pub mod Frames
+pub mod LettingGo
 pub mod LimitLaws
 pub mod RebuiltBounds
 pub mod StandingChoices

@@ -37,7 +37,7 @@ use Rattle.cu_edits.specs.Steps.Bounds.{HalvesTakeMore, SomeTakeNoMore}
 use Rattle.cu_edits.specs.Steps.Packed.{IsAtHand, IsSettlingPacked, IsWayAtHand, functions_at_hand}
 use Rattle.cu_edits.specs.Steps.Frames.{IsFramed, LeadsOver}
 use Rattle.cu_edits.specs.Steps.Known.{values_of}
-use Rattle.cu_edits.specs.Steps.Moving.{HalvesAre, IsUnmoved, IsUnmovedWay, MayStand, MovedValue, SayValue, StandingPair}
+use Rattle.cu_edits.specs.Steps.Moving.{HalvesAre, IsUnmoved, IsUnmovedWay, LeadsUpTo, MayStand, MovedValue, SayValue, StandingPair}
 use Rattle.cu_edits.proofs.Frames.{candidates_alone, runs_alike, via_same}
 use Rattle.cu_edits.proofs.Halves.{HasValues, IsHalf, KnowsWay, arrives_by, arrives_in, by_ranks, candidate_by, candidate_in, function_at}
 use Rattle.cu_edits.proofs.SettledOnce.{listed}
@@ -75,7 +75,7 @@ first_of_three (Via m) (Via n) (Road a) (inr first) (inr second) = absurd second
 first_of_three (Via m) (Via n) (Via k) (inr first) (inr second) = inr (omega (arith, first, second))
 
 module _ (s : SettlingValue) (graph : ChordalValue) (arcs : List (List ℕ)) (packed : PackedValue) (moved : MovedValue) (holds : IsSettlingPacked s graph arcs packed moved) (edge : ℕ) (dir : Dir)
-    (sides : HasFinalSides s edge) (ends : Ends) (at : slice_get s.before.edges edge ≡ Some ends) where
+    (sides : HasFinalSides s edge) (ends : Ends) (at : slice_get s.before.edges edge ≡ Some ends) (low : moved.low ≤ ends.low) where
   abbrev pub now : HierarchyValue
   now = settled_so_far s
 
@@ -169,15 +169,26 @@ module _ (s : SettlingValue) (graph : ChordalValue) (arcs : List (List ℕ)) (pa
         rebuilds = by_ranks s.before now holds.are.sound refl e d x y function l (packed_values now e d function is);
       }
 
+  -- a half leads up to an end of the edge
+  leads_up : (e : ℕ) → IsLowerSide s.before.edges edge e → LeadsUpTo s.before.edges moved.low e
+  leads_up e (given, rank, here, lower, higher, either) =
+      let same : given ≡ ends = cc (here, at) in
+      let less = ends_rise s.before holds.are.sound edge given here in
+      let kept : moved.low ≤ given.low = subst (λ (x : Ends). moved.low ≤ x.low) (sym same) low in
+      elim either [
+        | inl is ↦ (record { low = rank; high = given.low }, is, kept)
+        | inr is ↦ (record { low = rank; high = given.high }, is, omega (arith, kept, less))
+      ]
+
   -- of one that was moved
-  half_moved : (e : ℕ) (d : Dir) (x y place : ℕ) (l : LeadsOver s.before.edges e d x y) → slice_get moved.places (list_number e d) ≡ Some (suc place) → IsHalf now asked x y
-  half_moved e d x y place l there =
+  half_moved : (e : ℕ) (d : Dir) (x y place : ℕ) (l : LeadsOver s.before.edges e d x y) → IsLowerSide s.before.edges edge e → slice_get moved.places (list_number e d) ≡ Some (suc place) → IsHalf now asked x y
+  half_moved e d x y place l side there =
       let inside = number_within e (length s.before.edges) d (slice_get_within s.before.edges e l.ends l.at) in
       let long = holds.known.size.functions in
       let within = all_at (λ (k : ℕ). k ≤ length moved.functions) moved.places (list_number e d) (suc place) holds.inside there in
       let function = get_or moved.functions place None in
       let is_there : slice_get moved.functions place ≡ Some function = slice_get-get_or moved.functions place None (omega (arith, within)) in
-      let (settled, is) = holds.moves e d function (place, there, is_there) in
+      let is = (holds.moves e d function (place, there, is_there)).1 (leads_up e side) in
       record {
         function = function;
         is = function_at s.before holds.are.sound asked e d x y l
@@ -190,7 +201,7 @@ module _ (s : SettlingValue) (graph : ChordalValue) (arcs : List (List ℕ)) (pa
   half_by : (e : ℕ) (d : Dir) (x y place : ℕ) (l : LeadsOver s.before.edges e d x y) → IsLowerSide s.before.edges edge e → slice_get moved.places (list_number e d) ≡ Some place
       → IsAtHand moved packed e d → IsHalf now asked x y
   half_by e d x y zero l side there hand = half_before e d x y l side there (hand there)
-  half_by e d x y (suc place) l side there hand = half_moved e d x y place l there
+  half_by e d x y (suc place) l side there hand = half_moved e d x y place l side there
 
   placed : (e : ℕ) (d : Dir) (x y : ℕ) → LeadsOver s.before.edges e d x y → slice_get moved.places (list_number e d) ≡ Some (get_or moved.places (list_number e d) 0)
   placed e d x y l =
@@ -221,7 +232,7 @@ module _ (s : SettlingValue) (graph : ChordalValue) (arcs : List (List ℕ)) (pa
   -- a function that is there is a half
   half_there : (e : ℕ) (d : Dir) (x y place : ℕ) (known : Bool) (l : LeadsOver s.before.edges e d x y) → IsLowerSide s.before.edges edge e → slice_get moved.places (list_number e d) ≡ Some place
       → slice_get packed.known (list_number e d) ≡ Some known → IsSome (function_from s.before.edges asked x y) → IsHalf now asked x y
-  half_there e d x y (suc place) known l side there at_known some = half_moved e d x y place l there
+  half_there e d x y (suc place) known l side there at_known some = half_moved e d x y place l side there
   half_there e d x y zero true l side there at_known some = half_before e d x y l side there at_known
   half_there e d x y zero false l side there at_known some =
       let none = holds.known.unknown (list_number e d) at_known in

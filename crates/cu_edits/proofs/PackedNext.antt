@@ -27,7 +27,7 @@ use Rattle.cu_edits.specs.Settling.{IsResettledEdge, SettlingValue, list_in, set
 use Rattle.cu_edits.specs.Steps.Packed.{AreCandidatesAtHand, IsPackedList, IsSettlingPacked, LearnsPacked}
 use Rattle.cu_edits.specs.Steps.Frames.{IsFrame}
 use Rattle.cu_edits.specs.Steps.Holding.{IsNext, settling_of}
-use Rattle.cu_edits.specs.Steps.Moving.{IsOutcome, IsOutcomeOf, IsNewList, KeepsMore, KeepsOutcome, MayStand, MovedValue, SayValue, StandingPair}
+use Rattle.cu_edits.specs.Steps.Moving.{IsOutcome, IsOutcomeOf, IsNewList, KeepsHalves, KeepsMore, KeepsOutcome, LeadsUpTo, MayStand, MovedValue, SayValue, StandingPair}
 use Rattle.cu_edits.specs.Steps.Settled.{AreSettled}
 use Rattle.cu_edits.proofs.AtHand.{same_edges}
 use Rattle.cu_edits.proofs.NewLists as new
@@ -66,48 +66,48 @@ packed_still s graph arcs packed learnt moved now old learns same = subst (IsSet
 
 module _ (s : SettlingValue) (graph : ChordalValue) (arcs : List (List ℕ)) (packed : PackedValue) (moved : MovedValue)
     (holds : IsSettlingPacked s graph arcs packed moved) (edge : ℕ) (asked : IsNext s edge)
-    (marks : List Bool) (customized : AreCustomized s.before marks) (dir : Dir) where
+    (marks : List Bool) (customized : AreCustomized s.before marks) (dir : Dir) (kept : KeepsHalves s.before.edges moved edge) where
   -- a list that stands
   pub list_stands : MayStand s.before s.edit arcs marks moved edge dir → (list : NewList) → list.ways ≡ list_of s.before edge dir → list.outcome ≡ Stands → IsNewList s moved edge dir list
   list_stands may list same outcome = record {
     resettled = λ ends at.
         subst (IsResettledList (settled_so_far s) (start_of ends dir) (end_of ends dir)) (sym same)
-        (new.old_resettled s graph arcs packed moved holds edge dir asked.sides ends at marks customized may);
+        (new.old_resettled s graph arcs packed moved holds edge dir asked.sides ends at (kept ends at) marks customized may);
     outcome = λ ends at.
         subst (IsOutcome s moved edge dir ends list.ways) (sym outcome) (
           same,
-          subst (new.AreFramed s graph arcs packed moved holds edge dir asked.sides ends at) (sym same)
-              (new.old_framed s graph arcs packed moved holds edge dir asked.sides ends at (new.old_unmoved s graph arcs packed moved holds edge dir asked.sides ends at marks customized may)),
+          subst (new.AreFramed s graph arcs packed moved holds edge dir asked.sides ends at (kept ends at)) (sym same)
+              (new.old_framed s graph arcs packed moved holds edge dir asked.sides ends at (kept ends at) (new.old_unmoved s graph arcs packed moved holds edge dir asked.sides ends at (kept ends at) marks customized may)),
         );
   }
 
   -- the halves that are at hand
   known_or_behind : (ends : Ends) (at : slice_get s.before.edges edge ≡ Some ends) → AreCandidatesAtHand s.before s.edit marks moved packed edge dir → (m : ℕ)
-      → new.IsKnownOrBehind s graph arcs packed moved holds edge dir asked.sides ends at m
+      → new.IsKnownOrBehind s graph arcs packed moved holds edge dir asked.sides ends at (kept ends at) m
   known_or_behind ends at (inl rivals) m to on first second = elim (rivals.each ends at m) [
     | inl (unmoved, late) ↦
-        let both = new.both_stand s graph arcs packed moved holds edge dir asked.sides ends at m unmoved first second in
+        let both = new.both_stand s graph arcs packed moved holds edge dir asked.sides ends at (kept ends at) m unmoved first second in
         let halves = halves_at s.before.edges edge dir (start_of ends dir) (end_of ends dir) m (over s.before.edges edge dir ends at) first second in
         let few = (late halves.first halves.second (record { to = halves.to; on = halves.on })).few in
         elim (rivals.in_time ends at) [
           | inl none ↦ absurd (omega (arith, few, none))
-          | inr some ↦ inr (both.0, both.1, inr (new.overtaken s graph arcs packed moved holds edge dir asked.sides ends at rivals.limit some m late first second))
+          | inr some ↦ inr (both.0, both.1, inr (new.overtaken s graph arcs packed moved holds edge dir asked.sides ends at (kept ends at) rivals.limit some m late first second))
         ]
-    | inr hand ↦ inl (new.both_at_hand s graph arcs packed moved holds edge dir asked.sides ends at m hand first second)
+    | inr hand ↦ inl (new.both_at_hand s graph arcs packed moved holds edge dir asked.sides ends at (kept ends at) m hand first second)
   ]
   known_or_behind ends at (inr (keeps, ways, some)) m to on first second = elim (some ends at m) [
     | inl unmoved ↦
-        let both = new.both_stand s graph arcs packed moved holds edge dir asked.sides ends at m unmoved first second in
+        let both = new.both_stand s graph arcs packed moved holds edge dir asked.sides ends at (kept ends at) m unmoved first second in
         inr (
           both.0,
           both.1,
           inl (record {
             resettled = customized edge keeps.marked dir ends at;
             unmoved = keeps.ways ends at;
-            known = λ k d lt. new.knows_at_hand s graph arcs packed moved holds edge dir asked.sides ends at _ (ways ends at k d lt);
+            known = λ k d lt. new.knows_at_hand s graph arcs packed moved holds edge dir asked.sides ends at (kept ends at) _ (ways ends at k d lt);
           }),
         )
-    | inr hand ↦ inl (new.both_at_hand s graph arcs packed moved holds edge dir asked.sides ends at m hand first second)
+    | inr hand ↦ inl (new.both_at_hand s graph arcs packed moved holds edge dir asked.sides ends at (kept ends at) m hand first second)
   ]
 
   -- a list that was settled
@@ -116,19 +116,19 @@ module _ (s : SettlingValue) (graph : ChordalValue) (arcs : List (List ℕ)) (pa
     resettled : (ends : Ends) → slice_get s.before.edges edge ≡ Some ends → IsResettledList (settled_so_far s) (start_of ends dir) (end_of ends dir) found.ways
     resettled ends at =
         let (list, there) = once.listed s.before arcs holds.parts.roads edge dir ends at in
-        new.new_resettled s graph arcs packed moved holds edge dir asked.sides ends at list (holds.parts.roads.each edge dir ends list at there) (known_or_behind ends at hand) found.ways
+        new.new_resettled s graph arcs packed moved holds edge dir asked.sides ends at (kept ends at) list (holds.parts.roads.each edge dir ends list at there) (known_or_behind ends at hand) found.ways
         (by.ways ends list at there)
 
     outcome_of : (ends : Ends) (at : slice_get s.before.edges edge ≡ Some ends) (outcome : Outcome) → IsOutcomeOf s.before s.edit moved edge dir found outcome
         → IsOutcome s moved edge dir ends found.ways outcome
     outcome_of ends at Stands (same, unmoved) = (
       same,
-      subst (new.AreFramed s graph arcs packed moved holds edge dir asked.sides ends at) (sym same) (new.old_framed s graph arcs packed moved holds edge dir asked.sides ends at (unmoved ends at)),
+      subst (new.AreFramed s graph arcs packed moved holds edge dir asked.sides ends at (kept ends at)) (sym same) (new.old_framed s graph arcs packed moved holds edge dir asked.sides ends at (kept ends at) (unmoved ends at)),
     )
     outcome_of ends at (Moves function) same =
         let (list, there) = once.listed s.before arcs holds.parts.roads edge dir ends at in
         subst (SayValue (settled_so_far s) (start_of ends dir) (end_of ends dir) found.ways) (sym same)
-        (new.new_value s graph arcs packed moved holds edge dir asked.sides ends at list (holds.parts.roads.each edge dir ends list at there) (known_or_behind ends at hand) found.ways
+        (new.new_value s graph arcs packed moved holds edge dir asked.sides ends at (kept ends at) list (holds.parts.roads.each edge dir ends list at there) (known_or_behind ends at hand) found.ways
         (by.ways ends list at there) found.function (by.value ends at))
 
     pub list_settled : (list : NewList) → list.ways ≡ found.ways → IsOutcomeOf s.before s.edit moved edge dir found list.outcome → IsNewList s moved edge dir list
@@ -199,15 +199,15 @@ pub packed_one : (h : HierarchyValue) (edit : List Edit) (before after : List To
     (up down : NewList) (upwards downwards : ℕ) → IsSettlingPacked (settling_of h edit before) graph arcs packed moved → IsNext (settling_of h edit before) t.edge
     → IsNewList (settling_of h edit before) moved t.edge Up up → IsNewList (settling_of h edit before) moved t.edge Down down → t.up ≡ up.ways → t.down ≡ down.ways
     → KeepsOutcome moved one up.outcome upwards → KeepsOutcome one two down.outcome downwards
-    → last.places ≡ slice_set (slice_set two.places (list_number t.edge Up) upwards) (list_number t.edge Down) downwards → last.functions ≡ two.functions
+    → last.places ≡ slice_set (slice_set two.places (list_number t.edge Up) upwards) (list_number t.edge Down) downwards → last.functions ≡ two.functions → last.low ≡ two.low
     → copy ≡ t → after ≡ before ++ (copy ∷ []) → IsOneMore h edit before after graph arcs packed last t
-packed_one h edit before after graph arcs packed moved one two last t copy up down upwards downwards holds asked upper lower first second keep_up keep_down places functions copied pushed =
+packed_one h edit before after graph arcs packed moved one two last t copy up down upwards downwards holds asked upper lower first second keep_up keep_down places functions low copied pushed =
     let s = settling_of h edit before in
     let list : after ≡ before ++ (t ∷ []) = pushed ∙ ap (λ (x : TouchedEdge). before ++ (x ∷ [])) copied in
     let (ends, at, is) = asked.touched in
     let inside = slice_get_within h.edges t.edge ends at in
     let long = holds.places in
-    let placed = placed_both moved one two last t.edge up.outcome down.outcome upwards downwards (omega (arith, inside, long)) holds.inside keep_up keep_down places functions in
+    let placed = placed_both moved one two last t.edge up.outcome down.outcome upwards downwards (omega (arith, inside, long)) holds.inside keep_up keep_down places functions low in
     record {
       list = list;
       resettled = subst (λ (xs : List TouchedEdge). IsResettledEdge (settled_so_far (settling_of h edit xs)) t) (sym list)
@@ -227,11 +227,12 @@ packed_kept s graph arcs packed old new more holds =
       known = holds.known;
       places = ap length more.places ∙ holds.places;
       inside = subst (All (λ (k : ℕ). k ≤ length new.functions)) (sym more.places) inside;
-      stands = subst (λ (ps : List ℕ). IsFrame s.before (settled_so_far s) (StandingPair s (record { places = ps; functions = old.functions }))) (sym more.places) holds.stands;
+      stands = subst (λ (ps : List ℕ). IsFrame s.before (settled_so_far s) (StandingPair s (record { places = ps; functions = old.functions; low = old.low }))) (sym more.places) holds.stands;
       moves = λ e d given (p, at, there).
           let before : slice_get old.places (list_number e d) ≡ Some (suc p) = ap (λ (ps : List ℕ). slice_get ps (list_number e d)) (sym more.places) ∙ at in
           let le = all_at (λ (k : ℕ). k ≤ length old.functions) old.places (list_number e d) (suc p) holds.inside before in
-          holds.moves e d given (p, before, sym (more.still p (omega (arith, le))) ∙ there);
+          let (settled, says) = holds.moves e d given (p, before, sym (more.still p (omega (arith, le))) ∙ there) in
+          (settled, λ up. says (subst (λ (low : ℕ). LeadsUpTo s.before.edges low e) more.low up));
     }
 
 -- there is a place for both lists of the next edge

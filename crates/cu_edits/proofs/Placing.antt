@@ -1,8 +1,9 @@
 -- What became of both lists of an edge, kept and put in their places.
-use Rattle.std.proofs.Common.{◌≡◌, ◌≤◌, ◌<◌, ◌∙◌, ℕ, zero, suc, List, [], ◌∷◌, ◌++◌, Option, Some, refl, ap, sym, subst, arith, length}
+use Rattle.std.proofs.Common.{◌≡◌, ◌≤◌, ◌<◌, ◌∙◌, ◌≢◌, ◌⊎◌, ℕ, zero, suc, List, [], ◌∷◌, ◌++◌, Option, Some, refl, ap, sym, subst, arith, inl, inr, length}
 use Rattle.std.specs.Prelude.{All, slice_get, slice_set}
 use Rattle.std.proofs.lemmas.List.{length-set}
 use Rattle.cu_model.proofs.ListLaws.{get_here, get_other}
+use Rattle.cu_model.proofs.RoadLaws.{all_at}
 use Rattle.cu_arrival.specs.declared.runs.Run.{Run}
 use Rattle.cu_interval.specs.declared.ways.Dir.{Dir}
 use Rattle.cu_interval.specs.declared.ways.Dir.TheVariants.{Up, Down}
@@ -41,6 +42,10 @@ pub keeping_places : (old new : MovedValue) (outcome : Outcome) (place : ℕ) �
 keeping_places old new Stands place (none, same) = ap (λ (m : MovedValue). m.places) same
 keeping_places old new (Moves function) place (here, same) = ap (λ (m : MovedValue). m.places) same
 
+pub keeping_low : (old new : MovedValue) (outcome : Outcome) (place : ℕ) → KeepsOutcome old new outcome place → new.low ≡ old.low
+keeping_low old new Stands place (none, same) = ap (λ (m : MovedValue). m.low) same
+keeping_low old new (Moves function) place (here, same) = ap (λ (m : MovedValue). m.low) same
+
 keeping_grows : (old new : MovedValue) (outcome : Outcome) (place : ℕ) → KeepsOutcome old new outcome place → Grows old.functions new.functions
 keeping_grows old new Stands place (none, same) =
     let is : new.functions ≡ old.functions = ap (λ (m : MovedValue). m.functions) same in
@@ -65,12 +70,12 @@ grows_then old mid new first second = record {
 
 -- so nothing that was kept before is another
 pub more_none : (old new : MovedValue) → new ≡ old → KeepsMore old new
-more_none old new same = subst (KeepsMore old) (sym same) (record { places = refl; longer = omega arith; still = λ p lt. refl })
+more_none old new same = subst (KeepsMore old) (sym same) (record { places = refl; low = refl; longer = omega arith; still = λ p lt. refl })
 
 pub keeping_more : (old new : MovedValue) (outcome : Outcome) (place : ℕ) → KeepsOutcome old new outcome place → KeepsMore old new
 keeping_more old new outcome place keeps =
     let grows = keeping_grows old new outcome place keeps in
-    record { places = keeping_places old new outcome place keeps; longer = grows.longer; still = grows.still }
+    record { places = keeping_places old new outcome place keeps; low = keeping_low old new outcome place keeps; longer = grows.longer; still = grows.still }
 
 -- both outcomes of an edge are kept
 module _ (old new : MovedValue) (up down : Outcome) (upwards downwards : ℕ) (both : KeepsBoth old new up down upwards downwards) where
@@ -79,6 +84,7 @@ module _ (old new : MovedValue) (up down : Outcome) (upwards downwards : ℕ) (b
       let grows = grows_then old.functions both.mid.functions new.functions (keeping_grows old both.mid up upwards both.upper) (keeping_grows both.mid new down downwards both.lower) in
       record {
         places = keeping_places both.mid new down downwards both.lower ∙ keeping_places old both.mid up upwards both.upper;
+        low = keeping_low both.mid new down downwards both.lower ∙ keeping_low old both.mid up upwards both.upper;
         longer = grows.longer;
         still = grows.still;
       }
@@ -91,6 +97,41 @@ module _ (old new : MovedValue) (up down : Outcome) (upwards downwards : ℕ) (b
 
   pub lower_inside : downwards ≤ length new.functions
   lower_inside = keeping_inside both.mid new down downwards both.lower
+
+-- a place is new, or none
+place_new : (old new : MovedValue) (outcome : Outcome) (place : ℕ) → KeepsOutcome old new outcome place
+    → (place ≡ 0) ⊎ ((place ≡ suc (length old.functions)) × (length new.functions ≡ suc (length old.functions)))
+place_new old new Stands place (none, same) = inl none
+place_new old new (Moves function) place (here, same) =
+    inr (here, ap (λ (m : MovedValue). length m.functions) same ∙ behind_all old.functions function)
+
+-- no other list has its function at one of both places, and these aren't the same
+module _ (old new : MovedValue) (up down : Outcome) (upwards downwards : ℕ) (both : KeepsBoth old new up down upwards downwards) where
+  pub both_own : All (λ (place : ℕ). place ≤ length old.functions) old.places → (list place : ℕ) → slice_get new.places list ≡ Some (suc place)
+      → (suc place ≢ upwards) × (suc place ≢ downwards)
+  both_own inside list place at =
+      let before : slice_get old.places list ≡ Some (suc place) =
+      ap (λ (ps : List ℕ). slice_get ps list) (sym (both_more old new up down upwards downwards both).places) ∙ at in
+      let le = all_at (λ (k : ℕ). k ≤ length old.functions) old.places list (suc place) inside before in
+      let longer = (keeping_grows old both.mid up upwards both.upper).longer in (
+        λ same. elim (place_new old both.mid up upwards both.upper) [
+          | inl none ↦ omega (arith, same, none)
+          | inr (is, long) ↦ omega (arith, same, is, le)
+        ],
+        λ same. elim (place_new both.mid new down downwards both.lower) [
+          | inl none ↦ omega (arith, same, none)
+          | inr (is, long) ↦ omega (arith, same, is, le, longer)
+        ],
+      )
+
+  pub both_apart : upwards ≡ downwards → upwards ≡ 0
+  both_apart same = elim (place_new old both.mid up upwards both.upper) [
+    | inl none ↦ none
+    | inr (is, long) ↦ elim (place_new both.mid new down downwards both.lower) [
+      | inl none ↦ same ∙ none
+      | inr (there, more) ↦ absurd (omega (arith, same, is, there, long))
+    ]
+  ]
 
 -- what is kept at a place stays there
 placed_as : (old mid new : MovedValue) (edge : ℕ) (dir : Dir) (outcome : Outcome) (place : ℕ) → KeepsOutcome old mid outcome place → Grows mid.functions new.functions
@@ -108,7 +149,7 @@ placed_as old mid new edge dir (Moves function) place (here, same) grows at =
 -- both outcomes of an edge are kept, and then put in their places
 module _ (old one two new : MovedValue) (edge : ℕ) (up down : Outcome) (upwards downwards : ℕ) (within : list_number edge Down < length old.places)
     (inside : All (λ (place : ℕ). place ≤ length old.functions) old.places) (first : KeepsOutcome old one up upwards) (second : KeepsOutcome one two down downwards)
-    (places : new.places ≡ slice_set (slice_set two.places (list_number edge Up) upwards) (list_number edge Down) downwards) (functions : new.functions ≡ two.functions) where
+    (places : new.places ≡ slice_set (slice_set two.places (list_number edge Up) upwards) (list_number edge Down) downwards) (functions : new.functions ≡ two.functions) (low : new.low ≡ two.low) where
   same_places : two.places ≡ old.places
   same_places = keeping_places one two down downwards second ∙ keeping_places old one up upwards first
 
@@ -161,4 +202,5 @@ module _ (old one two new : MovedValue) (edge : ℕ) (up down : Outcome) (upward
         ∙ get_other two.places (list_number edge Up) (list_number e dir) upwards (numbers_apart edge e Up dir ne) ∙ ap (λ (ps : List ℕ). slice_get ps (list_number e dir)) same_places;
     functions = all.still;
     own = own;
+    low = low ∙ keeping_low one two down downwards second ∙ keeping_low old one up upwards first;
   }

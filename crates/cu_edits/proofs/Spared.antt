@@ -12,7 +12,7 @@ use Rattle.cu_edits.specs.Steps.Moving.{MovedValue}
 use Rattle.cu_edits.specs.Steps.Packed.{IsSettlingPacked}
 
 -- those that stay are of the same hierarchy
-packed_spared : (h : HierarchyValue) (before now : PackedValue) → ArePackedOf h before → AreSpared before now → ArePackedOf h now
+pub packed_spared : (h : HierarchyValue) (before now : PackedValue) → ArePackedOf h before → AreSpared before now → ArePackedOf h now
 packed_spared h before now packed spared = record {
   size = record { known = spared.known ∙ packed.size.known; functions = spared.functions ∙ packed.size.functions };
   keeps = keeps;

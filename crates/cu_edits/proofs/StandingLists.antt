@@ -17,7 +17,7 @@ use Rattle.cu_edits.specs.declared.new_list.Outcome.{Outcome}
 use Rattle.cu_edits.specs.declared.new_list.Outcome.TheVariants.{Stands, Moves}
 use Rattle.cu_edits.specs.Settling.{IsFinal, IsSettled, SettlingValue, list_in, settled_so_far}
 use Rattle.cu_edits.specs.Steps.Frames.{IsFrame, IsFramed, LeadsOver}
-use Rattle.cu_edits.specs.Steps.Moving.{IsOutcome, IsMovedTo, IsUnmoved, MovedValue, SayValue, StandingPair}
+use Rattle.cu_edits.specs.Steps.Moving.{IsOutcome, IsMovedTo, IsUnmoved, LeadsUpTo, MovedValue, SayValue, StandingPair}
 use Rattle.cu_edits.specs.Steps.Settled.{AreSettled}
 use Rattle.cu_edits.proofs.Replaced.{list_pushed}
 use Rattle.cu_edits.proofs.SettledFrames.{FinalPair, all_so, final_still, other_edge, settled_cases, settled_itself, settled_list, settled_still, settled_with, stays_frame, untouched_frame}
@@ -41,6 +41,7 @@ pub record ArePlaced (old new : MovedValue) (edge : ℕ) (outcome : Dir → Outc
   pub others : (e : ℕ) (dir : Dir) → edge ≢ e → slice_get new.places (list_number e dir) ≡ slice_get old.places (list_number e dir)
   pub functions : (place : ℕ) → place < length old.functions → slice_get new.functions place ≡ slice_get old.functions place
   pub own : (dir : Dir) → IsPlacedAs new edge dir (outcome dir)
+  pub low : new.low ≡ old.low
 
 -- a list that isn't moved stands
 stood : (moved : MovedValue) (edge : ℕ) (dir : Dir) (outcome : Outcome) → IsPlacedAs moved edge dir outcome → IsUnmoved moved edge dir → outcome ≡ Stands
@@ -157,8 +158,9 @@ module _ (s : SettlingValue) (are : AreSettled s) (t : TouchedEdge) (touched : I
   pub moves_more : All (λ (place : ℕ). place ≤ length moved.functions) moved.places
       → ((dir : Dir) (function : Option (List Run)) (ends : Ends) → slice_get s.before.edges t.edge ≡ Some ends
       → SayValue now (start_of ends dir) (end_of ends dir) (list_in t dir) function → IsRebuiltRuns next t.edge dir function)
-      → ((edge : ℕ) (dir : Dir) (function : Option (List Run)) → IsMovedTo moved edge dir function → IsSettled s edge × IsRebuiltRuns now edge dir function)
-      → (edge : ℕ) (dir : Dir) (function : Option (List Run)) → IsMovedTo after edge dir function → IsSettled (settled_with s t) edge × IsRebuiltRuns next edge dir function
+      → ((edge : ℕ) (dir : Dir) (function : Option (List Run)) → IsMovedTo moved edge dir function → IsSettled s edge × (LeadsUpTo s.before.edges moved.low edge → IsRebuiltRuns now edge dir function))
+      → (edge : ℕ) (dir : Dir) (function : Option (List Run)) → IsMovedTo after edge dir function
+      → IsSettled (settled_with s t) edge × (LeadsUpTo s.before.edges after.low edge → IsRebuiltRuns next edge dir function)
   moves_more inside says moves edge dir function at = elim (cases_eq t.edge edge) [
     | inl same ↦
         let here : IsMovedTo after t.edge dir function = subst (λ (e : ℕ). IsMovedTo after e dir function) (sym same) at in
@@ -166,7 +168,7 @@ module _ (s : SettlingValue) (are : AreSettled s) (t : TouchedEdge) (touched : I
         let (ends, there, is) = touched in
         let value = subst (IsOutcome s moved t.edge dir ends (list_in t dir)) went_there (became dir ends there) in (
           subst (IsSettled (settled_with s t)) same (settled_itself s t),
-          subst (λ (e : ℕ). IsRebuiltRuns next e dir function) same (says dir function ends there value),
+          λ up. subst (λ (e : ℕ). IsRebuiltRuns next e dir function) same (says dir function ends there value),
         )
     | inr other ↦
         let (place, there, is) = at in
@@ -174,7 +176,8 @@ module _ (s : SettlingValue) (are : AreSettled s) (t : TouchedEdge) (touched : I
         let lt = all_at (λ (k : ℕ). k ≤ length moved.functions) moved.places (list_number edge dir) (suc place) inside before in
         let (settled, packed) = moves edge dir function (place, before, sym (placed.functions place (omega (arith, lt))) ∙ is) in (
           settled_still s t edge settled,
-          packed_stay now next (FinalPair s) (stays_frame s are t touched fresh) s.before.edges refl refl edge dir function
-              (λ ends given. (edge, dir, over s.before.edges edge dir ends given, inl settled)) (list_pushed s.before s.edit s.settled t edge dir other) packed,
+          λ up. packed_stay now next (FinalPair s) (stays_frame s are t touched fresh) s.before.edges refl refl edge dir function
+              (λ ends given. (edge, dir, over s.before.edges edge dir ends given, inl settled)) (list_pushed s.before s.edit s.settled t edge dir other)
+              (packed (subst (λ (low : ℕ). LeadsUpTo s.before.edges low edge) placed.low up)),
         )
   ]

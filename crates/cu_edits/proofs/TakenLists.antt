@@ -22,7 +22,7 @@ use Rattle.cu_edits.specs.Settling.{IsFinal, IsSettled, SettlingValue, numbers_o
 use Rattle.cu_edits.specs.Steps.Packed.{IsSettlingPacked}
 use Rattle.cu_edits.specs.Steps.Frames.{IsFrame}
 use Rattle.cu_edits.specs.Steps.SettlerStates.{IsSettlingNone}
-use Rattle.cu_edits.specs.Steps.Moving.{MovedValue, StandingPair}
+use Rattle.cu_edits.specs.Steps.Moving.{LeadsUpTo, MovedValue, StandingPair}
 use Rattle.cu_edits.specs.Steps.Settled.{AreSettled}
 use Rattle.cu_edits.specs.Steps.Taking.{HasTaken, IsTaken, TakesList}
 use Rattle.cu_edits.proofs.StateLaws.{no_edge}
@@ -136,12 +136,17 @@ packed_in_frame a b Pair frame sound same edge dir lt pair function packed =
 
 -- functions known before an edit and those of the lists that it moved, once all edges are settled
 module _ (s : SettlingValue) (graph : ChordalValue) (arcs : List (List ℕ)) (packed : PackedValue) (moved : MovedValue) (holds : IsSettlingPacked s graph arcs packed moved)
-    (final : (edge : ℕ) → IsFinal s edge) (now : PackedValue) (has : HasTaken moved packed now (length s.before.edges)) where
+    (final : (edge : ℕ) → IsFinal s edge) (all_kept : moved.low ≡ 0) (now : PackedValue) (has : HasTaken moved packed now (length s.before.edges)) where
   abbrev after : HierarchyValue
   after = settled_so_far s
 
   size_now : IsSized (length s.before.edges) now
   size_now = has.size (length s.before.edges) holds.known.size
+
+  leads_up : (edge : ℕ) → edge < length s.before.edges → LeadsUpTo s.before.edges moved.low edge
+  leads_up edge lt =
+      let none : Ends = record { low = 0; high = 0 } in
+      (get_or s.before.edges edge none, slice_get-get_or s.before.edges edge none lt, omega (arith, all_kept))
 
   kept : (edge : ℕ) (dir : Dir) → edge < length s.before.edges → IsKnownList now (list_number edge dir) → (function : Option (List Run))
       → slice_get now.functions (list_number edge dir) ≡ Some function → IsTaken moved packed now edge dir → IsRebuiltRuns after edge dir function
@@ -149,7 +154,7 @@ module _ (s : SettlingValue) (graph : ChordalValue) (arcs : List (List ℕ)) (pa
       packed_in_frame s.before after (StandingPair s moved) holds.stands holds.are.sound refl edge dir lt (λ ends given. (edge, dir, over s.before.edges edge dir ends given, final edge, unmoved))
       function (holds.known.keeps edge dir tt (sym same ∙ known) function (sym there ∙ at))
   kept edge dir lt known function at (inr (new, moved_to, is, there)) =
-      subst (IsRebuiltRuns after edge dir) (same_Some new function (sym there ∙ at)) (holds.moves edge dir new moved_to).1
+      subst (IsRebuiltRuns after edge dir) (same_Some new function (sym there ∙ at)) ((holds.moves edge dir new moved_to).1 (leads_up edge lt))
 
   pub taken_packed : ArePackedOf after now
   taken_packed = record {
@@ -213,10 +218,10 @@ module _ (s self : SettlingValue) (is : s ≡ self) (graph : ChordalValue) (arcs
   none_after None none known = tt
   none_after (Some packed) none known = subst (λ (x : SettlingValue). ArePackedOf (settled_so_far x) packed) is (untouched_packed s graph arcs none final packed known)
 
-  pub packed_after : (packed : PackedValue) (moved : MovedValue) → IsSettlingPacked s graph arcs packed moved → (edges : ℕ) → edges ≡ length graph.edges → (result : Result PackedValue NoMemory)
-      → IfOk result (λ now. HasTaken moved packed now edges) → (found : Option PackedValue) → found ≡ result_ok result → IfSome found (ArePackedOf (settled_so_far self))
-  packed_after packed moved holds edges count (Err e) has found same = subst (λ (o : Option PackedValue). IfSome o (ArePackedOf (settled_so_far self))) (sym same) tt
-  packed_after packed moved holds edges count (Ok now) has found same =
+  pub packed_after : (packed : PackedValue) (moved : MovedValue) → IsSettlingPacked s graph arcs packed moved → (edges : ℕ) → edges ≡ length graph.edges → (found : Option PackedValue)
+      → IfSome found (λ now. (moved.low ≡ 0) × HasTaken moved packed now edges) → IfSome found (ArePackedOf (settled_so_far self))
+  packed_after packed moved holds edges count None has = tt
+  packed_after packed moved holds edges count (Some now) (all_kept, has) =
       let long : edges ≡ length s.before.edges = count ∙ ap (λ (k : ChordalValue). length k.edges) holds.parts.hierarchy.0 in
-      let known = taken_packed s graph arcs packed moved holds final now (subst (HasTaken moved packed now) long has) in
-      subst (λ (o : Option PackedValue). IfSome o (ArePackedOf (settled_so_far self))) (sym same) (subst (λ (x : SettlingValue). ArePackedOf (settled_so_far x) now) is known)
+      let known = taken_packed s graph arcs packed moved holds final all_kept now (subst (HasTaken moved packed now) long has) in
+      subst (λ (x : SettlingValue). ArePackedOf (settled_so_far x) now) is known

@@ -22,7 +22,7 @@ use Rattle.cu_edits.specs.Steps.Packed.{IsSettlingPacked}
 use Rattle.cu_edits.specs.Steps.TurningPlain.{ArePlainOf, SayLists, SaysList, SaysSame}
 use Rattle.cu_edits.specs.Steps.Holding.{IsSettling}
 use Rattle.cu_edits.specs.Steps.Known.{HasFunctions, function_in}
-use Rattle.cu_edits.specs.Steps.Moving.{IsUnmoved, MovedValue, StandingPair}
+use Rattle.cu_edits.specs.Steps.Moving.{IsUnmoved, LeadsUpTo, MovedValue, StandingPair}
 use Rattle.cu_edits.proofs.EditSettling.{function_stays}
 use Rattle.cu_edits.proofs.Replaced.{number_among, number_of_one}
 use Rattle.cu_edits.proofs.Sides.{list_at, over}
@@ -92,7 +92,10 @@ says_rebuilt h edge dir (Some packed) (Some runs) (sound, same) (some, of, onwar
 
 -- so is the function of a list that stands
 module _ (s : SettlingValue) (graph : ChordalValue) (arcs : List (List ℕ)) (packed : PackedValue) (moved : MovedValue) (old : IsSettlingPacked s graph arcs packed moved) (edge : ℕ)
-    (settled : IsSettled s edge) (dir : Dir) where
+    (settled : IsSettled s edge) (dir : Dir) (all : moved.low ≡ 0) where
+  leads_up : LeadsUpTo s.before.edges moved.low edge
+  leads_up = let (ends, at, touched) = old.are.touched edge settled in (ends, at, omega (arith, all))
+
   stands_rebuilt : (function : Option (List Run)) → IsUnmoved moved edge dir → IsRebuiltFunction s.before edge dir function → IsRebuiltFunction (settled_so_far s) edge dir function
   stands_rebuilt function unmoved is =
       let now = settled_so_far s in
@@ -107,12 +110,12 @@ module _ (s : SettlingValue) (graph : ChordalValue) (arcs : List (List ℕ)) (pa
 
   list_rebuilt : (function : Option (List Run)) → SaysList s.before moved edge dir function → IsRebuiltFunction (settled_so_far s) edge dir function
   list_rebuilt function (inl (unmoved, is)) = stands_rebuilt function unmoved is
-  list_rebuilt function (inr (given, moves, says)) = says_rebuilt (settled_so_far s) edge dir given function says (old.moves edge dir given moves).1
+  list_rebuilt function (inr (given, moves, says)) = says_rebuilt (settled_so_far s) edge dir given function says ((old.moves edge dir given moves).1 leads_up)
 
 -- so a settler may go over
 pub gone_over : (s : SettlingValue) (graph : ChordalValue) (arcs : List (List ℕ)) (packed : PackedValue) (moved : MovedValue) (held : PlainState) → IsSettlingPacked s graph arcs packed moved
-    → ArePlainOf s.before s.settled moved held → IsSettling s graph arcs held.rebuilt held.known.items
-gone_over s graph arcs packed moved held old plain = record {
+    → moved.low ≡ 0 → ArePlainOf s.before s.settled moved held → IsSettling s graph arcs held.rebuilt held.known.items
+gone_over s graph arcs packed moved held old all plain = record {
   are = old.are;
   hierarchy = old.parts.hierarchy;
   roads = old.parts.roads;
@@ -123,6 +126,6 @@ gone_over s graph arcs packed moved held old plain = record {
   count = plain.count;
   functions = λ e functions at.
       let (settled, says) = plain.functions e functions at in
-      (inl settled, λ dir. list_rebuilt s graph arcs packed moved old e settled dir (function_in functions dir) (says dir));
+      (inl settled, λ dir. list_rebuilt s graph arcs packed moved old e settled dir all (function_in functions dir) (says dir));
   settled = plain.known;
 }

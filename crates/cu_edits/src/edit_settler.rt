@@ -1,20 +1,22 @@
 //! The settler of an edit: it settles an edge by the functions of the edges settled before it and of those that stay.
 
-ghost use Rattle.std.specs.Prelude.{◌≡◌, ◌<◌, ◌*◌, ◌++◌, ◌∷◌, [], ℕ, List, All, IfNone, IfOk, IfSome, OnErr, OnOk, length};
+ghost use Rattle.std.specs.Prelude.{◌≡◌, ◌<◌, ◌*◌, ◌++◌, ◌∷◌, [], ℕ, List, All, IfNone, IfOk, IfSome, OnErr, OnOk, false, length};
 ghost use Rattle.cu_resettled.specs.ResettlingAll.{IsTouchedEdgeBySome, edited_all};
 ghost use Rattle.cu_model.specs.Edits.{IsEditInRange};
 ghost use Rattle.cu_interval.specs.declared.ways.TouchedEdge.{TouchedEdge};
 ghost use Rattle.cu_interval.specs.EdgeArcs.{AreEdgeArcs};
 ghost use Rattle.cu_interval.specs.Hierarchies.{HierarchyValue, IsHierarchyOf};
 ghost use Rattle.cu_bounds.specs.Near.{AreNear};
+ghost use Rattle.cu_unpack.specs.RebuiltRuns.{IsSized};
 ghost use Rattle.cu_edits.specs.Customized.{AreCustomized};
 ghost use Rattle.cu_edits.specs.EditLists.{FitsNetwork};
 ghost use Rattle.cu_edits.specs.Learned.{ArePackedOf};
 ghost use Rattle.cu_edits.specs.Paused.{FitsPaused};
 ghost use Rattle.cu_edits.specs.Settling.{IsLowerSide, IsResettledEdge, IsSettled, settled_so_far};
-ghost use Rattle.cu_edits.specs.Steps.SettlerStates.{HoldsOver, HoldsPacked, IsBegun, IsPlain};
+ghost use Rattle.cu_edits.specs.Steps.SettlerStates.{HoldsOver, HoldsPacked, IsBegun, IsPlain, KeepsAll};
 ghost use Rattle.cu_edits.specs.Steps.Holding.{IsNext, IsSettledEdge, IsSettling};
 ghost use Rattle.cu_edits.specs.Steps.Known.{HasFunctions, functions_of};
+ghost use Rattle.cu_edits.specs.Steps.Taking.{HasTaken};
 ghost use Rattle.cu_edits.specs.Steps.Parts.{FitTogether, settling_over};
 
 use crate::copied_lists::push_copy;
@@ -23,8 +25,10 @@ use crate::edit_ground::EditGround;
 use crate::edit_list::EditList;
 use crate::edit_parts::EditParts;
 use crate::edits::Edits;
+use crate::keeping::Keeping;
 use crate::learned::Learned;
 use crate::learning::learn_sides;
+use crate::letting_go::let_go_below;
 use crate::moved_lists::MovedLists;
 use crate::paused::PausedSettler;
 use crate::plain_functions::plain_of_packed;
@@ -51,6 +55,8 @@ pub struct EditSettler<'a, W: Ways> {
     settled: Vec<TouchedEdge>,
     // The functions of edges whose lists won't change any more, as far as they are known.
     state: SettlerState,
+    keeping: Keeping,
+    gave_up: bool,
 }
 
 impl<'a, W: Ways> Model for EditSettler<'a, W> {
@@ -108,16 +114,17 @@ impl<'a, W: Ways> EditSettler<'a, W> {
             ≡ record { before = W.hierarchy ways.now; edit = edit.now ∷ []; settled = [] }) }
     {
         let parts = EditParts::of(ways, Edits::One(edit), ground);
-        Ok(EditSettler::of_parts(alloc, parts, learned))
+        Ok(EditSettler::of_parts(alloc, parts, learned, Keeping::All))
     }
 
     /// A settler that settled none yet, for all edits of a list, where edges with a mark are known to be customized, and maybe the least
-    /// bounds of lists.
+    /// bounds of lists. It keeps all functions, or those alone that it may need.
     pub fn over_all(
         alloc: Global,
         ways: &'a W,
         edits: &'a EditList,
         ground: EditGround<'a>,
+        keeping: Keeping,
     ) -> EditSettler<'a, W>
         requires edits { FitsNetwork (W.hierarchy ways.now).network edits.now }
         requires graph { IsHierarchyOf ground.graph.now (W.hierarchy ways.now) }
@@ -130,7 +137,7 @@ impl<'a, W: Ways> EditSettler<'a, W> {
             ≡ record { before = W.hierarchy ways.now; edit = edits.now.edits; settled = [] } }
     {
         let parts = EditParts::of(ways, Edits::All(edits), ground);
-        EditSettler::of_parts(alloc, parts, None)
+        EditSettler::of_parts(alloc, parts, None, keeping)
     }
 
     // A settler over these parts that settled none yet.
@@ -138,6 +145,7 @@ impl<'a, W: Ways> EditSettler<'a, W> {
         alloc: Global,
         parts: EditParts<'a, W>,
         learned: Option<Learned>,
+        keeping: Keeping,
     ) -> EditSettler<'a, W>
         requires fit { FitTogether parts }
         requires learned { IfSome learned (ArePackedOf parts.before) }
@@ -148,7 +156,14 @@ impl<'a, W: Ways> EditSettler<'a, W> {
             parts,
             settled,
             state: SettlerState::Nothing(learned),
+            keeping,
+            gave_up: false,
         }
+    }
+
+    /// Did it refuse an edge for want of functions that it let go of, and not of memory? Another that keeps all may settle the edges.
+    pub fn gave_up(&self) -> bool {
+        self.gave_up
     }
 
     /// Makes the room that it takes for all edges of the hierarchy together, so that settling an edge takes none but for what it
@@ -186,6 +201,8 @@ impl<'a, W: Ways> EditSettler<'a, W> {
             parts,
             settled,
             state,
+            keeping: Keeping::All,
+            gave_up: false,
         }
     }
 
@@ -199,7 +216,7 @@ impl<'a, W: Ways> EditSettler<'a, W> {
     }
 
     /// What is known of lists once all touched edges are settled. None where nothing is, since a way takes longer than packed runs
-    /// can say or memory ran out.
+    /// can say, memory ran out, or functions were let go of.
     pub fn into_learned(self, alloc: Global) -> Option<Learned>
         requires all { (edge : ℕ) → IsTouchedEdgeBySome self.before self.edit edge → IsSettled self edge }
         ensures { IfSome result (ArePackedOf (settled_so_far self.entry)) }
@@ -208,7 +225,7 @@ impl<'a, W: Ways> EditSettler<'a, W> {
         let edges = parts.edges();
         match state {
             SettlerState::Nothing(learned) => learned,
-            SettlerState::Packed(packed) => Learned::after(alloc, packed, edges).ok(),
+            SettlerState::Packed(packed) => learned_after(alloc, packed, edges),
             SettlerState::Plain(_plain) => None,
         }
     }
@@ -218,17 +235,36 @@ impl<'a, W: Ways> Settler for EditSettler<'a, W> {
     ghost state = { λ settler. settler };
 
     fn settle(&mut self, alloc: Global, edge: u32) -> Result<TouchedEdge, NoMemory> {
-        settle_by_state(alloc, &self.parts, &mut self.state, &mut self.settled, edge)
+        let (parts, state) = (&self.parts, &mut self.state);
+        let_go_below(parts, state, edge, self.keeping);
+        let (settled, gave_up) = (&mut self.settled, &mut self.gave_up);
+        settle_by_state(alloc, parts, state, settled, edge, gave_up)
     }
 }
 
-// Settles one edge more by what is state: by packed runs as long as they can say how long ways take, and then plainly.
+// What is known after an edit of so many edges. None where memory runs out, and where functions were let go of.
+fn learned_after(alloc: Global, packed: PackedState, edges: u32) -> Option<Learned>
+    requires places { length packed.moved.places ≡ 2 * edges }
+    requires size { IsSized edges packed.functions }
+    ensures { IfSome result (λ learned. (packed.moved.low ≡ 0)
+        × HasTaken packed.moved packed.functions learned edges) }
+{
+    if packed.moved.low() > 0 {
+        drop(packed);
+        return None;
+    }
+    Learned::after(alloc, packed, edges).ok()
+}
+
+// Settles one edge more by what is state: by packed runs as long as they can say how long ways take, and then plainly. Gives up where
+// functions were let go of that it needs then.
 fn settle_by_state<W: Ways>(
     alloc: Global,
     parts: &EditParts<'_, W>,
     state: &mut SettlerState,
     settled: &mut Vec<TouchedEdge>,
     edge: u32,
+    gave_up: &mut bool,
 ) -> Result<TouchedEdge, NoMemory>
     requires holds { HoldsOver parts.now settled.old.items state.old }
     requires asked { IsNext (settling_over parts.now settled.old.items) edge }
@@ -243,6 +279,10 @@ fn settle_by_state<W: Ways>(
     hold_packed(alloc, parts, state)?;
     if let Some(touched) = settle_in_packed(alloc, parts, state, settled, edge)? {
         return Ok(touched);
+    }
+    if has_let_go(state) {
+        *gave_up = true;
+        return Err(NoMemory);
     }
     turn_plain(alloc, parts, settled, state)?;
     settle_plainly(alloc, parts, state, settled, edge)
@@ -338,6 +378,16 @@ fn settle_in_packed<W: Ways>(
     settle_packed(alloc, parts, packed, settled, edge)
 }
 
+// Were functions let go of?
+fn has_let_go(state: &SettlerState) -> bool
+    ensures { result ≡ false → KeepsAll state.now }
+{
+    match state {
+        SettlerState::Packed(packed) => packed.moved.low() > 0,
+        _ => false,
+    }
+}
+
 // Goes over from packed runs to plain functions, if it isn't done yet.
 fn turn_plain<W: Ways>(
     alloc: Global,
@@ -346,6 +396,7 @@ fn turn_plain<W: Ways>(
     state: &mut SettlerState,
 ) -> Result<(), NoMemory>
     requires begun { IsBegun state.old }
+    requires keeps { KeepsAll state.old }
     requires holds { HoldsOver parts.now settled.now state.old }
     ensures plain { OnOk result (IsPlain state.new) }
     ensures holds { HoldsOver parts.now settled.now state.new }

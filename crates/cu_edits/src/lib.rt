@@ -8,7 +8,8 @@
 //! [`EditSettler`] is the one that [`touch`] takes. It settles by functions that are packed runs, whose promise is the same as
 //! that of plain ones; once a way takes longer than packed runs can say, as in a file that isn't built, it goes over to plain
 //! functions. One that knows the least bounds of lists ([`EditGround`]) learns no functions of halves that take longer than another
-//! way does at most.
+//! way does at most. One that keeps only what it needs ([`Keeping`]) lets go of functions that no list of a later edge is made of, as
+//! long as edges come by rising number.
 //!
 //! [`touch_over`] is the same for whoever makes one edit after the other, and knows of lists what earlier edits left:
 //! [`CustomizedEdges`] tells which edges are known to be customized (`specs/Customized.antt`), as all are in a built hierarchy,
@@ -43,9 +44,11 @@ mod edits;
 mod finding;
 mod found_edges;
 mod in_work;
+mod keeping;
 mod learned;
 mod learning;
 mod learning_packed;
+mod letting_go;
 mod moved_lists;
 mod new_list;
 mod paused;
@@ -69,6 +72,7 @@ pub use edit_settler::EditSettler;
 pub use edited_roads::EditedRoads;
 pub use edits::Edits;
 pub use in_work::InWork;
+pub use keeping::Keeping;
 pub use learned::Learned;
 pub use paused::PausedSettler;
 pub use planning::plan_all;

@@ -1,6 +1,6 @@
 //! Settling the touched edges of an edit by packed runs.
 
-ghost use Rattle.std.specs.Prelude.{◌≡◌, ◌<◌, ◌*◌, ◌++◌, ◌∷◌, [], IfNone, IfOk, IfSome, OnErr, OnOk, length, true};
+ghost use Rattle.std.specs.Prelude.{◌≡◌, ◌≤◌, ◌<◌, ◌*◌, ◌++◌, ◌∷◌, [], All, IfNone, IfOk, IfSome, OnErr, OnOk, length, true};
 ghost use Rattle.cu_resettled.specs.ResettlingAll.{edited_all};
 ghost use Rattle.cu_interval.specs.declared.ways.Dir.TheVariants.{Up, Down};
 ghost use Rattle.cu_interval.specs.Hierarchies.{list_number, list_of};
@@ -11,7 +11,7 @@ ghost use Rattle.cu_edits.specs.Learned.{ArePackedOf};
 ghost use Rattle.cu_edits.specs.Steps.Packed.{AreCandidatesAtHand, IfNear, IsPackedList, LearnsPacked};
 ghost use Rattle.cu_edits.specs.Steps.SettlerStates.{HoldsPacked, SettlesList};
 ghost use Rattle.cu_edits.specs.Steps.Holding.{IsNext};
-ghost use Rattle.cu_edits.specs.Steps.Moving.{AreWaysUnmoved, IsOutcomeOf, IsNewList, KeepsBoth, KeepsMore, KeepsWays, MayStand, PlacesBoth};
+ghost use Rattle.cu_edits.specs.Steps.Moving.{AreWaysUnmoved, IsOutcomeOf, IsNewList, KeepsBoth, KeepsHalves, KeepsMore, KeepsWays, MayStand, PlacesBoth};
 ghost use Rattle.cu_edits.specs.Steps.Parts.{FitTogether, TellsLists, settling_over};
 
 use crate::copied_lists::copy_touched;
@@ -32,8 +32,9 @@ use cu_unpack::PackedFunctions;
 use std::alloc::Global;
 
 /// Settles one edge more by packed runs: each of its lists stands, or is settled by the functions of its halves, which are learned
-/// as they are needed. None where a way takes longer than packed runs can say; nothing is settled then. What was learned stays,
-/// after a refusal too.
+/// as they are needed; where functions take much room some are forgotten first. None where a way takes longer than packed runs can
+/// say, and where functions were let go of that the lists may be made of; nothing is settled then. What was learned stays after a
+/// refusal too.
 pub fn settle_packed<W: Ways>(
     alloc: Global,
     parts: &EditParts<'_, W>,
@@ -53,11 +54,22 @@ pub fn settle_packed<W: Ways>(
     ensures holds { HoldsPacked parts.now settled.new.items state.new }
 {
     state.functions.spare();
-    let Some((up, down)) = next_lists(alloc, parts, state, settled, edge)? else {
+    if !keeps_halves(parts, &state.moved, edge) {
+        return Ok(None);
+    }
+    let Some(next) = next_lists(alloc, parts, state, settled, edge)? else {
         return Ok(None);
     };
-    let lists = keep_lists(alloc, parts, state, settled, edge, up, down)?;
+    let lists = keep_lists(alloc, parts, state, settled, edge, next)?;
     Ok(Some(lists))
+}
+
+// Are all functions kept that the lists of an edge may be made of?
+fn keeps_halves<W: Ways>(parts: &EditParts<'_, W>, moved: &MovedLists, edge: u32) -> bool
+    requires edge { edge < length parts.now.graph.edges }
+    ensures { result ≡ true → KeepsHalves parts.now.graph.edges moved.now edge }
+{
+    moved.low() <= parts.ends(edge).low
 }
 
 // Both lists of the edge that is settled next, upwards and downwards. None where a way takes longer than packed runs can say.
@@ -70,6 +82,7 @@ fn next_lists<W: Ways>(
 ) -> Result<Option<(NewList, NewList)>, NoMemory>
     requires holds { HoldsPacked parts.now settled.now state.old }
     requires asked { IsNext (settling_over parts.now settled.now) edge }
+    requires halves { KeepsHalves parts.now.graph.edges state.old.moved edge }
     ensures up { IfOk result (λ found. IfSome found (λ lists. IsNewList (settling_over parts.now settled.now)
         state.new.moved edge Up lists.0)) }
     ensures down { IfOk result (λ found. IfSome found (λ lists. IsNewList (settling_over parts.now settled.now)
@@ -93,15 +106,14 @@ fn keep_lists<W: Ways>(
     state: &mut PackedState,
     settled: &mut Vec<TouchedEdge>,
     edge: u32,
-    up: NewList,
-    down: NewList,
+    next: (NewList, NewList),
 ) -> Result<TouchedEdge, NoMemory>
     requires holds { HoldsPacked parts.now settled.old.items state.old }
     requires asked { IsNext (settling_over parts.now settled.old.items) edge }
     requires up { IsNewList (settling_over parts.now settled.old.items)
-        state.old.moved edge Up up }
+        state.old.moved edge Up next.0 }
     requires down { IsNewList (settling_over parts.now settled.old.items)
-        state.old.moved edge Down down }
+        state.old.moved edge Down next.1 }
     ensures edge { IfOk result (λ touched. touched.edge ≡ edge) }
     ensures settled { IfOk result
         (λ touched. settled.new.items ≡ settled.old.items ++ touched ∷ []) }
@@ -110,6 +122,7 @@ fn keep_lists<W: Ways>(
     ensures kept { OnErr result (settled.new.items ≡ settled.old.items) }
     ensures holds { HoldsPacked parts.now settled.new.items state.new }
 {
+    let (up, down) = next;
     let lists = TouchedEdge {
         edge,
         up: up.ways,
@@ -129,7 +142,8 @@ fn keep_settled(
     up: Outcome,
     down: Outcome,
 ) -> Result<(), NoMemory>
-    requires { list_number lists.now.edge Down < length moved.old.places }
+    requires edge { list_number lists.now.edge Down < length moved.old.places }
+    requires inside { All (λ place. place ≤ length moved.old.functions) moved.old.places }
     ensures settled { OnOk result (settled.new.items ≡ settled.old.items ++ lists.now ∷ []) }
     ensures kept { OnErr result (settled.new.items ≡ settled.old.items) }
     ensures places { OnOk result (PlacesBoth moved.old moved.new lists.now.edge up down) }
@@ -165,6 +179,7 @@ fn next_list<W: Ways>(
     requires moved { TellsLists parts.now state.old.moved }
     requires edge { edge < length parts.now.graph.edges }
     requires triangles { AreTrianglesOf parts.now.graph.edges edge state.old.settling }
+    requires halves { KeepsHalves parts.now.graph.edges state.old.moved edge }
     ensures list { IfOk result (SettlesList parts.now state.old edge dir) }
     ensures learns { LearnsPacked parts.now.before
         state.old.functions state.new.functions }
@@ -212,6 +227,7 @@ fn settle_list<W: Ways>(
     requires moved { TellsLists parts.now state.old.moved }
     requires edge { edge < length parts.now.graph.edges }
     requires triangles { AreTrianglesOf parts.now.graph.edges edge state.old.settling }
+    requires halves { KeepsHalves parts.now.graph.edges state.old.moved edge }
     ensures list { IfOk result (SettlesList parts.now state.old edge dir) }
     ensures learns { LearnsPacked parts.now.before
         state.old.functions state.new.functions }

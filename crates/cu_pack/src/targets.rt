@@ -18,8 +18,10 @@ pub trait Target {
     fn put(&mut self, piece: &[u8]) -> Result<(), Self::Failed>
         ensures { OnOk result (grows self.old self.new piece.now) };
 
+    /// Nothing is put where nothing changes.
     ghost stays: { (a : Self) → grows a a [] };
 
+    /// What is put in two steps is one piece behind the other.
     ghost more: { (a b c : Self) (xs ys : List ℕ) → grows a b xs → grows b c ys
         → grows a c (xs ++ ys) };
 }

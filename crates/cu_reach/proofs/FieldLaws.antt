@@ -1,5 +1,5 @@
 -- The fields of a line, cut one by one.
-use Rattle.std.proofs.Common.{◌≡◌, ◌≤◌, ◌<◌, ◌+◌, ◌-◌, ◌==◌, ◌∙◌, ℕ, suc, zero, List, [], ◌∷◌, Option, Some, None, length, refl, ap, subst, arith}
+use Rattle.std.proofs.Common.{◌≡◌, ◌≤◌, ◌<◌, ◌+◌, ◌-◌, ◌==◌, ℕ, suc, zero, List, [], ◌∷◌, Option, Some, None, length, refl, ap, subst, arith}
 use Rattle.std.specs.Prelude.{All, Err, take}
 use Rattle.std.specs.Borrow.{Bor}
 use Rattle.std.proofs.lemmas.List.Elements.{All-tail}

@@ -1,10 +1,9 @@
 -- Leaving later never arrives earlier, so nothing behind a second that is too late is in time.
-use Rattle.std.proofs.Common.{◌≡◌, ◌≤◌, ◌<◌, ◌+◌, ◌-◌, ◌^◌, ◌⊎◌, ◌∙◌, ℕ, List, Some, refl, sym, subst, arith, inl, inr}
-use Rattle.std.specs.Prelude.{slice_get}
+use Rattle.std.proofs.Common.{◌≡◌, ◌≤◌, ◌<◌, ◌+◌, ◌-◌, ◌^◌, ◌⊎◌, ◌∙◌, ℕ, sym, subst, arith, inl, inr}
 use Rattle.cu_model.specs.Days.{day}
 use Rattle.cu_model.specs.Networks.{NetworkValue, IsNetwork}
-use Rattle.cu_model.specs.Roads.{HasNoWalk, IsLeastArrival, drive}
-use Rattle.cu_interval.specs.Hierarchies.{HierarchyValue, IsBuilt}
+use Rattle.cu_model.specs.Roads.{IsLeastArrival}
+use Rattle.cu_interval.specs.Hierarchies.{HierarchyValue}
 use Rattle.cu_sweep.specs.declared.finding.Found.{Found}
 use Rattle.cu_sweep.specs.declared.finding.Found.TheVariants.{Arrive, NoWalk, Long}
 use Rattle.cu_sweep.specs.Answers.{IsAnswer, IsLeastWhereBuilt}

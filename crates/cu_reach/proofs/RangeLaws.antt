@@ -1,5 +1,5 @@
 -- Lines that pass their checks ask for nodes of the network, and for seconds of the day.
-use Rattle.std.proofs.Common.{◌≡◌, ◌<◌, ◌∙◌, ℕ, Bool, true, false, List, [], ◌∷◌, refl, sym, ap, subst, arith}
+use Rattle.std.proofs.Common.{◌≡◌, ◌<◌, ℕ, Bool, true, false, List, [], ◌∷◌, refl, subst}
 use Rattle.std.specs.Prelude.{◌&&◌, ◌≤◌, ◌-◌, ◌*◌, All, Err, Ok, Result, drop, if◌then◌else◌, length, map, nat_le, nat_lt, take}
 use Rattle.std.specs.List.{list_all}
 use Rattle.std.proofs.lemmas.Bool.{leb-true, ltb-true}
@@ -8,7 +8,6 @@ use Rattle.cu_model.specs.Days.{day}
 use Rattle.cu_model.specs.Numbers.{number_value}
 use Rattle.cu_model.specs.Queries.{fields_of_line}
 use Rattle.cu_reach.specs.declared.lines.LatestAsked.{LatestAsked}
-use Rattle.cu_reach.specs.declared.lines.ManyRefusal.{ManyRefusal}
 use Rattle.cu_reach.specs.declared.lines.ReachAsked.{ReachAsked}
 use Rattle.cu_reach.specs.declared.lines.TheConstants.{LATEST_BY, MAX_TABLE}
 use Rattle.cu_reach.specs.Departures.{latest_by}

@@ -1,6 +1,5 @@
 -- Replies that say what is so of times in one sense say it in another, where the one follows from the other.
-use Rattle.std.proofs.Common.{◌≡◌, ◌<◌, ℕ, List, [], ◌∷◌, Option, refl}
-use Rattle.std.specs.Prelude.{slice_get}
+use Rattle.std.proofs.Common.{ℕ, List, [], ◌∷◌, Option}
 use Rattle.cu_model.specs.declared.queries.Query.{Query}
 use Rattle.cu_reach.specs.declared.departures.Departure.{Departure}
 use Rattle.cu_reach.specs.declared.departures.Departure.TheVariants.{Depart, TooLate, NoWalk, Long}

@@ -1,6 +1,6 @@
 -- What the fields of a line ask for a table.
-use Rattle.std.proofs.Common.{◌≡◌, ◌≤◌, ◌<◌, ◌+◌, ◌*◌, ◌-◌, ◌∙◌, ◌^◌, ℕ, Bool, true, false, List, [], ◌∷◌, Option, Some, None, length, refl, sym, ap, subst, arith}
-use Rattle.std.specs.Prelude.{◌&&◌, All, Ok, Err, Result, bytes_eq, codes, drop, if◌then◌else◌, map, nat_le, nat_lt, take}
+use Rattle.std.proofs.Common.{◌≡◌, ◌≤◌, ◌*◌, ◌-◌, ◌∙◌, ◌^◌, ℕ, Bool, true, false, List, [], ◌∷◌, Some, None, length, refl, sym, ap, arith}
+use Rattle.std.specs.Prelude.{◌&&◌, All, Ok, Result, bytes_eq, codes, drop, if◌then◌else◌, map, nat_le, nat_lt, take}
 use Rattle.std.specs.List.{list_all}
 use Rattle.std.proofs.lemmas.Bool.{ltb-true}
 use Rattle.std.proofs.lemmas.Bool.Decides.{nat_tests}
@@ -10,7 +10,6 @@ use Rattle.cu_model.specs.Days.{day}
 use Rattle.cu_model.specs.declared.numbers.Number.{Number}
 use Rattle.cu_model.specs.Numbers.{as_number, is_number_word, number_of, number_value, value_below}
 use Rattle.cu_reach.specs.declared.lines.ManyRefusal.{ManyRefusal}
-use Rattle.cu_reach.specs.declared.lines.ManyRefusal.TheVariants.{Limit}
 use Rattle.cu_reach.specs.declared.lines.TheConstants.{MAX_TABLE}
 use Rattle.cu_reach.specs.declared.tables.Scan.{Scan}
 use Rattle.cu_reach.specs.NodeFields.{IsNodeWord, TableValue}

@@ -1,5 +1,5 @@
 -- Lines that ask for more than one answer, and the checks of each in their order: `line`, `node`, `second`, `limit`.
-use Rattle.std.specs.Prelude.{ℕ, List, [], ◌∷◌, Bool, Result, Ok, Err, ◌+◌, ◌*◌, ◌-◌, ◌&&◌, nat_lt, nat_le, if◌then◌else◌, codes, bytes_eq, length, map, take, drop}
+use Rattle.std.specs.Prelude.{ℕ, List, [], ◌∷◌, Result, Ok, Err, ◌*◌, ◌-◌, ◌&&◌, nat_lt, nat_le, if◌then◌else◌, codes, bytes_eq, length, map, take, drop}
 use Rattle.std.specs.List.{list_all}
 use Rattle.cu_model.specs.Days.{day}
 use Rattle.cu_model.specs.Numbers.{is_number_word, number_value}

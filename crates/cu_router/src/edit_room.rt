@@ -18,11 +18,9 @@ ghost use Rattle.cu_recall.specs.Spans.{Knows};
 ghost use Rattle.cu_router.specs.Steps.Rooms.{FitsEdits, HasEditRoom};
 
 use crate::held_file::HeldFile;
+use crate::settling_all::settle_all;
 use cu_chordal::Chordal;
-use cu_edits::{
-    EditGround, EditList, EditSettler, Edits, Learned, Touched, plan_all, recustomize_all,
-    touch_over,
-};
+use cu_edits::{EditGround, EditList, Edits, Learned, Touched, plan_all, touch_over};
 use cu_interval::{EdgeArcs, TouchedEdge, Ways};
 use cu_links::RankBuckets;
 use cu_model::{Edit, NoMemory, Roads};
@@ -332,10 +330,5 @@ fn touch_all_held<P: Progress>(
     let view = held.view();
     let graph = held.graph();
     let ways = RecalledWays::new(&view, graph, rows);
-    let edges = edits.touched(alloc, graph.edges())?;
-    let ground = ground_of(held, &room.arcs);
-    let mut settler = EditSettler::over_all(alloc, &ways, edits, ground);
-    let lists = recustomize_all(alloc, &edges, &mut settler, progress);
-    drop(settler);
-    lists
+    settle_all(alloc, &ways, edits, ground_of(held, &room.arcs), progress)
 }

@@ -38,6 +38,7 @@ mod list_room;
 mod query_room;
 mod reaches;
 mod router;
+mod settling_all;
 mod sweeps;
 mod working;
 mod writing;

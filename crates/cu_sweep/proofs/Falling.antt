@@ -1,12 +1,11 @@
 -- What is still to go falls by no more than least bounds, where it does by none that is greater.
-use Rattle.std.proofs.Common.{◌≡◌, ◌≤◌, ◌<◌, ◌+◌, ℕ, List, Some, length, arith}
+use Rattle.std.proofs.Common.{◌≡◌, ◌≤◌, ◌<◌, ℕ, List, Some, length, arith}
 use Rattle.std.proofs.lemmas.Option.{slice_get_within}
 use Rattle.cu_interval.specs.declared.ways.Dir.{Dir}
 use Rattle.cu_interval.specs.declared.ways.Dir.TheVariants.{Up, Down}
 use Rattle.cu_interval.specs.Hierarchies.{HierarchyValue, graph_of, number_from}
 use Rattle.cu_interval.specs.LeastBounds.{least_bound}
 use Rattle.cu_interval.proofs.Lookups.{number_found}
-use Rattle.cu_chordal.specs.declared.graph.Ends.{Ends}
 use Rattle.cu_bounds.specs.Near.{AreNear, NearValue, kept_bound}
 use Rattle.cu_sweep.specs.Outlooks.{FallsBy, IsAhead}
 

@@ -1,6 +1,6 @@
 //! Functions of shortcuts over the day as packed runs, rebuilt from their ways or put in.
 
-ghost use Rattle.std.specs.Prelude.{◌≡◌, ◌<◌, ◌+◌, ◌≤◌, ◌↔◌, All, IfOk, IfSome, IsTrue, None, OnErr, OnOk, Some, false, length, take, true};
+ghost use Rattle.std.specs.Prelude.{◌≡◌, ◌<◌, ◌+◌, ◌*◌, ◌≤◌, ◌↔◌, All, IfOk, IfSome, IsTrue, None, OnErr, OnOk, Some, false, length, take, true};
 ghost use Rattle.cu_chordal.specs.declared.graph.TheConstants.{MAX_EDGES};
 ghost use Rattle.cu_interval.specs.Hierarchies.{IsHierarchy, list_number};
 ghost use Rattle.cu_interval.specs.Shortcuts.{ways_of};
@@ -108,6 +108,17 @@ impl PackedFunctions {
         forget_unasked(&mut self.table, &self.asked);
         self.asked.fill(false);
         self.most_runs = self.most_runs.saturating_add(self.most_runs / 4);
+    }
+
+    /// Forgets both lists of an edge. Takes no memory.
+    pub fn forget(&mut self, edge: u32)
+        requires edge { 2 * edge + 1 < length self.old.known }
+        requires same { length self.old.known ≡ length self.old.functions }
+        ensures { AreSpared self.old self.new }
+    {
+        let up = Shortcut { edge, dir: Dir::Up }.list();
+        self.table.forget(up);
+        self.table.forget(up + 1);
     }
 
     /// Learns the list of an edge in a direction over these ways, and those that it needs: the least of its ways at

@@ -11,7 +11,7 @@ ghost use Rattle.cu_unpack.specs.Steps.Rebuilding.{AreKept, FindsMissing, HasHal
 
 use crate::missing::{Known, missing_half};
 use crate::shortcuts::{is_among, take_next};
-use cu_arrival::{Arrival, compose, lesser};
+use cu_arrival::{Arrival, compose, least};
 use cu_chordal::MAX_EDGES;
 use cu_interval::{Dir, Shortcut, Way, Ways, halves};
 use cu_model::NoMemory;
@@ -202,7 +202,7 @@ fn earlier(alloc: Global, first: Option<Arrival>, second: Arrival) -> Result<Arr
     let Some(first) = first else {
         return Ok(second);
     };
-    let (function, _choices) = lesser(alloc, &first, &second)?;
+    let function = least(alloc, &first, &second)?;
     Ok(function)
 }
 

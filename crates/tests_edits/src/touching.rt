@@ -4,11 +4,15 @@ ghost use Rattle.std.specs.Prelude.{◌≡◌, ◌<◌, IfOk, OnOk, length};
 ghost use Rattle.cu_model.specs.Edits.{IsEditInRange};
 ghost use Rattle.cu_interval.specs.EdgeArcs.{AreEdgeArcs};
 
-use cu_edits::{EditGround, EditSettler, plan, recustomize, touch, touch_over};
+use cu_edits::{
+    EditGround, EditList, EditSettler, Keeping, plan, plan_all, recustomize, recustomize_all,
+    touch, touch_over,
+};
 use cu_interval::{Dir, EdgeArcs, Entry, Hierarchy, TouchedEdge, Way, Ways};
 use cu_links::RankBuckets;
 use cu_model::{Edit, Piece, Profile, Roads, Rule};
-use cu_samples::{RANKED, RANKS, Tables, hierarchy};
+use cu_progress::Silent;
+use cu_samples::{RANKED, RANKS, ROW, Tables, hierarchy};
 use std::alloc::Global;
 use std::process::Abort;
 use std::test::Fail;
@@ -204,6 +208,30 @@ fn settles_by_settler(
     Ok(are_all(&lists, wanted))
 }
 
+// Does a settler for a list of it alone, which keeps these functions, without giving up?
+fn settles_together(
+    alloc: Global,
+    edited: Edited<'_>,
+    keeping: Keeping,
+    wanted: &[AllDay],
+) -> Result<bool, Fail>
+    requires profile { edited.profile < length edited.hierarchy.now.network.profiles }
+    requires arcs { AreEdgeArcs edited.hierarchy.now.network edited.hierarchy.now.order
+        edited.hierarchy.now.edges edited.arcs.now }
+{
+    let hierarchy = edited.hierarchy;
+    let _edges = hierarchy.edges();
+    let graph = hierarchy.graph();
+    let mut edits = EditList::new(alloc, hierarchy)?;
+    let edit = edit(alloc, edited)?;
+    plan_all(alloc, hierarchy, &mut edits, edit, graph)?;
+    let edges = edits.touched(alloc, graph.edges())?;
+    let ground = EditGround::new(graph, edited.arcs);
+    let mut settler = EditSettler::over_all(alloc, hierarchy, &edits, ground, keeping);
+    let lists = recustomize_all(alloc, &edges, &mut settler, &mut Silent)?;
+    Ok(!settler.gave_up() && are_all(&lists, wanted))
+}
+
 // The roads of a hierarchy's edges.
 fn edge_arcs(alloc: Global, hierarchy: &Hierarchy) -> Result<EdgeArcs, Fail>
     ensures { IfOk result (AreEdgeArcs hierarchy.now.network hierarchy.now.order
@@ -313,4 +341,33 @@ fn settles_over(
 fn touching_settles_the_touched_edges(rt: HostRuntime) -> Result<(), Fail> {
     settles_over(&rt, rt.alloc(), SLOW_ROAD, SLOWER)?;
     settles_over(&rt, rt.alloc(), LOW_MIDDLE, CLOSED)
+}
+
+// The roads of a row of nine nodes stay the ways of their edges.
+const ROW_LISTS: [AllDay; 8] = [
+    (0, Some(Way::Road(0)), None),
+    (1, Some(Way::Road(1)), None),
+    (2, Some(Way::Road(2)), None),
+    (3, Some(Way::Road(3)), None),
+    (4, Some(Way::Road(4)), None),
+    (5, Some(Way::Road(5)), None),
+    (6, Some(Way::Road(6)), None),
+    (7, Some(Way::Road(7)), None),
+];
+
+#[test]
+fn settlers_that_let_go_settle_the_same(rt: HostRuntime) -> Result<(), Fail> {
+    let alloc = rt.alloc();
+    let hierarchy = hierarchy(alloc, ROW)?;
+    assert!(rt; hierarchy.profiles() == 1);
+    let arcs = edge_arcs(alloc, &hierarchy)?;
+    let edited = Edited {
+        hierarchy: &hierarchy,
+        arcs: &arcs,
+        profile: 0,
+        rule: Rule::Travel(90),
+    };
+    assert!(rt; settles_together(alloc, edited, Keeping::All, &ROW_LISTS)?);
+    assert!(rt; settles_together(alloc, edited, Keeping::Needed, &ROW_LISTS)?);
+    Ok(())
 }

@@ -1,6 +1,6 @@
 //! Arrival functions of roads, and of two roads one behind the other.
 
-use cu_arrival::{Arrival, Choice, compose, lesser, slack_of};
+use cu_arrival::{Arrival, Choice, compose, least, lesser, slack_of};
 use cu_model::{Network, Roads};
 use cu_samples::{RUSH_HOUR, Tables, network};
 use std::alloc::Global;
@@ -114,8 +114,9 @@ fn is_lesser(rt: &impl Abort, least: &Arrival, choices: &[Choice]) {
 fn lesser_of_a_road_and_two(rt: HostRuntime) -> Result<(), Fail> {
     let straight = straight_road(&rt, rt.alloc())?;
     let both = both_roads(&rt, rt.alloc())?;
-    let (least, choices) = lesser(rt.alloc(), &straight, &both)?;
-    is_lesser(&rt, &least, &choices);
+    let (function, choices) = lesser(rt.alloc(), &straight, &both)?;
+    is_lesser(&rt, &function, &choices);
+    is_lesser(&rt, &least(rt.alloc(), &straight, &both)?, &choices);
     Ok(())
 }
 

@@ -23,10 +23,24 @@ use Rattle.cu_edits.specs.Settling.{IsFinal, SettlingValue, settled_so_far}
 use Rattle.cu_edits.specs.Steps.Frames.{IsFramed, LeadsOver}
 use Rattle.cu_resettled.specs.ResettlingAll.{IsChangedBySome}
 
--- for each list 0, or one more than where its function after the edit stands; and these functions
+-- for each list 0, or one more than where its function after the edit stands; these functions; and the rank below which those of edges that lead
+-- up to it were let go of
 pub record MovedValue : Type 0 where
   pub places : List ℕ
   pub functions : List (Option (List Run))
+  pub low : ℕ
+
+-- no two lists have their functions at one place
+abbrev pub AreApart : List ℕ → Type 0
+AreApart places = (one two place : ℕ) → slice_get places one ≡ Some (suc place) → slice_get places two ≡ Some (suc place) → one ≡ two
+
+-- an edge leads up to this rank or to a higher one
+abbrev pub LeadsUpTo : List Ends → ℕ → ℕ → Type 0
+LeadsUpTo edges rank edge = (ends : Ends) × (slice_get edges edge ≡ Some ends) × (rank ≤ ends.high)
+
+-- no function was let go of that the lists of an edge may be made of
+abbrev pub KeepsHalves : List Ends → MovedValue → ℕ → Type 0
+KeepsHalves edges moved edge = (ends : Ends) → slice_get edges edge ≡ Some ends → moved.low ≤ ends.low
 
 -- the list of an edge in a direction wasn't moved
 abbrev pub IsUnmoved : MovedValue → ℕ → Dir → Type 0
@@ -117,9 +131,23 @@ pub record PlacesBoth (old new : MovedValue) (edge : ℕ) (up down : Outcome) : 
   pub both : KeepsBoth old kept up down upwards downwards
   pub places : new.places ≡ slice_set (slice_set kept.places (list_number edge Up) upwards) (list_number edge Down) downwards
   pub functions : new.functions ≡ kept.functions
+  pub low : new.low ≡ kept.low
 
 -- no place is another, and functions are kept behind those before
 pub record KeepsMore (old new : MovedValue) : Type 0 where
   pub places : new.places ≡ old.places
+  pub low : new.low ≡ old.low
   pub longer : length old.functions ≤ length new.functions
   pub still : (place : ℕ) → place < length old.functions → slice_get new.functions place ≡ slice_get old.functions place
+
+-- functions were let go of, but of no list that is like this
+pub record LetsGo (IsKept : ℕ → Type 0) (old new : MovedValue) : Type 0 where
+  pub places : new.places ≡ old.places
+  pub long : length new.functions ≡ length old.functions
+  pub low : new.low ≡ old.low
+  pub still : (list place : ℕ) (function : Option (List Run)) → IsKept list → slice_get new.places list ≡ Some (suc place)
+      → slice_get new.functions place ≡ Some function → slice_get old.functions place ≡ Some function
+
+-- a list is one of an edge that leads up to this rank or to a higher one
+abbrev pub IsListUpTo : List Ends → ℕ → ℕ → Type 0
+IsListUpTo edges rank list = (edge : ℕ) × (dir : Dir) × (list ≡ list_number edge dir) × LeadsUpTo edges rank edge

@@ -19,7 +19,7 @@ use Rattle.cu_edits.specs.Settling.{IsSettled, SettlingValue, settled_so_far}
 use Rattle.cu_edits.specs.Steps.Bounds.{HalvesTakeMore, SomeTakeNoMore, no_limit}
 use Rattle.cu_edits.specs.Steps.Frames.{IsFrame}
 use Rattle.cu_edits.specs.Steps.Parts.{AreParts}
-use Rattle.cu_edits.specs.Steps.Moving.{HalvesAre, IsMovedTo, IsUnmoved, KeepsWays, MovedValue, StandingPair}
+use Rattle.cu_edits.specs.Steps.Moving.{HalvesAre, IsMovedTo, IsUnmoved, KeepsWays, LeadsUpTo, MovedValue, StandingPair}
 use Rattle.cu_edits.specs.Steps.Settled.{AreSettled}
 
 -- it holds where a way doesn't take longer than runs can say
@@ -72,7 +72,7 @@ AreCandidatesAtHand h edit marks moved packed edge dir =
     × ((ends : Ends) → slice_get h.edges edge ≡ Some ends → (middle : ℕ) → AreAtHandIfMoved moved packed h.edges ends dir middle))
 
 -- what a settler by packed runs holds: functions of the hierarchy before, which are those of lists that stand, too; and the functions of all
--- other lists settled
+-- other lists settled, but of those that were let go of
 pub record IsSettlingPacked (s : SettlingValue) (graph : ChordalValue) (arcs : List (List ℕ)) (packed : PackedValue) (moved : MovedValue) : Type 0 where
   pub are : AreSettled s
   pub parts : AreParts s.before s.edit graph arcs
@@ -81,7 +81,7 @@ pub record IsSettlingPacked (s : SettlingValue) (graph : ChordalValue) (arcs : L
   pub inside : All (λ place. place ≤ length moved.functions) moved.places
   pub stands : IsFrame s.before (settled_so_far s) (StandingPair s moved)
   pub moves : (edge : ℕ) (dir : Dir) (function : Option (List Run)) → IsMovedTo moved edge dir function
-      → IsSettled s edge × IsRebuiltRuns (settled_so_far s) edge dir function
+      → IsSettled s edge × (LeadsUpTo s.before.edges moved.low edge → IsRebuiltRuns (settled_so_far s) edge dir function)
 
 -- a list settled by these functions, and the packed runs of its function
 pub record IsPackedList (edges : List Ends) (arcs : List (List ℕ)) (f : FunctionsState) (edge : ℕ) (dir : Dir) (settled : SettledRuns) : Type 0 where

@@ -43,6 +43,12 @@ IsBegun (Nothing learned) = ⊥
 IsBegun (Packed packed) = Unit {0}
 IsBegun (Plain plain) = Unit {0}
 
+-- no function was let go of
+abbrev pub KeepsAll : SettlerState → Type 0
+KeepsAll (Nothing learned) = Unit {0}
+KeepsAll (Packed packed) = packed.moved.low ≡ 0
+KeepsAll (Plain plain) = Unit {0}
+
 -- plain functions are
 abbrev pub IsPlain : SettlerState → Type 0
 IsPlain (Nothing learned) = ⊥

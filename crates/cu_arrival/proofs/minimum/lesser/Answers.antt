@@ -15,15 +15,15 @@ day-preserved c =
     let first = c.reach-first_stretch.result in
     let second = c.reach-second_stretch.result in
     let earlier = subst (λ (end : ℕ). IsEarlier first.rule second.rule c.day.at end c.earlier_rule-step.result) c.min-end.ensures c.earlier_rule-step.ensures in
-    merging_step c.runs-first_runs.result.now c.runs-second_runs.result.now c.day.runs c.push_run.new.runs c.day.choices.items c.push_choice.new.choices.items
-    c.day.first_stretch c.day.second_stretch c.day.at c.earlier_rule-step.result _ _ (search rules) (search rules) c.day.invariant (omega arith)
-    first second c.reach-first_stretch.ensures.stretch (search rules) c.reach-second_stretch.ensures.stretch earlier
-    refl refl c.in_ok-push_run.ensures refl refl c.in_ok-push_choice.ensures
+    merging_step c.runs-first_runs.result.now c.runs-second_runs.result.now c.day.at c.earlier_rule-step.result (search rules) (search rules)
+    first second c.reach-first_stretch.ensures.stretch c.reach-second_stretch.ensures.stretch earlier
+    c.day.runs c.push_run.new.runs c.day.choices.items c.push_choice.new.choices.items c.day.first_stretch c.day.second_stretch _ _
+    c.day.invariant (omega arith) (search rules) refl refl c.in_ok-push_run.ensures refl refl c.in_ok-push_choice.ensures
 
 whole_day : (first second runs : List Run) (choices : List Choice) (x y : Stretch) (at : ℕ) → IsMerging first second runs choices x y at → day ≤ at
     → IsMerging first second runs choices x y day
 whole_day first second runs choices x y at is late =
-    let end : at ≡ day = omega (arith, is.within, late) in
+    let end : at ≡ day = omega (arith, is.least.within, late) in
     subst (λ (t : ℕ). IsMerging first second runs choices x y t) end is
 
 pub of_runs-requires : goal.of_runs-requires
@@ -31,14 +31,14 @@ of_runs-requires c =
     let first = c.runs-first_runs.result.now in
     let second = c.runs-second_runs.result.now in
     let merged = whole_day first second c.day.runs c.day.choices.items c.day.first_stretch c.day.second_stretch c.day.at c.day.invariant (omega arith) in
-    built_function (least_of first second) c.day.runs merged.built (least_day first second (search rules) (search rules))
+    built_function (least_of first second) c.day.runs merged.least.built (least_day first second (search rules) (search rules))
 
 pub returns-clause-value : goal.returns-clause-value
 returns-clause-value c t h =
     let first = c.runs-first_runs.result.now in
     let second = c.runs-second_runs.result.now in
     let merged = whole_day first second c.day.runs c.day.choices.items c.day.first_stretch c.day.second_stretch c.day.at c.day.invariant (omega arith) in
-    let value : arrival_value c.day.runs t ≡ least_of first second t = built_value (least_of first second) c.day.runs merged.built t h in
+    let value : arrival_value c.day.runs t ≡ least_of first second t = built_value (least_of first second) c.day.runs merged.least.built t h in
     cc (value, c.of_runs.ensures, c.runs-first_runs.ensures.all, c.runs-second_runs.ensures.all)
 
 pub returns-clause-choices : goal.returns-clause-choices

@@ -1,7 +1,7 @@
 use Rattle.std.proofs.Common.{◌*◌, ◌∙◌, ap, length, subst, sym}
 use Rattle.cu_chordal.specs.Graphs.{ChordalValue}
 use Rattle.cu_edits.specs.Steps.Packed.{IsSettlingPacked}
-use Rattle.cu_edits.specs.Steps.SettlerStates.{Holds}
+use Rattle.cu_edits.specs.Steps.SettlerStates.{Holds, KeepsAll}
 use Rattle.cu_edits.specs.Steps.Parts.{settling_over}
 use Rattle.cu_edits.proofs.TurnedPlain.{gone_over}
 use Rattle.cu_edits.proofs.StateLaws.{settled_inside}
@@ -26,4 +26,5 @@ returns-clause-holds g c =
     let packed : IsSettlingPacked s c.args.parts.now.graph c.args.parts.now.arcs c.in-Packed.packed.functions c.in-Packed.packed.moved =
     subst (Holds s c.args.parts.now.graph c.args.parts.now.arcs) c.in-Packed.is c.requires.holds in
     subst (Holds s c.args.parts.now.graph c.args.parts.now.arcs) (sym c.set_state.ensures)
-    (gone_over s c.args.parts.now.graph c.args.parts.now.arcs c.in-Packed.packed.functions c.in-Packed.packed.moved c.in_ok-plain.plain packed c.in_ok-plain.ensures)
+    (gone_over s c.args.parts.now.graph c.args.parts.now.arcs c.in-Packed.packed.functions c.in-Packed.packed.moved c.in_ok-plain.plain packed
+    (subst KeepsAll c.in-Packed.is c.requires.keeps) c.in_ok-plain.ensures)

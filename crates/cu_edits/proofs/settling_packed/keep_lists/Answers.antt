@@ -7,8 +7,11 @@ use Rattle.cu_edits.proofs.LearntSides.{on_err}
 use Rattle.cu_edits.proofs.PackedNext.{place_within, packed_kept, packed_one}
 use Rattle.cu_edits.proofs.settling_packed.keep_lists.Goals as goal
 
-pub keep_settled-requires : goal.keep_settled-requires
-keep_settled-requires g c =
+pub keep_settled-requires-clause-inside : goal.keep_settled-requires-clause-inside
+keep_settled-requires-clause-inside g c = c.requires.holds.inside
+
+pub keep_settled-requires-clause-edge : goal.keep_settled-requires-clause-edge
+keep_settled-requires-clause-edge g c =
     place_within (settling_over c.args.parts.now c.args.settled.now.items) c.args.parts.now.graph c.args.parts.now.arcs c.args.state.now.functions c.args.state.now.moved c.args.edge
     c.requires.holds c.requires.asked
 
@@ -34,16 +37,16 @@ returns-clause-settled g c = c.in_ok-keep_settled.ensures.settled
 
 pub returns-clause-resettled : goal.returns-clause-resettled
 returns-clause-resettled g c =
-    let t : TouchedEdge = record { edge = c.args.edge; up = c.args.up.ways; down = c.args.down.ways } in
+    let t : TouchedEdge = record { edge = c.args.edge; up = c.args.next.0.ways; down = c.args.next.1.ways } in
     let placed = c.in_ok-keep_settled.ensures.places in
     (packed_one c.args.parts.now.before c.args.parts.now.edit c.args.settled.now.items c.keep_settled.new.settled.items c.args.parts.now.graph c.args.parts.now.arcs
-    c.args.state.now.functions c.args.state.now.moved placed.both.mid placed.kept c.keep_settled.new.moved t t c.args.up c.args.down placed.upwards placed.downwards c.requires.holds
-    c.requires.asked c.requires.up c.requires.down refl refl placed.both.upper placed.both.lower placed.places placed.functions refl c.in_ok-keep_settled.ensures.settled).resettled
+    c.args.state.now.functions c.args.state.now.moved placed.both.mid placed.kept c.keep_settled.new.moved t t c.args.next.0 c.args.next.1 placed.upwards placed.downwards c.requires.holds
+    c.requires.asked c.requires.up c.requires.down refl refl placed.both.upper placed.both.lower placed.places placed.functions placed.low refl c.in_ok-keep_settled.ensures.settled).resettled
 
 pub returns-clause-holds : goal.returns-clause-holds
 returns-clause-holds g c =
-    let t : TouchedEdge = record { edge = c.args.edge; up = c.args.up.ways; down = c.args.down.ways } in
+    let t : TouchedEdge = record { edge = c.args.edge; up = c.args.next.0.ways; down = c.args.next.1.ways } in
     let placed = c.in_ok-keep_settled.ensures.places in
     (packed_one c.args.parts.now.before c.args.parts.now.edit c.args.settled.now.items c.keep_settled.new.settled.items c.args.parts.now.graph c.args.parts.now.arcs
-    c.args.state.now.functions c.args.state.now.moved placed.both.mid placed.kept c.keep_settled.new.moved t t c.args.up c.args.down placed.upwards placed.downwards c.requires.holds
-    c.requires.asked c.requires.up c.requires.down refl refl placed.both.upper placed.both.lower placed.places placed.functions refl c.in_ok-keep_settled.ensures.settled).holds
+    c.args.state.now.functions c.args.state.now.moved placed.both.mid placed.kept c.keep_settled.new.moved t t c.args.next.0 c.args.next.1 placed.upwards placed.downwards c.requires.holds
+    c.requires.asked c.requires.up c.requires.down refl refl placed.both.upper placed.both.lower placed.places placed.functions placed.low refl c.in_ok-keep_settled.ensures.settled).holds

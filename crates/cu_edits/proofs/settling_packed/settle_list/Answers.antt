@@ -7,6 +7,7 @@ use Rattle.cu_customize.specs.Functions.{kept_state}
 use Rattle.cu_customize.specs.Triangles.{AreTrianglesOf}
 use Rattle.cu_runs.specs.Layers.{layered}
 use Rattle.cu_runs.proofs.Layers.{layered_long}
+use Rattle.cu_edits.specs.Steps.Moving.{KeepsHalves}
 use Rattle.cu_edits.specs.Steps.Packed.{IsPackedList}
 use Rattle.cu_edits.specs.Steps.Parts.{settling_over}
 use Rattle.cu_edits.proofs.AtHand.{same_edges}
@@ -33,7 +34,8 @@ returns-in-Some-clause-list g c done holds asked =
     let found = subst (λ (o : Option SettledRuns). IfSome o (IsFound c.over-functions.result)) c.in-Some.is c.in_ok-settle_runs.ensures.found in
     list_settled s c.args.parts.now.graph c.args.parts.now.arcs learnt moved
     (packed_learnt s c.args.parts.now.graph c.args.parts.now.arcs c.args.state.now.functions learnt moved holds c.learn_candidates.ensures.learns) c.args.edge asked
-    c.args.parts.now.customized c.learn_candidates.ensures.fit.1 c.args.dir (c.in_ok-learn_candidates.ensures.known c.if-not-branch.false) c.in-Some.found
+    c.args.parts.now.customized c.learn_candidates.ensures.fit.1 c.args.dir
+    (subst (λ (es : List Ends). KeepsHalves es moved c.args.edge) (same_edges h c.args.parts.now.graph c.learn_candidates.ensures.fit.0.hierarchy) c.requires.halves) (c.in_ok-learn_candidates.ensures.known c.if-not-branch.false) c.in-Some.found
     (subst (λ (fs : List (Option (List Run))). IsFound fs c.in-Some.found) meant found) c.new_list.result c.new_list.ensures.ways c.new_list.ensures.outcome
 
 pub learn_candidates-requires-clause-triangles : goal.learn_candidates-requires-clause-triangles

@@ -26,18 +26,18 @@ keep_lists-requires-clause-holds g c = subst (λ (done : List TouchedEdge). Hold
 
 pub keep_lists-requires-clause-up : goal.keep_lists-requires-clause-up
 keep_lists-requires-clause-up g c =
-    subst (λ (done : List TouchedEdge). IsNewList (settling_over c.args.parts.now done) c.next_lists.new.state.moved c.args.edge Up c.in-Some.up) c.deref.ensures.value
+    subst (λ (done : List TouchedEdge). IsNewList (settling_over c.args.parts.now done) c.next_lists.new.state.moved c.args.edge Up c.in-Some.next.0) c.deref.ensures.value
     (subst (λ (o : Option (NewList × NewList)). IfSome o (λ lists. IsNewList (settling_over c.args.parts.now c.deref.result.now) c.next_lists.new.state.moved c.args.edge Up lists.0))
-    c.in-Some.is c.in_ok-up.ensures.up)
+    c.in-Some.is c.in_ok-next.ensures.up)
 
 pub keep_lists-requires-clause-down : goal.keep_lists-requires-clause-down
 keep_lists-requires-clause-down g c =
-    subst (λ (done : List TouchedEdge). IsNewList (settling_over c.args.parts.now done) c.next_lists.new.state.moved c.args.edge Down c.in-Some.down) c.deref.ensures.value
+    subst (λ (done : List TouchedEdge). IsNewList (settling_over c.args.parts.now done) c.next_lists.new.state.moved c.args.edge Down c.in-Some.next.1) c.deref.ensures.value
     (subst (λ (o : Option (NewList × NewList)). IfSome o (λ lists. IsNewList (settling_over c.args.parts.now c.deref.result.now) c.next_lists.new.state.moved c.args.edge Down lists.1))
-    c.in-Some.is c.in_ok-up.ensures.down)
+    c.in-Some.is c.in_ok-next.ensures.down)
 
-pub returns-in_err-up-clause-holds : goal.returns-in_err-up-clause-holds
-returns-in_err-up-clause-holds g c = subst (λ (done : List TouchedEdge). HoldsPacked c.args.parts.now done c.next_lists.new.state) c.deref.ensures.value c.next_lists.ensures.holds
+pub returns-in_err-next-clause-holds : goal.returns-in_err-next-clause-holds
+returns-in_err-next-clause-holds g c = subst (λ (done : List TouchedEdge). HoldsPacked c.args.parts.now done c.next_lists.new.state) c.deref.ensures.value c.next_lists.ensures.holds
 
 pub returns-in_default-clause-holds : goal.returns-in_default-clause-holds
 returns-in_default-clause-holds g c = subst (λ (done : List TouchedEdge). HoldsPacked c.args.parts.now done c.next_lists.new.state) c.deref.ensures.value c.next_lists.ensures.holds

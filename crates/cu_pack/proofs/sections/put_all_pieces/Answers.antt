@@ -10,8 +10,13 @@ loop-profile-init g c = g.met.T.Target.stays c.args.bytes.now
 
 pub loop-profile-preserved : goal.loop-profile-preserved
 loop-profile-preserved g c =
-    grows_more g.T.Target.grows g.met.T.Target.more (flat_map piece_bytes) (g.R.Roads.network c.args.roads.now).profiles c.loop-profile.profile (pieces_of (g.R.Roads.network c.args.roads.now) c.loop-profile.profile)
-    c.args.bytes.now c.loop-profile.bytes c.put_pieces.new.bytes (pieces_there (g.R.Roads.network c.args.roads.now) c.loop-profile.profile (omega arith)) c.loop-profile.invariant c.in_ok-put_pieces.ensures
+    let network = g.R.Roads.network c.args.roads.now in
+    let profile = c.loop-profile.profile in
+    grows_more g.T.Target.grows g.met.T.Target.more (flat_map piece_bytes) network.profiles profile (pieces_of network profile)
+    c.args.bytes.now c.loop-profile.bytes c.put_pieces.new.bytes (pieces_there network profile (omega arith)) c.loop-profile.invariant
+    c.in_ok-put_pieces.ensures
 
 pub returns : goal.returns
-returns g c = grows_all g.T.Target.grows (flat_map piece_bytes) (g.R.Roads.network c.args.roads.now).profiles c.loop-profile.profile c.args.bytes.now c.loop-profile.bytes (omega arith) c.loop-profile.invariant
+returns g c =
+    grows_all g.T.Target.grows (flat_map piece_bytes) (g.R.Roads.network c.args.roads.now).profiles c.loop-profile.profile
+    c.args.bytes.now c.loop-profile.bytes (omega arith) c.loop-profile.invariant

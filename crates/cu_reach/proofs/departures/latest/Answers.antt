@@ -1,4 +1,4 @@
-use Rattle.std.proofs.Common.{◌≡◌, ◌≤◌, ◌<◌, ◌+◌, ◌∙◌, ℕ, arith, subst}
+use Rattle.std.proofs.Common.{◌∙◌, arith, subst}
 use Rattle.cu_interval.specs.Hierarchies.{HierarchyValue}
 use Rattle.cu_reach.specs.Departures.{IsLatestWhereBuilt}
 use Rattle.cu_reach.proofs.Queries.{one_query, queries_of, queries_then, queries_within}

@@ -1,4 +1,4 @@
-use Rattle.std.proofs.Common.{◌≡◌, ◌≤◌, ◌<◌, ◌+◌, ◌-◌, ◌^◌, ◌∙◌, ℕ, arith, rules, sym}
+use Rattle.std.proofs.Common.{◌-◌, ◌∙◌, arith, rules, sym}
 use Rattle.cu_reach.proofs.LatestLaws.{earlier_late, found_in_time, found_too_late, later_early, latest_found}
 use Rattle.cu_reach.proofs.Queries.{one_more}
 use Rattle.cu_reach.proofs.SearchLaws.{searched_done, searched_early, searched_late, searched_long}

@@ -1,4 +1,4 @@
-use Rattle.std.proofs.Common.{◌≡◌, ◌∙◌, ap, length, rules, sym, subst, ℕ, Option, List}
+use Rattle.std.proofs.Common.{◌∙◌, ap, length, sym, subst}
 use Rattle.std.specs.List.{range_with_len}
 use Rattle.cu_chordal.specs.Graphs.{ChordalValue}
 use Rattle.cu_reach.proofs.DeskLaws.{holds_reached, labels_count, least_where_built}

@@ -1,4 +1,4 @@
-use Rattle.std.proofs.Common.{◌≡◌, ◌<◌, ◌≤◌, ℕ, ap, arith, length, rules}
+use Rattle.std.proofs.Common.{ap, arith, length, rules}
 use Rattle.cu_model.specs.Queries.{fields_of_line}
 use Rattle.cu_reach.proofs.FieldLaws.{few_fields}
 use Rattle.cu_reach.proofs.TableLaws.{table_read}

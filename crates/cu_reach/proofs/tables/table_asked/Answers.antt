@@ -1,4 +1,4 @@
-use Rattle.std.proofs.Common.{◌≡◌, rules, sym}
+use Rattle.std.proofs.Common.{rules, sym}
 use Rattle.cu_reach.proofs.TableLaws.{parts_of, table_found}
 use Rattle.cu_reach.proofs.tables.table_asked.Goals as goal
 

@@ -16,14 +16,17 @@ pub roads-init : goal.roads-init
 roads-init g c =
     let h = g.C.CountedWays.hierarchy c.args.ways.now in
     let before = g.C.CountedWays.steps c.args.ways.now in
-    let (begun, nothing) = on_way_begin h c.nodes-number-end.ensures.sound c.args.call.edge c.args.call.dir c.args.call.second c.args.pending.now before c.requires.edge in
+    let call = c.args.call in
+    let sink = g.K.Sink.state c.args.sink.now in
+    let text : List ℕ → List ℕ = λ done. driven_text (g.P.WalkForm.text c.args.form.now) h.network c.args.first done call.second in
+    let (begun, nothing) = on_way_begin h c.nodes-number-end.ensures.sound call.edge call.dir call.second c.args.pending.now before c.requires.edge in
     record {
       stays = refl;
       sound = c.nodes-number-end.ensures.sound;
       last = c.nodes-number-end.ensures.count;
-      way = subst (λ (s : Spot). (w : IsOnWay h c.args.call.edge c.args.call.dir c.args.call.second c.args.pending.now s before before 1)
-          × WroteAll (g.K.Sink.state c.args.sink.now) (g.K.Sink.state c.args.sink.now) (driven_text (g.P.WalkForm.text c.args.form.now) (g.C.CountedWays.hierarchy c.args.ways.now).network c.args.first w.done c.args.call.second) × (c.args.first ≡ first_after c.args.first w.done)) (sym c.start-spot.ensures)
-          (begun, wrote_same (sym (ap (λ (d : List ℕ). driven_text (g.P.WalkForm.text c.args.form.now) (g.C.CountedWays.hierarchy c.args.ways.now).network c.args.first d c.args.call.second) nothing)) (wrote_nothing (g.K.Sink.state c.args.sink.now) tt), sym (ap (first_after c.args.first) nothing));
+      way = subst (λ (s : Spot). (w : IsOnWay h call.edge call.dir call.second c.args.pending.now s before before 1)
+          × WroteAll sink sink (text w.done) × (c.args.first ≡ first_after c.args.first w.done)) (sym c.start-spot.ensures)
+          (begun, wrote_same (sym (ap text nothing)) (wrote_nothing sink tt), sym (ap (first_after c.args.first) nothing));
     }
 
 pub roads-preserved : goal.roads-preserved
@@ -74,7 +77,8 @@ pub unreachable-requires : goal.unreachable-requires
 unreachable-requires g c =
     let i = c.roads.invariant in
     let none : c.drive_on.result ≡ None = search rules in
-    arriving_some (g.C.CountedWays.hierarchy c.args.ways.now) c.args.call.edge c.args.call.dir c.args.call.second c.requires.answers (on_way_none c.drive_on.new.pending i.stays i.way.0 c.drive_on.ensures.drives none).0
+    let left = on_way_none c.drive_on.new.pending i.stays i.way.0 c.drive_on.ensures.drives none in
+    arriving_some (g.C.CountedWays.hierarchy c.args.ways.now) c.args.call.edge c.args.call.dir c.args.call.second c.requires.answers left.0
 
 pub returns-in_err-put-clause-wrote : goal.returns-in_err-put-clause-wrote
 returns-in_err-put-clause-wrote g c =

@@ -23,10 +23,10 @@ gather-requires g c =
     let found = subst (λ (ts : List Triangle). AreTriangles c.args.graph.now.edges c.ends-ends.result.low c.ends-ends.result.high ts) (sym c.self.view_is ∙ sym c.deref.ensures.value)
     (c.requires.triangles c.ends-ends.result c.ends-ends.ensures.there) in
     let near : c.are_near.result ≡ true = search rules in
-    let triangles = edge_triangles (g.R.Roads.network c.args.roads.now) _ c.args.shortcut.edge c.args.shortcut.dir c.ends-ends.result c.ends-ends.ensures.sound c.ends-ends.ensures.there found c.leg_of.ensures.from
-    c.leg_of.ensures.to c.requires.functions in
-    edge_task (g.R.Roads.network c.args.roads.now) _ c.args.shortcut.edge c.args.shortcut.dir c.ends-ends.result c.ends-ends.ensures.sound c.ends-ends.ensures.there found c.leg_of.ensures.from c.leg_of.ensures.to
-    c.requires.functions c.arcs.ensures.rising c.arcs.ensures.few (c.requires.arcs c.arcs.result.now c.arcs.ensures.there).1 c.staying-stay.ensures.function
+    let triangles = edge_triangles (g.R.Roads.network c.args.roads.now) _ c.args.shortcut.edge c.args.shortcut.dir c.ends-ends.result c.ends-ends.ensures.sound c.ends-ends.ensures.there found
+    c.leg_of.ensures.from c.leg_of.ensures.to c.requires.functions in
+    edge_task (g.R.Roads.network c.args.roads.now) _ c.args.shortcut.edge c.args.shortcut.dir c.ends-ends.result c.ends-ends.ensures.sound c.ends-ends.ensures.there found c.leg_of.ensures.from
+    c.leg_of.ensures.to c.requires.functions c.arcs.ensures.rising c.arcs.ensures.few (c.requires.arcs c.arcs.result.now c.arcs.ensures.there).1 c.staying-stay.ensures.function
     c.staying-stay.ensures.value (c.are_near.ensures.near (g.R.Roads.network c.args.roads.now) triangles near)
 
 pub pull-requires-clause-task : goal.pull-requires-clause-task
@@ -34,8 +34,8 @@ pull-requires-clause-task g c =
     let found = subst (λ (ts : List Triangle). AreTriangles c.args.graph.now.edges c.ends-ends.result.low c.ends-ends.result.high ts) (sym c.self.view_is ∙ sym c.deref.ensures.value)
     (c.requires.triangles c.ends-ends.result c.ends-ends.ensures.there) in
     let near : c.are_near.result ≡ true = search rules in
-    let triangles = edge_triangles (g.R.Roads.network c.args.roads.now) _ c.args.shortcut.edge c.args.shortcut.dir c.ends-ends.result c.ends-ends.ensures.sound c.ends-ends.ensures.there found c.leg_of.ensures.from
-    c.leg_of.ensures.to c.requires.functions in (
+    let triangles = edge_triangles (g.R.Roads.network c.args.roads.now) _ c.args.shortcut.edge c.args.shortcut.dir c.ends-ends.result c.ends-ends.ensures.sound c.ends-ends.ensures.there found
+    c.leg_of.ensures.from c.leg_of.ensures.to c.requires.functions in (
       g.R.Roads.network c.args.roads.now,
       edge_task (g.R.Roads.network c.args.roads.now) _ c.args.shortcut.edge c.args.shortcut.dir c.ends-ends.result c.ends-ends.ensures.sound c.ends-ends.ensures.there found c.leg_of.ensures.from
           c.leg_of.ensures.to c.requires.functions c.arcs.ensures.rising c.arcs.ensures.few (c.requires.arcs c.arcs.result.now c.arcs.ensures.there).1 c.staying-stay.ensures.function
@@ -50,10 +50,10 @@ returns-clause-ways g c ends list at listed =
     let found = subst (λ (ts : List Triangle). AreTriangles c.args.graph.now.edges c.ends-ends.result.low c.ends-ends.result.high ts) (sym c.self.view_is ∙ sym c.deref.ensures.value)
     (c.requires.triangles c.ends-ends.result c.ends-ends.ensures.there) in
     let near : c.are_near.result ≡ true = search rules in
-    let triangles = edge_triangles (g.R.Roads.network c.args.roads.now) _ c.args.shortcut.edge c.args.shortcut.dir c.ends-ends.result c.ends-ends.ensures.sound c.ends-ends.ensures.there found c.leg_of.ensures.from
-    c.leg_of.ensures.to c.requires.functions in
-    let task = edge_task (g.R.Roads.network c.args.roads.now) _ c.args.shortcut.edge c.args.shortcut.dir c.ends-ends.result c.ends-ends.ensures.sound c.ends-ends.ensures.there found c.leg_of.ensures.from
-    c.leg_of.ensures.to c.requires.functions c.arcs.ensures.rising c.arcs.ensures.few (c.requires.arcs c.arcs.result.now c.arcs.ensures.there).1 c.staying-stay.ensures.function
+    let triangles = edge_triangles (g.R.Roads.network c.args.roads.now) _ c.args.shortcut.edge c.args.shortcut.dir c.ends-ends.result c.ends-ends.ensures.sound c.ends-ends.ensures.there found
+    c.leg_of.ensures.from c.leg_of.ensures.to c.requires.functions in
+    let task = edge_task (g.R.Roads.network c.args.roads.now) _ c.args.shortcut.edge c.args.shortcut.dir c.ends-ends.result c.ends-ends.ensures.sound c.ends-ends.ensures.there found
+    c.leg_of.ensures.from c.leg_of.ensures.to c.requires.functions c.arcs.ensures.rising c.arcs.ensures.few (c.requires.arcs c.arcs.result.now c.arcs.ensures.there).1 c.staying-stay.ensures.function
     c.staying-stay.ensures.value (c.are_near.ensures.near (g.R.Roads.network c.args.roads.now) triangles near) in
     let (settled, value) = edge_settled (g.R.Roads.network c.args.roads.now) _ c.args.shortcut.edge c.args.shortcut.dir c.ends-ends.result c.ends-ends.ensures.sound c.ends-ends.ensures.there found
     c.leg_of.ensures.from c.leg_of.ensures.to c.requires.functions c.gather.new.self.merger c.in_ok-settled.settled.ways c.in_ok-settled.settled.function task c.in_ok-gather.ensures.gathered
@@ -69,17 +69,18 @@ returns-clause-function g c ends at =
     let found = subst (λ (ts : List Triangle). AreTriangles c.args.graph.now.edges c.ends-ends.result.low c.ends-ends.result.high ts) (sym c.self.view_is ∙ sym c.deref.ensures.value)
     (c.requires.triangles c.ends-ends.result c.ends-ends.ensures.there) in
     let near : c.are_near.result ≡ true = search rules in
-    let triangles = edge_triangles (g.R.Roads.network c.args.roads.now) _ c.args.shortcut.edge c.args.shortcut.dir c.ends-ends.result c.ends-ends.ensures.sound c.ends-ends.ensures.there found c.leg_of.ensures.from
-    c.leg_of.ensures.to c.requires.functions in
-    let task = edge_task (g.R.Roads.network c.args.roads.now) _ c.args.shortcut.edge c.args.shortcut.dir c.ends-ends.result c.ends-ends.ensures.sound c.ends-ends.ensures.there found c.leg_of.ensures.from
-    c.leg_of.ensures.to c.requires.functions c.arcs.ensures.rising c.arcs.ensures.few (c.requires.arcs c.arcs.result.now c.arcs.ensures.there).1 c.staying-stay.ensures.function
+    let triangles = edge_triangles (g.R.Roads.network c.args.roads.now) _ c.args.shortcut.edge c.args.shortcut.dir c.ends-ends.result c.ends-ends.ensures.sound c.ends-ends.ensures.there found
+    c.leg_of.ensures.from c.leg_of.ensures.to c.requires.functions in
+    let task = edge_task (g.R.Roads.network c.args.roads.now) _ c.args.shortcut.edge c.args.shortcut.dir c.ends-ends.result c.ends-ends.ensures.sound c.ends-ends.ensures.there found
+    c.leg_of.ensures.from c.leg_of.ensures.to c.requires.functions c.arcs.ensures.rising c.arcs.ensures.few (c.requires.arcs c.arcs.result.now c.arcs.ensures.there).1 c.staying-stay.ensures.function
     c.staying-stay.ensures.value (c.are_near.ensures.near (g.R.Roads.network c.args.roads.now) triangles near) in
     let (settled, value) = edge_settled (g.R.Roads.network c.args.roads.now) _ c.args.shortcut.edge c.args.shortcut.dir c.ends-ends.result c.ends-ends.ensures.sound c.ends-ends.ensures.there found
     c.leg_of.ensures.from c.leg_of.ensures.to c.requires.functions c.gather.new.self.merger c.in_ok-settled.settled.ways c.in_ok-settled.settled.function task c.in_ok-gather.ensures.gathered
     c.in_ok-settled.ensures in
     let same : c.ends-ends.result ≡ ends = cc (c.ends-ends.ensures.there, at) in
     let state = kept_state (g.R.Roads.network c.args.roads.now) c.args.functions in
-    subst (λ (e : Ends). IsDayValueOf c.args.graph.now.edges state (start_of e c.args.shortcut.dir) (end_of e c.args.shortcut.dir) c.in_ok-settled.settled.ways c.in_ok-settled.settled.function) same value
+    subst (λ (e : Ends). IsDayValueOf c.args.graph.now.edges state (start_of e c.args.shortcut.dir) (end_of e c.args.shortcut.dir) c.in_ok-settled.settled.ways c.in_ok-settled.settled.function)
+    same value
 
 pub returns-then-not-are_near-clause-far : goal.returns-then-not-are_near-clause-far
 returns-then-not-are_near-clause-far g c ends at none =
@@ -90,7 +91,8 @@ returns-then-not-are_near-clause-far g c ends at none =
     (edge_triangles (g.R.Roads.network c.args.roads.now) _ c.args.shortcut.edge c.args.shortcut.dir c.ends-ends.result c.ends-ends.ensures.sound c.ends-ends.ensures.there found c.leg_of.ensures.from
     c.leg_of.ensures.to c.requires.functions) far in
     let state = kept_state (g.R.Roads.network c.args.roads.now) c.args.functions in
-    let is_far = far_between c.args.graph.now.edges state _ _ (start_of c.ends-ends.result c.args.shortcut.dir) (end_of c.ends-ends.result c.args.shortcut.dir) c.leg_of.ensures.from c.leg_of.ensures.to task_far in
+    let is_far = far_between c.args.graph.now.edges state _ _ (start_of c.ends-ends.result c.args.shortcut.dir) (end_of c.ends-ends.result c.args.shortcut.dir) c.leg_of.ensures.from
+    c.leg_of.ensures.to task_far in
     let same : c.ends-ends.result ≡ ends = cc (c.ends-ends.ensures.there, at) in
     subst (λ (e : Ends). HasFarWay c.args.graph.now.edges state (start_of e c.args.shortcut.dir) (end_of e c.args.shortcut.dir)) same is_far
 

@@ -17,4 +17,4 @@ returns-in-Packed g c =
     let s = settling_over inside.parts inside.settled.items in
     let holds = subst (Holds s inside.parts.graph inside.parts.arcs) c.in-Packed.is c.self.invariant in
     packed_after s c.args.self c.self.view_is inside.parts.graph inside.parts.arcs c.requires.all c.in-Packed.packed.functions c.in-Packed.packed.moved holds c.edges-edges.result
-    c.edges-edges.ensures.count c.after.result c.after.ensures c.ok.result c.ok.ensures.value
+    c.edges-edges.ensures.count c.learned_after.result c.learned_after.ensures

@@ -6,6 +6,9 @@ use Rattle.cu_edits.specs.Steps.Parts.{settling_over}
 use Rattle.cu_edits.proofs.SettlingNext.{next_asked}
 use Rattle.cu_edits.proofs.edit_settler.EditSettlerSettler.settle.Goals as goal
 
+pub settle_by_state-requires-clause-holds : goal.settle_by_state-requires-clause-holds
+settle_by_state-requires-clause-holds g c = c.let_go_below.ensures c.self.inside.settled.items c.self.invariant
+
 pub settle_by_state-requires-clause-asked : goal.settle_by_state-requires-clause-asked
 settle_by_state-requires-clause-asked g c =
     next_asked (settling_over c.self.inside.parts c.self.inside.settled.items) c.args.self.now c.args.edge c.self.view_is c.requires.touched

@@ -1,4 +1,4 @@
-use Rattle.std.proofs.Common.{◌≡◌, ◌<◌, ◌∙◌, ap, arith, length, rules, sym}
+use Rattle.std.proofs.Common.{◌∙◌, ap, arith, length, sym}
 use Rattle.std.specs.Prelude.{Some, slice_get}
 use Rattle.cu_reach.proofs.DeskLaws.{label_at, labels_count}
 use Rattle.cu_reach.proofs.reaching.ReachDesk.label.Goals as goal

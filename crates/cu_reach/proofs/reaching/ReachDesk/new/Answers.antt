@@ -1,4 +1,4 @@
-use Rattle.std.proofs.Common.{◌≡◌, ◌∙◌}
+use Rattle.std.proofs.Common.{◌∙◌}
 use Rattle.cu_reach.proofs.DeskLaws.{labels_count}
 use Rattle.cu_reach.proofs.reaching.ReachDesk.new.Goals as goal
 

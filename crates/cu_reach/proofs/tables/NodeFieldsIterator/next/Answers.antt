@@ -1,4 +1,4 @@
-use Rattle.std.proofs.Common.{arith, ◌<◌, ◌≡◌, rules, ◌∙◌, ap}
+use Rattle.std.proofs.Common.{arith, ◌∙◌, ap}
 use Rattle.cu_reach.specs.NodeFields.{IsNodeWord, fields_in}
 use Rattle.cu_reach.proofs.FieldLaws.{cut_fields, nodes_behind}
 use Rattle.cu_reach.proofs.tables.NodeFieldsIterator.next.Goals as goal

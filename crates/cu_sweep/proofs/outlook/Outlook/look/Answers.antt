@@ -1,6 +1,5 @@
 use Rattle.std.proofs.Common.{subst, arith}
-use Rattle.cu_chordal.specs.Graphs.{ChordalValue, IsChordal}
-use Rattle.cu_interval.specs.Hierarchies.{graph_of}
+use Rattle.cu_chordal.specs.Graphs.{ChordalValue}
 use Rattle.cu_interval.specs.LeastBounds.{least_bound}
 use Rattle.cu_sweep.specs.Outlooks.{FallsBy}
 use Rattle.cu_sweep.proofs.Falling.{ahead_by}

@@ -1,4 +1,4 @@
-use Rattle.std.proofs.Common.{◌≡◌, ℕ, subst}
+use Rattle.std.proofs.Common.{subst}
 use Rattle.cu_chordal.specs.Graphs.{ChordalValue}
 use Rattle.cu_bounds.specs.Near.{kept_bound}
 use Rattle.cu_sweep.specs.Outlooks.{FallsBy}
