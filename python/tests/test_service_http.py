@@ -2,15 +2,17 @@
 
 from __future__ import annotations
 
+import json
 import os
 import re
 import socket
 import time
 from collections.abc import Iterator
 from pathlib import Path
-from typing import BinaryIO
+from typing import Any, BinaryIO
 
 import pytest
+from conftest import TOP
 from hypothesis import given, settings
 from hypothesis import strategies as st
 from serving import Service, ask_program, read_all, wait_for
@@ -225,3 +227,54 @@ def test_the_same_headers_are_answered_by_what_they_say(
     assert [alone[each][0][9:12] for each in (good, accepts, bad)] == [b"200", b"200", b"421"]
     requests = [good, good, HEADS[8], good, bad, bad, good, accepts, HEADS[7], accepts, good, bad, HEADS[6], good]
     assert answers_of(service, requests, False) == [alone[request] for request in requests]
+
+
+# What is told of the edits goes wrong in a way that nobody has thought of: before the answer begins, or behind that.
+BROKEN = """
+import sys
+
+sys.path.insert(0, {python!r})
+from catchup.service.jobs import Jobs
+from catchup.service.page.events import Followers
+
+
+def told(jobs):
+    raise ValueError("by the test")
+
+
+async def begun(followers, *_):
+    yield b": it begins\\n\\n"
+    raise ValueError("by the test")
+
+
+Jobs.told, Followers._told = told, begun
+"""
+
+
+def answers_in(found: bytes) -> list[tuple[int, Any]]:
+    """The statuses and the JSON of answers that follow one another, each as long as it says."""
+    answers = []
+    while found:
+        head, _, found = found.partition(b"\r\n\r\n")
+        size = int(re.findall(rb"content-length: (\d+)", head)[0])
+        answers.append((int(head.split(b" ")[1]), json.loads(found[:size])))
+        found = found[size:]
+    return answers
+
+
+def test_what_goes_wrong_within_is_one_answer(town: Path, tmp_path: Path) -> None:
+    (tmp_path / "sitecustomize.py").write_text(BROKEN.format(python=str(TOP / "python")))
+    with Service(town, PYTHONPATH=str(tmp_path)) as service:
+        version = service.get("/health")["version"]
+        with service.connect() as client:
+            client.sendall(HEALTH.replace(b"/health", b"/edits") + HEALTH)
+            client.shutdown(socket.SHUT_WR)
+            assert answers_in(read_all(client)) == [
+                (500, {"error": "an error of the service", "version": version}),
+                (200, {"status": "ok", "version": version})]
+        # An answer that has begun isn't made whole by what follows.
+        with service.connect() as client:
+            client.sendall(HEALTH.replace(b"/health", b"/page/events") + HEALTH)
+            assert read_all(client).endswith(b"\r\n: it begins\n\n\r\n")
+        said = service.end()[2].splitlines()
+    assert [line.count("ValueError: by the test") for line in said] == [1, 1, 0] and "broken off" in said[2], said

@@ -47,6 +47,7 @@ def make_app(worker: Worker) -> FastAPI:
         app.include_router(router)
     app.add_exception_handler(Refusal, on_refusal)
     app.add_exception_handler(HTTPException, on_http_error)
+    app.add_exception_handler(Exception, leave_to_the_front)
     return app
 
 
@@ -65,6 +66,11 @@ async def on_http_error(request: Request, problem: Exception) -> Response:
     else:
         refusal = Refusal(problem.status_code, str(problem.detail))
     return refusal_answer(refusal, request.app.state.worker.version())
+
+
+async def leave_to_the_front(request: Request, problem: Exception) -> Response:
+    """All else is answered by the front; the framework would answer it before, in words of its own."""
+    raise problem
 
 
 def methods_of(request: Request) -> list[str]:

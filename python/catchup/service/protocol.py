@@ -188,6 +188,8 @@ class Cycle(RequestResponseCycle):  # type: ignore[misc]
                 raise RuntimeError(f"an answer begins with its start, not with {message['type']}")
             self.start = message
             return
+        if message["type"] == "http.response.start":
+            raise RuntimeError("an answer has begun already")
         if self.flow.write_paused and not self.disconnected:
             await self.flow.drain()
         if self.disconnected:
