@@ -121,6 +121,17 @@ def test_a_body_comes_in_pieces_with_a_request_behind_it(service: Service) -> No
     assert b"HTTP/1.1 400" in found and b'"word":"line"' in found and b'"status":"ok"' in found
 
 
+@pytest.mark.parametrize("zeros", [1, 4300, 20_000])
+def test_a_length_may_begin_with_zeros(service: Service, zeros: int) -> None:
+    length = b"Content-Length: " + b"0" * zeros
+    assert service.raw(b"GET /health HTTP/1.1\r\n" + H + length + b"\r\n\r\n")[0] == "200 OK"
+    assert service.raw(b"GET /health HTTP/1.1\r\n" + H + length + b"5\r\n\r\nabcde")[0] == "200 OK"
+    status, told = service.raw(b"POST /edits HTTP/1.1\r\n" + H + length + b"5\r\n\r\nabcde")
+    assert (status, told["error"]) == ("400 Bad Request", "refused")
+    status, told = service.raw(b"POST /edits HTTP/1.1\r\n" + H + length + b"67108865\r\n\r\nabcde")
+    assert (status[:3], told["error"]) == ("413", "a body has at most 67108864 bytes")
+
+
 def test_old_clients_are_answered_and_closed(service: Service) -> None:
     assert service.raw(b"GET /health HTTP/1.0\r\n" + H + b"\r\n", end=False)[0] == "200 OK"
     with service.connect() as client:

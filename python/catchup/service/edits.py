@@ -74,8 +74,7 @@ async def post_edits(request: Request) -> Response:
 async def take_body(request: Request, editor: Editor) -> Spool:
     """Writes a body to a file as it comes."""
     most = LONGEST_JSON if is_json(request) else LONGEST_LINES
-    length = request.headers.get("content-length")
-    if length is not None and int(length) > most:
+    if int(request.scope["catchup.read"].get(b"content-length", b"0")) > most:
         raise Refusal(413, f"a body of this kind has at most {most} bytes")
     path = editor.network.path
     spool: Spool | None = None

@@ -486,6 +486,8 @@ class Connection(HttpToolsProtocol):  # type: ignore[misc]
         short = length.lstrip(b"0") or b"0"
         if len(short) > 9 or int(short) > LONGEST_LINES:
             return 413, f"a body has at most {LONGEST_LINES} bytes"
+        # Whoever reads it as a number would refuse thousands of zeros.
+        self.read[b"content-length"] = short
         self.body = Sized(int(short)) if short != b"0" else None
         return None
 
