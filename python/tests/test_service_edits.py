@@ -12,6 +12,7 @@ import signal
 import stat
 import subprocess
 import time
+from collections.abc import Callable
 from concurrent.futures import ThreadPoolExecutor
 from pathlib import Path
 from typing import Any
@@ -453,6 +454,40 @@ def test_a_limit_of_file_sizes_keeps_the_version_before(file: Path) -> None:
         assert status == 503 and "stored" in told["error"]
         assert service.get("/health")["status"] == "ok"
     assert file.read_bytes() == before and left_in(file.parent) == []
+
+
+def cut(jobs: Path) -> None:
+    """Half of the list is gone, as where a machine stops."""
+    os.truncate(jobs, jobs.stat().st_size // 2)
+
+
+def replace_by_text(jobs: Path) -> None:
+    jobs.write_text("no database at all")
+
+
+@pytest.mark.parametrize("damage", [cut, replace_by_text])
+def test_a_damaged_list_of_edits_is_put_aside(file: Path, damage: Callable[[Path], object]) -> None:
+    jobs = file.with_name(file.name + ".jobs")
+    aside = jobs.with_name(jobs.name + ".damaged")
+    with Service(file) as service:
+        service.edit(LINE)
+        assert service.end()[0] == 0
+    damage(jobs)
+    damaged = jobs.read_bytes()
+    with Service(file) as service:
+        assert service.get("/edits")["jobs"] == [] and aside.read_bytes() == damaged
+        service.edit(LINE)
+        assert [job["state"] for job in service.get("/edits")["jobs"]] == ["done"]
+        # In work nobody takes it away: a hint says what does.
+        damage(jobs)
+        for asked in (("/edits",), ("/edits/1",), ("/edits/1", "DELETE"), ("/edits", "POST", LINE.encode())):
+            status, told = service.ask(*asked)
+            assert status == 503 and "SIGHUP" in told["hint"], told
+        assert service.get("/health")["status"] == "ok"
+        service.process.send_signal(signal.SIGHUP)
+        assert wait_for(lambda: service.once("a,3,1")[0], lambda status: status == 200) == 200
+        said = service.end()[2]
+    assert said.count("town.cu.jobs is damaged: it is town.cu.jobs.damaged now") == 2 and "should not be" not in said
 
 
 def test_an_edit_that_dies_is_told(file: Path, slow: Path) -> None:

@@ -123,6 +123,7 @@ class Editor:
         folder = os.open(self.network.path.parent, os.O_RDONLY | os.O_DIRECTORY | os.O_CLOEXEC)
         try:
             if try_lock(folder):
+                await asyncio.to_thread(mend, self.jobs)
                 await asyncio.to_thread(recover, self.network.path, self.jobs)
         except (OSError, sqlite3.Error, packed.NotPacked) as problem:
             tell(f"{self.network.path.parent} can't be looked through: {problem}")
@@ -286,6 +287,13 @@ class Editor:
         if status:
             raise not_made(status, replies, self.network.path)
         return replies
+
+
+def mend(jobs: Jobs) -> None:
+    """Puts a damaged list of jobs aside, as a machine that stops may leave it: else no edit could be made. For the
+    holder of the folder's lock alone."""
+    if not jobs.is_whole():
+        tell(f"{jobs.path} is damaged: it is {jobs.put_aside().name} now, and another one is begun")
 
 
 def read_replies(process: subprocess.Popen[bytes], replies: Replies) -> int:

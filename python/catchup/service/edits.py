@@ -3,8 +3,10 @@
 from __future__ import annotations
 
 import asyncio
+import contextlib
 import os
 import sqlite3
+from collections.abc import Iterator
 from pathlib import Path
 from typing import Any
 
@@ -16,7 +18,7 @@ from catchup.service import openapi
 from catchup.service.answers import answer, refusal_answer
 from catchup.service.editor import Editor, Made, Refused, Work, cancelled, why
 from catchup.service.errors import Refusal, told_briefly
-from catchup.service.jobs import ENDED, Job, new_name
+from catchup.service.jobs import ENDED, Job, is_damaged, new_name
 from catchup.service.limits import CANCEL_SECONDS, LARGE_BODY, LONGEST_JSON, LONGEST_LINES, MOST_WAITING
 from catchup.service.roadedits import Edit, edits_of
 from catchup.service.spool import EDITS, Spool
@@ -26,6 +28,7 @@ from catchup.service.worker import Worker, worker_of
 
 router = APIRouter()
 LOOK_PAUSE = 0.05
+ASIDE = "a reload by SIGHUP puts the damaged list of edits aside, and begins another"
 OLD = "edits are made by POST /edits: the body is edit lines, or JSON; GET /edits lists them"
 
 
@@ -60,7 +63,7 @@ async def post_edits(request: Request) -> Response:
         job = await asyncio.to_thread(editor.jobs.add, spool.name)
     except (OSError, sqlite3.Error) as problem:
         await let_go(spool)
-        raise Refusal(503, why(problem)) from None
+        raise Refusal(503, why(problem), hint=hint_of(problem)) from None
     except Refusal:
         await let_go(spool)
         raise
@@ -135,13 +138,28 @@ async def confirmed(made: asyncio.Task[Made], worker: Worker, editor: Editor) ->
     return answer(found.told(), found.after[:12])
 
 
+def hint_of(problem: Exception) -> str | None:
+    """What is to be done where the list of edits fails."""
+    return ASIDE if isinstance(problem, sqlite3.Error) and is_damaged(problem) else None
+
+
+@contextlib.contextmanager
+def read_jobs() -> Iterator[None]:
+    """Says so where the list of edits can't be read."""
+    try:
+        yield
+    except sqlite3.Error as problem:
+        raise Refusal(503, f"the list of edits can't be read: {problem}", hint=hint_of(problem)) from None
+
+
 @router.get("/edits", **openapi.GET_EDITS)
 async def list_edits(request: Request) -> Response:
     """The jobs of a file, the newest first."""
     asked = take(request.scope["query_string"], {})
     worker = worker_of(request)
     network = worker.network(asked.get("profile"))
-    jobs = await asyncio.to_thread(worker.editors[network].jobs.told)
+    with read_jobs():
+        jobs = await asyncio.to_thread(worker.editors[network].jobs.told)
     return answer({}, network.current.name, raw=("jobs", jobs))
 
 
@@ -168,7 +186,8 @@ def job_answer(job: Job, editor: Editor) -> Response:
 async def get_edit(request: Request) -> Response:
     """What became of a job."""
     take(request.scope["query_string"], {})
-    editor, job = await find_job(worker_of(request), request.path_params["name"])
+    with read_jobs():
+        editor, job = await find_job(worker_of(request), request.path_params["name"])
     return job_answer(job, editor)
 
 
@@ -176,8 +195,14 @@ async def get_edit(request: Request) -> Response:
 async def delete_edit(request: Request) -> Response:
     """Ends a job that isn't over."""
     take(request.scope["query_string"], {})
-    worker = worker_of(request)
-    editor, job = await find_job(worker, request.path_params["name"])
+    with read_jobs():
+        editor, job = await end_job(worker_of(request), request.path_params["name"])
+    return job_answer(job, editor)
+
+
+async def end_job(worker: Worker, name: str) -> tuple[Editor, Job]:
+    """Ends a job, and waits until that is so; a Refusal where it comes to another end."""
+    editor, job = await find_job(worker, name)
     if job.is_over:
         raise Refusal(409, f"the edit is {job.state}")
     if worker.log is not None and editor is worker.log.editor:
@@ -195,7 +220,7 @@ async def delete_edit(request: Request) -> Response:
         raise Refusal(503, "the edit is being ended", hint="ask for it again in a moment")
     if job.state != ENDED:
         raise Refusal(409, f"the edit is {job.state}")
-    return job_answer(job, editor)
+    return editor, job
 
 
 @router.api_route("/edit", methods=["GET", "POST", "DELETE"], include_in_schema=False)

@@ -5,6 +5,7 @@ from __future__ import annotations
 
 import contextlib
 import json
+import os
 import secrets
 import sqlite3
 import time
@@ -18,6 +19,7 @@ from catchup.service.limits import KEPT_JOBS
 WAITING, WORKING, DONE, REFUSED, ENDED = "waiting", "working", "done", "refused", "ended"
 STATES: Final = (WAITING, WORKING, DONE, REFUSED, ENDED)
 ACTIVE: Final = (WAITING, WORKING)
+DAMAGED: Final = ("SQLITE_NOTADB", "SQLITE_CORRUPT")    # how such errors' names begin
 
 TABLE: Final = """
 CREATE TABLE IF NOT EXISTS jobs (
@@ -58,6 +60,11 @@ def new_name() -> str:
     return secrets.token_hex(8)
 
 
+def is_damaged(problem: sqlite3.Error) -> bool:
+    """Whether an error says that the file is no database, or no whole one."""
+    return getattr(problem, "sqlite_errorname", "").startswith(DAMAGED)
+
+
 class Jobs:
     """The jobs of one file. Its calls wait for the disk, and are made in threads."""
 
@@ -76,6 +83,26 @@ class Jobs:
                 yield base
         finally:
             base.close()
+
+    def is_whole(self) -> bool:
+        """Whether the file is a whole database, or isn't there yet."""
+        if not self.path.exists():
+            return True
+        try:
+            with self.opened() as base:
+                return bool(base.execute("PRAGMA quick_check(1)").fetchone() == ("ok",))
+        except sqlite3.Error as problem:
+            if not is_damaged(problem):
+                raise
+            return False
+
+    def put_aside(self) -> Path:
+        """Renames the file, so that the next job begins another, and answers its new name. What was to be undone in it
+        goes first: it would be undone in the next one. For the holder of the folder's lock alone."""
+        self.path.with_name(self.path.name + "-journal").unlink(missing_ok=True)
+        aside = self.path.with_name(self.path.name + ".damaged")
+        os.replace(self.path, aside)
+        return aside
 
     def add(self, name: str) -> Job:
         """A new job that waits; those past the last thousand are forgotten."""
