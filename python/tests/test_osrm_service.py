@@ -184,6 +184,8 @@ REFUSED: list[tuple[str, str, str]] = [
     (f"/route/v1/car/{A};{B}?depart=26:00", "InvalidOptions", "08:00"),
     (f"/table/v1/car/{A};{B}?sources=2", "InvalidOptions", "0 to 1"),
     (f"/table/v1/car/{A};{B}?fallback_speed=0", "InvalidOptions", "above 0"),
+    (f"/table/v1/car/{A};{B}?scale_factor=1e308", "InvalidOptions", "to 1000000"),
+    (f"/table/v1/car/{A};{ISLAND}?fallback_speed=1e-320", "InvalidOptions", "from 0.000001"),
     (f"/route/v1/car/{A};190,5", "InvalidValue", "place 1"),
     (f"/route/v1/car/{A};{B}?exclude=motorway", "InvalidValue", "motorway"),
     ("/nearest/v1/car/47.001,9.001", "NoSegment", "write 9.001,47.001"),

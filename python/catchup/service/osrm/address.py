@@ -27,6 +27,7 @@ UNANSWERED: Final = ("match", "tile", "trip")
 MOST_PLACES: Final = 500                # of a route
 MOST_ENTRIES: Final = 1_048_576         # of a table
 MOST_NEAREST: Final = 100
+MOST_FACTOR: Final = 1_000_000          # of durations, and of metres a second; the least is its inverse
 KINDS: Final = ("duration", "nodes", "distance", "weight", "datasources", "speed")
 _NUMBER: Final = r"[+-]?(?:[0-9]{1,40}(?:\.[0-9]{0,40})?|\.[0-9]{1,40})(?:[eE][+-]?[0-9]{1,3})?"
 _PLACE: Final = re.compile(rf"({_NUMBER}),({_NUMBER})", re.ASCII)
@@ -289,14 +290,14 @@ def indices_of(name: str) -> Callable[[str, int], list[int] | None]:
 
 
 def above_zero(name: str) -> Callable[[str, int], float]:
-    """A number above 0."""
+    """A number above 0, neither so small nor so large that durations would be no numbers any more."""
     def read(text: str, _: int) -> float:
         try:
             value = float_of(text)
         except ValueError:
             value = 0.0
-        if value <= 0:
-            raise wrong(name, text, "it is a number above 0")
+        if not 1 / MOST_FACTOR <= value <= MOST_FACTOR:
+            raise wrong(name, text, f"it is a number above 0, from {1 / MOST_FACTOR:f} to {MOST_FACTOR}")
         return value
     return read
 
