@@ -207,6 +207,21 @@ def test_reach_has_one_scale_a_day(browser: Browser, village: Service) -> None:
     is_sound(browser)
 
 
+PERCENT = """
+const [count, all, done] = arguments;
+import('/page/file/clock.js').then(({ percent }) => done(percent(count, all)), problem => done(String(problem)));
+"""
+
+
+@pytest.mark.parametrize(("count", "of", "wanted"), [
+    (0, 0, 0), (0, 5392, 0), (1, 5392, 1), (2696, 5392, 50), (5391, 5392, 99), (5392, 5392, 100)])
+def test_all_streets_are_said_to_be_reached_where_they_are(browser: Browser, village: Service, count: int, of: int,
+                                                           wanted: int) -> None:
+    if not str(browser.driver.current_url).startswith(f"http://127.0.0.1:{village.port}/"):
+        browser.open(village)
+    assert browser.driver.execute_async_script(PERCENT, count, of) == f"{wanted} %"
+
+
 def test_a_road_is_closed_by_clicks_and_others_follow(browser: Browser, village: Service) -> None:
     # The mill's lane leads both ways.
     [lane] = village.get("/page/search?q=M%C3%BChleweg")["places"][:1]

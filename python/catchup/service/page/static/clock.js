@@ -1,4 +1,4 @@
-// Times of day, spans and distances as people write them.
+// Times of day, spans, distances and parts as people write them.
 
 export const DAY = 86400;
 
@@ -33,6 +33,12 @@ export function shortSpan(seconds) {
 export function distance(metres) {
   if (metres < 995) return `${Math.round(metres / 10) * 10 || Math.round(metres)} m`;
   return `${(metres / 1000).toFixed(metres < 9950 ? 1 : 0)} km`;
+}
+
+// So many of all in whole percents: 100 where it is all, and 0 where it is nothing, but for no other part.
+export function percent(count, all) {
+  const found = Math.round(100 * count / Math.max(all, 1));
+  return `${count === all || !count ? found : Math.min(Math.max(found, 1), 99)} %`;
 }
 
 // The second of the day that somebody types, as 8, 8:05, 805, 0805, 08:05:30 or 8.05; null where it is none.

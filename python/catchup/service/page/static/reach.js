@@ -1,6 +1,6 @@
 // What is reached from a place: streets in bands of one scale for the whole day, and the ground of each band.
 
-import { clock, span } from "./clock.js";
+import { clock, percent, span } from "./clock.js";
 import { at, fill, legend, make, wrong } from "./dom.js";
 import { bandColours, colours } from "./palette.js";
 import { ask, bytes, newest } from "./service.js";
@@ -73,7 +73,7 @@ export class Reach {
       this.bands = data.map(band => (band === UNREACHED ? COUNT : band));
       this.show();
       const count = data.reduce((sum, band) => sum + (band !== UNREACHED), 0);
-      const part = `${Math.round(100 * count / Math.max(data.length, 1))} % of the streets`;
+      const part = `${percent(count, data.length)} of the streets`;
       fill(at("reach-said"), `Who leaves at ${clock(state.time)} reaches ${part} within ${span(state.within)}.`);
     } catch (problem) {
       if (isLast() && problem.status) fill(at("reach-said"), wrong(problem));
