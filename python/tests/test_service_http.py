@@ -143,6 +143,21 @@ def test_old_clients_are_answered_and_closed(service: Service) -> None:
         assert read_all(client).count(b"200 OK") == 2
 
 
+def test_what_goes_on_for_ever_has_a_head_and_is_plain_for_old_clients(service: Service) -> None:
+    with service.connect() as client:
+        client.sendall(b"HEAD /page/events HTTP/1.1\r\n" + H + b"\r\n" + HEALTH)
+        client.shutdown(socket.SHUT_WR)
+        found = read_all(client)
+    assert found.count(b"HTTP/1.1 200 OK") == 2 and b"retry" not in found and b'\r\n\r\n{"status":"ok"' in found
+    with service.connect() as client:
+        client.sendall(b"GET /page/events HTTP/1.0\r\n" + H + b"Connection: keep-alive\r\n\r\n")
+        found = b""
+        while b"event: version" not in found:
+            found += client.recv(65_536)
+    head, _, body = found.partition(b"\r\n\r\n")
+    assert b"transfer-encoding" not in head and b"connection: close" in head and body.startswith(b"retry: 1000\n\nevent")
+
+
 def test_a_body_is_asked_for_and_refused_before_it_is_sent(service: Service) -> None:
     head = b"POST /%b HTTP/1.1\r\n" + H + b"Expect: 100-continue\r\nContent-Length: 4\r\n\r\n"
     with service.connect() as client:

@@ -174,7 +174,7 @@ class Cycle(RequestResponseCycle):  # type: ignore[misc]
     async def receive(self) -> Any:
         """The next piece of the body; its time counts from the first one on that is asked for."""
         connection = self.connection
-        if connection.has_ended and connection.body is not None and not self.body:
+        if self.response_complete or (connection.has_ended and connection.body is not None and not self.body):
             return {"type": "http.disconnect"}
         connection.expect_body()
         if connection.is_large and self.flow.read_paused and not self.disconnected:
@@ -192,7 +192,7 @@ class Cycle(RequestResponseCycle):  # type: ignore[misc]
             raise RuntimeError("an answer has begun already")
         if self.flow.write_paused and not self.disconnected:
             await self.flow.drain()
-        if self.disconnected:
+        if self.disconnected or self.response_complete:
             return
         body, more = message.get("body", b""), message.get("more_body", False)
         if not self.response_started:
@@ -200,9 +200,10 @@ class Cycle(RequestResponseCycle):  # type: ignore[misc]
             self.waiting_for_100_continue = False
             head = self.head(self.start, None if more else len(body))
             if self.scope["method"] == "HEAD":
-                body = b""
+                # It is whole, also where the body would go on for ever.
+                body, more = b"", False
             self.write(head, self.framed(body, more))
-        elif self.scope["method"] != "HEAD":
+        else:
             self.write(self.framed(body, more))
         if not more:
             self.complete()
@@ -215,8 +216,15 @@ class Cycle(RequestResponseCycle):  # type: ignore[misc]
             lines.append(name + b": " + value + b"\r\n")
         self.chunked_encoding = False
         if not has_length and status not in (204, 304):
-            self.chunked_encoding = length is None
-            lines.append(b"transfer-encoding: chunked\r\n" if length is None else b"content-length: %d\r\n" % length)
+            is_old = self.scope["http_version"] == "1.0"
+            self.chunked_encoding = length is None and not is_old
+            if length is not None:
+                lines.append(b"content-length: %d\r\n" % length)
+            elif is_old:
+                # It knows no chunks: the body ends with the connection.
+                self.keep_alive = False
+            else:
+                lines.append(b"transfer-encoding: chunked\r\n")
         if self.connection.must_close():
             self.keep_alive = False
         if not self.keep_alive:
