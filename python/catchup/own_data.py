@@ -106,6 +106,15 @@ def make_network(places: Path, streets: Path, *, share: bool = False, in_metres:
     return OwnNetwork(Network(nodes, Roads(tail, head, profile), profiles), where.columns["id"])
 
 
+def check_apart(folder: Path, *inputs: Path) -> None:
+    """Failure where a file that `write_own` writes into a folder is one of these."""
+    for name in (NODES_FILE, ROADS_FILE, PROFILES_FILE, IDS_FILE):
+        made = folder / name
+        if made.exists() and any(each.exists() and made.samefile(each) for each in inputs):
+            how = "is one of the two files that it is made of, and would be written over: name another folder by --out"
+            raise Failure(f"{made} {how}")
+
+
 def write_own(made: OwnNetwork, folder: Path) -> None:
     """Writes the four files; where one can't be written, none is changed."""
     ids = io.StringIO(newline="")
@@ -124,7 +133,10 @@ def write_own(made: OwnNetwork, folder: Path) -> None:
         raise Failure(f"{folder} can't be made: {error.strerror or error}") from None
     with contextlib.ExitStack() as files:
         for name, text in texts.items():
-            files.enter_context(writing(folder / name)).write(text)
+            file = files.enter_context(writing(folder / name))
+            file.write(text)
+            # A full disk tells here, before any file has taken the place of an old one.
+            file.flush()
 
 
 # ---- CSV ----

@@ -269,6 +269,35 @@ def test_where_one_file_cannot_be_written_none_is_changed(folder: Path) -> None:
     assert all(Path("made", name).read_bytes() == before[name] for name in FILES[1:])
 
 
+def test_a_full_disk_changes_nothing(folder: Path) -> None:
+    """A limit on the size of files stands for the disk: the places alone are too many for it."""
+    tables(PLACES, GOOD)
+    before = {name: Path("made", name).read_bytes() for name in FILES}
+    Path("places.csv").write_text("".join(f"{number},1,2\n" for number in range(100)))
+    Path("streets.csv").write_text("from,to,seconds\n0,1,5\n")
+    for out in ("made", "new"):
+        words = ["bash", "-c", 'ulimit -f 1; exec "$0" "$@"', BIN / "catchup-tables", "places.csv", "streets.csv", "--out", out]
+        # What Python keeps of modules would be cut too.
+        env = {**os.environ, "PYTHONDONTWRITEBYTECODE": "1"}
+        ran = subprocess.run(words, capture_output=True, text=True, timeout=600, env=env)
+        assert (ran.returncode, ran.stderr) == (1, f"catchup-tables: {out}/nodes.csv can't be written: File too large\n")
+    assert {name: Path("made", name).read_bytes() for name in os.listdir("made")} == before and os.listdir("new") == []
+
+
+@pytest.mark.parametrize("places, streets", [("nodes.csv", "streets.csv"), ("places.csv", "roads.csv"), ("link.csv", "ids.csv")])
+def test_the_two_files_are_not_written_over(folder: Path, places: str, streets: str) -> None:
+    Path("nodes.csv").write_text(PLACES)
+    Path("link.csv").symlink_to("nodes.csv")
+    Path("places.csv").write_text(PLACES)
+    for name in ("streets.csv", "roads.csv", "ids.csv"):
+        Path(name).write_text(GOOD)
+    before = {name: Path(name).read_text() for name in os.listdir()}
+    ran = call("catchup-tables", places, streets)
+    check_refused(ran, 1, "is one of the two files that it is made of, and would be written over: name another folder by --out")
+    assert {name: Path(name).read_text() for name in os.listdir()} == before
+    assert call("catchup-tables", places, streets, "--out", "made").status == 0 and sorted(os.listdir("made")) == FILES
+
+
 def test_a_closed_pipe_is_silent(folder: Path) -> None:
     ran = run_into_closed_pipe("catchup-tables", OWN / "places.csv", OWN / "streets.csv")
     assert ran == (141, "", "") and sorted(os.listdir()) == FILES

@@ -32,8 +32,9 @@ def command(places: Path, streets: Path, out: Path, share: bool, degrees: bool) 
 
     Who leaves later never arrives earlier: who would be overtaken arrives with the first who wouldn't.
     """
-    from catchup.own_data import make_network, write_own
+    from catchup.own_data import check_apart, make_network, write_own
 
+    check_apart(out, places, streets)
     made = make_network(places, streets, share=share, in_metres=degrees)
     _check_limits(made)
     write_own(made, out)
