@@ -298,6 +298,14 @@ def test_the_two_files_are_not_written_over(folder: Path, places: str, streets: 
     assert call("catchup-tables", places, streets, "--out", "made").status == 0 and sorted(os.listdir("made")) == FILES
 
 
+@pytest.mark.parametrize("name", ["my town", "it's", "a;b"])
+def test_the_next_command_can_be_typed(program: Path, folder: Path, name: str) -> None:
+    ran = run("catchup-tables", OWN / "places.csv", OWN / "streets.csv", "--out", name)
+    said = ran.output.splitlines()[-1].removeprefix("next: ").replace("catchup", str(BIN / "catchup"), 1)
+    done = subprocess.run(["bash", "-c", said], capture_output=True, text=True, timeout=600)
+    assert done.returncode == 0 and Path(name, "map.cu").is_file(), done
+
+
 def test_a_closed_pipe_is_silent(folder: Path) -> None:
     ran = run_into_closed_pipe("catchup-tables", OWN / "places.csv", OWN / "streets.csv")
     assert ran == (141, "", "") and sorted(os.listdir()) == FILES

@@ -2,6 +2,7 @@
 
 from __future__ import annotations
 
+import shlex
 from pathlib import Path
 from typing import TYPE_CHECKING, NoReturn
 
@@ -64,7 +65,7 @@ def _check_limits(made: OwnNetwork) -> None:
 def _next_command(folder: Path, nodes: int) -> str:
     from catchup.tables import NODES_FILE, PROFILES_FILE, ROADS_FILE
 
-    at = "" if folder == Path(".") else f"{folder}/"
+    at = "" if folder == Path(".") else f"{shlex.quote(str(folder))}/"
     tables = f"{at}{NODES_FILE} {at}{ROADS_FILE}"
     if nodes <= SMALL:
         return f"catchup build {tables} {at}{PROFILES_FILE} dissect {at}map.cu"
