@@ -277,15 +277,32 @@ class _Table:
     def fault(self, row: int, column: int, allowed: str) -> NoReturn:
         """Raises TableError for a field. The text is gone through once more, for the line."""
         header = len(self._names) > 1
-        for number, (line, fields) in enumerate(_rows(self._text, header)):
+        for number, (line, fields) in enumerate(self._rows(header)):
             if number == row:
                 raise TableError(self._path, line, self._names[column], _shown(fields[column]), allowed)
         raise AssertionError("a fault is in a row that was read")
 
+    def _rows(self, header: bool) -> Iterator[tuple[int, list[str]]]:
+        """The rows behind the header, each with the line that it begins in; a blank line is no row."""
+        reader = csv.reader(io.StringIO(self._text, newline=""))
+        begins = 1
+        skip = header
+        try:
+            for fields in reader:
+                line, begins = begins, reader.line_num + 1
+                if not fields:
+                    continue
+                if skip:
+                    skip = False
+                    continue
+                yield line, fields
+        except csv.Error as error:
+            raise TableError(self._path, begins, None, str(error), f"a row of {','.join(self._names)}") from None
+
     def _read_slowly(self, words: Sequence[str], header: bool) -> list[Ints]:
         """What the fast reading leaves: quotes, blank lines between, and faults, which it finds."""
         values: list[list[int]] = []
-        for line, fields in _rows(self._text, header):
+        for line, fields in self._rows(header):
             if len(fields) != len(self._names):
                 raise TableError(self._path, line, None, f"{len(fields)} fields", f"{len(self._names)} fields")
             values.append([self._value(line, column, field, words) for column, field in enumerate(fields)])
@@ -329,21 +346,6 @@ def _read_fast(body: str, names: Sequence[str], words: Sequence[str]) -> list[In
             column = number
         columns.append(np.ascontiguousarray(column, np.int64))
     return columns
-
-
-def _rows(text: str, header: bool) -> Iterator[tuple[int, list[str]]]:
-    """The rows behind the header, each with the line that it begins in; a blank line is no row."""
-    reader = csv.reader(io.StringIO(text, newline=""))
-    begins = 1
-    skip = header
-    for fields in reader:
-        line, begins = begins, reader.line_num + 1
-        if not fields:
-            continue
-        if skip:
-            skip = False
-            continue
-        yield line, fields
 
 
 def _end_of_line(text: str) -> int:

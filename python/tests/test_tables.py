@@ -163,6 +163,16 @@ def test_faults(folder: Path, read: Read, text: str, line: int | None, column: s
     assert "\n" not in str(error) and error.status == 1
 
 
+def test_fields_that_are_too_long(folder: Path) -> None:
+    cases: list[tuple[Read, str, str]] = [
+        (read_nodes, "node,x,y\n0,1,2\n1," + "0" * 200_000 + ",0\n", "table, line 3: found field larger than .* a row of node,x,y"),
+        (read_order, '0\n"' + "1\n" * 100_000, "table, line 2: found field larger than .* a row of node"),
+    ]
+    for read, text, said in cases:
+        with pytest.raises(TableError, match=said):
+            read(put(text))
+
+
 def test_who_leaves_later_must_not_arrive_earlier(folder: Path) -> None:
     read_profiles(put("profile,from,kind,value\n0,0,travel,10\n0,100,travel,9\n0,200,until,209\n0,203,travel,10\n"))
     cases = [
