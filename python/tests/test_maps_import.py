@@ -144,6 +144,47 @@ def test_a_folder_that_isnt_empty(small: Path, tmp_path: Path, program: Path) ->
     assert (out / "roads.csv").read_text(encoding="utf-8") != "old" and left(tmp_path) == ["out", "small.osm"]
 
 
+def test_the_folder_that_one_is_in(small: Path, tmp_path: Path, program: Path) -> None:
+    """It stays the same folder, with its mode: who is in it sees what was made, and it may be a mounted one."""
+    out = tmp_path / "out"
+    out.mkdir(mode=0o750)
+    before = out.stat()
+    for more in ("", "--force --weekday su"):
+        said = f"{BIN}/catchup-import osm ../small.osm . --build {more} && ls -A && {BIN}/catchup verify map.cu"
+        ran = subprocess.run(["bash", "-c", said], cwd=out, capture_output=True, text=True, timeout=600)
+        assert ran.returncode == 0 and ran.stdout.splitlines()[-8:] == [*sorted([*FILES, "map.cu"]), "same"], ran
+        assert (out.stat().st_ino, out.stat().st_mode) == (before.st_ino, before.st_mode)
+    assert left(tmp_path) == ["out", "small.osm"]
+
+
+def test_a_folder_that_cant_be_filled(small: Path, tmp_path: Path, monkeypatch: pytest.MonkeyPatch) -> None:
+    """What it had of an import is there again."""
+    out = tmp_path / "out"
+    assert imported(small, out).status == 0
+    (out / "mine.txt").write_text("mine", encoding="utf-8")
+    before = {name: (out / name).read_bytes() for name in left(out)}
+    rename = os.rename
+
+    def fail(old: Path, new: Path) -> None:
+        if Path(new) == out / "profiles.csv" and ".old" not in str(old):
+            raise OSError(5, "Input/output error")
+        rename(old, new)
+
+    monkeypatch.setattr(os, "rename", fail)
+    check_refused(imported(small, out, "--force", "--weekday", "su"), 1, f"{out} can't be written: Input/output error")
+    assert {name: (out / name).read_bytes() for name in left(out)} == before
+
+
+def test_a_full_disk_is_told_of_the_folder_that_was_named(small: Path, tmp_path: Path) -> None:
+    """A limit on the size of files stands for the disk."""
+    words = ["bash", "-c", 'ulimit -f 8; exec "$0" "$@"', BIN / "catchup-import", "osm", small, tmp_path / "out"]
+    # What Python keeps of modules would be cut too.
+    env = {**os.environ, "PYTHONDONTWRITEBYTECODE": "1"}
+    ran = subprocess.run(words, capture_output=True, text=True, timeout=600, env=env)
+    assert ran.returncode == 1 and ran.stderr.startswith(f"catchup-import: {tmp_path}/out/map.gpkg can't be written: "), ran
+    assert left(tmp_path) == ["small.osm"]
+
+
 NO_MAP = "this isn't a whole file of OpenStreetMap"
 HISTORY = "this is a history or a file of changes"
 

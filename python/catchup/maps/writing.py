@@ -4,6 +4,7 @@ from __future__ import annotations
 import os
 import secrets
 import shutil
+import signal
 from collections.abc import Callable, Iterator
 from contextlib import contextmanager
 from pathlib import Path
@@ -34,43 +35,67 @@ def check_folder(folder: Path, force: bool) -> None:
 
 @contextmanager
 def making(folder: Path, force: bool) -> Iterator[Path]:
-    """A folder beside, which takes the place of `folder` when the block has ended well, and else goes.
+    """A folder to make all in, which becomes `folder` when the block has ended well, and else goes.
 
-    With `force` what is in the old folder and isn't made anew, but for a packed file, is kept.
+    Where `folder` is there already it stays the same one, and gets all that was made: it may be the folder that somebody
+    is in, or a mounted one. With `force` what is in it and isn't made anew, but for a packed file, is kept.
     """
     target = folder.resolve()
-    beside = target.with_name(f".{target.name}.{secrets.token_hex(4)}.part")
+    is_there = target.is_dir()
+    mark = secrets.token_hex(4)
+    room = target / f".catchup-import.{mark}.part" if is_there else target.with_name(f".{target.name}.{mark}.part")
     try:
-        beside.mkdir()
+        room.mkdir()
     except OSError as fault:
-        raise Failure(f"{folder} can't be made: {fault.strerror}") from fault
+        raise Failure(f"{folder} can't be {'written' if is_there else 'made'}: {fault.strerror}") from fault
     try:
-        yield beside
-        _put(beside, target, force)
+        yield room
+        if is_there:
+            _fill(room, target, force)
+        else:
+            os.rename(room, target)
+    except Failure as fault:
+        # Nobody but this function knows of the other folder.
+        raise Failure(str(fault).replace(str(room), str(folder))) from fault
     except OSError as fault:
         raise Failure(f"{folder} can't be written: {fault.strerror or fault}") from fault
     finally:
-        shutil.rmtree(beside, ignore_errors=True)
+        shutil.rmtree(room, ignore_errors=True)
 
 
-def _put(beside: Path, target: Path, force: bool) -> None:
-    """Puts a folder in the place of another."""
-    if not target.exists() or not any(target.iterdir()):
-        os.rename(beside, target)
-        return
-    if not force:
+def _fill(room: Path, target: Path, force: bool) -> None:
+    """Puts all that is in a folder into the one around it, in the place of what an import made there before."""
+    if not force and any(entry != room for entry in target.iterdir()):
         raise Failure(f"{target}: this folder was empty, and now isn't")
-    old = target.with_name(f".{target.name}.{secrets.token_hex(4)}.old")
-    os.rename(target, old)
+    made = [entry.name for entry in room.iterdir()]
+    old = room.with_suffix(".old")
+    # Who interrupts it now does so once all is put.
+    blocked = signal.pthread_sigmask(signal.SIG_BLOCK, (signal.SIGINT, signal.SIGTERM, signal.SIGHUP))
     try:
-        os.rename(beside, target)
+        old.mkdir()
+        _swap(room, target, old, made)
+        shutil.rmtree(old)
+    finally:
+        signal.pthread_sigmask(signal.SIG_SETMASK, blocked)
+
+
+def _swap(room: Path, target: Path, old: Path, made: list[str]) -> None:
+    """Moves what a folder has of these names, and a packed file, to `old`, and then all that was made into it; or where
+    that fails all back."""
+    moved: list[tuple[Path, Path]] = []
+    try:
+        for name in {*made, PACKED}:
+            if os.path.lexists(target / name):
+                os.rename(target / name, old / name)
+                moved.append((target / name, old / name))
+        for name in made:
+            os.rename(room / name, target / name)
+            moved.append((room / name, target / name))
     except OSError:
-        os.rename(old, target)
+        for before, now in reversed(moved):
+            os.rename(now, before)
+        old.rmdir()
         raise
-    for entry in old.iterdir():
-        if not (target / entry.name).exists() and entry.name != PACKED:
-            os.rename(entry, target / entry.name)
-    shutil.rmtree(old)
 
 
 def write_all(made: Made, folder: Path, build: bool, tell: Tell) -> list[str]:
