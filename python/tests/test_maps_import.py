@@ -242,7 +242,8 @@ def test_folders_that_cant_be_made(small: Path, tmp_path: Path) -> None:
     (["out", "--vehicle", "tram"], "'tram' is not one of"), (["out", "--weekday", "monday"], "is not one of"),
     (["out", "--bbox", "1,2,3"], "isn't four numbers"), (["out", "--bbox", "9,47,8,48"], "west before east"),
     (["out", "--spare", "-1"], "not in the range"), (["out", "--signals", "-1"], "not in the range"),
-    (["out", "--crossings", "long"], "is not a valid float"), (["out", "--left", "1.5"], "is not a valid integer"),
+    (["out", "--crossings", "long"], "is not a valid float"), (["out", "--crossings", "nan"], "nan isn't a number of seconds"),
+    (["out", "--signals", "NaN"], "nan isn't a number of seconds"), (["out", "--left", "1.5"], "is not a valid integer"),
     (["out", "--right"], "requires an argument")])
 def test_wrong_words(small: Path, tmp_path: Path, words: list[str], says: str) -> None:
     check_refused(imported(small, *words, cwd=tmp_path), 2, says)
@@ -278,6 +279,39 @@ def test_speeds_of_ones_own(small: Path, tmp_path: Path, program: Path) -> None:
     assert MapFile.open(tmp_path / "out" / "map.gpkg").road_seconds.tolist() == [144, 144]
     ran = imported(small, tmp_path / "no", "--speeds", tmp_path / "none.toml")
     check_refused(ran, 1, "none.toml: there is no such file")
+
+
+@pytest.mark.parametrize("content, says", [
+    (b"car = 3", "mine.toml: car is a table, as [car]"),
+    (b"foot = []\n[car]\nshare = 0.9", "mine.toml: foot is a table, as [foot]"),
+    (b"[car]\nmost = " + b"9" * 5000, "mine.toml: this isn't TOML: "),
+    (b"[car]\nmost = " + b"[" * 5000 + b"]" * 5000, "mine.toml: this isn't TOML that can be read: it is nested too deep"),
+    (b"[car.classes]\nstra\xdfe = 5", "mine.toml: this isn't UTF-8: save it as UTF-8"),
+    (None, "mine.toml: it can't be read: Is a directory")], ids=["car", "foot", "digits", "deep", "latin", "folder"])
+def test_speeds_that_cant_be_read(small: Path, tmp_path: Path, content: bytes | None, says: str) -> None:
+    if content is None:
+        (tmp_path / "mine.toml").mkdir()
+    else:
+        (tmp_path / "mine.toml").write_bytes(content)
+    check_refused(imported(small, "out", "--speeds", "mine.toml", cwd=tmp_path), 1, f"catchup-import: {says}")
+    assert left(tmp_path) == ["mine.toml", "small.osm"]
+
+
+def test_speeds_with_a_byte_order_mark(small: Path, tmp_path: Path, program: Path) -> None:
+    (tmp_path / "mine.toml").write_bytes(b"\xef\xbb\xbf[car.classes]\r\nresidential = 50\r\n")
+    assert imported(small, tmp_path / "out", "--speeds", tmp_path / "mine.toml", "--without", "service").status == 0
+    assert MapFile.open(tmp_path / "out" / "map.gpkg").road_seconds.tolist() == [144, 144]
+
+
+def test_a_map_whose_name_is_no_text(small: Path, tmp_path: Path) -> None:
+    """libosmium takes names of UTF-8 alone. A folder may have any name."""
+    other = os.fsencode(tmp_path) + b"/caf\xe9.osm"
+    os.link(small, other)
+    ran = subprocess.run([BIN / "catchup-import", "osm", other, tmp_path / "out"], capture_output=True, timeout=600)
+    assert ran.returncode == 1 and ran.stderr.count(b"\n") == 1 and b"the name of this map isn't UTF-8: rename it" in ran.stderr
+    folder = os.fsencode(tmp_path) + b"/caf\xe9"
+    ran = subprocess.run([BIN / "catchup-import", "osm", small, folder], capture_output=True, timeout=600)
+    assert ran.returncode == 0 and sorted(os.listdir(folder)) == [os.fsencode(name) for name in FILES]
 
 
 def test_classes_that_there_are_none_of(small: Path, tmp_path: Path) -> None:

@@ -1,6 +1,7 @@
 """catchup-import: a map of OpenStreetMap made into a network."""
 from __future__ import annotations
 
+import math
 import resource
 import shlex
 import shutil
@@ -58,6 +59,20 @@ class Box(click.ParamType):
         return west, south, east, north
 
 
+class Delay(click.FloatRange):
+    """Seconds, 0 to 600."""
+
+    def __init__(self) -> None:
+        super().__init__(0, 600)
+
+    def convert(self, value: Any, param: click.Parameter | None, ctx: click.Context | None) -> Any:
+        seconds = super().convert(value, param, ctx)
+        # Which is neither below the bounds nor above them.
+        if math.isnan(seconds):
+            self.fail(f"{seconds} isn't a number of seconds", param, ctx)
+        return seconds
+
+
 @click.group(context_settings={"help_option_names": ["-h", "--help"]})
 def command() -> None:
     """Makes networks of what others have.
@@ -76,8 +91,8 @@ def command() -> None:
 @click.option("--rush", is_flag=True, help="Slow roads down at rush hours, by figures that nobody measured.")
 @click.option("--spare", metavar="N", type=click.IntRange(0, 100_000), default=16, show_default=True,
               help="Profiles of no road, to close or slow single roads by.")
-@click.option("--signals", metavar="S", type=click.FloatRange(0, 600), default=0.0, help="Seconds at each traffic signal.")
-@click.option("--crossings", metavar="S", type=click.FloatRange(0, 600), default=0.0,
+@click.option("--signals", metavar="S", type=Delay(), default=0.0, help="Seconds at each traffic signal.")
+@click.option("--crossings", metavar="S", type=Delay(), default=0.0,
               help="Seconds at each crossing without a signal, and at each level crossing.")
 @click.option("--left", metavar="S", type=click.IntRange(0, 600), default=0, help="Seconds for each turn to the left.")
 @click.option("--right", metavar="S", type=click.IntRange(0, 600), default=0, help="Seconds for each turn to the right.")

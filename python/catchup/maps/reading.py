@@ -289,6 +289,8 @@ def check_file(path: Path) -> None:
         raise Failure(f"{path}: there is no such file")
     if not path.is_file():
         raise Failure(f"{path}: this isn't a file")
+    if str(path).encode("utf-8", "ignore").decode() != str(path):
+        raise Failure(f"{path}: the name of this map isn't UTF-8: rename it")
     try:
         several = osmium.io.File(str(path)).has_multiple_object_versions
         header = _header(path)

@@ -51,12 +51,17 @@ def _data(name: str) -> dict[str, Any]:
 def _own_speeds(path: Path) -> dict[str, Any]:
     """A file of speeds of one's own; Failure where it isn't one."""
     try:
-        return tomllib.loads(path.read_text(encoding="utf-8"))
+        return tomllib.loads(path.read_bytes().decode("utf-8-sig"))
     except FileNotFoundError as fault:
         raise Failure(f"{path}: there is no such file") from fault
-    except (OSError, UnicodeDecodeError) as fault:
-        raise Failure(f"{path}: it can't be read: {fault}") from fault
-    except tomllib.TOMLDecodeError as fault:
+    except OSError as fault:
+        raise Failure(f"{path}: it can't be read: {fault.strerror or fault}") from fault
+    except UnicodeDecodeError as fault:
+        raise Failure(f"{path}: this isn't UTF-8: save it as UTF-8") from fault
+    except RecursionError as fault:
+        raise Failure(f"{path}: this isn't TOML that can be read: it is nested too deep") from fault
+    except ValueError as fault:
+        # Of a number of thousands of digits Python says so itself.
         raise Failure(f"{path}: this isn't TOML: {fault}") from fault
 
 
@@ -92,9 +97,11 @@ def read_speeds(vehicle: str, path: Path | None = None) -> Speeds:
     words: dict[str, Any] = table[vehicle]
     if path is not None:
         own = _own_speeds(path)
-        for name in own:
+        for name, value in own.items():
             if name not in table:
                 raise Failure(f"{path}: [{name}] is no vehicle; they are {', '.join(VEHICLES)}")
+            if not isinstance(value, dict):
+                raise Failure(f"{path}: {name} is a table, as [{name}]")
         for name, value in own.get(vehicle, {}).items():
             if name not in words:
                 raise Failure(f"{path}: {vehicle}.{name} isn't known; known are {', '.join(words)}")
