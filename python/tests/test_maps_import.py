@@ -303,6 +303,36 @@ def test_speeds_with_a_byte_order_mark(small: Path, tmp_path: Path, program: Pat
     assert MapFile.open(tmp_path / "out" / "map.gpkg").road_seconds.tolist() == [144, 144]
 
 
+@pytest.mark.parametrize("tags", [
+    {"highway": "residential", "maxspeed": "0.0000001"},
+    {"highway": "residential", "maxspeed__conditional": "0.00001 mph @ (06:00-08:00)"},
+    {"highway": "residential", "maxspeed": "0.0001", "access__conditional": "no @ (22:00-06:00)"},
+    {"route": "ferry", "motor_vehicle": "yes"},
+    {"route": "ferry", "motor_vehicle": "yes", "interval": "24:00", "opening_hours": "23:59-24:00"}],
+    ids=["slow", "slow at hours", "slow and closed", "ferry", "ferry that departs"])
+def test_no_road_takes_more_than_five_days(tmp_path: Path, program: Path, tags: dict[str, str]) -> None:
+    """So the program takes what is made, whatever one way of a map says; the report tells of it."""
+    made = OsmMap()
+    made.row(3)
+    made.node(4, 0, 1_900_000)
+    made.way([1, 2, 3], highway="residential")
+    made.way([3, 4], number=77, **tags)
+    ran = imported(made.write(tmp_path / "far.osm"), tmp_path / "out", "--build")
+    assert ran.status == 0 and ran.error == "", ran
+    content = tables.read_network(tmp_path / "out").profiles
+    assert content.value[content.kind == tables.TRAVEL].max(initial=0) <= 432_000
+    report = (tmp_path / "out" / "report.txt").read_text(encoding="utf-8")
+    slow = MapFile.open(tmp_path / "out" / "map.gpkg").road_seconds.max() == 432_000
+    assert ("roads of more than five days, taken as five: 2 (77, 77)" in report) == slow
+    assert slow != ("maxspeed__conditional" in tags)
+
+
+def test_a_share_of_next_to_nothing(small: Path, tmp_path: Path, program: Path) -> None:
+    (tmp_path / "slow.toml").write_text("[car]\nshare = 1e-300\n[car.classes]\nresidential = 1e-300\n", encoding="utf-8")
+    ran = imported(small, tmp_path / "out", "--build", "--speeds", tmp_path / "slow.toml")
+    assert ran.status == 0 and ran.error == "", ran
+
+
 def test_a_map_whose_name_is_no_text(small: Path, tmp_path: Path) -> None:
     """libosmium takes names of UTF-8 alone. A folder may have any name."""
     other = os.fsencode(tmp_path) + b"/caf\xe9.osm"

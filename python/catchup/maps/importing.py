@@ -21,6 +21,7 @@ from catchup.maps.parts import Lost, largest, lost_of
 from catchup.maps.pockets import mark_gates, spread, through_streets
 from catchup.maps.profiles import Shapes, rush_timings, shapes_of, time_streets
 from catchup.maps.reading import RawMap, Wanted, check_file, read_nodes, read_ways
+from catchup.maps.rules import LONGEST
 from catchup.maps.seconds import WholeSeconds, exact_seconds, step_seconds
 from catchup.maps.sides import slow_turns
 from catchup.maps.states import Network, network_of
@@ -145,7 +146,10 @@ def _made(path: Path, labels: Labels, network: Network, lost: Lost, options: Opt
     """The tables and the map's file of a network."""
     directed = labels.of
     rush = rush_timings(labels, read_rush(options.weekday) if options.rush else None)
-    seconds = WholeSeconds(directed, exact_seconds(directed, step_seconds(directed.segments, directed.raw)))
+    exact = exact_seconds(directed, step_seconds(directed.segments, directed.raw))
+    slow = network.street[exact[network.street] > LONGEST]
+    counts.add_all("roads of more than five days, taken as five", labels.way[slow >> 1].tolist())
+    seconds = WholeSeconds(directed, exact)
     shapes = shapes_of(network, directed, seconds, rush, options.spare)
     content = tables.Network(_places(directed, network), tables.Roads(
         *(values.astype(np.int32) for values in (network.tail, network.head, shapes.profile))),

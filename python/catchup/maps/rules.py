@@ -11,7 +11,7 @@ from catchup.maps.values import DAY, IMPLICIT, duration, kmh
 from catchup.maps.vehicles import Vehicle
 
 LONGEST = 5 * DAY
-"""No ferry takes longer, in seconds."""
+"""No ferry says that it takes longer, and no road does, in seconds."""
 
 _YES, _BACK = ("yes", "true", "1"), ("-1", "reverse")
 _NO = ("no", "false", "0")

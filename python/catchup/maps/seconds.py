@@ -12,7 +12,7 @@ from catchup.maps.arrays import Floats, Ints, offsets, pairs, ranges
 from catchup.maps.chains import cut_rings
 from catchup.maps.directed import Directed
 from catchup.maps.reading import RawMap
-from catchup.maps.rules import Rule
+from catchup.maps.rules import LONGEST, Rule
 from catchup.maps.streets import Segments
 
 SPARE, SHARE = 1.5, 0.05
@@ -87,12 +87,14 @@ class WholeSeconds:
         self._chain[self._order] = np.repeat(np.arange(len(self._begins)), self._sizes)
 
     def at(self, factor: float, streets: Ints) -> Ints:
-        """What these directed streets take where all take so many times their usual seconds."""
+        """What these directed streets take where all take so many times their usual seconds: five days at most, so
+        that the program takes them whatever a way says."""
         own = self._itself[streets]
         chains, place = np.unique(self._chain[own], return_inverse=True)
         sizes = self._sizes[chains]
         members = self._order[ranges(self._begins[chains], sizes)]
-        whole = rounded_along(self._exact[members] * factor, sizes)
+        # fmin also takes what is no number: no time at all, times without an end.
+        whole = rounded_along(np.fmin(self._exact[members] * factor, LONGEST), sizes)
         found: Ints = whole[offsets(sizes)[place] + self._rank[own]]
         return found
 
