@@ -56,7 +56,8 @@ def call(
         stack.enter_context(mock.patch.object(sys, "path", list(sys.path)))
         stack.enter_context(mock.patch.dict(os.environ, env or {}))
         stack.enter_context(chdir(cwd or "."))
-        stack.callback(signal.signal, signal.SIGTERM, signal.getsignal(signal.SIGTERM))
+        for number in (signal.SIGTERM, signal.SIGHUP):
+            stack.callback(signal.signal, number, signal.getsignal(number))
         try:
             runpy.run_path(str(BIN / name), run_name="__main__")
         except SystemExit as end:

@@ -36,6 +36,7 @@ def command(how):
     if how == "pipe":
         for _ in range(100000): print("line")
     if how == "number": return 5
+    if how == "file": open("/proc/none", "w")
     if how == "wait":
         try: print("waiting", flush=True); time.sleep(600)
         finally: print("cleaned up")
@@ -105,9 +106,31 @@ def test_a_full_device_is_told() -> None:
     assert run.returncode == 1 and error.startswith("try-it: ") and "No space left" in error and error.count("\n") == 1
 
 
-@pytest.mark.parametrize("number, status", [(signal.SIGINT, 130), (signal.SIGTERM, 143)])
+def test_what_of_a_full_device_is_told() -> None:
+    with open("/dev/full", "w") as full:
+        run = start("print", stdout=full)
+        assert run.communicate(timeout=600)[1] == "try-it: its output can't be written: No space left on device\n"
+    run = start("file")
+    assert run.communicate(timeout=600)[1] == "try-it: /proc/none: No such file or directory\n"
+
+
+@pytest.mark.parametrize("how", ["print", "number", "failure"])
+def test_a_closed_output_is_told_before_any_work(how: str) -> None:
+    run = start(how, preexec_fn=lambda: os.close(1))
+    _, error = run.communicate(timeout=600)
+    assert (run.returncode, error) == (1, "try-it: standard output is closed\n")
+
+
+def test_what_goes_wrong_is_never_told_on_standard_output() -> None:
+    run = start("failure", preexec_fn=lambda: os.close(2))
+    output, _ = run.communicate(timeout=600)
+    assert (run.returncode, output) == (1, "")
+
+
+@pytest.mark.parametrize("number, status", [(signal.SIGINT, 130), (signal.SIGTERM, 143), (signal.SIGHUP, 129)])
 def test_an_interrupt_lets_it_clean_up(number: int, status: int) -> None:
-    run = start("wait")
+    # Whoever runs the tests may be deaf to it.
+    run = start("wait", preexec_fn=lambda: signal.signal(number, signal.SIG_DFL))
     assert run.stdout and run.stdout.readline() == "waiting\n"
     time.sleep(0.1)
     run.send_signal(number)

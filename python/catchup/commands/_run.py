@@ -2,6 +2,7 @@
 
 from __future__ import annotations
 
+import errno
 import os
 import signal
 import sys
@@ -15,20 +16,29 @@ from catchup.errors import CatchupError, Failure
 WRONG_WORDS = 2
 INTERRUPTED = 130
 CLOSED_PIPE = 141
-TERMINATED = 143
+# By a signal: 128 and its number.
+_SIGNALLED = 128
+# What a write fails with, which names no file.
+_UNWRITTEN = (errno.ENOSPC, errno.EDQUOT, errno.EFBIG, errno.EIO)
 # Debian's packages of Python modules are named after them, but for these.
 _PACKAGES = {"osmium": "python3-pyosmium"}
 
 
-def run(command: click.Command, name: str) -> NoReturn:
+def run(command: click.Command, name: str, *, serves: bool = False) -> NoReturn:
     """Runs a click command as a program that is called `name`.
 
     Wrong words are status 2, a Failure its own status (1), a module that isn't installed 1, an interrupt 130, a request
-    to terminate 143 (both let the command clean up), a closed pipe 141 without a word. Each but the last three has one
-    line on standard error.
+    to terminate 143, a terminal that is closed 129 (all three let the command clean up), a closed pipe 141 without a
+    word. Each but the last four has one line on standard error. One that `serves` needs no standard output, and sees to
+    the closing of a terminal itself.
     """
-    if signal.getsignal(signal.SIGTERM) is signal.SIG_DFL:
-        signal.signal(signal.SIGTERM, _terminate)
+    if sys.stderr is None and not serves:
+        sys.stderr = open(os.devnull, "w")
+    if sys.stdout is None and not serves:
+        sys.exit(_said(name, "standard output is closed", 1))
+    for number in (signal.SIGTERM,) if serves else (signal.SIGTERM, signal.SIGHUP):
+        if signal.getsignal(number) is signal.SIG_DFL:
+            signal.signal(number, _terminate)
     sys.exit(_status_of(command, name))
 
 
@@ -62,18 +72,27 @@ def _status_of(command: click.Command, name: str) -> int:
         return _said(name, f"the Python module {module} isn't installed: {how}", 1)
     except OSError as error:
         _leave_output()
-        return _said(name, _one_line(str(error)), 1)
+        return _said(name, _one_line(_told(error)), 1)
     except MemoryError:
         return _said(name, "out of memory: free some, or give it a smaller input", 1)
     return result if isinstance(result, int) else 0
 
 
 def _terminate(number: int, frame: FrameType | None) -> None:
-    raise SystemExit(TERMINATED)
+    raise SystemExit(_SIGNALLED + number)
+
+
+def _told(error: OSError) -> str:
+    """What failed, and why."""
+    if error.filename is not None:
+        return f"{os.fsdecode(error.filename)}: {error.strerror}"
+    return f"its output can't be written: {error.strerror}" if error.errno in _UNWRITTEN else str(error)
 
 
 def _said(name: str, text: str, status: int) -> int:
-    print(f"{name}: {text}", file=sys.stderr)
+    # Where standard error is closed Python would print on standard output.
+    if sys.stderr is not None:
+        print(f"{name}: {text}", file=sys.stderr)
     return status
 
 

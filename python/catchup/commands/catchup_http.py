@@ -82,4 +82,4 @@ def command(
 
 def main() -> NoReturn:
     """The program."""
-    run(command, NAME)
+    run(command, NAME, serves=True)
