@@ -214,7 +214,11 @@ def _ndmetis(nodes: int, edges: Ints, tuned: bool) -> Ints:
         raise MetisMissing()
     with tempfile.TemporaryDirectory(prefix="catchup-order-") as room:
         graph = Path(room) / "graph"
-        graph.write_bytes(_graph_text(nodes, edges))
+        try:
+            graph.write_bytes(_graph_text(nodes, edges))
+        except OSError as error:
+            how = "set TMPDIR to a folder with room"
+            raise Failure(f"no room for the graph that ndmetis reads ({error.strerror or error}): {how}") from None
         flags = _TUNED if tuned else ()
         run = subprocess.run([program, *flags, str(graph)], capture_output=True, text=True, errors="replace")
         last = ((run.stdout + run.stderr).strip().splitlines() or ["it says nothing"])[-1]

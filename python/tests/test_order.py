@@ -212,6 +212,19 @@ def test_an_ndmetis_that_fails(tables: Path, monkeypatch: pytest.MonkeyPatch, te
     assert os.listdir("rests") == []
 
 
+def test_no_room_for_the_graph(tables: Path, monkeypatch: pytest.MonkeyPatch) -> None:
+    """Its text is what needs room, in the folder for temporary files."""
+    stub(tables, "exit 0", monkeypatch)
+
+    def fail(path: Path, text: bytes) -> None:
+        raise OSError(28, "No space left on device")
+
+    monkeypatch.setattr(Path, "write_bytes", fail)
+    said = "order-by-metis: no room for the graph that ndmetis reads (No space left on device): set TMPDIR to a folder with room"
+    check_refused(call("order-by-metis", "nodes", "roads"), 1, said)
+    assert os.listdir("rests") == []
+
+
 def test_without_ndmetis(tables: Path) -> None:
     env = without_tools(tables / "few")
     check_refused(run("order-by-metis", "nodes", "roads", env=env), 1, "apt-get install metis")
