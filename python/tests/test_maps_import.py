@@ -12,8 +12,10 @@ from typing import Any
 
 import numpy as np
 import pytest
+import scripts
 from commands import BIN, Ran, call, check_refused, interrupt, run, run_into_closed_pipe
 from osm_maps import Net, OsmMap
+from scripts import let_through
 from waiting import least_seconds
 
 from catchup import tables
@@ -228,6 +230,20 @@ def test_a_map_that_is_damaged(real_map: Path, tmp_path: Path) -> None:
     (tmp_path / "bad.osm.pbf").write_bytes(content)
     check_refused(imported(tmp_path / "bad.osm.pbf", tmp_path / "out"), 1, NO_MAP)
     assert left(tmp_path) == ["bad.osm.pbf"]
+
+
+@pytest.mark.parametrize("name, words", [
+    ("catchup-import", ["osm", "locked", "out"]), ("catchup-import", ["osm", "small.osm", "out", "--speeds", "locked"]),
+    ("catchup-tables", ["locked", "small.osm"]), ("draw-reach", ["locked", "small.osm"]),
+    ("draw-route", ["locked", "small.osm"])])
+def test_a_file_that_isnt_readable(small: Path, tmp_path: Path, name: str, words: list[str]) -> None:
+    """It is told as any other file that can't be read is, and not as wrong words."""
+    shutil.copy(small, tmp_path / "locked")
+    (tmp_path / "locked").chmod(0)
+    let_through(tmp_path)
+    ran = scripts.run([BIN / name, *words], folder=tmp_path, nobody=True)
+    assert (ran.status, ran.out) == (1, "") and ran.err.startswith(f"{name}: locked"), ran
+    assert "can't be read: Permission denied" in ran.err and ran.err.count("\n") == 1, ran
 
 
 def test_folders_that_cant_be_made(small: Path, tmp_path: Path) -> None:

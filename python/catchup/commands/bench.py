@@ -46,7 +46,7 @@ def _make_folder(folder: Path) -> Path:
 @click.option("--sizes", callback=_sizes, default="5000,20000", show_default=True, help="About how many nodes, as 5000,20000.")
 @click.option("--queries", type=click.IntRange(100), default=8000, show_default=True, help="Random queries of each network.")
 @click.option("--seed", type=click.IntRange(0), default=1, show_default=True, help="Another seed makes other networks.")
-@click.option("--keep", type=click.Path(path_type=Path), help="A folder that keeps the tables and packed files.")
+@click.option("--keep", type=click.Path(readable=False, path_type=Path), help="A folder that keeps the tables and packed files.")
 def command(sizes: list[int], queries: int, seed: int, keep: Path | None) -> None:
     """Makes networks that look like roads, with rush hours, and measures the program on them.
 

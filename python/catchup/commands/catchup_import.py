@@ -82,12 +82,12 @@ def command() -> None:
 
 
 @command.command("osm", short_help="Makes tables, order and map.gpkg of a map of OpenStreetMap.")
-@click.argument("map_file", metavar="MAP", type=click.Path(path_type=Path))
-@click.argument("folder", metavar="DIR", type=click.Path(path_type=Path))
+@click.argument("map_file", metavar="MAP", type=click.Path(readable=False, path_type=Path))
+@click.argument("folder", metavar="DIR", type=click.Path(readable=False, path_type=Path))
 @click.option("--build", is_flag=True, help="Make the packed file map.cu too.")
 @click.option("--vehicle", type=click.Choice(VEHICLES), default="car", show_default=True, help="Whose roads.")
 @click.option("--weekday", type=click.Choice(WEEKDAYS), default="mo", show_default=True, help="Whose hours.")
-@click.option("--speeds", metavar="FILE", type=click.Path(path_type=Path), help="Speeds of one's own, as TOML.")
+@click.option("--speeds", metavar="FILE", type=click.Path(readable=False, path_type=Path), help="Speeds of one's own, as TOML.")
 @click.option("--rush", is_flag=True, help="Slow roads down at rush hours, by figures that nobody measured.")
 @click.option("--spare", metavar="N", type=click.IntRange(0, 100_000), default=16, show_default=True,
               help="Profiles of no road, to close or slow single roads by.")

@@ -13,7 +13,8 @@ from catchup.draw.reach import draw_reach
 from catchup.draw.replies import read_reach
 from catchup.draw.tables import read_nodes, read_roads
 
-_FILE = click.Path(path_type=Path)
+# What can't be read is told by whoever reads it.
+_FILE = click.Path(readable=False, path_type=Path)
 
 
 @click.command(context_settings={"help_option_names": ["-h", "--help"]})

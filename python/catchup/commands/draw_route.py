@@ -13,7 +13,8 @@ from catchup.draw.replies import read_answers
 from catchup.draw.route import draw_routes
 from catchup.draw.tables import read_nodes, read_profiles, read_roads
 
-_FILE = click.Path(path_type=Path)
+# What can't be read is told by whoever reads it.
+_FILE = click.Path(readable=False, path_type=Path)
 
 
 @click.command(context_settings={"help_option_names": ["-h", "--help"]})

@@ -15,12 +15,14 @@ if TYPE_CHECKING:
 
 # Up to so many nodes the order that needs no tool is good enough.
 SMALL = 5_000
+# What can't be read is told by whoever reads it.
+_PATH = click.Path(readable=False, path_type=Path)
 
 
 @click.command(epilog="Example: catchup-tables --share places.csv streets.csv")
-@click.argument("places", type=click.Path(path_type=Path))
-@click.argument("streets", type=click.Path(path_type=Path))
-@click.option("--out", type=click.Path(path_type=Path), default=Path("."), help="The folder to write into; here by default.")
+@click.argument("places", type=_PATH)
+@click.argument("streets", type=_PATH)
+@click.option("--out", type=_PATH, default=Path("."), help="The folder to write into; here by default.")
 @click.option("--share", is_flag=True, help="Streets that take the same share a profile: an edit changes them all.")
 @click.option("--degrees", is_flag=True, help="Shrink x by the latitude, so that drawings look as a map does.")
 def command(places: Path, streets: Path, out: Path, share: bool, degrees: bool) -> None:

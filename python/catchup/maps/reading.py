@@ -292,6 +292,10 @@ def check_file(path: Path) -> None:
     if str(path).encode("utf-8", "ignore").decode() != str(path):
         raise Failure(f"{path}: the name of this map isn't UTF-8: rename it")
     try:
+        path.open("rb").close()
+    except OSError as fault:
+        raise Failure(f"{path}: it can't be read: {fault.strerror or fault}") from fault
+    try:
         several = osmium.io.File(str(path)).has_multiple_object_versions
         header = _header(path)
     except RuntimeError as fault:
