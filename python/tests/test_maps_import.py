@@ -159,6 +159,14 @@ def test_the_folder_that_one_is_in(small: Path, tmp_path: Path, program: Path) -
     assert left(tmp_path) == ["out", "small.osm"]
 
 
+def test_what_a_killed_import_left_isnt_in_the_way(small: Path, tmp_path: Path, program: Path) -> None:
+    """Nobody sees it, so to whoever looks the folder is empty."""
+    out = tmp_path / "out"
+    (out / ".catchup-import.0badcafe.part").mkdir(parents=True)
+    assert imported(small, out).status == 0 and left(out) == [".catchup-import.0badcafe.part", *FILES]
+    check_refused(imported(small, out), 1, "isn't empty")
+
+
 def test_a_folder_that_cant_be_filled(small: Path, tmp_path: Path, monkeypatch: pytest.MonkeyPatch) -> None:
     """What it had of an import is there again."""
     out = tmp_path / "out"

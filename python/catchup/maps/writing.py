@@ -20,6 +20,7 @@ Tell = Callable[[str], None]
 
 NODES, ROADS, PROFILES, ORDER = "nodes.csv", "roads.csv", "profiles.csv", "order.csv"
 MAP, REPORT, PACKED = "map.gpkg", "report.txt", "map.cu"
+_ROOM = ".catchup-import"
 
 
 def check_folder(folder: Path, force: bool) -> None:
@@ -28,9 +29,14 @@ def check_folder(folder: Path, force: bool) -> None:
         raise Failure(f"{folder}: this is a file, and no folder")
     if not folder.resolve().parent.is_dir():
         raise Failure(f"{folder}: there is no folder to make it in")
-    if folder.is_dir() and not force and any(folder.iterdir()):
+    if folder.is_dir() and not force and _holds_more(folder):
         raise Failure(f"{folder}: this folder isn't empty; name another, or replace what an import makes in it by "
                       "--force")
+
+
+def _holds_more(folder: Path) -> bool:
+    """Whether a folder has anything but what imports in work have there, or what one left that was killed."""
+    return any(not entry.match(f"{_ROOM}.*.part") for entry in folder.iterdir())
 
 
 @contextmanager
@@ -43,7 +49,7 @@ def making(folder: Path, force: bool) -> Iterator[Path]:
     target = folder.resolve()
     is_there = target.is_dir()
     mark = secrets.token_hex(4)
-    room = target / f".catchup-import.{mark}.part" if is_there else target.with_name(f".{target.name}.{mark}.part")
+    room = target / f"{_ROOM}.{mark}.part" if is_there else target.with_name(f".{target.name}.{mark}.part")
     try:
         room.mkdir()
     except OSError as fault:
@@ -65,7 +71,7 @@ def making(folder: Path, force: bool) -> Iterator[Path]:
 
 def _fill(room: Path, target: Path, force: bool) -> None:
     """Puts all that is in a folder into the one around it, in the place of what an import made there before."""
-    if not force and any(entry != room for entry in target.iterdir()):
+    if not force and _holds_more(target):
         raise Failure(f"{target}: this folder was empty, and now isn't")
     made = [entry.name for entry in room.iterdir()]
     old = room.with_suffix(".old")
