@@ -13,6 +13,7 @@ goes wrong is raised: Refused, Damaged, NoMemory, Ended of catchup.errors.
 from __future__ import annotations
 
 import asyncio
+import os
 import tempfile
 import threading
 import warnings
@@ -26,7 +27,7 @@ from typing import Generic, TypeAlias, TypeVar
 
 from catchup import clock, replies
 from catchup.errors import CatchupError, Damaged, Ended
-from catchup.program import AsyncChild, Child
+from catchup.program import OF_ANOTHER, AsyncChild, Child
 from catchup.replies import Day, Piece, Reach, TooLate, Unreachable
 from catchup.tables import NODES_FILE, PROFILES_FILE, ROADS_FILE, order_text
 
@@ -98,7 +99,8 @@ class Planner:
 
     Threads may share it: as many are answered at once as there are processes. An edit is in every process when its call
     returns; until then a query gets an answer of before or after it. A process that ends is left out from then on: the
-    call that it had raises Ended, and so do all where none is left. `close` waits for the calls in work.
+    call that it had raises Ended, and so do all where none is left. `close` waits for the calls in work. A process that is
+    forked needs a planner of its own: there each call of this one raises Ended, and `close` does nothing.
     """
 
     def __init__(self, file: str | Path, *, processes: int = 1) -> None:
@@ -119,6 +121,7 @@ class Planner:
     def _start(self, words: Words, processes: int, room: tempfile.TemporaryDirectory[str] | None) -> None:
         if processes < 1:
             raise ValueError("a planner needs one process at least")
+        self._owner = os.getpid()
         self._room = room
         self._changed = threading.Condition()
         self._editing = threading.Lock()
@@ -169,6 +172,8 @@ class Planner:
 
     def close(self) -> None:
         """Waits for the calls in work, ends the processes and waits for their ends. Later calls raise Ended."""
+        if self._is_foreign():
+            return
         with self._changed:
             self._closed = True
             self._changed.notify_all()
@@ -187,7 +192,7 @@ class Planner:
         self.close()
 
     def __del__(self) -> None:
-        if not getattr(self, "_closed", True):
+        if not getattr(self, "_closed", True) and not self._is_foreign():
             warnings.warn("a Planner wasn't closed: call close(), or use it by 'with'", ResourceWarning, source=self)
 
     def _ask(self, question: Question[Value]) -> Value:
@@ -196,6 +201,8 @@ class Planner:
 
     def _edit(self, question: Question[int]) -> int:
         """The edit goes to all children at once, behind what each is asked; each edit to all before the next."""
+        if self._is_foreign():
+            raise self._gone()
         with self._editing:
             if self._closed or not self._children:
                 raise self._gone()
@@ -240,6 +247,8 @@ class Planner:
     @contextmanager
     def _taken(self) -> Iterator[Child]:
         """A child that no other thread has."""
+        if self._is_foreign():
+            raise self._gone()
         with self._changed:
             self._changed.wait_for(lambda: self._free or self._closed or not self._children)
             if self._closed or not self._free:
@@ -253,7 +262,13 @@ class Planner:
                     self._free.append(child)
                 self._changed.notify_all()
 
+    def _is_foreign(self) -> bool:
+        """Whether this process was forked from the one that made it, whose threads hold the locks."""
+        return self._owner != os.getpid()
+
     def _gone(self) -> Ended:
+        if self._is_foreign():
+            return Ended(None, OF_ANOTHER)
         if self._closed:
             return Ended(0, "the planner is closed")
         return Ended(self._ended.status, self._ended.said) if self._ended else Ended(None, "no process is left")

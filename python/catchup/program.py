@@ -10,6 +10,7 @@ import subprocess
 import tempfile
 import threading
 import warnings
+import weakref
 from collections import deque
 from collections.abc import Sequence
 from pathlib import Path
@@ -23,6 +24,8 @@ Words: TypeAlias = Sequence[str | Path]
 _STOPS = (b"words", b"shelf: ", b"network: ", b"measured: ", b"order: ", b"file: ", b"too many shortcuts", b"too large")
 # Bytes of a reply's line at most: a reach or a table of a million entries has some 20 MB.
 _LONGEST_REPLY = 2**28
+OF_ANOTHER = "this process was forked from the one that started it: start one in each process"
+"""What Ended says in a process that was forked."""
 
 
 class Finished(NamedTuple):
@@ -78,10 +81,12 @@ class Child:
     """A process of the program that answers one line by one line: `ask FILE`, `serve ..` or `wait ..`.
 
     Threads may share it: each has its own reply, and one waits while another asks. Where a call is broken off by an
-    exception, the process is ended, since its next reply would be another line's.
+    exception, the process is ended, since its next reply would be another line's. In a process that is forked from this
+    one each ask raises Ended, and `close` and `kill` do nothing.
     """
 
     def __init__(self, words: Words) -> None:
+        self._owner = os.getpid()
         self._lock = threading.Lock()
         self._end: Ended | None = None
         self._process: subprocess.Popen[bytes] | None = None
@@ -97,6 +102,7 @@ class Child:
         assert self._process.stdin and self._process.stdout
         self._input: IO[bytes] = self._process.stdin
         self._output: IO[bytes] = self._process.stdout
+        _children.add(self)
 
     @property
     def pid(self) -> int:
@@ -112,6 +118,9 @@ class Child:
         Raises Ended where the program has gone, or goes meanwhile.
         """
         said = [_bytes(line) for line in lines]
+        # Before the lock, which a thread may hold that the fork left behind.
+        if self._owner != os.getpid():
+            raise Ended(None, OF_ANOTHER)
         with self._lock:
             if self._end:
                 raise Ended(self._end.status, self._end.said)
@@ -125,6 +134,8 @@ class Child:
 
     def close(self) -> int:
         """Closes the program's input, waits for its end and returns its status (negative of a signal)."""
+        if self._owner != os.getpid():
+            return 0
         with self._lock:
             _close(self._input)
             status = self._running().wait()
@@ -153,6 +164,14 @@ class Child:
     def _running(self) -> subprocess.Popen[bytes]:
         assert self._process
         return self._process
+
+    def _disown(self, nowhere: int) -> None:
+        """In a process that was forked: lets go of the pipes, as _disown_all says."""
+        # So that neither `kill` nor `__del__` takes it for a child of this process.
+        self._running().returncode = 0
+        for stream in (self._input, self._output):
+            if not stream.closed:
+                os.dup2(nowhere, stream.fileno(), inheritable=False)
 
     def _exchange(self, lines: list[bytes]) -> list[str]:
         # Few bytes fit into the pipe, so they are written before a reply is read; more are written meanwhile.
@@ -195,6 +214,7 @@ class AsyncChild:
 
     def __init__(self, process: asyncio.subprocess.Process, errors: IO[bytes]) -> None:
         assert process.stdin and process.stdout
+        self._owner = os.getpid()
         self._process = process
         self._errors = errors
         self._input = process.stdin
@@ -204,6 +224,7 @@ class AsyncChild:
         self._closing = False
         self.ended = asyncio.Event()
         self._reader = asyncio.create_task(self._read_replies())
+        _children.add(self)
 
     @classmethod
     async def start(cls, words: Words) -> AsyncChild:
@@ -257,6 +278,8 @@ class AsyncChild:
     def _send(self, lines: Sequence[bytes]) -> list[asyncio.Future[bytes]]:
         if any(b"\n" in line for line in lines):
             raise ValueError("a line has no line feed in it")
+        if self._owner != os.getpid():
+            raise Ended(None, OF_ANOTHER)
         if self._end:
             raise Ended(self._end.status, self._end.said)
         if self._input.is_closing():
@@ -305,6 +328,31 @@ class AsyncChild:
                 future.set_exception(Ended(self._end.status, self._end.said))
         self._asked.clear()
         self.ended.set()
+
+    def _disown(self, nowhere: int) -> None:
+        """In a process that was forked: lets go of the input, as _disown_all says."""
+        pipe = self._input.get_extra_info("pipe")
+        if pipe is not None and not self._input.is_closing():
+            os.dup2(nowhere, pipe.fileno(), inheritable=False)
+
+
+_children: weakref.WeakSet[Child | AsyncChild] = weakref.WeakSet()
+
+
+def _disown_all() -> None:
+    """What a process does that was forked from this one, with its copies of the pipes to all children.
+
+    As long as it had them a program wouldn't see that its input is closed, and what it asked over them would be answered
+    in the place of another's line. The files themselves stay as they are, since a thread may hold their locks that the
+    fork left behind.
+    """
+    nowhere = os.open(os.devnull, os.O_RDWR)
+    for child in _children:
+        child._disown(nowhere)
+    os.close(nowhere)
+
+
+os.register_at_fork(after_in_child=_disown_all)
 
 
 def _command(words: Words) -> list[str]:

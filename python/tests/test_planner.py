@@ -338,6 +338,76 @@ def test_closing_waits_for_what_is_asked(tmp_path: Path, monkeypatch: pytest.Mon
     assert all(child._process and child._process.returncode == 0 for child in planner._all)
 
 
+FORKED = """
+import os, sys, threading
+from catchup import Ended, Planner
+planner, alone = Planner(sys.argv[1], processes=2), Planner(sys.argv[1])
+stop = threading.Event()
+
+def ask_on():
+    while not stop.is_set():
+        planner.reach(0, 0)
+
+threads = [threading.Thread(target=ask_on) for _ in range(8)]
+for thread in threads:
+    thread.start()
+reader, writer = os.pipe()
+for number in range(4):
+    if os.fork() == 0:
+        os.close(writer)
+        for call in (lambda: planner.route(number, 151, 0), lambda: planner.edit_profile(0, [(0, "closed", 0)])):
+            try:
+                call()
+            except Ended as error:
+                os.write(1, f"{error}\\n".encode())
+        planner.close()
+        alone.close()
+        # Until the parent has closed both.
+        os.read(reader, 1)
+        os._exit(0)
+asked = [(5, 151, second) for second in range(0, 86400, 400)]
+print([planner.route(*each) for each in asked] == [alone.route(*each) for each in asked], flush=True)
+stop.set()
+for thread in threads:
+    thread.join()
+planner.close()
+alone.close()
+os.close(writer)
+for number in range(4):
+    os.wait()
+"""
+
+
+def test_a_forked_process_leaves_a_planner_alone(town: Path) -> None:
+    """It neither takes the parent's replies nor keeps it from closing, whatever its threads do at that moment."""
+    words = [sys.executable, "-W", "error", "-c", FORKED, str(town)]
+    done = subprocess.run(words, capture_output=True, text=True, timeout=600, cwd=Path(catchup.__file__).parents[1])
+    of_another = "the program has ended: this process was forked from the one that started it: start one in each process"
+    assert (done.returncode, done.stderr) == (0, "")
+    assert sorted(done.stdout.splitlines()) == ["True", *[of_another] * 8]
+
+
+POOL = """
+import asyncio, sys
+from concurrent.futures import ProcessPoolExecutor
+from catchup import AsyncPlanner
+
+async def main():
+    with ProcessPoolExecutor(1) as pool:
+        async with await AsyncPlanner.start(sys.argv[1]) as planner:
+            print(await asyncio.get_running_loop().run_in_executor(pool, abs, -3))
+            print((await planner.route(5, 151, "08:00")).depart)
+
+asyncio.run(main())
+"""
+
+
+def test_a_pool_of_forked_processes_keeps_no_planner_from_closing(town: Path) -> None:
+    words = [sys.executable, "-c", POOL, str(town)]
+    done = subprocess.run(words, capture_output=True, text=True, timeout=600, cwd=Path(catchup.__file__).parents[1])
+    assert (done.returncode, done.stdout, done.stderr) == (0, "3\n28800\n", "")
+
+
 def test_a_forgotten_planner_is_told(program: Path, rush_hour: Path) -> None:
     planner = Planner.from_tables(rush_hour, processes=2)
     planner.route(0, 2, 0)
