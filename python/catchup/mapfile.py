@@ -8,6 +8,7 @@ from __future__ import annotations
 
 import os
 import sqlite3
+import stat
 from collections.abc import Iterator, Sequence
 from contextlib import closing
 from dataclasses import dataclass, field
@@ -214,8 +215,16 @@ class RoadNames:
 
 def _connect(path: Path) -> sqlite3.Connection:
     """A connection that only reads; Failure where there is no file."""
-    if not path.is_file():
-        raise Failure(f"{path}: there is no such file; catchup-import makes it of a map")
+    try:
+        mode = path.stat().st_mode
+    except FileNotFoundError:
+        raise Failure(f"{path}: there is no such file; catchup-import makes it of a map") from None
+    except OSError as fault:
+        raise Failure(f"{path} can't be read: {fault.strerror}") from fault
+    if stat.S_ISDIR(mode):
+        raise Failure(f"{path}: this is a folder: name the map.gpkg in it")
+    if not stat.S_ISREG(mode):
+        raise Failure(f"{path}: this is no regular file, as a map has to be")
     return sqlite3.connect(f"{path.absolute().as_uri()}?mode=ro&immutable=1", uri=True)
 
 

@@ -54,7 +54,8 @@ class Names:
     def of_map(cls, path: str | Path) -> Names:
         """The names of map.gpkg: a node is called osm:NUMBER, a road by its name and its ref."""
         if not Path(path).is_file():
-            raise Failure(f"{path} can't be read: there is no such file")
+            why = "this is a folder" if Path(path).is_dir() else "there is no such file"
+            raise Failure(f"{path} can't be read: {why}")
         names = cls()
         try:
             with closing(sqlite3.connect(f"{Path(path).absolute().as_uri()}?mode=ro", uri=True)) as base:

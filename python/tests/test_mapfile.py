@@ -73,6 +73,16 @@ def test_files_that_are_none(tmp_path: Path, content: bytes | None, says: str) -
         MapFile.open(path)
 
 
+def test_a_folder_and_a_file_that_cannot_be_looked_for(tmp_path: Path) -> None:
+    with pytest.raises(Failure, match="this is a folder: name the map.gpkg in it"):
+        MapFile.open(tmp_path)
+    (tmp_path / "map.gpkg").symlink_to("map.gpkg")
+    with pytest.raises(Failure, match="map.gpkg can't be read: Too many levels of symbolic links"):
+        MapFile.open(tmp_path / "map.gpkg")
+    with pytest.raises(Failure, match="this is no regular file"):
+        MapFile.open("/dev/null")
+
+
 @pytest.mark.parametrize("change, says", [
     ("DELETE FROM nodes WHERE node = 1", "aren't numbered from 0 on"), ("DELETE FROM roads WHERE road = 0", "aren't numbered from 0 on"),
     ("UPDATE roads SET head = 3 WHERE road = 0", "nodes that aren't there"), ("UPDATE roads SET tail = -1 WHERE road = 0", "nodes that aren't there"),

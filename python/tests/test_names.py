@@ -71,3 +71,9 @@ def test_refusals(tmp_path: Path, monkeypatch: pytest.MonkeyPatch, name: str, te
     with pytest.raises(Failure) as error:
         Names.open(name)
     assert str(error.value).startswith(said) and "\n" not in str(error.value)
+
+
+def test_a_folder_is_no_map(tmp_path: Path) -> None:
+    (tmp_path / "map.gpkg").mkdir()
+    with pytest.raises(Failure, match="map.gpkg can't be read: this is a folder"):
+        Names.open(tmp_path / "map.gpkg")
