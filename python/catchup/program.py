@@ -236,9 +236,11 @@ class AsyncChild:
             process = await asyncio.create_subprocess_exec(
                 *command, stdin=pipe, stdout=pipe, stderr=errors, limit=_LONGEST_REPLY
             )
-        except OSError as error:
+        except BaseException as error:
             errors.close()
-            raise _not_started(command, error) from None
+            if isinstance(error, OSError):
+                raise _not_started(command, error) from None
+            raise
         return cls(process, errors)
 
     @property
@@ -267,7 +269,9 @@ class AsyncChild:
         self._closing = True
         if not self._input.is_closing():
             self._input.close()
-        await asyncio.shield(self._reader)
+        # Where it has ended its reader may be of a loop that has ended too, and was cancelled by it.
+        if not self.ended.is_set():
+            await asyncio.shield(self._reader)
         return await self._process.wait()
 
     def kill(self) -> None:
@@ -307,6 +311,9 @@ class AsyncChild:
         except ValueError:
             last = b"a reply is longer than can be read"
             self.kill()
+        except asyncio.CancelledError:
+            last = b"the event loop that it was started in has ended"
+            raise
         finally:
             await self._finish(last)
 

@@ -12,6 +12,7 @@ import stat
 import subprocess
 import sys
 import threading
+import warnings
 from collections.abc import Callable, Coroutine
 from pathlib import Path
 from typing import Any
@@ -336,6 +337,34 @@ def test_closing_waits_for_what_is_asked(tmp_path: Path, monkeypatch: pytest.Mon
         with pytest.raises(Ended, match="the planner is closed"):
             call()
     assert all(child._process and child._process.returncode == 0 for child in planner._all)
+
+
+def test_a_planner_of_a_loop_that_has_ended(town: Path) -> None:
+    """Calls of another loop are told why, and closing is no cancellation."""
+
+    async def use(planner: AsyncPlanner) -> None:
+        with pytest.raises(Ended, match="the event loop that it was started in has ended"):
+            await planner.route(5, 151, 0)
+        await planner.close()
+
+    planner = asyncio.run(AsyncPlanner.start(town, processes=2))
+    asyncio.run(use(planner))
+
+
+def test_a_start_that_is_cancelled_leaves_nothing_open(town: Path) -> None:
+    async def start() -> None:
+        for _ in range(20):
+            task = asyncio.ensure_future(AsyncPlanner.start(town, processes=3))
+            await asyncio.sleep(0.001)
+            task.cancel()
+            with pytest.raises(asyncio.CancelledError):
+                await task
+
+    with warnings.catch_warnings(record=True) as told:
+        warnings.simplefilter("always")
+        asyncio.run(start())
+        gc.collect()
+    assert [str(each.message) for each in told] == []
 
 
 FORKED = """
