@@ -26,15 +26,16 @@ from pathlib import Path
 from typing import Generic, TypeAlias, TypeVar
 
 from catchup import clock, replies
-from catchup.errors import CatchupError, Damaged, Ended
+from catchup.errors import CatchupError, Damaged, Ended, Failure
 from catchup.program import OF_ANOTHER, AsyncChild, Child
 from catchup.replies import Day, Piece, Reach, TooLate, Unreachable
-from catchup.tables import NODES_FILE, PROFILES_FILE, ROADS_FILE, order_text
+from catchup.tables import NODES_FILE, PROFILES_FILE, ROADS_FILE, Shorts, order_text
 
 Value = TypeVar("Value")
 Time: TypeAlias = int | str
 PieceLike: TypeAlias = Piece | tuple[Time, str, Time]
 Words: TypeAlias = list[str | Path]
+Order: TypeAlias = str | Path | Sequence[int] | Shorts
 
 
 @dataclass(frozen=True, slots=True)
@@ -109,7 +110,7 @@ class Planner:
 
     @classmethod
     def from_tables(
-        cls, folder: str | Path, *, order: str | Path | Sequence[int] = "dissect", processes: int = 1
+        cls, folder: str | Path, *, order: Order = "dissect", processes: int = 1
     ) -> Planner:
         """A planner over nodes.csv, roads.csv and profiles.csv of a folder, under an order: `identity`, `dissect`, a file,
         or the node at each rank."""
@@ -119,14 +120,13 @@ class Planner:
         return planner
 
     def _start(self, words: Words, processes: int, room: tempfile.TemporaryDirectory[str] | None) -> None:
-        if processes < 1:
-            raise ValueError("a planner needs one process at least")
         self._owner = os.getpid()
         self._room = room
         self._changed = threading.Condition()
         self._editing = threading.Lock()
         self._all: list[Child] = []
         try:
+            _check_count(processes)
             self._all.extend(Child(words) for _ in range(processes))
         except BaseException:
             for child in self._all:
@@ -296,11 +296,16 @@ class AsyncPlanner:
 
     @classmethod
     async def from_tables(
-        cls, folder: str | Path, *, order: str | Path | Sequence[int] = "dissect", processes: int = 1
+        cls, folder: str | Path, *, order: Order = "dissect", processes: int = 1
     ) -> AsyncPlanner:
         """A planner over nodes.csv, roads.csv and profiles.csv of a folder; the order as of Planner.from_tables."""
         words, room = _serve(folder, order)
-        return cls(await _started(words, processes), room)
+        try:
+            return cls(await _started(words, processes), room)
+        except BaseException:
+            if room:
+                room.cleanup()
+            raise
 
     async def route(self, origin: int, target: int, depart: Time, *, entered: bool = False) -> Route | None:
         """As Planner.route."""
@@ -501,23 +506,31 @@ def _expected(answer: replies.Answer, kind: type[Kind]) -> Kind:
 # ---- processes ----
 
 
-def _serve(
-    folder: str | Path, order: str | Path | Sequence[int]
-) -> tuple[Words, tempfile.TemporaryDirectory[str] | None]:
-    """The words of `serve`, and the folder of an order that was given as numbers."""
+def _serve(folder: str | Path, order: Order) -> tuple[Words, tempfile.TemporaryDirectory[str] | None]:
+    """The words of `serve`, and the folder of an order that was given as numbers. Raises TypeError and ValueError where
+    these are none of nodes, and Failure where they can't be stored."""
     room = None
     if not isinstance(order, (str, Path)):
-        room = tempfile.TemporaryDirectory(prefix="catchup-order-")
-        path = Path(room.name) / "order.csv"
-        path.write_bytes(order_text(order))
-        order = path
+        text = order_text([index(node) for node in order])
+        try:
+            room = tempfile.TemporaryDirectory(prefix="catchup-order-")
+            order = Path(room.name) / "order.csv"
+            order.write_bytes(text)
+        except OSError as error:
+            if room:
+                room.cleanup()
+            raise Failure(f"the order can't be stored ({error.strerror}): set TMPDIR to a folder with room") from None
     tables = [Path(folder) / name for name in (NODES_FILE, ROADS_FILE, PROFILES_FILE)]
     return ["serve", *tables, order], room
 
 
-async def _started(words: Words, processes: int) -> list[AsyncChild]:
+def _check_count(processes: int) -> None:
     if processes < 1:
         raise ValueError("a planner needs one process at least")
+
+
+async def _started(words: Words, processes: int) -> list[AsyncChild]:
+    _check_count(processes)
     children: list[AsyncChild] = []
     try:
         for _ in range(processes):

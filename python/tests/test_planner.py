@@ -21,8 +21,9 @@ import pytest
 
 import catchup
 from catchup import AsyncPlanner, Damaged, Day, Ended, Failure, Matrix, NoMemory, Piece, Planner, Reach, Refused, Route, TooLate
-from catchup.planner import reach_question, table_question
+from catchup.planner import Order, reach_question, table_question
 from catchup.program import run_program
+from catchup.tables import read_order
 
 ROADS_SHUT = [(0, "closed", 0)]
 
@@ -158,11 +159,32 @@ def test_other_replies_are_raised(
 def test_orders_of_all_kinds(program: Path, rush_hour: Path, tmp_path: Path) -> None:
     path = tmp_path / "order"
     path.write_text("1\n0\n2\n")
-    for order in ("dissect", path, str(path), [2, 0, 1], range(3)):
+    orders: list[Order] = ["dissect", path, str(path), [2, 0, 1], range(3), read_order(path)]
+    for order in orders:
         with Planner.from_tables(rush_hour, order=order) as planner:
             assert planner.route(0, 2, 0) == Route(0, 2, 0, 160, (0, 1))
     with Planner.from_tables(rush_hour, order=[0, 0, 1]) as planner, pytest.raises(Ended, match="order: 1 twice"):
         planner.route(0, 2, 0)
+
+
+def test_orders_that_are_none(rush_hour: Path, tmp_path: Path, monkeypatch: pytest.MonkeyPatch) -> None:
+    """Each is told before anything is started, and leaves nothing behind."""
+    monkeypatch.setattr("tempfile.tempdir", str(tmp_path))
+    wrong: list[tuple[Any, int, type[Exception], str]] = [
+        ([0.5, 1.5, 2.5], 1, TypeError, "integer"), (["0", "1", "2"], 1, TypeError, "integer"), ([0, -1, 1], 1, ValueError, "from 0 on"),
+        ([0, 1, 2], 0, ValueError, "one process at least")]  # fmt: skip
+    with warnings.catch_warnings():
+        warnings.simplefilter("error")
+        for order, processes, error, said in wrong:
+            with pytest.raises(error, match=said):
+                Planner.from_tables(rush_hour, order=order, processes=processes)
+            with pytest.raises(error, match=said):
+                asyncio.run(AsyncPlanner.from_tables(rush_hour, order=order, processes=processes))
+        gc.collect()
+        assert list(tmp_path.iterdir()) == []
+        monkeypatch.setattr("tempfile.tempdir", "/none/such")
+        with pytest.raises(Failure, match="the order can't be stored .*set TMPDIR"):
+            Planner.from_tables(rush_hour, order=[0, 1, 2])
 
 
 # ---- pools and threads ----
