@@ -54,6 +54,7 @@ def call(
             stack.enter_context(mock.patch.object(sys, stream, text))
         stack.enter_context(mock.patch.object(sys, "argv", [str(BIN / name), *map(str, words)]))
         stack.enter_context(mock.patch.object(sys, "path", list(sys.path)))
+        stack.enter_context(mock.patch.object(sys, "unraisablehook", sys.unraisablehook))
         stack.enter_context(mock.patch.dict(os.environ, env or {}))
         stack.enter_context(chdir(cwd or "."))
         for number in (signal.SIGTERM, signal.SIGHUP):

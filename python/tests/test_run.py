@@ -40,6 +40,13 @@ def command(how):
     if how == "wait":
         try: print("waiting", flush=True); time.sleep(600)
         finally: print("cleaned up")
+    if how == "passes over":
+        class Deaf:
+            def __del__(self): print("waiting", flush=True); time.sleep(600)
+        try:
+            for _ in range(3): Deaf()
+            time.sleep(600)
+        finally: print("cleaned up")
     if how == "print": print("done")
 
 run(command, "try-it")
@@ -127,7 +134,10 @@ def test_what_goes_wrong_is_never_told_on_standard_output() -> None:
     assert (run.returncode, output) == (1, "")
 
 
-@pytest.mark.parametrize("number, status", [(signal.SIGINT, 130), (signal.SIGTERM, 143), (signal.SIGHUP, 129)])
+ENDINGS = pytest.mark.parametrize("number, status", [(signal.SIGINT, 130), (signal.SIGTERM, 143), (signal.SIGHUP, 129)])
+
+
+@ENDINGS
 def test_an_interrupt_lets_it_clean_up(number: int, status: int) -> None:
     # Whoever runs the tests may be deaf to it.
     run = start("wait", preexec_fn=lambda: signal.signal(number, signal.SIG_DFL))
@@ -136,3 +146,14 @@ def test_an_interrupt_lets_it_clean_up(number: int, status: int) -> None:
     run.send_signal(number)
     output, error = run.communicate(timeout=600)
     assert (run.returncode, output, error) == (status, "cleaned up\n", "")
+
+
+@ENDINGS
+def test_an_interrupt_that_python_passes_over_comes_again(number: int, status: int) -> None:
+    """It comes where nothing can be raised, three times over: the second and the third time by itself."""
+    run = start("passes over", preexec_fn=lambda: signal.signal(number, signal.SIG_DFL))
+    assert run.stdout and run.stdout.readline() == "waiting\n"
+    time.sleep(0.1)
+    run.send_signal(number)
+    output, error = run.communicate(timeout=600)
+    assert (run.returncode, output.replace("waiting\n", ""), error) == (status, "cleaned up\n", "")

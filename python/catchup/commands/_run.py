@@ -18,6 +18,8 @@ INTERRUPTED = 130
 CLOSED_PIPE = 141
 # By a signal: 128 and its number.
 _SIGNALLED = 128
+# Seconds until an ending that Python passed over comes again.
+_AGAIN = 0.05
 # What a write fails with, which names no file.
 _UNWRITTEN = (errno.ENOSPC, errno.EDQUOT, errno.EFBIG, errno.EIO)
 # Debian's packages of Python modules are named after them, but for these.
@@ -36,10 +38,14 @@ def run(command: click.Command, name: str, *, serves: bool = False) -> NoReturn:
         sys.stderr = open(os.devnull, "w")
     if sys.stdout is None and not serves:
         sys.exit(_said(name, "standard output is closed", 1))
+    sys.unraisablehook = _end_again
     for number in (signal.SIGTERM,) if serves else (signal.SIGTERM, signal.SIGHUP):
         if signal.getsignal(number) is signal.SIG_DFL:
             signal.signal(number, _terminate)
-    sys.exit(_status_of(command, name))
+    status = _status_of(command, name)
+    # What is done needs no ending any more.
+    signal.setitimer(signal.ITIMER_REAL, 0)
+    sys.exit(status)
 
 
 def _status_of(command: click.Command, name: str) -> int:
@@ -78,8 +84,30 @@ def _status_of(command: click.Command, name: str) -> int:
     return result if isinstance(result, int) else 0
 
 
+class _Terminated(SystemExit):
+    """What a signal that asks to end raises."""
+
+    def __init__(self, number: int) -> None:
+        super().__init__(_SIGNALLED + number)
+        self.number = number
+
+
 def _terminate(number: int, frame: FrameType | None) -> None:
-    raise SystemExit(_SIGNALLED + number)
+    # One that was to come again would come while this one cleans up.
+    signal.setitimer(signal.ITIMER_REAL, 0)
+    raise _Terminated(number)
+
+
+def _end_again(told: sys.UnraisableHookArgs) -> None:
+    """An ending that came within what has nobody to raise to, as the end of an object, would be passed over and the work go
+    on: it comes again in a moment, until it reaches the work."""
+    ending = told.exc_value
+    if not isinstance(ending, (KeyboardInterrupt, _Terminated)):
+        sys.__unraisablehook__(told)
+        return
+    number = signal.SIGINT if isinstance(ending, KeyboardInterrupt) else ending.number
+    signal.signal(signal.SIGALRM, lambda *_: signal.raise_signal(number))
+    signal.setitimer(signal.ITIMER_REAL, _AGAIN)
 
 
 def _told(error: OSError) -> str:
