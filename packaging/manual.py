@@ -18,6 +18,8 @@ sys.path.insert(0, str(TOP / "python"))
 
 import click  # noqa: E402
 
+from catchup.commands._run import with_version  # noqa: E402
+
 SEE_ALSO = """.SH "SEE ALSO"
 .BR catchup (1);
 .I /usr/share/doc/catchup
@@ -30,7 +32,7 @@ def find_command(name: str) -> click.Command:
     assert found, f"bin/{name} calls no command of the package"
     command = importlib.import_module(f"catchup.commands.{found[1]}").command
     assert isinstance(command, click.Command), name
-    return command
+    return with_version(command, name)
 
 
 def escape(text: str) -> str:
@@ -83,7 +85,7 @@ def commands(context: click.Context) -> Iterator[str]:
 
 def page(name: str, version: str, date: str) -> Iterator[str]:
     command = find_command(name)
-    context = click.Context(command, info_name=name)
+    context = click.Context(command, info_name=name, **command.context_settings)
     yield f'.TH {name.upper()} 1 {date} "catchup {version}" "User Commands"'
     yield ".ad l"
     yield ".SH NAME"

@@ -133,6 +133,29 @@ def test_help_of(unpacked: Path, command: str) -> None:
     assert (status, err) == (0, "") and re.search("^usage: ", out, re.I | re.M)
 
 
+@pytest.mark.parametrize("command", COMMANDS)
+def test_version_of(unpacked: Path, command: str) -> None:
+    assert installed(unpacked, command, "--version") == (0, f"{command} {newest_version()}\n", "")
+
+
+@pytest.mark.parametrize("command", COMMANDS)
+def test_manual_has_each_option_of(unpacked: Path, command: str) -> None:
+    """Of the help of the command and of its commands."""
+    shown = installed(unpacked, command, "--help").out
+    for inner in re.findall(r"^  ([a-z]+) ", shown.partition("\nCommands:\n")[2], re.M):
+        shown += installed(unpacked, command, inner, "--help").out
+    page = gzip.decompress((unpacked / f"usr/share/man/man1/{command}.1.gz").read_bytes()).decode().replace("\\-", "-")
+    options = set(re.findall(r"(?<![\w-])--?[a-z][a-z-]*", shown))
+    assert len(options) >= 2 and [option for option in sorted(options) if not re.search(rf"(?<![\w-]){option}(?![\w-])", page)] == []
+
+
+def test_manual_and_usage_have_each_kind_of_line(clone: Path) -> None:
+    usage = run([clone / "bin/catchup", "--help"]).out
+    page = (clone / "packaging/catchup.1").read_text()
+    for line in re.findall(r"^\| `([a-z],[A-Z0-9.,]+)`", (clone / "docs/FORMATS.md").read_text(), re.M):
+        assert line.partition("..")[0] in usage and line.partition("..")[0] in page
+
+
 def has_pages(command: str) -> bool:
     return "catchup.commands" in (TOP / "bin" / command).read_text()
 

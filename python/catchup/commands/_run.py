@@ -11,6 +11,7 @@ from typing import NoReturn
 
 import click
 
+from catchup import __version__
 from catchup.errors import CatchupError, Failure
 
 WRONG_WORDS = 2
@@ -42,10 +43,17 @@ def run(command: click.Command, name: str, *, serves: bool = False) -> NoReturn:
     for number in (signal.SIGTERM,) if serves else (signal.SIGTERM, signal.SIGHUP):
         if signal.getsignal(number) is signal.SIG_DFL:
             signal.signal(number, _terminate)
-    status = _status_of(command, name)
+    status = _status_of(with_version(command, name), name)
     # What is done needs no ending any more.
     signal.setitimer(signal.ITIMER_REAL, 0)
     sys.exit(status)
+
+
+def with_version(command: click.Command, name: str) -> click.Command:
+    """The command with an option that prints its version, as `name 0.2.0`; once, however often it is asked for."""
+    if not any(each.name == "version" for each in command.params):
+        click.version_option(__version__, prog_name=name, message="%(prog)s %(version)s")(command)
+    return command
 
 
 def _status_of(command: click.Command, name: str) -> int:
