@@ -6,6 +6,7 @@ import os
 import signal
 import socket
 import subprocess
+import time
 from collections.abc import Iterator
 from pathlib import Path
 
@@ -14,6 +15,7 @@ from commands import call, check_refused, run
 from conftest import EXAMPLES
 from serving import HTTP, SECONDS, Service, digest_of, read_all, wait_for
 
+from catchup.service import probing
 from catchup.service.gates import Gates
 
 TOKEN = "0123456789abcdef0123456789abcdef"
@@ -187,6 +189,29 @@ def test_a_port_that_is_taken_and_no_program(town: Path, tmp_path: Path) -> None
         ran = run("catchup-http", town, "--port", str(other.getsockname()[1]))
     check_refused(ran, 1, "can't listen on 127.0.0.1 port")
     check_refused(call("catchup-http", town, env={"CATCHUP": str(tmp_path / "none")}), 1, "CATCHUP names")
+
+
+# Programs that aren't catchup: one that writes the file out, and those that end, say more and more, or say nothing.
+OTHERS = [
+    ("/bin/cat", "it ended with status 1"), ("/bin/true", "it ended with status 0"),
+    ("exec /usr/bin/yes words", "it says other things"), ("echo words", "it ended with status 0"),
+    ("exec sleep 600", "it gave no answer in 1 s"), ("sleep 600", "it gave no answer in 1 s"),
+    ("kill -9 $$", "it was ended by SIGKILL")]
+
+
+@pytest.mark.parametrize(("does", "said"), OTHERS)
+def test_a_program_that_is_no_catchup(town: Path, tmp_path: Path, monkeypatch: pytest.MonkeyPatch, does: str,
+                                      said: str) -> None:
+    monkeypatch.setattr(probing, "PROBE_SECONDS", 1.0)
+    program = Path(does)
+    if not program.is_absolute():
+        program = tmp_path / "other"
+        program.write_text(f"#!/bin/sh\n{does}\n")
+        program.chmod(0o755)
+    began = time.monotonic()
+    ran = call("catchup-http", town, env={"CATCHUP": str(program)})
+    check_refused(ran, 1, f"CATCHUP names {program}, and that isn't catchup: {said}; set it to")
+    assert len(ran.error) < 400 and time.monotonic() - began < 60
 
 
 @pytest.mark.parametrize("number", [signal.SIGTERM, signal.SIGINT])

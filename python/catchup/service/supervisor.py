@@ -31,6 +31,7 @@ from catchup.service.limits import DRAIN_SECONDS, LAST_SECONDS, MOST_CONNECTIONS
 from catchup.service.metrics import Figures, Metrics
 from catchup.service.notes import make_folder
 from catchup.service.options import Options
+from catchup.service.probing import check_program
 from catchup.service.process import end_with, give_way
 from catchup.service.protocol import Connection
 from catchup.service.streets import streets_of
@@ -452,6 +453,7 @@ def start(options: Options) -> None:
     """Serves until a signal asks for the end."""
     open_streams()
     find_program()
+    check_program()
     check_files(options)
     find_at_once(options)
     Setting.options = options
