@@ -214,6 +214,28 @@ def test_a_program_that_is_no_catchup(town: Path, tmp_path: Path, monkeypatch: p
     assert len(ran.error) < 400 and time.monotonic() - began < 60
 
 
+def run_within(limit: str, *words: str | Path) -> subprocess.CompletedProcess[str]:
+    """Runs the service under a limit of the shell's `ulimit`."""
+    shell = ["bash", "-c", f'ulimit {limit}; exec "$0" "$@"', HTTP, "--port", "0", "--workers", "2", *words]
+    return subprocess.run(shell, capture_output=True, text=True, timeout=SECONDS, check=False)
+
+
+def test_too_few_files_that_may_be_open_are_told_at_the_start(town: Path) -> None:
+    for many, words in ((20, [town]), (79, [f"a={town}", f"b={town}"])):
+        done = run_within(f"-n {many}", *words)
+        assert (done.returncode, done.stdout) == (1, ""), done
+        needed = 48 + 16 * len(words)
+        assert done.stderr == (f"catchup-http: only {many} files may be open here, and the service needs {needed}: "
+                               "allow more (ulimit -n)\n")
+
+
+def test_where_no_worker_can_begin_the_service_ends(town: Path) -> None:
+    done = run_within("-v 60000", town)
+    assert done.returncode == 1, done
+    assert "failed before any could serve, so the service ends: allow it more memory" in done.stderr.splitlines()[-1]
+    assert done.stderr.count("Exception in worker process") == 1, done.stderr
+
+
 @pytest.mark.parametrize("number", [signal.SIGTERM, signal.SIGINT])
 def test_it_ends_by_a_signal_to_it_or_to_all(town: Path, number: int) -> None:
     with Service(town, workers=2) as service:

@@ -49,6 +49,15 @@ class Counts:
         self.cells = memoryview(mmap.mmap(-1, 4 * SLOTS)).cast("I")
         for slot in range(SLOTS):
             self.cells[slot] = UNUSED
+        self.begun = mmap.mmap(-1, 1)
+
+    def begin(self) -> None:
+        """A worker has opened its files, and takes clients."""
+        self.begun[0] = 1
+
+    def has_begun(self) -> bool:
+        """Whether any worker has ever taken clients."""
+        return bool(self.begun[0])
 
     def take_slot(self) -> int:
         """A slot for another worker. It counts from the first client on that the worker waits for."""

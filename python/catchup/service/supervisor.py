@@ -29,7 +29,7 @@ from catchup.service.ending import (
     LATE_SECONDS, UNASKED_SECONDS, Asked, answer_left, last_answer, let_nobody_connect)
 from catchup.service.limits import DRAIN_SECONDS, LAST_SECONDS, MOST_CONNECTIONS
 from catchup.service.metrics import Figures, Metrics
-from catchup.service.notes import make_folder
+from catchup.service.notes import first_to_tell, make_folder
 from catchup.service.options import Options
 from catchup.service.probing import check_program
 from catchup.service.process import end_with, give_way
@@ -42,6 +42,9 @@ from catchup.service.worker import Shared, Worker, said_of
 
 BACKLOG: Final = 1_024                  # clients that wait to be taken
 SPARE_FILES: Final = 128                # for all but connections
+LEAST_FILES: Final = 48                 # with which one file can be served at all, and edited
+FILES_OF_EACH: Final = 16               # and for each file, its children and their helpers
+MOST_FAILED: Final = 4                  # workers that may fail before any has begun
 ASIDE: Final = 16                       # of each sort, one of so many connections may be put aside before it is taken
 LARGE_PAGES: Final = "glibc.malloc.hugetlb=1"   # as the launcher has them
 SHARED_MEMORY: Final = "/dev/shm"
@@ -62,6 +65,7 @@ UVICORN: Final[dict[str, Any]] = {
 try:
     from gunicorn.app.base import BaseApplication
     from gunicorn.arbiter import Arbiter
+    from gunicorn.errors import HaltServer
     from gunicorn.glogging import Logger
     from gunicorn.sock import close_sockets
     from uvicorn.workers import UvicornWorker
@@ -80,6 +84,7 @@ class Setting:
     counts: Counts
     asked: Asked
     figures: Figures
+    failed = 0                          # workers that ended by themselves before any had begun
 
 
 class DrainingServer(Server):  # type: ignore[misc]
@@ -123,6 +128,7 @@ class DrainingServer(Server):  # type: ignore[misc]
             Acceptor(each, self.connection, Setting.counts, self.slot, crowd.everyone.__len__, crowd.most // ASIDE)
             for each in sockets or []]
         self.worker.acceptors = self.acceptors
+        Setting.counts.begin()
         self.started = True
 
     def connection(self, address: Address) -> Connection:
@@ -189,7 +195,10 @@ if HAS_GUNICORN:
         def exception(self, msg: str, *args: Any, **kwargs: Any) -> None:
             """An error that ended a worker."""
             problem = sys.exc_info()[1]
-            tell(f"{msg}: {said_of(problem) if problem is not None else ''}")
+            line = f"{msg}: {said_of(problem) if problem is not None else ''}"
+            # Until one has begun, all mostly fail of the same.
+            if Setting.counts.has_begun() or first_to_tell(Setting.folder, line):
+                tell(line)
 
         def warning(self, msg: str, *args: Any, **kwargs: Any) -> None:
             """What an operator should know, in a line as all others are; a trace would stand behind its first one."""
@@ -286,7 +295,19 @@ if HAS_GUNICORN:
             """Starts workers where there are too few, over the files that the others serve."""
             for kept in Setting.shared.kept.values():
                 kept.follow()
+            if Setting.failed >= MOST_FAILED and not Setting.counts.has_begun():
+                raise HaltServer(
+                    f"{Setting.failed} workers failed before any could serve, so the service ends: allow it more memory "
+                    "(ulimit -v) or open files (ulimit -n), or fewer --workers", 1)
             super().manage_workers()
+
+        def halt(self, reason: str | None = None, exit_status: int = 0) -> None:
+            """Ends the service, and says last why it does so by itself."""
+            try:
+                super().halt(reason, exit_status)
+            finally:
+                if reason is not None:
+                    tell(reason)
 
         def handle_int(self) -> None:
             """As a request to terminate."""
@@ -366,6 +387,8 @@ def take_slot(_: object, worker: Any) -> None:
 
 def let_go(_: object, worker: Any) -> None:
     """A worker is gone."""
+    if not Setting.asked.is_asked(worker.slot):
+        Setting.failed += 1
     Setting.counts.cells[worker.slot] = UNUSED
     Setting.figures.leave(worker.slot)
 
@@ -433,11 +456,14 @@ def find_at_once(options: Options) -> None:
         os.environ.setdefault("GLIBC_TUNABLES", LARGE_PAGES)
 
 
-def allow_files() -> int:
+def allow_files(served: int) -> int:
     """Allows as many open files as connections need, with those put aside, and answers how many connections a worker
-    may have."""
+    may have. Failure where too few may be open for so many served files."""
     soft, hard = resource.getrlimit(resource.RLIMIT_NOFILE)
     most = hard if hard != resource.RLIM_INFINITY else 1 << 20
+    least = LEAST_FILES + FILES_OF_EACH * served
+    if most < least:
+        raise Failure(f"only {most} files may be open here, and the service needs {least}: allow more (ulimit -n)")
     soft = max(soft, min(most, MOST_CONNECTIONS * (ASIDE + 2) // ASIDE + SPARE_FILES))
     resource.setrlimit(resource.RLIMIT_NOFILE, (soft, hard))
     return max(min(MOST_CONNECTIONS, (soft - SPARE_FILES) * ASIDE // (ASIDE + 2)), 8)
@@ -457,7 +483,7 @@ def start(options: Options) -> None:
     check_files(options)
     find_at_once(options)
     Setting.options = options
-    Setting.shared = share(options, {}, allow_files())
+    Setting.shared = share(options, {}, allow_files(len(options.files)))
     Setting.counts = Counts()
     Setting.asked = Asked()
     Setting.figures = Figures()
