@@ -8,8 +8,10 @@ import dataclasses
 import gc
 import itertools
 import json
+import os
 import random
 import shutil
+import signal
 import subprocess
 import time
 import xml.etree.ElementTree as ET
@@ -26,7 +28,7 @@ from osrm_town import VERSION, Town
 from place_search import Search
 from serving import HTTP, SECONDS, Service
 from shapely.geometry import Point, shape
-from waiting import least_seconds
+from waiting import least_seconds, wait_for
 
 from catchup.places import Places, days
 from catchup.places.reach import reached
@@ -242,6 +244,41 @@ def test_another_map_is_refused(folder: Path, town: Path, tmp_path: Path) -> Non
                           timeout=SECONDS, check=False)
     assert (done.returncode, done.stdout, done.stderr.count("\n")) == (1, "", 1)
     assert "isn't the map of" in done.stderr
+
+
+def test_a_reload_keeps_the_map_where_that_is_gone_or_damaged(folder: Path, tmp_path: Path) -> None:
+    """Clients go on, and whoever reloads is told."""
+    tables = tmp_path / "tables"
+    shutil.copytree(folder, tables)
+    path, good, address = tables / "map.gpkg", (tables / "map.gpkg").read_bytes(), f"/route?from={A}&to={B}&depart=0"
+    cases = ((lambda: path.unlink(), "is gone: put it back"), (lambda: path.write_bytes(good[:5000]), "can't be read"),
+             (lambda: path.write_bytes(b""), "can't be read"))
+    with Service(tables / "map.cu", "--tables", tables) as service:
+        said = service.process.stderr
+        assert said is not None
+        workers, before = service.workers(), service.get(address)
+        for damage, reason in cases:
+            damage()
+            service.process.send_signal(signal.SIGHUP)
+            line = said.readline()
+            assert line.startswith(f"catchup-http: nothing is reloaded: {path} ") and reason in line
+            assert service.workers() == workers and service.get(address) == before
+        # A worker that is started again has it too.
+        os.kill(workers[0], signal.SIGKILL)
+        assert "was terminated due to signal 9" in said.readline()
+        assert get_anew(service, address) == before
+        path.write_bytes(good)
+        workers = service.workers()
+        service.process.send_signal(signal.SIGHUP)
+        assert wait_for(lambda: bool(service.workers()) and not set(service.workers()) & set(workers))
+        assert get_anew(service, address) == before
+        assert service.end() == (0, "", "")
+
+
+def get_anew(service: Service, address: str) -> object:
+    """The answer to a request on a connection of its own."""
+    with service.client_of() as client:
+        return client.get(address).json()
 
 
 def test_edits_change_the_times(folder: Path, tmp_path: Path) -> None:

@@ -35,7 +35,7 @@ from catchup.service.probing import check_program
 from catchup.service.process import end_with, give_way
 from catchup.service.protocol import Connection
 from catchup.service.streets import streets_of
-from catchup.service.tables import draw_networks, open_places
+from catchup.service.tables import MAP, draw_networks, open_places
 from catchup.service.telling import open_streams, tell
 from catchup.service.versions import Kept
 from catchup.service.worker import Shared, Worker, said_of
@@ -340,9 +340,9 @@ if HAS_GUNICORN:
             """Starts workers anew, where they could serve."""
             try:
                 check_files(Setting.options)
-                Setting.shared = share(Setting.options, Setting.shared.kept, Setting.shared.most)
-            except Failure as problem:
-                tell(f"nothing is reloaded: {problem}")
+                Setting.shared = share_anew(Setting.options, Setting.shared)
+            except (Failure, OSError, MemoryError) as problem:
+                tell(f"nothing is reloaded: {problem or 'out of memory'}")
                 return
             if self.began is None:
                 super().handle_hup()
@@ -473,6 +473,16 @@ def share(options: Options, kept: dict[Path, Kept], most: int) -> Shared:
     """What workers have from now on: a token or a table that changes later is read at a reload, and not by a worker
     that is started again."""
     return Shared(options.gates(), draw_networks(options), streets_of(options), open_places(options), kept, most)
+
+
+def share_anew(options: Options, before: Shared) -> Shared:
+    """What workers have from a reload on. Failure where places were asked for by a map that is gone: clients would find
+    that out, and not who reloads."""
+    found = share(options, before.kept, before.most)
+    for file in options.files:
+        if file.tables is not None and file.path in before.grounds and file.path not in found.grounds:
+            raise Failure(f"{file.tables / MAP} is gone: put it back, or end the service and start it, to serve without it")
+    return found
 
 
 def start(options: Options) -> None:
