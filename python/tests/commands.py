@@ -57,7 +57,7 @@ def call(
         stack.enter_context(mock.patch.object(sys, "unraisablehook", sys.unraisablehook))
         stack.enter_context(mock.patch.dict(os.environ, env or {}))
         stack.enter_context(chdir(cwd or "."))
-        for number in (signal.SIGTERM, signal.SIGHUP):
+        for number in (signal.SIGTERM, signal.SIGHUP, signal.SIGINT):
             stack.callback(signal.signal, number, signal.getsignal(number))
         try:
             runpy.run_path(str(BIN / name), run_name="__main__")

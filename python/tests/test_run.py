@@ -3,6 +3,7 @@
 from __future__ import annotations
 
 import os
+import re
 import signal
 import subprocess
 import sys
@@ -14,6 +15,7 @@ import click  # noqa: F401
 import pytest
 
 PYTHON = Path(__file__).resolve().parents[1]
+BIN = PYTHON.parent / "bin"
 
 CODE = """
 import sys, time
@@ -157,3 +159,41 @@ def test_an_interrupt_that_python_passes_over_comes_again(number: int, status: i
     run.send_signal(number)
     output, error = run.communicate(timeout=600)
     assert (run.returncode, output.replace("waiting\n", ""), error) == (status, "cleaned up\n", "")
+
+
+@pytest.mark.parametrize("name", ["catchup-http", "catchup-tables", "draw-route"])
+def test_an_interrupt_while_modules_load_is_silent(name: str) -> None:
+    """Wherever it comes: shells tell status 130 of an end by it."""
+    told = subprocess.run([BIN / name, "--none"], text=True, capture_output=True, timeout=600, check=False).stderr
+    for at in range(12):
+        run = subprocess.Popen(
+            [BIN / name, "--none"], text=True, stdout=subprocess.PIPE, stderr=subprocess.PIPE,
+            preexec_fn=lambda: signal.signal(signal.SIGINT, signal.SIG_DFL))
+        # Python takes it as it starts, and has it no more once the script has begun.
+        for is_wanted in (True, False):
+            while run.poll() is None and takes_interrupts(run.pid) is not is_wanted:
+                time.sleep(0.0005)
+        time.sleep(at * 0.01)
+        run.send_signal(signal.SIGINT)
+        output, error = run.communicate(timeout=600)
+        # It may have told its wrong word by then.
+        assert (output, error) in (("", ""), ("", told)), error
+        assert run.returncode in (-signal.SIGINT, 130, 2)
+
+
+def takes_interrupts(pid: int) -> bool:
+    """Whether a process has a handler for an interrupt."""
+    [caught] = re.findall(r"^SigCgt:\s*([0-9a-f]+)$", Path(f"/proc/{pid}/status").read_text(), re.M)
+    return bool(int(caught, 16) >> signal.SIGINT - 1 & 1)
+
+
+def test_an_interrupt_that_is_ignored_stays_so() -> None:
+    """As of a command in the background of a script."""
+    run = subprocess.Popen(
+        [BIN / "catchup-tables", "--help"], text=True, stdout=subprocess.PIPE, stderr=subprocess.PIPE,
+        preexec_fn=lambda: signal.signal(signal.SIGINT, signal.SIG_IGN))
+    while run.poll() is None:
+        run.send_signal(signal.SIGINT)
+        time.sleep(0.005)
+    output, error = run.communicate(timeout=600)
+    assert (run.returncode, error) == (0, "") and output.startswith("Usage: ")

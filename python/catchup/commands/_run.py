@@ -58,6 +58,9 @@ def with_version(command: click.Command, name: str) -> click.Command:
 
 def _status_of(command: click.Command, name: str) -> int:
     try:
+        # Up to here bin/ has an interrupt end the process at once: while modules load Python would print a traceback.
+        if signal.getsignal(signal.SIGINT) is signal.SIG_DFL:
+            signal.signal(signal.SIGINT, signal.default_int_handler)
         # Not by `main`, which answers a closed pipe and an interrupt in ways of its own.
         with command.make_context(name, sys.argv[1:]) as context:
             result = command.invoke(context)
