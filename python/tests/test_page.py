@@ -55,6 +55,13 @@ def plane(town: Path, tmp_path_factory: pytest.TempPathFactory) -> Iterator[Serv
         yield service
 
 
+# What has the focus: its element, what it is called, and the line around it.
+FOCUSED = """
+const found = document.activeElement;
+return [found.tagName, found.id || found.title, getComputedStyle(found).outlineStyle];
+"""
+
+
 def places_of(browser: Browser) -> list[str]:
     """What the fields of places have."""
     found: list[str] = browser.run("return [...document.querySelectorAll('.place input')].map(each => each.value)")
@@ -434,6 +441,25 @@ def test_leaflet_is_missing(browser: Browser, village: Service) -> None:
     finally:
         browser.command("Network.setBlockedURLs", urls=[])
         browser.command("Network.disable")
+
+
+def test_whatever_has_the_focus_shows_it(browser: Browser, village: Service) -> None:
+    """By the key of tabulation alone, from the page's beginning to its end."""
+    from selenium.webdriver.common.action_chains import ActionChains
+    from selenium.webdriver.common.keys import Keys
+
+    browser.open(village, "#from=0&to=9&depart=08:00", LAPTOP)
+    browser.wait_text("answer", "→")
+    seen = []
+    for _ in range(60):
+        ActionChains(browser.driver).send_keys(Keys.TAB).perform()
+        tag, name, outline = browser.run(FOCUSED)
+        if tag == "BODY":
+            break
+        assert outline not in ("none", "0px"), (tag, name)
+        seen.append(name)
+    for wanted in ("map", "Where the route begins", "Closer", "time", "day", "slider", "tab-route", "add", "gpx"):
+        assert wanted in seen
 
 
 def test_the_service_is_gone_and_comes_back(browser: Browser, folder: Path, tmp_path: Path) -> None:
