@@ -472,8 +472,11 @@ def test_the_service_is_gone_and_comes_back(browser: Browser, folder: Path, tmp_
         browser.wait_text("answer", "→")
     browser.wait_text("notice", "can't be reached")
     browser.picture("gone")
+    # What is chosen meanwhile is answered as soon as it can be.
+    browser.set_value("time", "10:00")
     with Service(path, "--tables", folder, "--port", str(port)):
         browser.wait_text("notice", "is back")
+        browser.wait_text("answer", "10:00 →")
         browser.set_value("time", "9:00")
         browser.wait_text("answer", "09:00 →")
 

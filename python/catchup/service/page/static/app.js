@@ -11,7 +11,7 @@ import { Places } from "./places.js";
 import { Reach } from "./reach.js";
 import { BACKWARD, FORWARD, isDrawing, SHUT } from "./roads.js";
 import { Route } from "./route.js";
-import { ask, bytes, newest } from "./service.js";
+import { ask, bytes, newest, onReachable } from "./service.js";
 import { MODES, onChange, state, writeNow } from "./state.js";
 import { Traffic } from "./traffic.js";
 
@@ -38,6 +38,8 @@ export class Page {
     this.chart.onClick = (spot, event) => (state.mode === "traffic" ? this.traffic.click(spot) : click(spot, event));
     this.chart.onPoint = (street, spot) => this.point(street, spot);
     this.follower = new Follower(version => this.changed(version));
+    // What was chosen while the service was gone has no answer yet.
+    onReachable(isThere => { if (isThere) this.askAnew(); });
     this.showMode();
     onChange(names => {
       if (names.includes("mode")) this.showMode();
@@ -111,6 +113,10 @@ export class Page {
     // Other roads have other numbers.
     if (map?.name !== this.chart.found.name) { location.reload(); return; }
     this.notice.say("version", `The network has changed: version ${version}.`, "good");
+    this.askAnew();
+  }
+
+  askAnew() {
     this.askRoads(state.time);
     this.route.refresh(true);
     this.day.refresh(true);

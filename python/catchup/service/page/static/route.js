@@ -161,7 +161,11 @@ export class Route {
     const spots = places(leg.line, street.from, street.to);
     const show = () => this.chart.map.fitBounds(L.latLngBounds(spots), { padding: [60, 60], maxZoom: 17 });
     row.onclick = show;
-    row.onkeydown = event => { if (event.key === "Enter") show(); };
+    row.onkeydown = event => {
+      if (event.key !== "Enter" && event.key !== " ") return;
+      event.preventDefault();
+      show();
+    };
     row.onmouseenter = () => this.highlight(spots);
     row.onmouseleave = () => this.lit?.remove();
     return row;
