@@ -443,6 +443,22 @@ def test_leaflet_is_missing(browser: Browser, village: Service) -> None:
         browser.command("Network.disable")
 
 
+def test_a_route_that_takes_long_is_told(browser: Browser, village: Service) -> None:
+    """In the place of what is to be chosen."""
+    browser.open(village)
+    browser.wait_text("answer", "Click on the map")
+    browser.command("Network.enable")
+    slow = {"offline": False, "downloadThroughput": -1, "uploadThroughput": -1}
+    browser.command("Network.emulateNetworkConditions", latency=2000, **slow)
+    try:
+        browser.run("location.hash = '#from=0&to=9&depart=08:00'")
+        browser.wait_text("answer", "The route is being worked out")
+        browser.wait_text("answer", "08:00 →")
+    finally:
+        browser.command("Network.emulateNetworkConditions", latency=0, **slow)
+        browser.command("Network.disable")
+
+
 def test_whatever_has_the_focus_shows_it(browser: Browser, village: Service) -> None:
     """By the key of tabulation alone, from the page's beginning to its end."""
     from selenium.webdriver.common.action_chains import ActionChains

@@ -38,7 +38,7 @@ export class Route {
   }
 
   async askOnce(words, isLast) {
-    const slow = setTimeout(() => at("answer").setAttribute("aria-busy", "true"), 400);
+    const slow = setTimeout(() => this.wait(), 400);
     try {
       const found = await ask("/page/route", words);
       if (!isLast() || state.mode !== "route") return;
@@ -50,6 +50,12 @@ export class Route {
       clearTimeout(slow);
       at("answer").removeAttribute("aria-busy");
     }
+  }
+
+  // What stands there is of what was asked before, or says what to choose.
+  wait() {
+    at("answer").setAttribute("aria-busy", "true");
+    if (!this.found) fill(at("answer"), make("p", { className: "soft" }, "The route is being worked out …"));
   }
 
   take(found, problem) {
