@@ -1,8 +1,8 @@
 -- The least over the entries of a list, entry by entry.
-use Rattle.std.proofs.Common.{◌≡◌, ◌≤◌, ◌+◌, ◌∙◌, ℕ, List, ◌∷◌, Some, ap, arith, drop, length, min, refl}
+use Rattle.std.proofs.Common.{◌≡◌, ◌≤◌, ◌<◌, ◌+◌, ◌∙◌, ℕ, List, ◌∷◌, Some, ap, arith, drop, get_or, length, min, refl, subst}
 use Rattle.std.specs.Prelude.{slice_get}
 use Rattle.std.proofs.lemmas.List.{drop_all, drop_more}
-use Rattle.std.proofs.lemmas.Option.{get_or_from_slice_get, slice_get_within}
+use Rattle.std.proofs.lemmas.Option.{get_or_from_slice_get, slice_get-get_or, slice_get_within}
 use Rattle.cu_model.proofs.RoadLaws.{all_at}
 use Rattle.cu_chordal.specs.declared.graph.Ends.{Ends}
 use Rattle.cu_interval.specs.declared.shortcuts.Shortcut.{Shortcut}
@@ -15,7 +15,7 @@ use Rattle.cu_interval.specs.Shortcuts.{ways_of}
 use Rattle.cu_interval.proofs.BoundFuel.{least_of-far}
 use Rattle.cu_interval.proofs.KeptBounds.{bound_from-kept}
 use Rattle.cu_interval.proofs.Lookups.{list_from-edge}
-use Rattle.cu_bounds.specs.Steps.InTurn.{IsWayOf}
+use Rattle.cu_bounds.specs.Steps.InTurn.{IsFinderUpTo, IsWayOf}
 use Rattle.cu_bounds.proofs.HalfBounds.{bound_at}
 
 -- the bound of each way of an edge's list, by pieces and by the least bounds of its halves
@@ -63,3 +63,12 @@ module _ (h : HierarchyValue) (f : IsHierarchy h) (shortcut : Shortcut) (ends : 
       let formed = f.formed shortcut.edge shortcut.dir ends at in
       let Formed : Entry → Type 0 = λ e. IsWellFormed h (start_of ends shortcut.dir) (end_of ends shortcut.dir) e.way in
       (ends, at, all_at Formed (ways_of h shortcut) i entry formed there)
+
+-- the least so far, and the finder has come no further than to this edge
+pub record IsBound (h : HierarchyValue) (shortcut : Shortcut) (index least : ℕ) (known : HierarchyValue) (reached : ℕ) : Type 0 where
+  pub so_far : (ends : Ends) → slice_get h.edges shortcut.edge ≡ Some ends → IsLeastSoFar (bound_between h ends shortcut) (ways_of h shortcut) index least
+  pub finder : IsFinderUpTo h shortcut.edge known reached
+
+-- an entry of this slice is one of the same list
+pub entry_there : (slice entries : List Entry) → slice ≡ entries → (i : ℕ) → i < length slice → (d : Entry) → slice_get entries i ≡ Some (get_or slice i d)
+entry_there slice entries same i lt d = subst (λ (list : List Entry). slice_get list i ≡ Some (get_or slice i d)) same (slice_get-get_or slice i d lt)

@@ -157,3 +157,14 @@ renewed_more h touched i t old new at inside set renewed =
 pub renewed_all : (h : HierarchyValue) (touched : List TouchedEdge) (i : ℕ) (bounds : List ℕ) → length touched ≤ i → AreRenewed h touched i bounds → bounds ≡ bounds_of h
 renewed_all h touched i bounds all renewed =
     first_all h bounds (2 * length h.edges) refl (record { long = renewed.long; right = λ e d inside lt. renewed.right e d inside (none_left touched i e all) })
+
+-- all bounds are right but for those of these edges from one on, and a finder of halves has come no further than to any of these
+pub record IsRenewing (h : HierarchyValue) (touched : List TouchedEdge) (i : ℕ) (bounds : List ℕ) (known : HierarchyValue) (reached : ℕ) : Type 0 where
+  pub renewed : AreRenewed h touched i bounds
+  pub same : known ≡ h
+  pub turn : (k : ℕ) (t : TouchedEdge) → i ≤ k → slice_get touched k ≡ Some t → reached ≤ t.edge
+
+-- so it is behind one of them
+pub turn_behind : (touched : List TouchedEdge) → AreRising touched → (i : ℕ) (t : TouchedEdge) → slice_get touched i ≡ Some t → (reached : ℕ) → reached ≤ t.edge
+    → (k : ℕ) (u : TouchedEdge) → i + 1 ≤ k → slice_get touched k ≡ Some u → reached ≤ u.edge
+turn_behind touched rising i t at reached turn k u le there = let less = rising i k t u (omega (arith, le)) at there in omega (arith, less, turn)

@@ -3,8 +3,9 @@ use Rattle.std.specs.Prelude.{ℕ, List, [], ◌∷◌, Option, Some, None, ◌�
 use Rattle.std.specs.List.{Contains, range_with_len}
 use Rattle.cu_interval.specs.declared.shortcuts.Shortcut.{Shortcut}
 use Rattle.cu_interval.specs.declared.ways.Dir.{Dir}
+use Rattle.cu_interval.specs.declared.ways.TouchedEdge.{TouchedEdge}
 use Rattle.cu_interval.specs.declared.ways.Dir.TheVariants.{Up, Down}
-use Rattle.cu_interval.specs.Hierarchies.{HierarchyValue, list_number}
+use Rattle.cu_interval.specs.Hierarchies.{HierarchyValue, list_number, list_of}
 use Rattle.cu_interval.specs.LeastBounds.{least_bound}
 use Rattle.cu_interval.specs.Shortcuts.{number_of}
 
@@ -35,3 +36,9 @@ AreRightBut h kept edges =
 abbrev pub BoundsStayBut : HierarchyValue → HierarchyValue → List ℕ → Type 0
 BoundsStayBut h other edges =
     (edge : ℕ) (dir : Dir) → edge < length h.edges → (Contains edges edge → ⊥) → least_bound h edge dir ≡ least_bound other edge dir
+
+-- an edge of a hierarchy with both of its lists, as they are there
+pub record HasListsOf (h : HierarchyValue) (touched : TouchedEdge) : Type 0 where
+  pub edge : touched.edge < length h.edges
+  pub up : touched.up ≡ list_of h touched.edge Up
+  pub down : touched.down ≡ list_of h touched.edge Down

@@ -11,7 +11,7 @@ ghost use Rattle.cu_bounds.specs.Steps.InTurn.{AreFirstBounds, FindsWrongBelow, 
 use crate::halving::{Halving, Searching};
 use crate::kept::{BoundsSoFar, KeptBounds};
 use crate::list_bounds::list_bound;
-use crate::travels::{TravelTable, least_travels};
+use crate::travels::least_travels;
 use cu_interval::{Dir, Shortcut, Ways};
 use cu_model::NoMemory;
 use std::alloc::Global;
@@ -51,7 +51,7 @@ fn push_bound<W: Ways>(
         bounds: bounds.as_slice(),
     };
     let finder = &mut Searching { ways };
-    let bound = list_bound(ways, &TravelTable { travels }, &so_far, finder, shortcut);
+    let bound = list_bound(ways, travels, &so_far, finder, shortcut);
     bounds.push(bound)?;
     Ok(())
 }
@@ -162,6 +162,6 @@ fn is_right<W: Ways, K: KeptBounds, F: Halving>(
     ensures finder { IsFinderUpTo (W.hierarchy ways.now) shortcut.edge (F.hierarchy finder.new)
         (F.reached finder.new) }
 {
-    let bound = list_bound(ways, &TravelTable { travels }, kept, finder, shortcut);
+    let bound = list_bound(ways, travels, kept, finder, shortcut);
     kept.kept(shortcut.list() as u32) == bound
 }

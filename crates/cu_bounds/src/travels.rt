@@ -1,6 +1,6 @@
 //! The least travels of profiles, by their pieces.
 
-ghost use Rattle.std.specs.Prelude.{◌≡◌, ◌<◌, ℕ, IfOk, length, map, slice_index};
+ghost use Rattle.std.specs.Prelude.{◌≡◌, ◌<◌, IfOk, length, map};
 ghost use Rattle.cu_model.specs.Roads.{pieces_of};
 ghost use Rattle.cu_interval.specs.LeastPieces.{pieces_least, rule_least};
 
@@ -9,51 +9,6 @@ use std::alloc::Global;
 
 /// Longer than any travel: the bound of a list without ways.
 pub const FAR: u64 = 1 << 60;
-
-/// Whatever tells the least travel of each of so many profiles, in seconds. No call takes memory.
-pub trait Travels {
-    ghost least: { Self → ℕ → ℕ };
-
-    ghost profiles: { Self → ℕ };
-
-    /// The least travel of a profile, whose number is below the number of profiles.
-    fn least(&self, profile: u32) -> u32
-        requires profile { profile < profiles self.now }
-        ensures least { result ≡ least self.now profile };
-}
-
-/// The least travel of each profile, by its number.
-#[derive(Drop)]
-pub struct TravelTable<'a> {
-    pub travels: &'a [u32],
-}
-
-impl<'a> Travels for TravelTable<'a> {
-    ghost least = { λ table. slice_index table.travels.now };
-
-    ghost profiles = { λ table. length table.travels.now };
-
-    fn least(&self, profile: u32) -> u32 {
-        self.travels[profile as usize]
-    }
-}
-
-/// The profiles of roads, each gone through when it is asked for.
-#[derive(Drop)]
-pub struct TravelsOf<'a, R> {
-    pub roads: &'a R,
-}
-
-impl<'a, R: Roads> Travels for TravelsOf<'a, R> {
-    ghost least = { λ travels profile.
-        pieces_least (pieces_of (R.network travels.roads.now) profile) };
-
-    ghost profiles = { λ travels. length (R.network travels.roads.now).profiles };
-
-    fn least(&self, profile: u32) -> u32 {
-        least_travel(self.roads, profile)
-    }
-}
 
 /// The least travel of each profile, by its number, in seconds.
 pub fn least_travels<R: Roads>(alloc: Global, roads: &R) -> Result<Vec<u32>, NoMemory>

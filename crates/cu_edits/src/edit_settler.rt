@@ -215,6 +215,14 @@ impl<'a, W: Ways> EditSettler<'a, W> {
         PausedSettler { settled, state }
     }
 
+    /// The edges settled, with their lists, in the order in which they were. Takes no memory.
+    pub fn into_settled(self) -> Vec<TouchedEdge>
+        ensures { result.items ≡ self.entry.settled }
+    {
+        let EditSettler { settled, .. } = self;
+        settled
+    }
+
     /// What is known of lists once all touched edges are settled. None where nothing is, since a way takes longer than packed runs
     /// can say, memory ran out, or functions were let go of.
     pub fn into_learned(self, alloc: Global) -> Option<Learned>

@@ -19,7 +19,7 @@
 //!
 //! Many edits are made at once by a list of them ([`EditList`], `specs/EditLists.antt`; [`Edits`] is one or such a list).
 //! [`plan_all`] adds one behind the others, and tells how many edges it touches; [`EditList::touched`] answers the edges that some
-//! of them touch, and [`recustomize_all`] settles each of these once.
+//! of them touch, and [`settle_each`] settles each of these once.
 //!
 //! [`InWork`] makes an edit one touched edge a step (`specs/InWork.antt`), so that others may read the hierarchy in between:
 //! [`plan`] gives it its edges. A settler borrows what it settles over; [`EditSettler::pause`] lets go of that between two steps
@@ -76,7 +76,7 @@ pub use keeping::Keeping;
 pub use learned::Learned;
 pub use paused::PausedSettler;
 pub use planning::plan_all;
-pub use recustomizing::{Touched, recustomize, recustomize_all, touch, touch_over};
+pub use recustomizing::{Touched, recustomize, settle_each, touch, touch_over};
 pub use settler::Settler;
 pub use touching::plan;
 pub use work_papers::WorkPapers;

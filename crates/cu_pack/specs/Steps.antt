@@ -2,6 +2,7 @@ pub mod Begins
 pub mod Columns
 pub mod Cursors
 pub mod Cuts
+pub mod EditedHalves
 pub mod Entries
 pub mod Fronts
 pub mod Parts

@@ -29,7 +29,7 @@
 //! its shortcuts by rising edge, for the check of the bounds and for a view. `sections` puts the sections of a
 //! hierarchy, `replacing` the way lists of a view's after edits, `bounding` the bounds. They put them into any `Target`: a
 //! vector, or the `SealedWriter` that makes the digest as it writes. `edited_ways` stands for a view's hierarchy as edits leave
-//! it. What only private functions cite is in `specs/Steps`.
+//! it, and `edited_halves` for its halves. What only private functions cite is in `specs/Steps`.
 //!
 //! It stands on `cu_model`, `cu_chordal` and `cu_interval`, on `cu_bounds` for the least bounds, on `cu_io` for what a file is
 //! stored from, and on the crate `sha2` for the digest (FIPS 180-4).
@@ -45,6 +45,7 @@ mod copying;
 mod counting;
 mod cutting;
 mod driving;
+mod edited_halves;
 mod edited_ways;
 mod halving;
 mod joining;

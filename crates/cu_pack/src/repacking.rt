@@ -13,6 +13,7 @@ ghost use Rattle.cu_pack.specs.Steps.Fronts.{front};
 
 use crate::bounding::{bounds_behind, with_bounds};
 use crate::counting::count_pieces;
+use crate::edited_halves::EditedHalves;
 use crate::edited_ways::EditedWays;
 use crate::layout::{Counts, Layout};
 use crate::replacing::{count_replaced, put_replaced};
@@ -97,7 +98,7 @@ pub fn repack_touched<R: Roads>(
 }
 
 /// The least bounds after edits that leave those of all other lists: these are copied, and those of these edges found anew from the
-/// bounds of their halves. Takes eight bytes for each list.
+/// bounds of their halves. Takes 8 bytes for each list, and 4 for each node and each profile.
 pub fn bounds_after<R: Roads>(
     alloc: Global,
     view: &PackedView<'_>,
@@ -116,7 +117,9 @@ pub fn bounds_after<R: Roads>(
 {
     let mut bounds = copy_bounds(alloc, view)?;
     let after = EditedWays::of(view, roads, lists);
-    renew_bounds(&after, bounds.as_mut_slice(), lists);
+    let finder = view.halves_in_turn(alloc)?;
+    let mut finder = EditedHalves::of(&after, finder);
+    renew_bounds(alloc, &after, bounds.as_mut_slice(), lists, &mut finder)?;
     Ok(bounds)
 }
 

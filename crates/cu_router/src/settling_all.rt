@@ -1,6 +1,6 @@
 //! Settling the edges that edits touch together.
 
-ghost use Rattle.std.specs.Prelude.{◌≡◌, [], IfOk, IfSome};
+ghost use Rattle.std.specs.Prelude.{◌≡◌, [], IfOk, IfSome, IsOk};
 ghost use Rattle.cu_bounds.specs.Near.{AreNear};
 ghost use Rattle.cu_edits.specs.Customized.{AreCustomized};
 ghost use Rattle.cu_edits.specs.EditLists.{FitsList};
@@ -10,7 +10,7 @@ ghost use Rattle.cu_interval.specs.EdgeArcs.{AreEdgeArcs};
 ghost use Rattle.cu_interval.specs.Hierarchies.{IsHierarchy, IsHierarchyOf};
 ghost use Rattle.cu_resettled.specs.ResettlingAll.{IsResettledAll, NumbersTouchedBySome, hierarchy_with_all};
 
-use cu_edits::{EditGround, EditList, EditSettler, Keeping, recustomize_all};
+use cu_edits::{EditGround, EditList, EditSettler, Keeping, settle_each};
 use cu_interval::{TouchedEdge, Ways};
 use cu_model::NoMemory;
 use cu_progress::Progress;
@@ -44,9 +44,8 @@ pub(crate) fn settle_all<W: Ways, P: Progress>(
         return Ok(lists);
     }
     let mut settler = EditSettler::over_all(alloc, ways, edits, ground, Keeping::All);
-    let lists = recustomize_all(alloc, &edges, &mut settler, progress);
-    drop(settler);
-    lists
+    let done = settle_each(alloc, &edges, &mut settler, progress);
+    lists_of(settler, done)
 }
 
 // These edges, which the edits of a settler touch, with their lists after them. None where the settler gives up.
@@ -70,12 +69,26 @@ fn settle_or_give_up<W: Ways, P: Progress>(
         (hierarchy_with_all settler.entry.before settler.entry.edit lists.items))) }
 {
     let mut settler = settler;
-    let lists = recustomize_all(alloc, edges, &mut settler, progress);
-    let gave_up = settler.gave_up();
-    drop(settler);
-    match lists {
-        Ok(lists) => Ok(Some(lists)),
-        Err(_) if gave_up => Ok(None),
-        Err(refused) => Err(refused),
+    let done = settle_each(alloc, edges, &mut settler, progress);
+    if settler.gave_up() {
+        drop(settler);
+        return Ok(None);
     }
+    let lists = lists_of(settler, done)?;
+    Ok(Some(lists))
+}
+
+// The lists of the edges that a settler settled, unless it refused one.
+fn lists_of<W: Ways>(
+    settler: EditSettler<'_, W>,
+    done: Result<(), NoMemory>,
+) -> Result<Vec<TouchedEdge>, NoMemory>
+    ensures lists { IfOk result (λ lists. lists.items ≡ settler.entry.settled) }
+    ensures done { IfOk result (λ lists. IsOk done) }
+{
+    if let Err(refused) = done {
+        drop(settler);
+        return Err(refused);
+    }
+    Ok(settler.into_settled())
 }

@@ -19,8 +19,9 @@ use cu_runs::{DayFunction, PlacedFunctions, Windows};
 use std::alloc::Global;
 use std::marker::Model;
 
-// How many higher neighbours are many: from a lower end with fewer a function is compared too seldom to be bounded.
-const MANY: u32 = 5;
+// How many higher neighbours are many: from a lower end with fewer a function is compared too seldom to be bounded. More than a
+// build's, since what edits leave as it is is asked for by few lists.
+const MANY: u32 = 12;
 
 // How many runs for each edge functions have before any is forgotten.
 const RUNS_AN_EDGE: usize = 18;

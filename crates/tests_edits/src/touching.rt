@@ -5,8 +5,8 @@ ghost use Rattle.cu_model.specs.Edits.{IsEditInRange};
 ghost use Rattle.cu_interval.specs.EdgeArcs.{AreEdgeArcs};
 
 use cu_edits::{
-    EditGround, EditList, EditSettler, Keeping, plan, plan_all, recustomize, recustomize_all,
-    touch, touch_over,
+    EditGround, EditList, EditSettler, Keeping, plan, plan_all, recustomize, settle_each, touch,
+    touch_over,
 };
 use cu_interval::{Dir, EdgeArcs, Entry, Hierarchy, TouchedEdge, Way, Ways};
 use cu_links::RankBuckets;
@@ -228,8 +228,10 @@ fn settles_together(
     let edges = edits.touched(alloc, graph.edges())?;
     let ground = EditGround::new(graph, edited.arcs);
     let mut settler = EditSettler::over_all(alloc, hierarchy, &edits, ground, keeping);
-    let lists = recustomize_all(alloc, &edges, &mut settler, &mut Silent)?;
-    Ok(!settler.gave_up() && are_all(&lists, wanted))
+    settle_each(alloc, &edges, &mut settler, &mut Silent)?;
+    let gave_up = settler.gave_up();
+    let lists = settler.into_settled();
+    Ok(!gave_up && are_all(&lists, wanted))
 }
 
 // The roads of a hierarchy's edges.

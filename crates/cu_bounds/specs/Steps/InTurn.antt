@@ -1,12 +1,9 @@
 -- Lists that are taken in turn, by rising number.
-use Rattle.std.specs.Prelude.{ℕ, List, Option, Some, None, ◌≡◌, ◌≤◌, ◌<◌, length, slice_get, slice_index}
-use Rattle.cu_model.specs.Networks.{NetworkValue}
-use Rattle.cu_model.specs.Roads.{pieces_of}
+use Rattle.std.specs.Prelude.{ℕ, List, Option, Some, None, ◌≡◌, ◌≤◌, length, slice_get, slice_index}
 use Rattle.cu_chordal.specs.declared.graph.Ends.{Ends}
 use Rattle.cu_interval.specs.declared.shortcuts.Shortcut.{Shortcut}
 use Rattle.cu_interval.specs.declared.ways.Way.{Way}
 use Rattle.cu_interval.specs.Hierarchies.{HierarchyValue, IsWellFormed, end_of, start_of}
-use Rattle.cu_interval.specs.LeastPieces.{pieces_least}
 use Rattle.cu_interval.specs.Shortcuts.{number_of}
 use Rattle.cu_bounds.specs.KeptBounds.{AreRightBelow, IsWrongBound}
 
@@ -19,11 +16,6 @@ IsWayOf h shortcut way =
 pub record IsFinderUpTo (h : HierarchyValue) (edge : ℕ) (known : HierarchyValue) (reached : ℕ) : Type 0 where
   pub same : known ≡ h
   pub turn : reached ≤ edge
-
--- the least travel of each profile is told
-pub record TellsTravels (g : NetworkValue) (profiles : ℕ) (least : ℕ → ℕ) : Type 0 where
-  pub all : profiles ≡ length g.profiles
-  pub right : (profile : ℕ) → profile < length g.profiles → least profile ≡ pieces_least (pieces_of g profile)
 
 -- the least bounds of the first so many lists
 pub record AreFirstBounds (h : HierarchyValue) (bounds : List ℕ) (count : ℕ) : Type 0 where

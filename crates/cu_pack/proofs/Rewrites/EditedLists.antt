@@ -1,5 +1,5 @@
 -- The lists of a hierarchy of which some edges have new ones, found by their edge.
-use Rattle.std.proofs.Common.{◌≡◌, ◌≢◌, ◌≤◌, ◌+◌, ◌-◌, ◌*◌, ◌∙◌, ℕ, zero, suc, List, Some, true, false, ap, arith, inl, inr, length, map, refl, sym}
+use Rattle.std.proofs.Common.{◌≡◌, ◌≢◌, ◌≤◌, ◌+◌, ◌-◌, ◌*◌, ◌∙◌, ℕ, zero, suc, List, Some, true, false, ap, All, arith, get_or, inl, inr, length, map, refl, sym}
 use Rattle.std.specs.Prelude.{nat_le, slice_get}
 use Rattle.std.specs.List.Sorted.{IsNonDecreasingBy, IsPartitionPoint, IsStrictlyIncreasing}
 use Rattle.std.proofs.lemmas.Bool.{cases_lt}
@@ -14,9 +14,10 @@ use Rattle.cu_interval.specs.declared.ways.TouchedEdge.{TouchedEdge}
 use Rattle.cu_interval.specs.Hierarchies.{HierarchyValue, entries_or_none, list_number, list_of}
 use Rattle.cu_interval.specs.Replacing.{replaced}
 use Rattle.cu_interval.proofs.Replacing.{replaced_long}
+use Rattle.cu_bounds.specs.KeptBounds.{HasListsOf}
 use Rattle.cu_bounds.proofs.Renewed.{AreRising, edges_rise, numbers_apart}
 use Rattle.cu_pack.specs.Repacking.{with_roads}
-use Rattle.cu_pack.specs.Steps.Replacing.{FitsLists, IsNewList, IsUntouched}
+use Rattle.cu_pack.specs.Steps.Replacing.{FitsLists, IsNewList, IsUntouched, list_after}
 use Rattle.cu_pack.proofs.Rewrites.Replaced.{own_there, replaced_elsewhere}
 
 -- one of some is the last
@@ -61,6 +62,10 @@ module _ (lists : List TouchedEdge) (edge count : ℕ)
     ]
   ]
 
+-- each of these edges has its lists in a hierarchy
+abbrev pub AreListsOf : HierarchyValue → List TouchedEdge → Type 0
+AreListsOf h lists = All (HasListsOf h) lists
+
 module _ (h : HierarchyValue) (g : NetworkValue) (lists : List TouchedEdge) (fits : FitsLists h g lists) where
   old_long : length h.lists ≡ 2 * length h.edges
   old_long = sym (replaced_long h.lists lists) ∙ fits.sound.lists
@@ -80,3 +85,16 @@ module _ (h : HierarchyValue) (g : NetworkValue) (lists : List TouchedEdge) (fit
       ap entries_or_none (replaced_elsewhere h.lists lists (list_number edge dir) (λ i t there.
       let other : edge ≢ t.edge = λ same. untouched i t there (sym same) in
       (numbers_apart edge t.edge dir Up other, numbers_apart edge t.edge dir Down other)))
+
+  -- so the new lists of all edges are theirs then
+  pub new_lists : AreListsOf (with_roads h g lists) lists
+  new_lists i d lt =
+      let touched = get_or lists i d in
+      let there = slice_get-get_or lists i d lt in
+      let new : (dir : Dir) → IsNewList lists touched.edge dir (list_after touched dir) =
+      λ dir. record { place = i; touched = touched; there = there; same = refl; list = refl } in
+      record {
+        edge = fits.edges i d lt;
+        up = sym (new_list touched.edge Up touched.up (new Up));
+        down = sym (new_list touched.edge Down touched.down (new Down));
+      }

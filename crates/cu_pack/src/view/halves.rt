@@ -1,6 +1,7 @@
 //! The halves of a packed file's shortcuts, by rising edge.
 
 ghost use Rattle.std.specs.Prelude.{◌≡◌, IfOk};
+ghost use Rattle.cu_interval.specs.Hierarchies.{IsHierarchy};
 ghost use Rattle.cu_pack.specs.Reading.{decoded, edge_start};
 
 use crate::halving::HalvesInFile;
@@ -13,6 +14,7 @@ impl<'a> PackedView<'a> {
     pub fn halves_in_turn(&self, alloc: Global) -> Result<HalvesInFile<'_, 'a>, NoMemory>
         ensures same { IfOk result (λ finder. decoded finder.bytes ≡ self.now) }
         ensures begins { IfOk result (λ finder. edge_start finder.bytes finder.low ≡ 0) }
+        ensures sound { IsHierarchy self.now }
     {
         HalvesInFile::of(alloc, &self.sections)
     }

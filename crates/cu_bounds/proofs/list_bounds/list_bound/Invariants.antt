@@ -1,17 +1,6 @@
 -- The least so far, and the finder has come no further than to this edge.
-use Rattle.std.proofs.Common.{◌≡◌, ℕ, Some}
-use Rattle.std.specs.Prelude.{slice_get}
-use Rattle.cu_chordal.specs.declared.graph.Ends.{Ends}
-use Rattle.cu_interval.specs.declared.shortcuts.Shortcut.{Shortcut}
-use Rattle.cu_interval.specs.Hierarchies.{HierarchyValue}
-use Rattle.cu_interval.specs.Shortcuts.{ways_of}
-use Rattle.cu_bounds.specs.Steps.InTurn.{IsFinderUpTo}
-use Rattle.cu_bounds.proofs.ListLeast.{IsLeastSoFar, bound_between}
+use Rattle.cu_bounds.proofs.ListLeast.{IsBound}
 use Rattle.cu_bounds.proofs.list_bounds.list_bound.Given as goal
-
-pub record IsBound (h : HierarchyValue) (shortcut : Shortcut) (index least : ℕ) (known : HierarchyValue) (reached : ℕ) : Type 0 where
-  pub so_far : (ends : Ends) → slice_get h.edges shortcut.edge ≡ Some ends → IsLeastSoFar (bound_between h ends shortcut) (ways_of h shortcut) index least
-  pub finder : IsFinderUpTo h shortcut.edge known reached
 
 abbrev pub invariant-loop-index : goal.invariant-loop-index
 invariant-loop-index g l =

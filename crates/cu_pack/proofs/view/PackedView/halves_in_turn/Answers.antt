@@ -1,6 +1,5 @@
 use Rattle.std.proofs.Common.{◌∙◌, ap, subst}
 use Rattle.std.proofs.lemmas.Result.{IfOk-weaker}
-use Rattle.cu_interval.specs.Hierarchies.{HierarchyValue}
 use Rattle.cu_pack.specs.Checks.{Spells}
 use Rattle.cu_pack.specs.Halves.{FinderValue}
 use Rattle.cu_pack.specs.Reading.{decoded, edge_start}
@@ -23,4 +22,5 @@ returns c =
     record {
       same = IfOk-weaker c.of.result _ _ (λ finder begins. ap (λ (v : FinderValue). decoded v.bytes) begins ∙ c.self.view_is) c.of.ensures.begins;
       begins = IfOk-weaker c.of.result _ _ (λ finder begins. ap (λ (v : FinderValue). edge_start v.bytes v.low) begins ∙ no_edge_before bytes graph) c.of.ensures.begins;
+      sound = (subst (Spells bytes) c.self.view_is c.self.invariant).sound;
     }
