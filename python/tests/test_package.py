@@ -13,6 +13,14 @@ from commands import BIN, call, check_refused, run
 PROJECT = tomllib.loads((BIN.parent / "python" / "pyproject.toml").read_text())["project"]
 SCRIPTS: dict[str, str] = PROJECT["scripts"]
 
+# All that a script of bin/ does: whatever else a command needs is in the package, which installed copies have too.
+SCRIPT = """#!/usr/bin/python3
+import os, signal, sys
+# While modules load, an interrupt ends it at once: Python would print a trace.
+if signal.getsignal(signal.SIGINT) != signal.SIG_IGN: signal.signal(signal.SIGINT, signal.SIG_DFL)
+sys.path.insert(0, os.path.join(os.path.dirname(os.path.realpath(__file__)), "..", "python")); from catchup.commands import {0}; {0}.main()
+"""
+
 
 def test_the_version_is_said_once() -> None:
     assert import_module("catchup").__version__ == PROJECT["version"]
@@ -24,7 +32,7 @@ def test_each_script_of_bin_calls_the_function_of_the_project() -> None:
         text = path.read_text(errors="replace") if path.is_file() else ""
         if "from catchup.commands import" in text:
             module = text.rpartition("import ")[2].partition(";")[0]
-            assert text.startswith("#!/usr/bin/python3\n") and text.endswith(f"{module}.main()\n") and text.count("\n") == 2, path
+            assert text == SCRIPT.format(module), path
             calls[path.name] = f"catchup.commands.{module}:main"
     assert calls == SCRIPTS
 
