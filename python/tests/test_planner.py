@@ -416,11 +416,12 @@ for number in range(4):
         # Until the parent has closed both.
         os.read(reader, 1)
         os._exit(0)
-asked = [(5, 151, second) for second in range(0, 86400, 400)]
-print([planner.route(*each) for each in asked] == [alone.route(*each) for each in asked], flush=True)
+# Eight threads that ask without end would leave this one few turns.
 stop.set()
 for thread in threads:
     thread.join()
+asked = [(5, 151, second) for second in range(0, 86400, 400)]
+print([planner.route(*each) for each in asked] == [alone.route(*each) for each in asked], flush=True)
 planner.close()
 alone.close()
 os.close(writer)
