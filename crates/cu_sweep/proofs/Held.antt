@@ -63,14 +63,15 @@ pub turn_swept : (h : HierarchyValue) (q : Led) (labels : LabelsValue) → IsMad
 turn_swept h q labels up = record { up = up; down = λ x c. absurd (none_in_nil x c) }
 
 -- the upward pass of a sweep that has begun, over the ancestors in the hierarchy
-pub up_over : (h : HierarchyValue) (q : Led) (graph : ChordalValue) (from : ℕ) (a b : Option (List Call)) (labels : LabelsValue) (here now : List (Option ℕ))
-    (after : List (Option (ℕ × ℕ))) (long : Option Call) → graph ≡ graph_of h → q.from ≡ from → here ≡ labels.seconds → IsBegun h (sweep_of q) labels
-    → (allows : ℕ → ℕ → Bool) → q.allows ≡ allows → ((p : Led) → p.from ≡ from → p.allows ≡ allows → IsUpSwept h p [] here labels.links → IsUpOver h p (ancestors_in graph from) a b now after long)
+pub up_over : (h : HierarchyValue) (q : Led) (graph : ChordalValue) (ancestors : List ℕ) (a b : Option (List Call)) (labels : LabelsValue) (here now : List (Option ℕ))
+    (after : List (Option (ℕ × ℕ))) (long : Option Call) → graph ≡ graph_of h → ancestors_in graph q.from ≡ ancestors → here ≡ labels.seconds → IsBegun h (sweep_of q) labels
+    → (allows : ℕ → ℕ → Bool) → q.allows ≡ allows
+    → ((p : Led) → ancestors_in graph p.from ≡ ancestors → p.allows ≡ allows → IsUpSwept h p [] here labels.links → IsUpOver h p ancestors a b now after long)
     → IsUpOver h q (ancestors_in (graph_of h) q.from) a b now after long
-up_over h q graph from a b labels here now after long same start is begun allows al over =
+up_over h q graph ancestors a b labels here now after long same all is begun allows al over =
     let swept = subst (λ (xs : List (Option ℕ)). IsUpSwept h q [] xs labels.links) (sym is) (begun_swept h q labels begun) in
-    subst (λ (rank : ℕ). IsUpOver h q (ancestors_in (graph_of h) rank) a b now after long) (sym start)
-    (subst (λ (v : ChordalValue). IsUpOver h q (ancestors_in v from) a b now after long) same (over q start al swept))
+    subst (λ (v : ChordalValue). IsUpOver h q (ancestors_in v q.from) a b now after long) same
+    (subst (λ (xs : List ℕ). IsUpOver h q xs a b now after long) (sym all) (over q all al swept))
 
 -- and the downward pass of one that went up, over its path
 pub down_over : (h : HierarchyValue) (q : Led) (path : List ℕ) (a b : Option (List Call)) (labels : LabelsValue) (here now : List (Option ℕ))

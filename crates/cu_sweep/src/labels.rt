@@ -227,13 +227,12 @@ impl<K: Linking> Labels<K> {
         ensures kept { KeepsLinks K.links → AreKept self.new.links }
     {
         pass_up(
-            tree,
             graph,
             &mut self.seconds,
             &mut self.chain,
             relaxer,
             limits,
-            from,
+            tree.ancestors(from),
         )
     }
 

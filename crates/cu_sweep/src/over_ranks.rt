@@ -2,8 +2,9 @@
 
 ghost use Rattle.std.specs.Prelude.{◌≡◌, ◌<◌, [], ℕ, All, false, reverse};
 ghost use Rattle.std.specs.List.{AllPairs, Contains};
+ghost use Rattle.std.specs.List.Sorted.{IsStrictlyIncreasing};
 ghost use Rattle.cu_chordal.specs.Graphs.{HasEdge};
-ghost use Rattle.cu_elimtree.specs.SweepArcs.{ancestors_in, parents_in};
+ghost use Rattle.cu_elimtree.specs.SweepArcs.{ancestors_in};
 ghost use Rattle.cu_interval.specs.Hierarchies.{IsHierarchyOf};
 ghost use Rattle.cu_sweep.specs.Steps.Made.{Led};
 ghost use Rattle.cu_sweep.specs.Steps.Ready.{IsReadyBy};
@@ -13,21 +14,20 @@ use crate::limits::Limits;
 use crate::linking::Linking;
 use crate::sweeping::{relax_down, relax_up};
 use cu_chordal::Chordal;
-use cu_elimtree::Tree;
+use cu_elimtree::Ancestors;
 use cu_interval::{Call, Relaxer};
 
 /// The upward pass over the ancestors of a rank, by the calls that may be made. Answers the first call whose walk is too long, with which it ends.
 pub fn pass_up<R: Relaxer, L: Limits, K: Linking>(
-    tree: &Tree,
     graph: &Chordal,
     labels: &mut [Option<u64>],
     chain: &mut K,
     relaxer: &mut R,
     limits: &L,
-    from: u32,
+    ancestors: Ancestors<'_>,
 ) -> Option<Call>
-    requires from { from < graph.now.ranks }
-    requires tree { tree.now ≡ parents_in graph.now }
+    requires ancestors { All (λ rank. rank < graph.now.ranks) ancestors }
+    requires rising { IsStrictlyIncreasing ancestors }
     requires graph { IsHierarchyOf graph.now (R.hierarchy relaxer.old) }
     requires known { L.knows limits.now (R.hierarchy relaxer.old) }
     requires ready { IsReadyBy K.links K.turned graph.now.ranks labels.old chain.old }
@@ -35,12 +35,13 @@ pub fn pass_up<R: Relaxer, L: Limits, K: Linking>(
     ensures ready { IsReadyBy K.links K.turned graph.now.ranks labels.new chain.new }
     ensures unturned { K.turned chain.new ≡ false }
     ensures stays { R.hierarchy relaxer.new ≡ R.hierarchy relaxer.old }
-    ensures over { (q : Led) → q.from ≡ from → q.allows ≡ L.allows limits.now
+    ensures over { (q : Led) → ancestors_in graph.now q.from ≡ ancestors.entry
+        → q.allows ≡ L.allows limits.now
         → IsUpSwept (R.hierarchy relaxer.old) q [] labels.old (K.links chain.old)
-        → IsUpOver (R.hierarchy relaxer.old) q (ancestors_in graph.now from)
+        → IsUpOver (R.hierarchy relaxer.old) q ancestors.entry
         (R.calls relaxer.old) (R.calls relaxer.new) labels.new (K.links chain.new) result }
 {
-    'ranks: for rank in tree.ancestors(from) {
+    'ranks: for rank in ancestors {
         let long = relax_up(graph, labels, chain, relaxer, limits, rank);
         if long.is_some() {
             return long;

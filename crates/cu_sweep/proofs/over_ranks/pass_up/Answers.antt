@@ -1,12 +1,11 @@
-use Rattle.std.proofs.Common.{Bool, ◌≡◌, ◌<◌, ◌∙◌, ◌++◌, ◌∷◌, [], ℕ, List, Option, None, refl, sym, ap, subst, rules, inl, length}
+use Rattle.std.proofs.Common.{Bool, ◌≡◌, ◌<◌, ◌∙◌, ◌++◌, ◌∷◌, [], ℕ, List, None, refl, sym, ap, subst, rules, inl}
 use Rattle.std.specs.Prelude.{All}
 use Rattle.std.specs.List.{AllPairs, Contains}
 use Rattle.std.specs.Iterator.{Yields, YieldsFirst}
 use Rattle.std.proofs.lemmas.List.{append-nil}
 use Rattle.std.proofs.lemmas.List.Kept.{AllPairs-from_increasing}
 use Rattle.cu_chordal.specs.Graphs.{ChordalValue}
-use Rattle.cu_elimtree.specs.SweepArcs.{ancestors_in, parents_in}
-use Rattle.cu_elimtree.specs.Trees.{ancestors_of}
+use Rattle.cu_elimtree.specs.SweepArcs.{ancestors_in}
 use Rattle.cu_elimtree.proofs.Climbing.{yielded_first}
 use Rattle.cu_interval.specs.declared.relaxing.Call.{Call}
 use Rattle.cu_interval.specs.Hierarchies.{HierarchyValue, IsHierarchyOf, graph_of}
@@ -15,14 +14,10 @@ use Rattle.cu_sweep.specs.Places.{second_at}
 use Rattle.cu_sweep.specs.Swept.{IsPassed}
 use Rattle.cu_sweep.specs.Steps.Made.{Led, made_up_after, rows_up, sweep_of, up_calls_of, up_made, up_made_from}
 use Rattle.cu_sweep.specs.Steps.Sweeping.{IsUpOver, IsUpSwept}
-use Rattle.cu_sweep.proofs.Passing.{tree_long}
 use Rattle.cu_sweep.proofs.Rows.{no_call, some_call}
 use Rattle.cu_sweep.proofs.Passes.{all_parts, member_inside, row_up_same, sweep_ends, sweep_more, up_final}
 use Rattle.cu_sweep.proofs.Telling.{adds_none, until_none}
 use Rattle.cu_sweep.proofs.over_ranks.pass_up.Goals as goal
-
-pub ancestors-rank-items-requires : goal.ancestors-rank-items-requires
-ancestors-rank-items-requires g c = subst (λ (n : ℕ). c.args.from < n) (sym (tree_long c.args.graph.now c.args.tree.now c.requires.tree)) c.requires.from
 
 pub ranks-init : goal.ranks-init
 ranks-init g c = record {
@@ -40,14 +35,11 @@ relax_up-long-requires-clause-rank g c =
     let before = c.ranks.yielded in
     let behind = c.next.new.self in
     let left : c.ranks.rank-iterator ≡ x ∷ behind = c.in-Some.ensures.steps in
-    let whole : c.ancestors-rank-items.result ≡ before ++ c.ranks.rank-iterator =
-    yielded_first (λ (left : List ℕ). left) c.ancestors-rank-items.result before c.ranks.rank-iterator
+    let whole : c.args.ancestors ≡ before ++ c.ranks.rank-iterator =
+    yielded_first (λ (left : List ℕ). left) c.args.ancestors before c.ranks.rank-iterator
     (subst (λ s. Yields (YieldsFirst (λ (left : List ℕ). left)) s before c.ranks.rank-iterator) c.into_iter-rank-iterator.ensures.into_iter_gives c.ranks.yielded_by) in
-    let all : ancestors_of c.args.tree.now c.args.from ≡ before ++ (x ∷ behind) = sym c.ancestors-rank-items.ensures.left ∙ whole ∙ ap (λ (xs : List ℕ). before ++ xs) left in
-    let in_tree : x < length c.args.tree.now =
-    all_parts (λ a. a < length c.args.tree.now) before x behind (subst (All (λ a. a < length c.args.tree.now)) all c.ancestors-rank-items.ensures.below) in
-    let long_tree = tree_long c.args.graph.now c.args.tree.now c.requires.tree in
-    let rank : x < c.args.graph.now.ranks = subst (λ (n : ℕ). x < n) long_tree in_tree in
+    let all : c.args.ancestors ≡ before ++ (x ∷ behind) = whole ∙ ap (λ (xs : List ℕ). before ++ xs) left in
+    let rank : x < c.args.graph.now.ranks = all_parts (λ a. a < c.args.graph.now.ranks) before x behind (subst (All (λ a. a < c.args.graph.now.ranks)) all c.requires.ancestors) in
     rank
 
 pub relax_up-long-requires-clause-graph : goal.relax_up-long-requires-clause-graph
@@ -62,19 +54,15 @@ ranks-preserved g c =
     let before = c.ranks.yielded in
     let behind = c.next.new.self in
     let left : c.ranks.rank-iterator ≡ x ∷ behind = c.in-Some.ensures.steps in
-    let whole : c.ancestors-rank-items.result ≡ before ++ c.ranks.rank-iterator =
-    yielded_first (λ (left : List ℕ). left) c.ancestors-rank-items.result before c.ranks.rank-iterator
+    let whole : c.args.ancestors ≡ before ++ c.ranks.rank-iterator =
+    yielded_first (λ (left : List ℕ). left) c.args.ancestors before c.ranks.rank-iterator
     (subst (λ s. Yields (YieldsFirst (λ (left : List ℕ). left)) s before c.ranks.rank-iterator) c.into_iter-rank-iterator.ensures.into_iter_gives c.ranks.yielded_by) in
-    let all : ancestors_of c.args.tree.now c.args.from ≡ before ++ (x ∷ behind) = sym c.ancestors-rank-items.ensures.left ∙ whole ∙ ap (λ (xs : List ℕ). before ++ xs) left in
-    let in_tree : x < length c.args.tree.now =
-    all_parts (λ a. a < length c.args.tree.now) before x behind (subst (All (λ a. a < length c.args.tree.now)) all c.ancestors-rank-items.ensures.below) in
-    let long_tree = tree_long c.args.graph.now c.args.tree.now c.requires.tree in
-    let rank : x < c.args.graph.now.ranks = subst (λ (n : ℕ). x < n) long_tree in_tree in
+    let all : c.args.ancestors ≡ before ++ (x ∷ behind) = whole ∙ ap (λ (xs : List ℕ). before ++ xs) left in
+    let rank : x < c.args.graph.now.ranks = all_parts (λ a. a < c.args.graph.now.ranks) before x behind (subst (All (λ a. a < c.args.graph.now.ranks)) all c.requires.ancestors) in
     let row = c.relax_up-long in
     let within : x < h.network.nodes = subst (λ (v : ChordalValue). x < v.ranks) c.requires.graph.0 rank in
     let rising : AllPairs (λ a b. a < b) (before ++ (x ∷ behind)) =
-    subst (AllPairs (λ a b. a < b)) all (AllPairs-from_increasing (ancestors_of c.args.tree.now c.args.from) c.ancestors-rank-items.ensures.rising) in
-    let named : c.args.tree.now ≡ parents_in (graph_of h) = c.requires.tree ∙ ap parents_in c.requires.graph.0 in
+    subst (AllPairs (λ a b. a < b)) all (AllPairs-from_increasing c.args.ancestors c.requires.rising) in
     let long_eq : row.result ≡ first_long h (rows_up h allows x (second_at c.ranks.labels x) (second_at c.ranks.labels)) =
     subst (λ (v : HierarchyValue). row.result ≡ first_long v (rows_up v allows x (second_at c.ranks.labels x) (second_at c.ranks.labels))) i.stays row.ensures.long in
     let told : AddsAll (g.R.Relaxer.calls c.ranks.relaxer) (g.R.Relaxer.calls row.new.relaxer) (until_long h (rows_up h allows x (second_at c.ranks.labels x) (second_at c.ranks.labels))) =
@@ -87,8 +75,7 @@ ranks-preserved g c =
       stays = row.ensures.stays ∙ i.stays;
       swept = λ q same al sw.
           let (swept, quiet, before_told) = i.swept q same al sw in
-          let anc : ancestors_in (graph_of h) q.from ≡ before ++ (x ∷ behind) =
-          ap (λ (f : ℕ). ancestors_of (parents_in (graph_of h)) f) same ∙ ap (λ (ps : List (Option ℕ)). ancestors_of ps c.args.from) (sym named) ∙ all in
+          let anc : ancestors_in (graph_of h) q.from ≡ before ++ (x ∷ behind) = ap (λ (v : ChordalValue). ancestors_in v q.from) (sym c.requires.graph.0) ∙ same ∙ all in
           let passed : IsPassed h (sweep_of q) x = (within, inl (subst (λ (xs : List ℕ). Contains xs x) (sym anc) (member_inside before x behind))) in
           let final = up_final h c.requires.graph.1 q before x behind anc rising in
           let second : second_at c.ranks.labels x ≡ second_of (up_made h q x) = (swept x passed).second ∙ ap second_of final in
@@ -114,19 +101,15 @@ returns-then-is_some-clause-over g c =
     let before = c.ranks.yielded in
     let behind = c.next.new.self in
     let left : c.ranks.rank-iterator ≡ x ∷ behind = c.in-Some.ensures.steps in
-    let whole : c.ancestors-rank-items.result ≡ before ++ c.ranks.rank-iterator =
-    yielded_first (λ (left : List ℕ). left) c.ancestors-rank-items.result before c.ranks.rank-iterator
+    let whole : c.args.ancestors ≡ before ++ c.ranks.rank-iterator =
+    yielded_first (λ (left : List ℕ). left) c.args.ancestors before c.ranks.rank-iterator
     (subst (λ s. Yields (YieldsFirst (λ (left : List ℕ). left)) s before c.ranks.rank-iterator) c.into_iter-rank-iterator.ensures.into_iter_gives c.ranks.yielded_by) in
-    let all : ancestors_of c.args.tree.now c.args.from ≡ before ++ (x ∷ behind) = sym c.ancestors-rank-items.ensures.left ∙ whole ∙ ap (λ (xs : List ℕ). before ++ xs) left in
-    let in_tree : x < length c.args.tree.now =
-    all_parts (λ a. a < length c.args.tree.now) before x behind (subst (All (λ a. a < length c.args.tree.now)) all c.ancestors-rank-items.ensures.below) in
-    let long_tree = tree_long c.args.graph.now c.args.tree.now c.requires.tree in
-    let rank : x < c.args.graph.now.ranks = subst (λ (n : ℕ). x < n) long_tree in_tree in
+    let all : c.args.ancestors ≡ before ++ (x ∷ behind) = whole ∙ ap (λ (xs : List ℕ). before ++ xs) left in
+    let rank : x < c.args.graph.now.ranks = all_parts (λ a. a < c.args.graph.now.ranks) before x behind (subst (All (λ a. a < c.args.graph.now.ranks)) all c.requires.ancestors) in
     let row = c.relax_up-long in
     let within : x < h.network.nodes = subst (λ (v : ChordalValue). x < v.ranks) c.requires.graph.0 rank in
     let rising : AllPairs (λ a b. a < b) (before ++ (x ∷ behind)) =
-    subst (AllPairs (λ a b. a < b)) all (AllPairs-from_increasing (ancestors_of c.args.tree.now c.args.from) c.ancestors-rank-items.ensures.rising) in
-    let named : c.args.tree.now ≡ parents_in (graph_of h) = c.requires.tree ∙ ap parents_in c.requires.graph.0 in
+    subst (AllPairs (λ a b. a < b)) all (AllPairs-from_increasing c.args.ancestors c.requires.rising) in
     let long_eq : row.result ≡ first_long h (rows_up h allows x (second_at c.ranks.labels x) (second_at c.ranks.labels)) =
     subst (λ (v : HierarchyValue). row.result ≡ first_long v (rows_up v allows x (second_at c.ranks.labels x) (second_at c.ranks.labels))) i.stays row.ensures.long in
     let told : AddsAll (g.R.Relaxer.calls c.ranks.relaxer) (g.R.Relaxer.calls row.new.relaxer) (until_long h (rows_up h allows x (second_at c.ranks.labels x) (second_at c.ranks.labels))) =
@@ -135,8 +118,7 @@ returns-then-is_some-clause-over g c =
     let (call, is) = some_call row.result (search rules) in
     λ q same al sw.
     let (swept, quiet, before_told) = i.swept q same al sw in
-    let anc : ancestors_in (graph_of h) q.from ≡ before ++ (x ∷ behind) =
-    ap (λ (f : ℕ). ancestors_of (parents_in (graph_of h)) f) same ∙ ap (λ (ps : List (Option ℕ)). ancestors_of ps c.args.from) (sym named) ∙ all in
+    let anc : ancestors_in (graph_of h) q.from ≡ before ++ (x ∷ behind) = ap (λ (v : ChordalValue). ancestors_in v q.from) (sym c.requires.graph.0) ∙ same ∙ all in
     let passed : IsPassed h (sweep_of q) x = (within, inl (subst (λ (xs : List ℕ). Contains xs x) (sym anc) (member_inside before x behind))) in
     let final = up_final h c.requires.graph.1 q before x behind anc rising in
     let second : second_at c.ranks.labels x ≡ second_of (up_made h q x) = (swept x passed).second ∙ ap second_of final in
@@ -145,9 +127,8 @@ returns-then-is_some-clause-over g c =
     ap (λ (each : ℕ → ℕ → Bool). rows_up h each x (second_at c.ranks.labels x) (second_at c.ranks.labels)) (sym al)
     ∙ row_up_same h c.requires.graph.1 q before x behind c.ranks.labels (g.K.Linking.links c.ranks.chain) anc rising swept second in
     let told_row = subst (λ (cs : List Call). AddsAll (g.R.Relaxer.calls c.ranks.relaxer) (g.R.Relaxer.calls row.new.relaxer) (until_long h cs)) same_row told in
-    let named_all : ancestors_in c.args.graph.now c.args.from ≡ before ++ (x ∷ behind) = ap (λ (ps : List (Option ℕ)). ancestors_of ps c.args.from) (sym c.requires.tree) ∙ all in
-    let ends = sweep_ends h f before x behind (ancestors_in c.args.graph.now c.args.from) call (g.R.Relaxer.calls c.args.relaxer.now) (g.R.Relaxer.calls c.ranks.relaxer)
-    (g.R.Relaxer.calls row.new.relaxer) named_all quiet before_told (ap (first_long h) (sym same_row) ∙ sym long_eq ∙ is) told_row in
+    let ends = sweep_ends h f before x behind c.args.ancestors call (g.R.Relaxer.calls c.args.relaxer.now) (g.R.Relaxer.calls c.ranks.relaxer)
+    (g.R.Relaxer.calls row.new.relaxer) all quiet before_told (ap (first_long h) (sym same_row) ∙ sym long_eq ∙ is) told_row in
     record { ended = is ∙ sym ends.0; told = ends.1; swept = λ none. absurd (cc (none, is)) }
 
 pub returns-clause-over : goal.returns-clause-over
@@ -156,14 +137,13 @@ returns-clause-over g c =
     let i = c.ranks.invariant in
     let before = c.ranks.yielded in
     let left : c.ranks.rank-iterator ≡ [] = c.in-None.ensures.steps.0 in
-    let whole : c.ancestors-rank-items.result ≡ before ++ c.ranks.rank-iterator =
-    yielded_first (λ (left : List ℕ). left) c.ancestors-rank-items.result before c.ranks.rank-iterator
+    let whole : c.args.ancestors ≡ before ++ c.ranks.rank-iterator =
+    yielded_first (λ (left : List ℕ). left) c.args.ancestors before c.ranks.rank-iterator
     (subst (λ s. Yields (YieldsFirst (λ (left : List ℕ). left)) s before c.ranks.rank-iterator) c.into_iter-rank-iterator.ensures.into_iter_gives c.ranks.yielded_by) in
-    let all : ancestors_of c.args.tree.now c.args.from ≡ before = sym c.ancestors-rank-items.ensures.left ∙ whole ∙ ap (λ (xs : List ℕ). before ++ xs) left ∙ append-nil before in
-    let named_all : ancestors_in c.args.graph.now c.args.from ≡ before = ap (λ (ps : List (Option ℕ)). ancestors_of ps c.args.from) (sym c.requires.tree) ∙ all in
+    let all : c.args.ancestors ≡ before = whole ∙ ap (λ (xs : List ℕ). before ++ xs) left ∙ append-nil before in
     λ q same al sw.
     let (swept, quiet, told) = i.swept q same al sw in
-    subst (λ (xs : List ℕ). IsUpOver h q xs (g.R.Relaxer.calls c.args.relaxer.now) (g.R.Relaxer.calls c.ranks.relaxer) c.ranks.labels (g.K.Linking.links c.ranks.chain) None) (sym named_all)
+    subst (λ (xs : List ℕ). IsUpOver h q xs (g.R.Relaxer.calls c.args.relaxer.now) (g.R.Relaxer.calls c.ranks.relaxer) c.ranks.labels (g.K.Linking.links c.ranks.chain) None) (sym all)
     (record {
       ended = sym quiet;
       told = subst (AddsAll (g.R.Relaxer.calls c.args.relaxer.now) (g.R.Relaxer.calls c.ranks.relaxer))
