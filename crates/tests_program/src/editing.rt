@@ -22,24 +22,19 @@ const SETTLED_DIGEST: [u8; 32] = [
     0x53, 0x01, 0xe6, 0x79, 0x14, 0x17, 0x6d, 0xb3, 0x9a, 0x7e, 0xe6, 0x21, 0xc1, 0x9a, 0x3b, 0x2f,
 ];
 
-// Whether `edit` of this file by these lines, with the limit and the faults of this run, has this status, says this and stores these
-// bytes.
-fn edits<'a>(
-    alloc: Global,
-    file: &'a [u8],
-    lines: &'a [u8],
-    how: Run<'a>,
-    status: u8,
-    said: &[u8],
-    out: &[u8],
-) -> bool {
-    let asked = Run {
+// A run of `edit` of this file by these lines, with the limit and the faults of another run.
+fn edit_of<'a>(file: &'a [u8], lines: &'a [u8], how: Run<'a>) -> Run<'a> {
+    Run {
         words: "edit packed lines out",
         packed: file,
         lines,
         ..how
-    };
-    leaves(alloc, asked, status, said, out)
+    }
+}
+
+// Whether `edit` of this file by these lines says this, stores these bytes and ends well.
+fn stores<'a>(alloc: Global, file: &'a [u8], lines: &'a [u8], said: &[u8], out: &[u8]) -> bool {
+    leaves(alloc, edit_of(file, lines, PLAIN), 0, said, out)
 }
 
 // The packed file of the slower tables.
@@ -66,8 +61,8 @@ fn edited_files_are_stored(rt: HostRuntime) -> Result<(), Fail> {
         ),
     ];
     for (lines, said, out) in &rows {
-        assert!(rt; edits(rt.alloc(), &BUILT, *lines, PLAIN, 0, *said, *out));
-        assert!(rt; edits(rt.alloc(), &FIRST_VERSION, *lines, PLAIN, 0, *said, *out));
+        assert!(rt; stores(rt.alloc(), &BUILT, *lines, *said, *out));
+        assert!(rt; stores(rt.alloc(), &FIRST_VERSION, *lines, *said, *out));
     }
     Ok(())
 }
@@ -84,20 +79,11 @@ fn larger_files_are_not_stored(rt: HostRuntime) -> Result<(), Fail> {
     let alloc = rt.alloc();
     let built = slower.as_slice();
     let said = b"done 2\ndone 2\ntoo large 440\n";
-    assert!(rt; edits(alloc, built, THERE_AND_BACK, SMALL, 13, said, b""));
-    assert!(rt;
-        edits(
-            alloc,
-            &FIRST_VERSION,
-            b"",
-            SMALL,
-            13,
-            b"too large 440\n",
-            b""
-        )
-    );
+    assert!(rt; leaves(alloc, edit_of(built, THERE_AND_BACK, SMALL), 13, said, b""));
+    let said = b"too large 440\n";
+    assert!(rt; leaves(alloc, edit_of(&FIRST_VERSION, b"", SMALL), 13, said, b""));
     let said = b"done 2\nstored 416\n";
-    assert!(rt; edits(alloc, &FIRST_VERSION, SLOW, SMALL, 0, said, built));
+    assert!(rt; leaves(alloc, edit_of(&FIRST_VERSION, SLOW, SMALL), 0, said, built));
     Ok(())
 }
 
@@ -112,7 +98,7 @@ fn untouched_ways_are_stored_as_they_were(rt: HostRuntime) -> Result<(), Fail> {
     after[644..].copy_from_slice(&SETTLED_DIGEST);
     let first = first_version(rt.alloc(), &FORGED)?;
     let said = b"done 1\nstored 676\n";
-    assert!(rt; edits(rt.alloc(), &FORGED, b"a,8,0\n", PLAIN, 0, said, &after));
-    assert!(rt; edits(rt.alloc(), &first, b"a,8,0\n", PLAIN, 0, said, &after));
+    assert!(rt; stores(rt.alloc(), &FORGED, b"a,8,0\n", said, &after));
+    assert!(rt; stores(rt.alloc(), &first, b"a,8,0\n", said, &after));
     Ok(())
 }
