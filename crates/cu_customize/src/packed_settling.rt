@@ -156,8 +156,9 @@ fn triangle_by(graph: &Chordal, ends: Ends, middle: u32) -> Option<Triangle>
     requires { middle < graph.now.ranks }
     ensures { FindsTriangle graph.now.edges ends.low ends.high middle result }
 {
-    let to_low = graph.edge(middle, ends.low)?;
+    // Any middle that is tried is joined to the low end, and most aren't to the high one.
     let to_high = graph.edge(middle, ends.high)?;
+    let to_low = graph.edge(middle, ends.low)?;
     Some(Triangle {
         middle,
         to_low,
