@@ -14,6 +14,7 @@ pub mod RebuiltBounds
 pub mod StandingChoices
 pub mod TurnedPlain
 pub mod Halves
+pub mod KeptFunctions
 pub mod KnownLists
 pub mod LearntSides
 pub mod LearntPacked

@@ -24,18 +24,20 @@ use Rattle.cu_edits.specs.declared.new_list.Outcome.TheVariants.{Stands, Moves}
 use Rattle.cu_edits.specs.declared.new_list.NewList.{NewList}
 use Rattle.cu_edits.specs.Customized.{AreCustomized}
 use Rattle.cu_edits.specs.Settling.{IsResettledEdge, SettlingValue, list_in, settled_so_far}
+use Rattle.cu_edits.specs.Learned.{ArePackedOf}
 use Rattle.cu_edits.specs.Steps.Packed.{AreCandidatesAtHand, IsPackedList, IsSettlingPacked, LearnsPacked}
 use Rattle.cu_edits.specs.Steps.Frames.{IsFrame}
 use Rattle.cu_edits.specs.Steps.Holding.{IsNext, settling_of}
-use Rattle.cu_edits.specs.Steps.Moving.{IsOutcome, IsOutcomeOf, IsNewList, KeepsHalves, KeepsMore, KeepsOutcome, LeadsUpTo, MayStand, MovedValue, SayValue, StandingPair}
+use Rattle.cu_edits.specs.Steps.Moving.{IsOutcome, IsOutcomeOf, IsNewList, IsUnmoved, KeepsHalves, KeepsMore, KeepsOutcome, LeadsUpTo, MayStand, MovedValue, SayValue, StandingPair, StandsBy}
 use Rattle.cu_edits.specs.Steps.Settled.{AreSettled}
 use Rattle.cu_edits.proofs.AtHand.{same_edges}
 use Rattle.cu_edits.proofs.NewLists as new
+use Rattle.cu_edits.proofs.PackedStay.{packed_back}
 use Rattle.cu_edits.proofs.Placing.{outcome_in, placed_both}
-use Rattle.cu_edits.proofs.SettledFrames.{settled_with}
+use Rattle.cu_edits.proofs.SettledFrames.{settled_itself, settled_with}
 use Rattle.cu_edits.proofs.SettledOnce as once
 use Rattle.cu_edits.proofs.Sides.{halves_at, over}
-use Rattle.cu_edits.proofs.StandingLists.{ArePlaced, moves_more, stands_more}
+use Rattle.cu_edits.proofs.StandingLists.{ArePlaced, IsPlacedAs, moves_more, stands_more}
 use Rattle.cu_resettled.specs.ResettlingAll.{edited_all}
 
 -- the next edge is one of the graph's
@@ -46,18 +48,23 @@ edge_inside s graph edge of asked =
     let long : length graph.edges ≡ length s.before.edges = ap (λ (k : ChordalValue). length k.edges) of.0 in
     omega (arith, inside, long)
 
--- more was learned
-pub packed_learnt : (s : SettlingValue) (graph : ChordalValue) (arcs : List (List ℕ)) (packed learnt : PackedValue) (moved : MovedValue) → IsSettlingPacked s graph arcs packed moved
-    → LearnsPacked s.before packed learnt → IsSettlingPacked s graph arcs learnt moved
-packed_learnt s graph arcs packed learnt moved old learns = record {
+-- by other functions of the hierarchy before
+pub packed_with : (s : SettlingValue) (graph : ChordalValue) (arcs : List (List ℕ)) (packed other : PackedValue) (moved : MovedValue) → IsSettlingPacked s graph arcs packed moved
+    → ArePackedOf s.before other → IsSettlingPacked s graph arcs other moved
+packed_with s graph arcs packed other moved old known = record {
   are = old.are;
   parts = old.parts;
-  known = learns.packed;
+  known = known;
   places = old.places;
   inside = old.inside;
   stands = old.stands;
   moves = old.moves;
 }
+
+-- more was learned
+pub packed_learnt : (s : SettlingValue) (graph : ChordalValue) (arcs : List (List ℕ)) (packed learnt : PackedValue) (moved : MovedValue) → IsSettlingPacked s graph arcs packed moved
+    → LearnsPacked s.before packed learnt → IsSettlingPacked s graph arcs learnt moved
+packed_learnt s graph arcs packed learnt moved old learns = packed_with s graph arcs packed learnt moved old learns.packed
 
 -- so it holds where no list was moved
 pub packed_still : (s : SettlingValue) (graph : ChordalValue) (arcs : List (List ℕ)) (packed learnt : PackedValue) (moved now : MovedValue) → IsSettlingPacked s graph arcs packed moved
@@ -68,8 +75,9 @@ module _ (s : SettlingValue) (graph : ChordalValue) (arcs : List (List ℕ)) (pa
     (holds : IsSettlingPacked s graph arcs packed moved) (edge : ℕ) (asked : IsNext s edge)
     (marks : List Bool) (customized : AreCustomized s.before marks) (dir : Dir) (kept : KeepsHalves s.before.edges moved edge) where
   -- a list that stands
-  pub list_stands : MayStand s.before s.edit arcs marks moved edge dir → (list : NewList) → list.ways ≡ list_of s.before edge dir → list.outcome ≡ Stands → IsNewList s moved edge dir list
-  list_stands may list same outcome = record {
+  pub list_stands : MayStand s.before s.edit arcs marks moved edge dir → (list : NewList) → list.ways ≡ list_of s.before edge dir → list.outcome ≡ Stands → list.standing ≡ None
+      → IsNewList s moved edge dir list
+  list_stands may list same outcome none = record {
     resettled = λ ends at.
         subst (IsResettledList (settled_so_far s) (start_of ends dir) (end_of ends dir)) (sym same)
         (new.old_resettled s graph arcs packed moved holds edge dir asked.sides ends at (kept ends at) marks customized may);
@@ -79,6 +87,7 @@ module _ (s : SettlingValue) (graph : ChordalValue) (arcs : List (List ℕ)) (pa
           subst (new.AreFramed s graph arcs packed moved holds edge dir asked.sides ends at (kept ends at)) (sym same)
               (new.old_framed s graph arcs packed moved holds edge dir asked.sides ends at (kept ends at) (new.old_unmoved s graph arcs packed moved holds edge dir asked.sides ends at (kept ends at) marks customized may)),
         );
+    standing = λ ends at. subst (StandsBy (settled_so_far s) (start_of ends dir) (end_of ends dir) list.ways list.outcome) (sym none) tt;
   }
 
   -- the halves that are at hand
@@ -119,22 +128,35 @@ module _ (s : SettlingValue) (graph : ChordalValue) (arcs : List (List ℕ)) (pa
         new.new_resettled s graph arcs packed moved holds edge dir asked.sides ends at (kept ends at) list (holds.parts.roads.each edge dir ends list at there) (known_or_behind ends at hand) found.ways
         (by.ways ends list at there)
 
+    value_of : (ends : Ends) → slice_get s.before.edges edge ≡ Some ends → SayValue (settled_so_far s) (start_of ends dir) (end_of ends dir) found.ways found.function
+    value_of ends at =
+        let (list, there) = once.listed s.before arcs holds.parts.roads edge dir ends at in
+        new.new_value s graph arcs packed moved holds edge dir asked.sides ends at (kept ends at) list (holds.parts.roads.each edge dir ends list at there) (known_or_behind ends at hand) found.ways
+        (by.ways ends list at there) found.function (by.value ends at)
+
     outcome_of : (ends : Ends) (at : slice_get s.before.edges edge ≡ Some ends) (outcome : Outcome) → IsOutcomeOf s.before s.edit moved edge dir found outcome
         → IsOutcome s moved edge dir ends found.ways outcome
     outcome_of ends at Stands (same, unmoved) = (
       same,
       subst (new.AreFramed s graph arcs packed moved holds edge dir asked.sides ends at (kept ends at)) (sym same) (new.old_framed s graph arcs packed moved holds edge dir asked.sides ends at (kept ends at) (unmoved ends at)),
     )
-    outcome_of ends at (Moves function) same =
-        let (list, there) = once.listed s.before arcs holds.parts.roads edge dir ends at in
-        subst (SayValue (settled_so_far s) (start_of ends dir) (end_of ends dir) found.ways) (sym same)
-        (new.new_value s graph arcs packed moved holds edge dir asked.sides ends at (kept ends at) list (holds.parts.roads.each edge dir ends list at there) (known_or_behind ends at hand) found.ways
-        (by.ways ends list at there) found.function (by.value ends at))
+    outcome_of ends at (Moves function) same = subst (SayValue (settled_so_far s) (start_of ends dir) (end_of ends dir) found.ways) (sym same) (value_of ends at)
 
-    pub list_settled : (list : NewList) → list.ways ≡ found.ways → IsOutcomeOf s.before s.edit moved edge dir found list.outcome → IsNewList s moved edge dir list
-    list_settled list same outcome = record {
+    standing_of : (ends : Ends) → slice_get s.before.edges edge ≡ Some ends → (ways : List Entry) → ways ≡ found.ways → (outcome : Outcome) (standing : Option (List Run))
+        → IfSome standing (λ function. (outcome ≡ Stands) × (found.function ≡ Some function)) → StandsBy (settled_so_far s) (start_of ends dir) (end_of ends dir) ways outcome standing
+    standing_of ends at ways same outcome None told = tt
+    standing_of ends at ways same outcome (Some function) (stands, is) = (
+      stands,
+      subst (λ (es : List Entry). SayValue (settled_so_far s) (start_of ends dir) (end_of ends dir) es (Some function)) (sym same)
+          (subst (SayValue (settled_so_far s) (start_of ends dir) (end_of ends dir) found.ways) is (value_of ends at)),
+    )
+
+    pub list_settled : (list : NewList) → list.ways ≡ found.ways → IsOutcomeOf s.before s.edit moved edge dir found list.outcome
+        → IfSome list.standing (λ function. (list.outcome ≡ Stands) × (found.function ≡ Some function)) → IsNewList s moved edge dir list
+    list_settled list same outcome standing = record {
       resettled = λ ends at. subst (IsResettledList (settled_so_far s) (start_of ends dir) (end_of ends dir)) (sym same) (resettled ends at);
       outcome = λ ends at. subst (λ (ways : List Entry). IsOutcome s moved edge dir ends ways list.outcome) (sym same) (outcome_of ends at list.outcome outcome);
+      standing = λ ends at. standing_of ends at list.ways same list.outcome list.standing standing;
     }
 
 -- what holds of whatever an option has
@@ -142,12 +164,18 @@ pub if_some : {A : Type 0} (o : Option A) (P : A → Type 0) → ((x : A) → o 
 if_some None P holds = tt
 if_some (Some x) P holds = holds x refl
 
+-- the function of one of an edge's lists that stands, if it is known
+abbrev pub standing_in : NewList → NewList → Dir → Option (List Run)
+standing_in up down Up = up.standing
+standing_in up down Down = down.standing
+
 -- one edge more was settled
 pub record IsOneMore (h : HierarchyValue) (edit : List Edit) (before after : List TouchedEdge) (graph : ChordalValue) (arcs : List (List ℕ)) (packed : PackedValue)
-    (moved : MovedValue) (t : TouchedEdge) : Type 0 where
+    (moved : MovedValue) (t : TouchedEdge) (up down : NewList) : Type 0 where
   pub list : after ≡ before ++ (t ∷ [])
   pub resettled : IsResettledEdge (settled_so_far (settling_of h edit after)) t
   pub holds : IsSettlingPacked (settling_of h edit after) graph arcs packed moved
+  pub standing : (dir : Dir) → IfSome (standing_in up down dir) (λ function. IsRebuiltRuns h t.edge dir (Some function))
 
 module _ (s : SettlingValue) (graph : ChordalValue) (arcs : List (List ℕ)) (packed : PackedValue) (moved after : MovedValue) (holds : IsSettlingPacked s graph arcs packed moved) (t : TouchedEdge)
     (asked : IsNext s t.edge) (up down : NewList) (upper : IsNewList s moved t.edge Up up) (lower : IsNewList s moved t.edge Down down) (first : t.up ≡ up.ways) (second : t.down ≡ down.ways)
@@ -193,6 +221,27 @@ module _ (s : SettlingValue) (graph : ChordalValue) (arcs : List (List ℕ)) (pa
     moves = moves_more s holds.are t asked.touched asked.fresh more moved after (outcome_in up.outcome down.outcome) placed became holds.inside says holds.moves;
   }
 
+  stood_by : (dir : Dir) (ends : Ends) → slice_get s.before.edges t.edge ≡ Some ends
+      → StandsBy now (start_of ends dir) (end_of ends dir) (list_in t dir) (outcome_in up.outcome down.outcome dir) (standing_in up down dir)
+  stood_by Up ends at = subst (λ (ways : List Entry). StandsBy now (start_of ends Up) (end_of ends Up) ways up.outcome up.standing) (sym first) (upper.standing ends at)
+  stood_by Down ends at = subst (λ (ways : List Entry). StandsBy now (start_of ends Down) (end_of ends Down) ways down.outcome down.standing) (sym second) (lower.standing ends at)
+
+  -- the function of a list that stands is that of the list before
+  standing_before : (dir : Dir) (function : List Run) (ends : Ends) → slice_get s.before.edges t.edge ≡ Some ends
+      → StandsBy now (start_of ends dir) (end_of ends dir) (list_in t dir) (outcome_in up.outcome down.outcome dir) (Some function) → IsRebuiltRuns s.before t.edge dir (Some function)
+  standing_before dir function ends at (stands, say) =
+      let unmoved = subst (IsPlacedAs after t.edge dir) stands (placed.own dir) in
+      let old = (subst (IsOutcome s moved t.edge dir ends (list_in t dir)) stands (became dir ends at)).0 in
+      packed_back s.before next (StandingPair (settled_with s t) after) packed_more.stands refl t.edge dir function
+      (λ given there. (t.edge, dir, over s.before.edges t.edge dir given there, inl (settled_itself s t), unmoved))
+      (sym old ∙ sym (once.new_list s holds.are t asked.touched asked.fresh asked.sides resettled_now dir)) (says dir (Some function) ends at say)
+
+  pub standing_rebuilt : (dir : Dir) → IfSome (standing_in up down dir) (λ function. IsRebuiltRuns s.before t.edge dir (Some function))
+  standing_rebuilt dir = if_some (standing_in up down dir) _ (λ function is.
+      let (ends, at, leads) = asked.touched in
+      standing_before dir function ends at
+      (subst (StandsBy now (start_of ends dir) (end_of ends dir) (list_in t dir) (outcome_in up.outcome down.outcome dir)) is (stood_by dir ends at)))
+
 -- what settling one edge more gives, by its parts
 pub packed_one : (h : HierarchyValue) (edit : List Edit) (before after : List TouchedEdge) (graph : ChordalValue) (arcs : List (List ℕ)) (packed : PackedValue)
     (moved one two last : MovedValue) (t copy : TouchedEdge)
@@ -200,7 +249,7 @@ pub packed_one : (h : HierarchyValue) (edit : List Edit) (before after : List To
     → IsNewList (settling_of h edit before) moved t.edge Up up → IsNewList (settling_of h edit before) moved t.edge Down down → t.up ≡ up.ways → t.down ≡ down.ways
     → KeepsOutcome moved one up.outcome upwards → KeepsOutcome one two down.outcome downwards
     → last.places ≡ slice_set (slice_set two.places (list_number t.edge Up) upwards) (list_number t.edge Down) downwards → last.functions ≡ two.functions → last.low ≡ two.low
-    → copy ≡ t → after ≡ before ++ (copy ∷ []) → IsOneMore h edit before after graph arcs packed last t
+    → copy ≡ t → after ≡ before ++ (copy ∷ []) → IsOneMore h edit before after graph arcs packed last t up down
 packed_one h edit before after graph arcs packed moved one two last t copy up down upwards downwards holds asked upper lower first second keep_up keep_down places functions low copied pushed =
     let s = settling_of h edit before in
     let list : after ≡ before ++ (t ∷ []) = pushed ∙ ap (λ (x : TouchedEdge). before ++ (x ∷ [])) copied in
@@ -214,6 +263,7 @@ packed_one h edit before after graph arcs packed moved one two last t copy up do
           (next_resettled s graph arcs packed moved last holds t asked up down upper lower first second placed);
       holds = subst (λ (xs : List TouchedEdge). IsSettlingPacked (settling_of h edit xs) graph arcs packed last) (sym list)
           (packed_more s graph arcs packed moved last holds t asked up down upper lower first second placed);
+      standing = standing_rebuilt s graph arcs packed moved last holds t asked up down upper lower first second placed;
     }
 
 -- functions that are only kept change nothing

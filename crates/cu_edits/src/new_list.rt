@@ -12,9 +12,10 @@ pub enum Outcome {
     Moves(Option<DayFunction>),
 }
 
-/// A list after an edit, and what became of it.
+/// A list after an edit, what became of it, and the function of one that stands, if it is known.
 #[derive(Drop)]
 pub struct NewList {
     pub ways: WayList,
     pub outcome: Outcome,
+    pub standing: Option<DayFunction>,
 }

@@ -1,11 +1,13 @@
 //! Settling the touched edges of an edit by packed runs.
 
-ghost use Rattle.std.specs.Prelude.{◌≡◌, ◌≤◌, ◌<◌, ◌*◌, ◌++◌, ◌∷◌, [], All, IfNone, IfOk, IfSome, OnErr, OnOk, length, true};
+ghost use Rattle.std.specs.Prelude.{◌≡◌, ◌≤◌, ◌<◌, ◌*◌, ◌++◌, ◌∷◌, [], All, IfNone, IfOk, IfSome, OnErr, OnOk, Some, length, true};
 ghost use Rattle.cu_resettled.specs.ResettlingAll.{edited_all};
 ghost use Rattle.cu_interval.specs.declared.ways.Dir.TheVariants.{Up, Down};
-ghost use Rattle.cu_interval.specs.Hierarchies.{list_number, list_of};
+ghost use Rattle.cu_interval.specs.Hierarchies.{HierarchyValue, list_number, list_of};
 ghost use Rattle.cu_customize.specs.Functions.{kept_state};
 ghost use Rattle.cu_customize.specs.Triangles.{AreTrianglesOf};
+ghost use Rattle.cu_unpack.specs.RebuiltRuns.{IsRebuiltRuns};
+ghost use Rattle.cu_edits.specs.declared.new_list.Outcome.TheVariants.{Stands};
 ghost use Rattle.cu_edits.specs.Settling.{IsResettledEdge, settled_so_far};
 ghost use Rattle.cu_edits.specs.Learned.{ArePackedOf};
 ghost use Rattle.cu_edits.specs.Steps.Packed.{AreCandidatesAtHand, IfNear, IsPackedList, LearnsPacked};
@@ -27,7 +29,7 @@ use crate::unchanged_lists::{
 use cu_customize::{PackedSettling, SettledRuns};
 use cu_interval::{Dir, Entry, Shortcut, TouchedEdge, Ways};
 use cu_model::NoMemory;
-use cu_runs::LayeredFunctions;
+use cu_runs::{DayFunction, LayeredFunctions};
 use cu_unpack::PackedFunctions;
 use std::alloc::Global;
 
@@ -128,9 +130,33 @@ fn keep_lists<W: Ways>(
         up: up.ways,
         down: down.ways,
     };
-    let moved = &mut state.moved;
+    let (moved, functions) = (&mut state.moved, &mut state.functions);
     keep_settled(alloc, moved, settled, &lists, up.outcome, down.outcome)?;
+    keep_standing(functions, edge, Dir::Up, up.standing);
+    keep_standing(functions, edge, Dir::Down, down.standing);
     Ok(lists)
+}
+
+// Keeps the function of a list that stands, if there is one, since higher lists may be made of it. Where memory runs out it isn't
+// kept, and is learned once it is needed.
+fn keep_standing(
+    functions: &mut PackedFunctions,
+    edge: u32,
+    dir: Dir,
+    standing: Option<DayFunction>,
+)
+    requires known { list_number edge dir < length functions.old.known }
+    requires functions { list_number edge dir < length functions.old.functions }
+    ensures packed { (h : HierarchyValue) → ArePackedOf h functions.old
+        → IfSome standing (λ function. IsRebuiltRuns h edge dir (Some function))
+        → ArePackedOf h functions.new }
+    ensures known { length functions.new.known ≡ length functions.old.known }
+    ensures functions { length functions.new.functions ≡ length functions.old.functions }
+{
+    let Some(function) = standing else {
+        return;
+    };
+    let _ = functions.put(edge, dir, Some(function));
 }
 
 // Keeps both lists of an edge, and what became of them.
@@ -191,6 +217,7 @@ fn next_list<W: Ways>(
         return Ok(Some(NewList {
             ways,
             outcome: Outcome::Stands,
+            standing: None,
         }));
     }
     settle_list(alloc, parts, state, edge, dir)
@@ -365,17 +392,21 @@ fn new_list<W: Ways>(
     ensures ways { result.ways ≡ found.ways }
     ensures outcome { IsOutcomeOf parts.now.before parts.now.edit moved.now edge dir
         found result.outcome }
+    ensures standing { IfSome result.standing
+        (λ function. (result.outcome ≡ Stands) × (found.function ≡ Some function)) }
 {
     let SettledRuns { ways, function } = found;
     if is_as_before(parts, moved, edge, dir, ways.entries()) {
         return NewList {
             ways,
             outcome: Outcome::Stands,
+            standing: function,
         };
     }
     NewList {
         ways,
         outcome: Outcome::Moves(function),
+        standing: None,
     }
 }
 

@@ -81,8 +81,8 @@ impl PackedFunctions {
         self.table.is_known(Shortcut { edge, dir })
     }
 
-    /// The list of an edge in a direction is known from then on, with this function. The edge's number is in range. Where memory
-    /// runs out nothing changes.
+    /// The list of an edge in a direction is known from then on, with this function, and is one that was asked for. The edge's number
+    /// is in range. Where memory runs out nothing changes.
     pub fn put(
         &mut self,
         edge: u32,
@@ -94,7 +94,10 @@ impl PackedFunctions {
         ensures put { OnOk result (self.new ≡ with_list self.old (list_number edge dir) function) }
         ensures same { OnErr result (self.new ≡ self.old) }
     {
-        self.table.put(Shortcut { edge, dir }, function)
+        let shortcut = Shortcut { edge, dir };
+        self.table.put(shortcut, function)?;
+        note(&mut self.asked, shortcut);
+        Ok(())
     }
 
     /// Forgets the lists that weren't asked for since this last forgot some, where the functions take much room. Each time they may

@@ -1,5 +1,5 @@
 -- Lists that an edit moves, and lists that stand: their ways are those of before, and so is when they arrive.
-use Rattle.std.specs.Prelude.{ℕ, suc, List, [], ◌∷◌, ◌++◌, Bool, true, Option, Some, None, ◌≡◌, ◌≢◌, ◌≤◌, ◌<◌, All, length, slice_get, slice_set}
+use Rattle.std.specs.Prelude.{ℕ, suc, List, [], ◌∷◌, ◌++◌, Bool, true, Option, Some, None, ◌≡◌, ◌≢◌, ◌≤◌, ◌<◌, All, IfSome, length, slice_get, slice_set}
 use Rattle.cu_model.specs.declared.roads.Edit.{Edit}
 use Rattle.cu_model.specs.Days.{day, IsOnward}
 use Rattle.cu_model.specs.Networks.{NetworkValue}
@@ -84,11 +84,17 @@ IsOutcome s moved edge dir ends entries Stands = (entries ≡ list_of s.before e
     × All (λ (entry : Entry). IsFramed s.before (settled_so_far s) (StandingPair s moved) (start_of ends dir) (end_of ends dir) entry.way) entries
 IsOutcome s moved edge dir ends entries (Moves function) = SayValue (settled_so_far s) (start_of ends dir) (end_of ends dir) entries function
 
+-- a list with these entries stands and has this function, where one is told
+abbrev pub StandsBy : HierarchyValue → ℕ → ℕ → List Entry → Outcome → Option (List Run) → Type 0
+StandsBy h u v entries outcome standing = IfSome standing (λ function. (outcome ≡ Stands) × SayValue h u v entries (Some function))
+
 -- the list of an edge that is settled next
 pub record IsNewList (s : SettlingValue) (moved : MovedValue) (edge : ℕ) (dir : Dir) (list : NewList) : Type 0 where
   pub resettled : (ends : Ends) → slice_get s.before.edges edge ≡ Some ends
       → IsResettledList (settled_so_far s) (start_of ends dir) (end_of ends dir) list.ways
   pub outcome : (ends : Ends) → slice_get s.before.edges edge ≡ Some ends → IsOutcome s moved edge dir ends list.ways list.outcome
+  pub standing : (ends : Ends) → slice_get s.before.edges edge ≡ Some ends
+      → StandsBy (settled_so_far s) (start_of ends dir) (end_of ends dir) list.ways list.outcome list.standing
 
 -- the list of an edge in a direction may stand: it is marked, no road of it is changed, and no half of a way by a middle was moved
 pub record MayStand (h : HierarchyValue) (edit : List Edit) (arcs : List (List ℕ)) (marks : List Bool) (moved : MovedValue) (edge : ℕ) (dir : Dir) : Type 0 where

@@ -1,10 +1,11 @@
-use Rattle.std.proofs.Common.{refl, sym, subst, List}
+use Rattle.std.proofs.Common.{List, arith, refl, subst, sym}
+use Rattle.cu_interval.specs.declared.ways.Dir.TheVariants.{Down, Up}
 use Rattle.cu_interval.specs.declared.ways.TouchedEdge.{TouchedEdge}
 use Rattle.cu_edits.specs.Steps.Packed.{IsSettlingPacked}
 use Rattle.cu_edits.specs.Steps.Holding.{settling_of}
 use Rattle.cu_edits.specs.Steps.Parts.{settling_over}
 use Rattle.cu_edits.proofs.LearntSides.{on_err}
-use Rattle.cu_edits.proofs.PackedNext.{place_within, packed_kept, packed_one}
+use Rattle.cu_edits.proofs.PackedNext.{packed_kept, packed_one, packed_with, place_within}
 use Rattle.cu_edits.proofs.settling_packed.keep_lists.Goals as goal
 
 pub keep_settled-requires-clause-inside : goal.keep_settled-requires-clause-inside
@@ -45,8 +46,52 @@ returns-clause-resettled g c =
 
 pub returns-clause-holds : goal.returns-clause-holds
 returns-clause-holds g c =
+    let h = c.args.parts.now.before in
+    let edit = c.args.parts.now.edit in
     let t : TouchedEdge = record { edge = c.args.edge; up = c.args.next.0.ways; down = c.args.next.1.ways } in
     let placed = c.in_ok-keep_settled.ensures.places in
-    (packed_one c.args.parts.now.before c.args.parts.now.edit c.args.settled.now.items c.keep_settled.new.settled.items c.args.parts.now.graph c.args.parts.now.arcs
+    let one =
+    packed_one h edit c.args.settled.now.items c.keep_settled.new.settled.items c.args.parts.now.graph c.args.parts.now.arcs
     c.args.state.now.functions c.args.state.now.moved placed.both.mid placed.kept c.keep_settled.new.moved t t c.args.next.0 c.args.next.1 placed.upwards placed.downwards c.requires.holds
-    c.requires.asked c.requires.up c.requires.down refl refl placed.both.upper placed.both.lower placed.places placed.functions placed.low refl c.in_ok-keep_settled.ensures.settled).holds
+    c.requires.asked c.requires.up c.requires.down refl refl placed.both.upper placed.both.lower placed.places placed.functions placed.low refl c.in_ok-keep_settled.ensures.settled in
+    packed_with (settling_of h edit c.keep_settled.new.settled.items) c.args.parts.now.graph c.args.parts.now.arcs c.args.state.now.functions c.keep_standing-2.new.functions
+    c.keep_settled.new.moved one.holds
+    (c.keep_standing-2.ensures.packed h (c.keep_standing.ensures.packed h c.requires.holds.known (one.standing Up)) (one.standing Down))
+
+pub keep_standing-requires-clause-known : goal.keep_standing-requires-clause-known
+keep_standing-requires-clause-known g c =
+    let long = c.requires.holds.known.size.known in
+    let places = c.requires.holds.places in
+    let within =
+    place_within (settling_over c.args.parts.now c.args.settled.now.items) c.args.parts.now.graph c.args.parts.now.arcs c.args.state.now.functions c.args.state.now.moved c.args.edge
+    c.requires.holds c.requires.asked in
+    omega (arith, long, places, within)
+
+pub keep_standing-requires-clause-functions : goal.keep_standing-requires-clause-functions
+keep_standing-requires-clause-functions g c =
+    let long = c.requires.holds.known.size.functions in
+    let places = c.requires.holds.places in
+    let within =
+    place_within (settling_over c.args.parts.now c.args.settled.now.items) c.args.parts.now.graph c.args.parts.now.arcs c.args.state.now.functions c.args.state.now.moved c.args.edge
+    c.requires.holds c.requires.asked in
+    omega (arith, long, places, within)
+
+pub keep_standing-requires-2-clause-known : goal.keep_standing-requires-2-clause-known
+keep_standing-requires-2-clause-known g c =
+    let same = c.keep_standing.ensures.known in
+    let long = c.requires.holds.known.size.known in
+    let places = c.requires.holds.places in
+    let within =
+    place_within (settling_over c.args.parts.now c.args.settled.now.items) c.args.parts.now.graph c.args.parts.now.arcs c.args.state.now.functions c.args.state.now.moved c.args.edge
+    c.requires.holds c.requires.asked in
+    omega (arith, same, long, places, within)
+
+pub keep_standing-requires-2-clause-functions : goal.keep_standing-requires-2-clause-functions
+keep_standing-requires-2-clause-functions g c =
+    let same = c.keep_standing.ensures.functions in
+    let long = c.requires.holds.known.size.functions in
+    let places = c.requires.holds.places in
+    let within =
+    place_within (settling_over c.args.parts.now c.args.settled.now.items) c.args.parts.now.graph c.args.parts.now.arcs c.args.state.now.functions c.args.state.now.moved c.args.edge
+    c.requires.holds c.requires.asked in
+    omega (arith, same, long, places, within)

@@ -36,7 +36,7 @@ returns-in-Some-clause-list g c done holds asked =
     (packed_learnt s c.args.parts.now.graph c.args.parts.now.arcs c.args.state.now.functions learnt moved holds c.learn_candidates.ensures.learns) c.args.edge asked
     c.args.parts.now.customized c.learn_candidates.ensures.fit.1 c.args.dir
     (subst (λ (es : List Ends). KeepsHalves es moved c.args.edge) (same_edges h c.args.parts.now.graph c.learn_candidates.ensures.fit.0.hierarchy) c.requires.halves) (c.in_ok-learn_candidates.ensures.known c.if-not-branch.false) c.in-Some.found
-    (subst (λ (fs : List (Option (List Run))). IsFound fs c.in-Some.found) meant found) c.new_list.result c.new_list.ensures.ways c.new_list.ensures.outcome
+    (subst (λ (fs : List (Option (List Run))). IsFound fs c.in-Some.found) meant found) c.new_list.result c.new_list.ensures.ways c.new_list.ensures.outcome c.new_list.ensures.standing
 
 pub learn_candidates-requires-clause-triangles : goal.learn_candidates-requires-clause-triangles
 learn_candidates-requires-clause-triangles g c = subst (AreTrianglesOf c.args.parts.now.graph.edges c.args.edge) (sym c.triangles.ensures) c.requires.triangles
