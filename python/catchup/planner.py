@@ -17,9 +17,8 @@ import os
 import tempfile
 import threading
 import warnings
-from collections.abc import Callable, Iterator, Sequence
+from collections.abc import Callable, Sequence
 from concurrent.futures import ThreadPoolExecutor
-from contextlib import contextmanager
 from dataclasses import dataclass
 from operator import index
 from pathlib import Path
@@ -27,6 +26,7 @@ from typing import Generic, TypeAlias, TypeVar
 
 from catchup import clock, replies
 from catchup.errors import CatchupError, Damaged, Ended, Failure
+from catchup.pool import Pool, Turn
 from catchup.program import OF_ANOTHER, AsyncChild, Child
 from catchup.replies import Day, Piece, Reach, TooLate, Unreachable
 from catchup.tables import NODES_FILE, PROFILES_FILE, ROADS_FILE, Shorts, order_text
@@ -98,10 +98,11 @@ class Question(Generic[Value]):
 class Planner:
     """Answers over a packed file, or over tables, by one process of the program or by several.
 
-    Threads may share it: as many are answered at once as there are processes. An edit is in every process when its call
-    returns; until then a query gets an answer of before or after it. A process that ends is left out from then on: the
-    call that it had raises Ended, and so do all where none is left. `close` waits for the calls in work. A process that is
-    forked needs a planner of its own: there each call of this one raises Ended, and `close` does nothing.
+    Threads may share it: as many are answered at once as there are processes, and who waits is answered in the order in
+    which they came. An edit is in every process when its call returns; until then a query gets an answer of before or
+    after it. A process that ends is left out from then on: the call that it had raises Ended, and so do all where none is
+    left. `close` waits for the calls in work. A process that is forked needs a planner of its own: there each call of
+    this one raises Ended, and `close` does nothing.
     """
 
     def __init__(self, file: str | Path, *, processes: int = 1) -> None:
@@ -122,7 +123,6 @@ class Planner:
     def _start(self, words: Words, processes: int, room: tempfile.TemporaryDirectory[str] | None) -> None:
         self._owner = os.getpid()
         self._room = room
-        self._changed = threading.Condition()
         self._editing = threading.Lock()
         self._all: list[Child] = []
         try:
@@ -134,11 +134,9 @@ class Planner:
             if room:
                 room.cleanup()
             raise
-        # The children that haven't ended, and those that no thread has.
-        self._children: list[Child] = list(self._all)
-        self._free: list[Child] = list(self._all)
+        # The children that haven't ended.
+        self._pool = Pool(self._all)
         self._ended: Ended | None = None
-        self._closed = False
 
     def route(self, origin: int, target: int, depart: Time, *, entered: bool = False) -> Route | None:
         """The drive that arrives first, or None where no way leads; with `entered` also the second at which each road is
@@ -174,11 +172,7 @@ class Planner:
         """Waits for the calls in work, ends the processes and waits for their ends. Later calls raise Ended."""
         if self._is_foreign():
             return
-        with self._changed:
-            self._closed = True
-            self._changed.notify_all()
-            self._changed.wait_for(lambda: len(self._free) == len(self._children))
-            self._free, self._children = [], []
+        self._pool.close()
         with self._editing:
             for child in self._all:
                 child.close()
@@ -192,21 +186,35 @@ class Planner:
         self.close()
 
     def __del__(self) -> None:
-        if not getattr(self, "_closed", True) and not self._is_foreign():
+        # One that couldn't be started has none.
+        pool = getattr(self, "_pool", None)
+        if pool and not pool.closed and not self._is_foreign():
             warnings.warn("a Planner wasn't closed: call close(), or use it by 'with'", ResourceWarning, source=self)
 
     def _ask(self, question: Question[Value]) -> Value:
-        with self._taken() as child:
+        if self._is_foreign():
+            raise self._gone()
+        turn = Turn()
+        try:
+            child = self._pool.wait(turn)
+            if child is None:
+                raise self._gone()
             return question.value(self._asked(child, question.line))
+        finally:
+            # Twice, since an interrupt may break off the first; else the second changes nothing.
+            try:
+                self._pool.end(turn)
+            finally:
+                self._pool.end(turn)
 
     def _edit(self, question: Question[int]) -> int:
         """The edit goes to all children at once, behind what each is asked; each edit to all before the next."""
         if self._is_foreign():
             raise self._gone()
         with self._editing:
-            if self._closed or not self._children:
+            children = self._pool.children
+            if self._pool.closed or not children:
                 raise self._gone()
-            children = list(self._children)
             with ThreadPoolExecutor(len(children)) as threads:
                 said = list(threads.map(lambda child: self._edited(child, question.line), children))
             made = [reply for reply in said if reply.startswith("done ")]
@@ -238,29 +246,8 @@ class Planner:
 
     def _leave_out(self, child: Child, ended: Ended) -> None:
         child.kill()
-        with self._changed:
-            self._ended = ended
-            self._children = [other for other in self._children if other is not child]
-            self._free = [other for other in self._free if other is not child]
-            self._changed.notify_all()
-
-    @contextmanager
-    def _taken(self) -> Iterator[Child]:
-        """A child that no other thread has."""
-        if self._is_foreign():
-            raise self._gone()
-        with self._changed:
-            self._changed.wait_for(lambda: self._free or self._closed or not self._children)
-            if self._closed or not self._free:
-                raise self._gone()
-            child = self._free.pop()
-        try:
-            yield child
-        finally:
-            with self._changed:
-                if child in self._children:
-                    self._free.append(child)
-                self._changed.notify_all()
+        self._ended = ended
+        self._pool.leave_out(child)
 
     def _is_foreign(self) -> bool:
         """Whether this process was forked from the one that made it, whose threads hold the locks."""
@@ -269,7 +256,7 @@ class Planner:
     def _gone(self) -> Ended:
         if self._is_foreign():
             return Ended(None, OF_ANOTHER)
-        if self._closed:
+        if self._pool.closed:
             return Ended(0, "the planner is closed")
         return Ended(self._ended.status, self._ended.said) if self._ended else Ended(None, "no process is left")
 

@@ -8,7 +8,6 @@ import inspect
 import os
 import random
 import signal
-import stat
 import subprocess
 import sys
 import threading
@@ -18,10 +17,13 @@ from pathlib import Path
 from typing import Any
 
 import pytest
+from planners import in_threads, stub
+from waiting import wait_for
 
 import catchup
 from catchup import AsyncPlanner, Damaged, Day, Ended, Failure, Matrix, NoMemory, Piece, Planner, Reach, Refused, Route, TooLate
 from catchup.planner import Order, reach_question, table_question
+from catchup.pool import Turn
 from catchup.program import run_program
 from catchup.tables import read_order
 
@@ -44,14 +46,6 @@ def call(request: pytest.FixtureRequest, rush_hour: Path) -> Callable[[Callable[
             return use(planner)
 
     return run
-
-
-def stub(folder: Path, text: str, monkeypatch: pytest.MonkeyPatch) -> None:
-    """A program that answers each line as a shell script says, whose first word is its number of start."""
-    path = folder / "stub"
-    path.write_text(f"#!/bin/sh\nset -- $(ls '{folder}' | grep -c started)\n: >'{folder}'/started$1\n{text}")
-    path.chmod(path.stat().st_mode | stat.S_IXUSR)
-    monkeypatch.setenv("CATCHUP", str(path))
 
 
 # ---- values ----
@@ -190,25 +184,6 @@ def test_orders_that_are_none(rush_hour: Path, tmp_path: Path, monkeypatch: pyte
 # ---- pools and threads ----
 
 
-def in_threads(count: int, work: Callable[[int], None]) -> list[BaseException]:
-    """Runs the work in so many threads at once; what they raised."""
-    raised: list[BaseException] = []
-
-    def run(number: int) -> None:
-        try:
-            work(number)
-        except BaseException as error:
-            raised.append(error)
-
-    threads = [threading.Thread(target=run, args=(number,)) for number in range(count)]
-    for thread in threads:
-        thread.start()
-    for thread in threads:
-        thread.join(600)
-        assert not thread.is_alive()
-    return raised
-
-
 @pytest.mark.parametrize("processes", [1, 4])
 def test_sixteen_threads_get_their_own_answers(town: Path, processes: int) -> None:
     draw = random.Random(1)
@@ -245,10 +220,12 @@ def test_an_edit_is_in_every_process_when_it_returns(program: Path, rush_hour: P
         pids = set()
 
         def ask(number: int) -> None:
-            with planner._taken() as child:
-                barrier.wait(600)
-                pids.add(child.pid)
-                assert child.ask("q,0,2,0") == "arrive=7 arcs=2"
+            turn = Turn()
+            child = planner._pool.wait(turn)
+            barrier.wait(600)
+            assert child and child.ask("q,0,2,0") == "arrive=7 arcs=2"
+            pids.add(child.pid)
+            planner._pool.end(turn)
 
         barrier = threading.Barrier(4)
         assert in_threads(4, ask) == [] and len(pids) == 4
@@ -267,8 +244,8 @@ def test_a_process_that_ends_is_left_out(program: Path, rush_hour: Path) -> None
                 ended += 1
         assert ended in (0, 1, 2)
         assert planner.edit_road(2, 1) >= 1
-        assert len(planner._children) == 1 and planner.route(0, 2, 0)
-        os.kill(planner._children[0].pid, signal.SIGKILL)
+        assert len(planner._pool.children) == 1 and planner.route(0, 2, 0)
+        os.kill(planner._pool.children[0].pid, signal.SIGKILL)
         for _ in range(3):
             with pytest.raises(Ended):
                 planner.route(0, 2, 0)
@@ -313,8 +290,8 @@ def test_a_process_without_the_edit_answers_no_more(tmp_path: Path, monkeypatch:
         planner.route(0, 0, 0)
         with Planner("a.cu") as other:
             other.route(0, 0, 0)
-            planner._children.append(other._children[0])
-            assert planner.edit_road(0, 0) == 3 and len(planner._children) == 1
+            planner._pool.children.append(other._pool.children[0])
+            assert planner.edit_road(0, 0) == 3 and len(planner._pool.children) == 1
         assert planner.route(0, 0, 0).arrive == 0  # type: ignore[union-attr]
 
 
@@ -347,8 +324,7 @@ def test_closing_waits_for_what_is_asked(tmp_path: Path, monkeypatch: pytest.Mon
     threads = [threading.Thread(target=lambda: found.append(planner.route(0, 1, 0))) for _ in range(2)]
     for thread in threads:
         thread.start()
-    while len(planner._free):
-        threading.Event().wait(0.01)
+    wait_for(lambda: sum(turn.child is not None for turn in list(planner._pool._turns)) == 2)
     planner.close()
     # Both have their answers by now, and may not have noted them yet.
     for thread in threads:
