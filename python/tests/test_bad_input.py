@@ -128,3 +128,9 @@ def test_no_program(room: Path) -> None:
 def test_closed_input(room: Path, words: str) -> None:
     status, out, err = run(["sh", "-c", f"exec {TOP}/bin/{words} <&-"], folder=room, env={"TMPDIR": f"{room}/rests"})
     assert status == 1 and out == "" and err.count("\n") == 1 and os.listdir(room / "rests") == []
+
+
+@pytest.mark.parametrize("words", READERS)
+def test_a_folder_as_input(room: Path, words: str) -> None:
+    ran = run(["sh", "-c", f"exec {TOP}/bin/{words} < bad/folder"], folder=room)
+    assert ran == (1, "", f"{words.split()[0]}: standard input can't be read: Is a directory\n")

@@ -14,12 +14,20 @@ PROJECT = tomllib.loads((BIN.parent / "python" / "pyproject.toml").read_text())[
 SCRIPTS: dict[str, str] = PROJECT["scripts"]
 
 # All that a script of bin/ does: whatever else a command needs is in the package, which installed copies have too.
-SCRIPT = """#!/usr/bin/python3
-import os, signal, sys
+SCRIPT = """import os, signal, sys
 # While modules load, an interrupt ends it at once: Python would print a trace.
 if signal.getsignal(signal.SIGINT) != signal.SIG_IGN: signal.signal(signal.SIGINT, signal.SIG_DFL)
 sys.path.insert(0, os.path.join(os.path.dirname(os.path.realpath(__file__)), "..", "python")); from catchup.commands import {0}; {0}.main()
 """
+# How it begins; and how one does that reads standard input.
+BY_PYTHON = "#!/usr/bin/python3\n"
+BY_THE_SHELL = '''#!/bin/sh
+""":" # Python can't start where its standard input is a folder.
+[ ! -d /dev/stdin ] || { echo "${0##*/}: standard input can't be read: Is a directory" >&2; exit 1; }
+exec /usr/bin/python3 "$0" "$@"
+"""
+'''
+READERS = {"draw-reach", "draw-route", "table-csv"}
 
 
 def test_the_version_is_said_once() -> None:
@@ -32,7 +40,7 @@ def test_each_script_of_bin_calls_the_function_of_the_project() -> None:
         text = path.read_text(errors="replace") if path.is_file() else ""
         if "from catchup.commands import" in text:
             module = text.rpartition("import ")[2].partition(";")[0]
-            assert text == SCRIPT.format(module), path
+            assert text == (BY_THE_SHELL if path.name in READERS else BY_PYTHON) + SCRIPT.format(module), path
             calls[path.name] = f"catchup.commands.{module}:main"
     assert calls == SCRIPTS
 
