@@ -224,6 +224,17 @@ def test_files_that_are_no_map(tmp_path: Path, name: str, content: str | None, s
     assert left(tmp_path) == before
 
 
+def test_threads_that_cannot_be_started(tmp_path: Path, monkeypatch: pytest.MonkeyPatch) -> None:
+    """The library that reads maps tells this alone, and the map has no fault."""
+    def read(*_: object) -> None:
+        raise RuntimeError("Resource temporarily unavailable")
+
+    (tmp_path / "bare.osm").write_text('<?xml version="1.0"?><osm version="0.6"></osm>', encoding="utf-8")
+    monkeypatch.setattr("osmium.io.Reader", read)
+    said = "catchup-import: bare.osm: no thread can be started to read it: free some memory, or allow more processes"
+    check_refused(imported("bare.osm", "out", cwd=tmp_path), 1, said)
+
+
 @pytest.mark.parametrize("part", [0.1, 0.5, 0.99])
 def test_a_map_that_is_cut(real_map: Path, tmp_path: Path, part: float) -> None:
     content = real_map.read_bytes()

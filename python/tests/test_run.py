@@ -35,6 +35,11 @@ def command(how):
     if how == "memory": raise MemoryError
     if how == "module": import no_such.thing
     if how == "own module": import catchup.no_such
+    if how == "own name": from catchup.clock import no_such
+    if how == "library":
+        try: raise ImportError("lib.so:\\nfailed to map segment", name="their.part")
+        except ImportError: raise ImportError("They say\\nmuch")
+    if how == "thread": raise RuntimeError("can't start new thread")
     if how == "pipe":
         for _ in range(100000): print("line")
     if how == "number": return 5
@@ -71,6 +76,8 @@ ENDS = [
         1,
         "try-it: the Python module no_such isn't installed: 'apt-get install python3-no-such' does it on Debian and Ubuntu\n",
     ),
+    (["library"], 1, "try-it: the Python module their can't be loaded: lib.so: failed to map segment\n"),
+    (["thread"], 1, "try-it: no thread can be started: free some memory, or allow more processes (ulimit -u)\n"),
     (["number"], 5, ""),
     (["print"], 0, ""),
     ([], 2, "try-it: Missing argument 'HOW'. See: try-it --help\n"),
@@ -92,7 +99,14 @@ def test_help_goes_to_standard_output() -> None:
     assert (run.returncode, error) == (0, "") and output.startswith("Usage: try-it [OPTIONS] HOW")
 
 
-@pytest.mark.parametrize("how, said", [("bug", "RuntimeError: bug"), ("own module", "No module named 'catchup.no_such'")])
+BUGS = [
+    ("bug", "RuntimeError: bug"),
+    ("own module", "No module named 'catchup.no_such'"),
+    ("own name", "cannot import name 'no_such'"),
+]
+
+
+@pytest.mark.parametrize("how, said", BUGS)
 def test_a_bug_keeps_its_traceback(how: str, said: str) -> None:
     run = start(how)
     _, error = run.communicate(timeout=600)

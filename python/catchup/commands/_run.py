@@ -30,10 +30,10 @@ _PACKAGES = {"osmium": "python3-pyosmium"}
 def run(command: click.Command, name: str, *, serves: bool = False) -> NoReturn:
     """Runs a click command as a program that is called `name`.
 
-    Wrong words are status 2, a Failure its own status (1), a module that isn't installed 1, an interrupt 130, a request
-    to terminate 143, a terminal that is closed 129 (all three let the command clean up), a closed pipe 141 without a
-    word. Each but the last four has one line on standard error. One that `serves` needs no standard output, and sees to
-    the closing of a terminal itself.
+    Wrong words are status 2, a Failure its own status (1), a module that isn't installed or can't be loaded 1, an
+    interrupt 130, a request to terminate 143, a terminal that is closed 129 (all three let the command clean up), a closed
+    pipe 141 without a word. Each but the last four has one line on standard error. One that `serves` needs no standard
+    output, and sees to the closing of a terminal itself.
     """
     if sys.stderr is None and not serves:
         sys.stderr = open(os.devnull, "w")
@@ -80,18 +80,18 @@ def _status_of(command: click.Command, name: str) -> int:
     except BrokenPipeError:
         _leave_output()
         return CLOSED_PIPE
-    except ModuleNotFoundError as error:
-        module = (error.name or "").partition(".")[0]
-        if module in ("", "catchup"):
-            raise
-        package = _PACKAGES.get(module, f"python3-{module.replace('_', '-')}")
-        how = f"'apt-get install {package}' does it on Debian and Ubuntu"
-        return _said(name, f"the Python module {module} isn't installed: {how}", 1)
+    except ImportError as error:
+        return _said(name, _one_line(_unloaded(error)), 1)
     except OSError as error:
         _leave_output()
         return _said(name, _one_line(_told(error)), 1)
     except MemoryError:
         return _said(name, "out of memory: free some, or give it a smaller input", 1)
+    except RuntimeError as error:
+        # Python has no class of its own for it.
+        if str(error) != "can't start new thread":
+            raise
+        return _said(name, "no thread can be started: free some memory, or allow more processes (ulimit -u)", 1)
     return result if isinstance(result, int) else 0
 
 
@@ -119,6 +119,21 @@ def _end_again(told: sys.UnraisableHookArgs) -> None:
     number = signal.SIGINT if isinstance(ending, KeyboardInterrupt) else ending.number
     signal.signal(signal.SIGALRM, lambda *_: signal.raise_signal(number))
     signal.setitimer(signal.ITIMER_REAL, _AGAIN)
+
+
+def _unloaded(error: ImportError) -> str:
+    """Which module of others isn't installed, or can't be loaded, as where a library of it finds no memory. Raises what is
+    our own fault, as a name that a module of this package doesn't have."""
+    # As numpy's, which names no module and tells at length what may be wrong.
+    while error.name is None and isinstance(earlier := error.__cause__ or error.__context__, ImportError):
+        error = earlier
+    module = (error.name or "").partition(".")[0]
+    if module in ("", "catchup"):
+        raise error
+    if not isinstance(error, ModuleNotFoundError):
+        return f"the Python module {module} can't be loaded: {error}"
+    package = _PACKAGES.get(module, f"python3-{module.replace('_', '-')}")
+    return f"the Python module {module} isn't installed: 'apt-get install {package}' does it on Debian and Ubuntu"
 
 
 def _told(error: OSError) -> str:

@@ -4,6 +4,8 @@ Twice, so that the file's order is of no matter, and nodes of buildings and fore
 """
 from __future__ import annotations
 
+import errno
+import os
 import re
 from array import array
 from dataclasses import dataclass, field
@@ -276,7 +278,14 @@ def _apply(handler: osmium.SimpleHandler, path: Path) -> None:
     except Failure as fault:
         raise Failure(f"{path}: {fault}") from fault
     except (RuntimeError, ValueError, osmium.InvalidLocationError) as fault:
-        raise Failure(f"{path}: this isn't a whole file of OpenStreetMap: {fault}") from fault
+        raise _unread(path, fault) from fault
+
+
+def _unread(path: Path, fault: Exception) -> Failure:
+    """Why the library can't read a file. That it can start no threads it tells as this error of the system, without more."""
+    if str(fault) == os.strerror(errno.EAGAIN):
+        return Failure(f"{path}: no thread can be started to read it: free some memory, or allow more processes (ulimit -u)")
+    return Failure(f"{path}: this isn't a whole file of OpenStreetMap: {fault}")
 
 
 def _header(path: Path) -> Any:
@@ -299,7 +308,7 @@ def check_file(path: Path) -> None:
         several = osmium.io.File(str(path)).has_multiple_object_versions
         header = _header(path)
     except RuntimeError as fault:
-        raise Failure(f"{path}: this isn't a whole file of OpenStreetMap: {fault}") from fault
+        raise _unread(path, fault) from fault
     if several or header.has_multiple_object_versions:
         raise Failure(f"{path}: this is a history or a file of changes; make a map of it by 'osmium time-filter' or "
                       "'osmium apply-changes'")
