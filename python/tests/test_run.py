@@ -183,9 +183,9 @@ def test_an_interrupt_while_modules_load_is_silent(name: str) -> None:
         run = subprocess.Popen(
             [BIN / name, "--none"], text=True, stdout=subprocess.PIPE, stderr=subprocess.PIPE,
             preexec_fn=lambda: signal.signal(signal.SIGINT, signal.SIG_DFL))
-        # Python takes it as it starts, and has it no more once the script has begun.
+        # Python takes it as it starts, and has it no more once the script has begun. So does the shell that some begin in.
         for is_wanted in (True, False):
-            while run.poll() is None and takes_interrupts(run.pid) is not is_wanted:
+            while run.poll() is None and not (is_python(run.pid) and takes_interrupts(run.pid) is is_wanted):
                 time.sleep(0.0005)
         time.sleep(at * 0.01)
         run.send_signal(signal.SIGINT)
@@ -193,6 +193,11 @@ def test_an_interrupt_while_modules_load_is_silent(name: str) -> None:
         # It may have told its wrong word by then.
         assert (output, error) in (("", ""), ("", told)), error
         assert run.returncode in (-signal.SIGINT, 130, 2)
+
+
+def is_python(pid: int) -> bool:
+    """Whether a process is Python by now, and no shell before it."""
+    return Path(f"/proc/{pid}/cmdline").read_bytes().partition(b"\0")[0].endswith(b"/python3")
 
 
 def takes_interrupts(pid: int) -> bool:
