@@ -2,7 +2,13 @@
 
 from __future__ import annotations
 
+import errno
 from os import PathLike, fspath
+from typing import Final
+
+# What the system's loader says of a library that finds no memory, Python of a thread, and of a call that lost its error.
+_SHORT: Final = ("failed to map", "cannot allocate memory", "can't start new thread", "without exception set",
+                 "without setting an exception")
 
 
 class CatchupError(Exception):
@@ -80,3 +86,11 @@ class TableError(Failure):
         line = "" if self.line is None else f", line {self.line}"
         column = "" if self.column is None else f", column {self.column}"
         return f"{self.path}{line}{column}: found {self.found}, allowed: {self.allowed}"
+
+
+def is_short(problem: BaseException) -> bool:
+    """Whether an error says that there is no memory: for a value, a process, a thread or a library."""
+    if isinstance(problem, OSError):
+        return problem.errno == errno.ENOMEM
+    return isinstance(problem, MemoryError) or isinstance(problem, (ImportError, RuntimeError, SystemError)) and any(
+        said in str(problem).lower() for said in _SHORT)

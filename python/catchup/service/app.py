@@ -12,17 +12,18 @@ from starlette.responses import Response
 from starlette.routing import Match
 
 from catchup import __version__
+from catchup.errors import is_short
 from catchup.service import edits, openapi, reads, state
 from catchup.service.answers import refusal_answer
-from catchup.service.errors import Refusal
+from catchup.service.errors import Refusal, refusal_of
 from catchup.service.gates import PREFLIGHT, READS
 from catchup.service.limits import LONGEST_JSON, MOST_WORDS
 from catchup.service.osrm.paths import KIND, Answer, make_router
 from catchup.service.page.paths import router as page_router
 from catchup.service.protocol import Cycle
 from catchup.service.reads import PlainRoute, route_asked
-from catchup.service.telling import tell
-from catchup.service.worker import Worker, said_of
+from catchup.service.telling import tell, traced
+from catchup.service.worker import Worker
 
 Scope = MutableMapping[str, Any]
 Receive = Callable[[], Awaitable[MutableMapping[str, Any]]]
@@ -109,7 +110,7 @@ class Front:
                 response = refusal_answer(refusal, version.name)
                 cycle.answer(response.status_code, [*response.raw_headers, *headers[2:]], response.body)
             except Exception as problem:
-                tell(f"an error that should not be: {said_of(problem)}")
+                tell(f"an error that should not be: {traced(problem)}")
                 cycle.connection.abort()
 
         version.quick.ask_for(plain.line(version), take)
@@ -136,12 +137,13 @@ class Front:
             await self.answer(scope, receive, send)
         except Refusal as refusal:
             await self.refuse(refusal, scope, receive, send)
-        except OSError as problem:
-            # Of a client that is gone, mostly.
-            await self.refuse(Refusal(503, problem.strerror or "an error of the system"), scope, receive, send)
         except Exception as problem:
-            tell(f"an error that should not be: {said_of(problem)}")
-            await self.refuse(Refusal(500, "an error of the service"), scope, receive, send)
+            if isinstance(problem, OSError) and not is_short(problem):
+                # Of a client that is gone, mostly.
+                told = Refusal(503, problem.strerror or "an error of the system")
+            else:
+                told = refusal_of(problem)
+            await self.refuse(told, scope, receive, send)
 
     async def answer(self, scope: Scope, receive: Receive, send: Send) -> None:
         worker, read, method = self.worker, scope["catchup.read"], scope["method"]

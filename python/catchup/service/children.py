@@ -74,11 +74,15 @@ class Child(asyncio.Protocol):
                                   stderr=subprocess.DEVNULL).process()
         except OSError as problem:
             raise NotOpened(f"{program} can't be started: {problem.strerror}") from None
-        writer, _ = await loop.connect_write_pipe(asyncio.BaseProtocol, handed_on(process.stdin))
-        child = cls(process, writer, limit)
-        # Before anything can come: the program says why it refuses a file without being asked.
-        reply = child.ask(PROBE)
-        await loop.connect_read_pipe(lambda: child, handed_on(process.stdout))
+        try:
+            writer, _ = await loop.connect_write_pipe(asyncio.BaseProtocol, handed_on(process.stdin))
+            child = cls(process, writer, limit)
+            # Before anything can come: the program says why it refuses a file without being asked.
+            reply = child.ask(PROBE)
+            await loop.connect_read_pipe(lambda: child, handed_on(process.stdout))
+        except BaseException:
+            process.kill()
+            raise
         try:
             async with asyncio.timeout(START_SECONDS):
                 said = await reply

@@ -18,19 +18,21 @@ from dataclasses import dataclass, field
 from pathlib import Path
 from typing import Any, Final
 
+from catchup.errors import is_short
 from catchup.service import journal, packed
-from catchup.service.errors import Refusal
+from catchup.service.errors import Refusal, refusal_of
 from catchup.service.jobs import DONE, ENDED, REFUSED, Job, Jobs
 from catchup.service.limits import TOLD_REFUSALS
 from catchup.service.process import Start, said_of, try_lock
 from catchup.service.roadedits import Edit, Profiles, lines_of
 from catchup.service.spool import Spool, next_of, recover, sweep
-from catchup.service.telling import tell
+from catchup.service.telling import tell, traced
 from catchup.service.versions import Network, identity_of
 
 LOCK_PAUSE: Final = 0.01                # between two tries to take the folder's lock
 CANCEL_PAUSE: Final = 0.2               # between two looks whether another worker was asked to end a job
 NOTE_TRIES: Final = 6                   # to write what became of a job, each of them for ten seconds
+NOTE_PAUSE: Final = 1.0                 # until another try where that can't be written
 PIECE: Final = 65_536
 REFUSED_WORD: Final = b"refused: "
 WORDS: Final = {9: "no memory", 13: "the edited file would have more than 2^32 bytes"}
@@ -115,6 +117,7 @@ class Editor:
         self.jobs = Jobs(network.path)
         self.turn = asyncio.Lock()
         self.works: dict[str, Work] = {}
+        self.late: set[asyncio.Task[None]] = set()      # notes of what became of jobs that are still to be written
         # For the replies of `catchup edit`, which may come for long.
         self.reader = ThreadPoolExecutor(1, "replies")
 
@@ -125,8 +128,8 @@ class Editor:
             if try_lock(folder):
                 await asyncio.to_thread(mend, self.jobs)
                 await asyncio.to_thread(recover, self.network.path, self.jobs)
-        except (OSError, sqlite3.Error, packed.NotPacked) as problem:
-            tell(f"{self.network.path.parent} can't be looked through: {problem}")
+        except Exception as problem:
+            tell(f"{self.network.path.parent} can't be looked through: {problem or traced(problem)}")
         finally:
             os.close(folder)
 
@@ -136,7 +139,8 @@ class Editor:
             work.cancel(why)
 
     async def work(self, work: Work) -> Made:
-        """Makes an edit. Refused where lines are refused, else a Refusal says why there is no new version."""
+        """Makes an edit. Refused where lines are refused, else a Refusal says why there is no new version. Whatever
+        goes wrong, what became of the job is noted."""
         self.works[work.job.id] = work
         watcher = asyncio.create_task(self.watch(work))
         try:
@@ -147,36 +151,45 @@ class Editor:
         except Refused as refused:
             await self.note(work.job, REFUSED, refused.told)
             raise
-        except Refusal as refusal:
+        except Exception as problem:
+            refusal = unmade(problem)
             await self.note(work.job, ENDED, {"error": refusal.error})
-            raise
-        except (OSError, sqlite3.Error, packed.NotPacked) as problem:
-            reason = why(problem)
-            await self.note(work.job, ENDED, {"error": reason})
-            raise Refusal(503, reason, hint="nothing has changed; see to it and try again") from None
+            raise refusal from None
         finally:
             watcher.cancel()
             del self.works[work.job.id]
             await asyncio.to_thread(work.spool.close)
 
     async def note(self, job: Job, state: str, told: dict[str, object]) -> None:
-        """Notes what became of a job; where that can't be written, the edit is what it is all the same. Others may
-        keep the jobs to themselves for long on a busy machine, and somebody may wait for the note."""
+        """Notes what became of a job; where that can't be written, the edit is what it is all the same, and it is noted
+        later. Others may keep the jobs to themselves for long on a busy machine, and somebody may wait for the note."""
+        said = ""
         for _ in range(NOTE_TRIES):
             try:
                 await asyncio.to_thread(self.jobs.end, job, state, told)
                 return
-            except sqlite3.Error as problem:
-                said = str(problem)
+            except Exception as problem:
+                said = str(problem) or traced(problem)
                 if getattr(problem, "sqlite_errorname", "") != "SQLITE_BUSY":
                     break
         tell(f"{self.jobs.path} can't be written: {said}")
+        task = asyncio.create_task(self.note_later(job, state, told))
+        self.late.add(task)
+        task.add_done_callback(self.late.discard)
+
+    async def note_later(self, job: Job, state: str, told: dict[str, object]) -> None:
+        """Notes what became of a job as soon as that can be written."""
+        while True:
+            await asyncio.sleep(NOTE_PAUSE)
+            with contextlib.suppress(Exception):
+                await asyncio.to_thread(self.jobs.end, job, state, told)
+                return
 
     async def watch(self, work: Work) -> None:
-        """Looks whether another worker was asked to end a job."""
+        """Looks whether another worker was asked to end a job. What can't be asked for is asked for again."""
         while not work.cancelled.is_set():
             await asyncio.sleep(CANCEL_PAUSE)
-            with contextlib.suppress(sqlite3.Error):
+            with contextlib.suppress(Exception):
                 found = await asyncio.to_thread(self.jobs.find, work.job.id)
                 if found is not None and found.is_cancelled:
                     work.cancel(cancelled())
@@ -225,8 +238,9 @@ class Editor:
             return await self.make_next(work, folder, source, following)
         finally:
             os.close(source)
-            # Where `catchup edit` was killed it leaves something too.
-            with contextlib.suppress(OSError):
+            # Where `catchup edit` was killed it leaves something too. What can't be taken away now goes before the next
+            # edit.
+            with contextlib.suppress(Exception):
                 await asyncio.to_thread(sweep, path)
 
     async def make_next(self, work: Work, folder: int, source: int, following: Path) -> Made:
@@ -269,24 +283,34 @@ class Editor:
 
     async def run_edit(self, work: Work, source: int, lines: Path, following: Path) -> Replies:
         """Runs `catchup edit`; where it doesn't come to its end a Refusal says why."""
-        words = (self.program, "edit", f"/dev/fd/{source}", lines, following)
-        process = await Start(words, source, has_group=True).process()
-        replies = Replies()
-        reading = asyncio.get_running_loop().run_in_executor(self.reader, read_replies, process, replies)
+        loop, replies = asyncio.get_running_loop(), Replies()
+        # The thread that reads is there before the process is: one that nobody reads would go on by itself.
+        await loop.run_in_executor(self.reader, int)
+        process = await self.begin_edit((self.program, "edit", f"/dev/fd/{source}", lines, following), source)
         ending = asyncio.create_task(work.cancelled.wait())
-        either: list[asyncio.Future[Any]] = [reading, ending]
+        reading: asyncio.Future[int] | None = None
         try:
+            reading = loop.run_in_executor(self.reader, read_replies, process, replies)
+            either: list[asyncio.Future[Any]] = [reading, ending]
             await asyncio.wait(either, return_when=asyncio.FIRST_COMPLETED)
         finally:
             ending.cancel()
-            if not reading.done():
-                with contextlib.suppress(ProcessLookupError):
-                    os.killpg(process.pid, signal.SIGKILL)
+            if reading is None or not reading.done():
+                end_group(process)
         status = await reading
         work.check()
         if status:
             raise not_made(status, replies, self.network.path)
         return replies
+
+    async def begin_edit(self, words: tuple[str | Path, ...], source: int) -> subprocess.Popen[bytes]:
+        """Starts `catchup edit`, which leads a group of its own; a Refusal says why it can't be."""
+        try:
+            return await Start(words, source, has_group=True).process()
+        except OSError as problem:
+            if is_short(problem):
+                raise
+            raise Refusal(503, f"catchup edit can't be started: {problem.strerror}", hint="nothing has changed") from None
 
 
 def mend(jobs: Jobs) -> None:
@@ -297,12 +321,23 @@ def mend(jobs: Jobs) -> None:
 
 
 def read_replies(process: subprocess.Popen[bytes], replies: Replies) -> int:
-    """Reads all that the process says, and answers its status."""
+    """Reads all that the process says, and answers its status. Where that fails the process is ended."""
     assert process.stdout is not None
-    with process.stdout as said:
-        while piece := os.read(said.fileno(), PIECE):
-            replies.feed(piece)
-    return process.wait()
+    try:
+        with process.stdout as said:
+            while piece := os.read(said.fileno(), PIECE):
+                replies.feed(piece)
+        return process.wait()
+    except BaseException:
+        end_group(process)
+        process.wait()
+        raise
+
+
+def end_group(process: subprocess.Popen[bytes]) -> None:
+    """Ends a process that leads a group, with all that it has started."""
+    with contextlib.suppress(ProcessLookupError):
+        os.killpg(process.pid, signal.SIGKILL)
 
 
 def put_in_place(path: Path, following: Path, folder: int, entry: journal.Entry, lines: Path,
@@ -320,10 +355,14 @@ def put_in_place(path: Path, following: Path, folder: int, entry: journal.Entry,
             raise Refusal(503, "another file was put in place while the edit was made",
                           hint="try it again over that one")
         os.rename(following, path)
-    except (OSError, Refusal):
+    except BaseException:
         journal.drop_last_where_not(path, entry.before)
         raise
-    os.fsync(folder)
+    try:
+        os.fsync(folder)
+    except OSError as problem:
+        raise Refusal(503, "the edit is in its place, and may be lost if the machine stops now, since the folder can't be "
+                      f"flushed to the disk: {problem.strerror}") from None
 
 
 def lines_path(following: Path) -> Path:
@@ -351,6 +390,17 @@ def not_made(status: int, replies: Replies, path: Path) -> Refusal:
         return Refusal(503, f"the edited file can't be stored: {reason}",
                        hint=f"it needs some {needed} bytes in {path.parent}")
     return Refusal(503, f"catchup edit {said_of(status)}" + (f": {said}" if said else ""), hint="nothing has changed")
+
+
+def unmade(problem: Exception) -> Refusal:
+    """What a client gets where an edit wasn't made."""
+    if isinstance(problem, Refusal):
+        return problem
+    if not is_short(problem) and isinstance(problem, (OSError, sqlite3.Error, packed.NotPacked)):
+        return Refusal(503, why(problem), hint="nothing has changed; see to it and try again")
+    refusal = refusal_of(problem)
+    refusal.hint = "nothing has changed"
+    return refusal
 
 
 def why(problem: Exception) -> str:

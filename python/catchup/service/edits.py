@@ -64,7 +64,7 @@ async def post_edits(request: Request) -> Response:
     except (OSError, sqlite3.Error) as problem:
         await let_go(spool)
         raise Refusal(503, why(problem), hint=hint_of(problem)) from None
-    except Refusal:
+    except BaseException:
         await let_go(spool)
         raise
     work = Work(job, spool, edits)
@@ -96,7 +96,7 @@ async def take_body(request: Request, editor: Editor) -> Spool:
     except ClientDisconnect:
         await let_go(spool)
         raise Refusal(400, "the client went before its body was there") from None
-    except (Refusal, asyncio.CancelledError):
+    except BaseException:
         await let_go(spool)
         raise
 
@@ -158,9 +158,17 @@ async def list_edits(request: Request) -> Response:
     asked = take(request.scope["query_string"], {})
     worker = worker_of(request)
     network = worker.network(asked.get("profile"))
+    editor = worker.editors[network]
     with read_jobs():
-        jobs = await asyncio.to_thread(worker.editors[network].jobs.told)
+        if any(is_left(editor, job) for job in await asyncio.to_thread(editor.jobs.active)):
+            await editor.start()
+        jobs = await asyncio.to_thread(editor.jobs.told)
     return answer({}, network.current.name, raw=("jobs", jobs))
+
+
+def is_left(editor: Editor, job: Job) -> bool:
+    """Whether nobody works at a job any more that isn't over: what became of it can be told."""
+    return not job.is_over and not os.path.exists(editor.network.path.with_name(EDITS + job.id))
 
 
 async def find_job(worker: Worker, name: str) -> tuple[Editor, Job]:
@@ -169,8 +177,7 @@ async def find_job(worker: Worker, name: str) -> tuple[Editor, Job]:
         job = await asyncio.to_thread(editor.jobs.find, name)
         if job is None:
             continue
-        if not job.is_over and not os.path.exists(editor.network.path.with_name(EDITS + job.id)):
-            # Its process is gone: what became of it can be told.
+        if is_left(editor, job):
             await editor.start()
             job = await asyncio.to_thread(editor.jobs.find, name) or job
         return editor, job

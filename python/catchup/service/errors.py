@@ -1,6 +1,9 @@
 """What a client gets in place of an answer."""
 from collections.abc import Mapping
 
+from catchup.errors import is_short
+from catchup.service.telling import tell, traced
+
 
 class Refusal(Exception):
     """An error that is told to a client: a status, what is wrong, and where it helps what to do."""
@@ -30,3 +33,12 @@ def ended(what: str = "the program has ended") -> Refusal:
 def told_briefly(text: str) -> str:
     """A client's word, cut short and without what a terminal or a page could take for more than text."""
     return "".join(each if each.isprintable() else "?" for each in text[:40])
+
+
+def refusal_of(problem: BaseException) -> Refusal:
+    """What a client gets in the place of an error that nobody has foreseen. The operator is told of it."""
+    if is_short(problem):
+        tell(f"no memory: {traced(problem)}")
+        return Refusal(503, "no memory", hint="another try may find some")
+    tell(f"an error that should not be: {traced(problem)}")
+    return Refusal(500, "an error of the service")

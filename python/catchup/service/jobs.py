@@ -124,7 +124,12 @@ class Jobs:
 
     def active(self) -> list[Job]:
         """Those of which nothing has become yet."""
-        return [job for job in self.all() if not job.is_over]
+        if not self.path.exists():
+            return []
+        with self.opened() as base:
+            rows = base.execute("SELECT id, state, asked, cancel, after, told FROM jobs WHERE state IN (?, ?) "
+                                "ORDER BY number DESC", ACTIVE).fetchall()
+        return [job_of(row) for row in rows]
 
     def all(self) -> list[Job]:
         """All that are kept, the newest first."""

@@ -43,7 +43,7 @@ def append(path: Path, entry: Entry, edits: Path) -> None:
             journal.write(b"]}\n")
             journal.flush()
             os.fsync(journal.fileno())
-        except OSError:
+        except BaseException:
             # What couldn't be written would be tried again as the file is closed.
             with contextlib.suppress(OSError):
                 journal.flush()

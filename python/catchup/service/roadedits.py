@@ -7,15 +7,14 @@ profile is kept for roads that are closed.
 from __future__ import annotations
 
 import json
+from array import array
+from collections import Counter
 from collections.abc import Callable
 from dataclasses import dataclass
-from typing import TYPE_CHECKING, Any, Final
+from typing import Any, Final
 
 from catchup.service import packed
 from catchup.service.errors import Refusal
-
-if TYPE_CHECKING:
-    import numpy as np
 
 KINDS: Final = ("travel", "until", "closed")
 CLOSED: Final = 2
@@ -130,45 +129,37 @@ def pieces_of(found: object, where: str) -> str:
 
 
 class Profiles:
-    """The profiles of an open packed file: how many roads have each, and which are closed."""
+    """The profiles of an open packed file: how many roads have each, and which are closed. Numbers are read without
+    numpy, which takes its time and memory to load; where it found too little, no later edit of this process could use
+    it."""
 
     def __init__(self, descriptor: int) -> None:
-        # Only edits that name roads need it, and it takes its memory.
-        import numpy as np
-
         header = packed.read_header(descriptor)
-        roads, starts, pieces = (packed.read_exactly(descriptor, size, at) for size, at in (
-            (12 * header.roads, header.roads_at), (8 * (header.profiles + 1), header.starts_at),
-            (12 * header.pieces, header.pieces_at)))
-        first = np.frombuffer(starts, "<u8")[:-1].astype(np.int64)
-        self.of_road: np.ndarray[Any, Any] = np.frombuffer(roads, "<u4")[2::3].astype(np.int64)
-        self.count: np.ndarray[Any, Any] = np.bincount(self.of_road, minlength=header.profiles)
-        self.is_closed: np.ndarray[Any, Any] = np.frombuffer(pieces, "<u4")[1::3][first] == CLOSED
+        self.of_road = packed.read_roads(descriptor, header)[2::3]
+        starts, pieces = (array(kind, packed.read_exactly(descriptor, size, at)) for kind, size, at in (
+            ("Q", 8 * (header.profiles + 1), header.starts_at), ("I", 12 * header.pieces, header.pieces_at)))
+        self.count = Counter(self.of_road)
+        self.is_closed = [pieces[3 * first + 1] == CLOSED for first in starts[:-1]]
         self.profiles = header.profiles
-        self.np = np
 
     def lowest_closed(self) -> int | None:
         """The profile that closed roads get."""
-        found = self.np.flatnonzero(self.is_closed)
-        return int(found[0]) if len(found) else None
+        return self.is_closed.index(True) if True in self.is_closed else None
 
     def spare(self) -> int:
         """The lowest profile that no road has and that isn't kept for closed roads."""
-        free = self.count == 0
         closed = self.lowest_closed()
-        if closed is not None:
-            free[closed] = False
-        found = self.np.flatnonzero(free)
-        if not len(found):
-            raise Refusal(409, "no spare profile",
-                          hint="build the file from tables with more profiles that no road has")
-        return int(found[0])
+        for profile in range(self.profiles):
+            if not self.count[profile] and profile != closed:
+                return profile
+        raise Refusal(409, "no spare profile",
+                      hint="build the file from tables with more profiles that no road has")
 
     def own(self, roads: tuple[int, ...]) -> list[int]:
         """The profiles that none but these roads have, rising, without the one that is kept for closed roads."""
-        found, counts = self.np.unique(self.of_road[self.np.unique(roads)], return_counts=True)
-        alone = found[counts == self.count[found]]
-        return [int(profile) for profile in alone if profile != self.lowest_closed()]
+        found, closed = Counter(self.of_road[road] for road in set(roads)), self.lowest_closed()
+        return sorted(profile for profile, count in found.items()
+                      if count == self.count[profile] and profile != closed)
 
     def set_pieces(self, profile: int, pieces: str) -> str:
         """The line that gives a profile pieces. One that isn't there is refused by the program."""
@@ -219,7 +210,7 @@ def own_pieces(roads: tuple[int, ...], pieces: str, profiles: Profiles) -> list[
         return [profiles.set_profile(unknown[0], 0)]
     own = profiles.own(roads)
     lines = [profiles.set_pieces(profile, pieces) for profile in own]
-    others = [road for road in roads if int(profiles.of_road[road]) not in own]
+    others = [road for road in roads if profiles.of_road[road] not in own]
     if others:
         profile = profiles.spare()
         lines.append(profiles.set_pieces(profile, pieces))

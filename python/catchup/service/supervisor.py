@@ -36,9 +36,9 @@ from catchup.service.process import end_with, give_way
 from catchup.service.protocol import Connection
 from catchup.service.streets import streets_of
 from catchup.service.tables import MAP, draw_networks, open_places
-from catchup.service.telling import open_streams, tell
+from catchup.service.telling import open_streams, tell, traced
 from catchup.service.versions import Kept
-from catchup.service.worker import Shared, Worker, said_of
+from catchup.service.worker import Shared, Worker
 
 BACKLOG: Final = 1_024                  # clients that wait to be taken
 SPARE_FILES: Final = 128                # for all but connections
@@ -195,7 +195,7 @@ if HAS_GUNICORN:
         def exception(self, msg: str, *args: Any, **kwargs: Any) -> None:
             """An error that ended a worker."""
             problem = sys.exc_info()[1]
-            line = f"{msg}: {said_of(problem) if problem is not None else ''}"
+            line = f"{msg}: {traced(problem) if problem is not None else ''}"
             # Until one has begun, all mostly fail of the same.
             if Setting.counts.has_begun() or first_to_tell(Setting.folder, line):
                 tell(line)
@@ -374,7 +374,7 @@ if HAS_GUNICORN:
 def tell_error(_: asyncio.AbstractEventLoop, context: dict[str, Any]) -> None:
     """An error that nobody waits for, in one line."""
     problem = context.get("exception")
-    tell(f"an error that should not be: {context.get('message', '')} {said_of(problem) if problem is not None else ''}")
+    tell(f"an error that should not be: {context.get('message', '')} {traced(problem) if problem is not None else ''}")
 
 
 def take_slot(_: object, worker: Any) -> None:

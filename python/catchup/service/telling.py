@@ -10,6 +10,7 @@ import select
 import socket
 import stat
 from collections.abc import Callable
+from pathlib import Path
 from typing import Final
 
 NAME: Final = "catchup-http"
@@ -48,3 +49,12 @@ def say(line: str) -> None:
 def tell(line: str) -> None:
     """A line that an operator should know, with the service's name before it."""
     say(f"{NAME}: {' '.join(line.split())}")
+
+
+def traced(problem: BaseException) -> str:
+    """An error of the service's own in one line, with where it came from."""
+    at, trace = "", problem.__traceback__
+    while trace is not None:
+        at = f" at {Path(trace.tb_frame.f_code.co_filename).name}:{trace.tb_lineno}"
+        trace = trace.tb_next
+    return f"{type(problem).__name__}: {' '.join(str(problem).split())[:300]}{at}"

@@ -10,13 +10,14 @@ from collections.abc import Awaitable, Callable, Iterator
 from pathlib import Path
 from typing import TYPE_CHECKING
 
+from catchup.errors import is_short
 from catchup.service import packed
 from catchup.service.children import DRIVE_PROBE, PROBE, Child, NotOpened
 from catchup.service.errors import Refusal
 from catchup.service.helpers import Helpers
 from catchup.service.limits import PROBE_SECONDS, QUICK_SECONDS, SLOW_SECONDS
 from catchup.service.process import said_of
-from catchup.service.telling import tell
+from catchup.service.telling import tell, traced
 
 if TYPE_CHECKING:
     from catchup.places import Places
@@ -26,6 +27,7 @@ Identity = tuple[int, int, int, int]
 HEARTBEAT_SECONDS = 5.0
 AGAIN_SECONDS = 1.0
 NO_MEMORY = "ended with status 9"
+OF_FILE = packed.NotPacked, NotOpened, Refusal  # what says something of a file, mostly
 
 
 def identity_of(found: os.stat_result) -> Identity:
@@ -94,16 +96,15 @@ class Version:
         self.quick, self.slow = children
         try:
             self.has_seconds = (await self.quick.ask(DRIVE_PROBE)).startswith(b"arrive=")
+            if self.ground is not None:
+                await asyncio.to_thread(self.read_travel)
         except Refusal:
             # It opened the file, and was ended behind that.
             self.end_now()
             raise NotOpened(f"the program {said_of(self.quick.status)}") from None
-        if self.ground is not None:
-            try:
-                await asyncio.to_thread(self.read_travel)
-            except (packed.NotPacked, OSError):
-                self.end_now()
-                raise
+        except BaseException:
+            self.end_now()
+            raise
         for child in children:
             child.on_gone = self.replace
             if child.gone.is_set():
@@ -236,8 +237,15 @@ async def probe(child: Child) -> bool:
 def may_pass(problem: Exception) -> bool:
     """Whether a problem says nothing of the file: a child that was ended or couldn't be started, or no memory."""
     said = str(problem)
-    return (isinstance(problem, OSError) or " was ended by SIG" in said or "can't be started" in said
+    return (not isinstance(problem, OF_FILE) or " was ended by SIG" in said or "can't be started" in said
             or said.endswith(NO_MEMORY))
+
+
+def unserved(problem: Exception) -> str:
+    """Why a file isn't served, in words."""
+    if is_short(problem):
+        return "no memory"
+    return str(problem) if isinstance(problem, (*OF_FILE, OSError)) else traced(problem)
 
 
 class Network:
@@ -272,22 +280,32 @@ class Network:
             self.refused, self.tried = refused, tried
 
     async def load(self) -> None:
-        """Changes over to the file that stands in the place, where it isn't the one that is served."""
+        """Changes over to the file that stands in the place, where it isn't the one that is served. Whatever goes
+        wrong, the one that is served goes on."""
         async with self.turn:
             try:
-                # Where a pipe stands there nobody is waited for.
-                descriptor = os.open(self.path, os.O_RDONLY | os.O_CLOEXEC | os.O_NONBLOCK)
-            except OSError as problem:
-                self.refuse(f"{self.path.name} can't be read: {problem.strerror}", None)
-                return
-            found = os.fstat(descriptor)
-            identity = identity_of(found)
-            if identity == self.tried or not stat.S_ISREG(found.st_mode):
-                os.close(descriptor)
-                if identity != self.tried:
-                    self.refuse(f"{self.path.name} is no file", identity)
-                return
-            await self.try_version(descriptor, identity)
+                await self.change_over()
+            except Exception as problem:
+                if not hasattr(self, "current"):
+                    raise
+                self.refuse(unserved(problem), None)
+
+    async def change_over(self) -> None:
+        """Serves the file that stands in the place, or notes why not."""
+        try:
+            # Where a pipe stands there nobody is waited for.
+            descriptor = os.open(self.path, os.O_RDONLY | os.O_CLOEXEC | os.O_NONBLOCK)
+        except OSError as problem:
+            self.refuse(f"{self.path.name} can't be read: {problem.strerror}", None)
+            return
+        found = os.fstat(descriptor)
+        identity = identity_of(found)
+        if identity == self.tried or not stat.S_ISREG(found.st_mode):
+            os.close(descriptor)
+            if identity != self.tried:
+                self.refuse(f"{self.path.name} is no file", identity)
+            return
+        await self.try_version(descriptor, identity)
 
     def prepare(self, path: Path) -> None:
         """Begins to open a file that is about to be put in the place, so that `load` needn't begin then."""
@@ -323,9 +341,11 @@ class Network:
             version, starting = prepared
         try:
             await starting
-        except (packed.NotPacked, NotOpened, Refusal, OSError) as problem:
+        except Exception as problem:
             version.let_go(has_started=False)
-            self.refuse(str(problem), None if may_pass(problem) else identity)
+            if not isinstance(problem, (*OF_FILE, OSError)):
+                raise
+            self.refuse(unserved(problem), None if may_pass(problem) else identity)
             return
         if self.shape is not None and version.shape != self.shape:
             version.retire()
@@ -364,16 +384,22 @@ class Network:
 async def watch(networks: list[Network], pause: float, each_second: Callable[[], Awaitable[None]]) -> None:
     """Looks at the files' places, the children and, once a second, at whatever else must be looked at, for ever."""
     loop = asyncio.get_running_loop()
-    last = loop.time()
+    last, said = loop.time(), ""
     loads: set[asyncio.Task[None]] = set()
     while True:
         await asyncio.sleep(pause)
         now = loop.time()
-        for network in networks:
-            network.current.look(now)
-            if network.has_changed() and not network.turn.locked():
-                loads.add(task := loop.create_task(network.load()))
-                task.add_done_callback(loads.discard)
-        if now - last >= 1:
-            last = now
-            await each_second()
+        try:
+            for network in networks:
+                network.current.look(now)
+                if network.has_changed() and not network.turn.locked():
+                    loads.add(task := loop.create_task(network.load()))
+                    task.add_done_callback(loads.discard)
+            if now - last >= 1:
+                last = now
+                await each_second()
+        except Exception as problem:
+            # Whoever looks after all else must go on; what fails again and again is told once.
+            if traced(problem) != said:
+                said = traced(problem)
+                tell(f"an error that should not be: {said}")

@@ -28,7 +28,8 @@ from catchup.service.osrm.paths import Osrm
 from catchup.service.protocol import Crowd, Headers
 from catchup.service.reads import Tables
 from catchup.service.streets import Streets
-from catchup.service.telling import say, tell
+from catchup.service.telling import say, tell, traced
+from catchup.service.threads import Threads
 from catchup.service.versions import AGAIN_SECONDS, Kept, Network, watch
 
 if TYPE_CHECKING:
@@ -82,6 +83,7 @@ class Worker:
 
     async def start(self) -> None:
         """Opens the files, waiting for one that can be served, and begins to look at them."""
+        asyncio.get_running_loop().set_default_executor(Threads(thread_name_prefix="work"))
         for network in self.networks:
             await network.open()
             while not hasattr(network, "current"):
@@ -137,7 +139,7 @@ class Worker:
         self.tasks.discard(task)
         problem = None if task.cancelled() else task.exception()
         if problem is not None and not isinstance(problem, (Refusal, Refused)):
-            tell(f"an error that should not be: {said_of(problem)}")
+            tell(f"an error that should not be: {traced(problem)}")
 
     def network(self, profile: str | None) -> Network:
         """The network of a profile's name, the first where none is said."""
@@ -179,12 +181,3 @@ def worker_of(request: Request) -> Worker:
     """The worker that answers a request."""
     found: Worker = request.app.state.worker
     return found
-
-
-def said_of(problem: BaseException) -> str:
-    """An error of the service's own in one line, with where it came from."""
-    at, trace = "", problem.__traceback__
-    while trace is not None:
-        at = f" at {Path(trace.tb_frame.f_code.co_filename).name}:{trace.tb_lineno}"
-        trace = trace.tb_next
-    return f"{type(problem).__name__}: {' '.join(str(problem).split())[:300]}{at}"
