@@ -33,6 +33,7 @@ def command(how):
     if how == "refused": raise errors.Refused("node")
     if how == "bug": raise RuntimeError("bug")
     if how == "memory": raise MemoryError
+    if how == "library": raise ImportError("libsqlite3.so.0: failed to map segment from shared object")
     if how == "module": import no_such.thing
     if how == "own module": import catchup.no_such
     if how == "own name": from catchup.clock import no_such
@@ -70,7 +71,8 @@ ENDS = [
     (["failure"], 1, "try-it: nothing is there\n"),
     (["status"], 7, "try-it: own\n"),
     (["refused"], 1, "try-it: the program refused the line: node (docs/FORMATS.md has the checks of each line)\n"),
-    (["memory"], 1, "try-it: out of memory: free some, or give it a smaller input\n"),
+    (["memory"], 1, "try-it: out of memory: free some, allow it more (ulimit -v), or give it a smaller input\n"),
+    (["library"], 1, "try-it: out of memory: free some, allow it more (ulimit -v), or give it a smaller input\n"),
     (
         ["module"],
         1,

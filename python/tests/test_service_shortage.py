@@ -23,7 +23,7 @@ from typing import Any
 import httpx
 import pytest
 from conftest import build
-from serving import Service, digest_of, left_in, wait_for
+from serving import HTTP, SECONDS, Service, digest_of, left_in, wait_for
 
 from catchup.errors import is_short
 from catchup.program import run_program
@@ -170,6 +170,16 @@ def test_catchup_edit_without_memory_is_told(file: Path, program: Path, tmp_path
         assert service.get("/route?from=5&to=151&depart=0")["version"] == digest_of(file)
     assert file.read_bytes() == before and entries_of(file) == []
     check_kept(file)
+
+
+def test_a_start_without_memory_is_told_in_one_line(file: Path) -> None:
+    """Wherever it runs out while modules load."""
+    for room in range(24_000, 52_000, 3_000):
+        done = subprocess.run(["bash", "-c", f'ulimit -v {room}; exec "$0" "$@"', HTTP, "--port", "0", file],
+                              capture_output=True, text=True, timeout=SECONDS, check=False)
+        assert (done.returncode, done.stdout) == (1, ""), (room, done)
+        assert done.stderr.startswith("catchup-http: ") and done.stderr.count("\n") == 1, (room, done)
+        assert "memory" in done.stderr or "ulimit" in done.stderr, (room, done)
 
 
 # ---- the service is killed ----

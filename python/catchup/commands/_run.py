@@ -12,7 +12,7 @@ from typing import NoReturn
 import click
 
 from catchup import __version__
-from catchup.errors import CatchupError, Failure
+from catchup.errors import CatchupError, Failure, is_short
 
 WRONG_WORDS = 2
 INTERRUPTED = 130
@@ -80,18 +80,11 @@ def _status_of(command: click.Command, name: str) -> int:
     except BrokenPipeError:
         _leave_output()
         return CLOSED_PIPE
-    except ImportError as error:
-        return _said(name, _one_line(_unloaded(error)), 1)
     except OSError as error:
         _leave_output()
         return _said(name, _one_line(_told(error)), 1)
-    except MemoryError:
-        return _said(name, "out of memory: free some, or give it a smaller input", 1)
-    except RuntimeError as error:
-        # Python has no class of its own for it.
-        if str(error) != "can't start new thread":
-            raise
-        return _said(name, "no thread can be started: free some memory, or allow more processes (ulimit -u)", 1)
+    except (MemoryError, ImportError, RuntimeError, SystemError) as error:
+        return _said(name, _one_line(_unmade(error)), 1)
     return result if isinstance(result, int) else 0
 
 
@@ -119,6 +112,18 @@ def _end_again(told: sys.UnraisableHookArgs) -> None:
     number = signal.SIGINT if isinstance(ending, KeyboardInterrupt) else ending.number
     signal.signal(signal.SIGALRM, lambda *_: signal.raise_signal(number))
     signal.setitimer(signal.ITIMER_REAL, _AGAIN)
+
+
+def _unmade(error: MemoryError | ImportError | RuntimeError | SystemError) -> str:
+    """Whether memory is short, no thread can be started, or a module of others isn't there. Raises all else, which is our own
+    fault."""
+    if str(error) == "can't start new thread":
+        return "no thread can be started: free some memory, or allow more processes (ulimit -u)"
+    if is_short(error):
+        return "out of memory: free some, allow it more (ulimit -v), or give it a smaller input"
+    if isinstance(error, ImportError):
+        return _unloaded(error)
+    raise error
 
 
 def _unloaded(error: ImportError) -> str:
