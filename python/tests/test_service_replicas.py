@@ -18,6 +18,8 @@ import httpx
 import pytest
 from serving import HTTP, SECONDS, Watch, client_of, digest_of, free_ports, left_in, wait_for
 
+from catchup.service.jobs import Jobs
+
 pytest.importorskip("redis", reason="python3-redis isn't installed")
 
 SITE = """
@@ -231,6 +233,39 @@ def edited(town: Path, folder: Path) -> bytes:
     edits.write_text("s,1,0,travel,4321\n")
     assert run_program(["edit", town, edits, out]).status == 0
     return out.read_bytes()
+
+
+def test_an_entry_that_cannot_be_made_yet_keeps_nobody_waiting(room: Path, town: Path, program: Path) -> None:
+    """Here `catchup edit` ends as where it finds no memory, for a while, on one of two replicas. Whoever asks learns it, the job isn't
+    over, and it is made as soon as that can be; one that never came into the stream is ended."""
+    short, wrapper = room / "short", room / "wrapper"
+    wrapper.write_text(f'#!/bin/sh\nif [ "$1" = edit ] && [ -e {short} ]; then exit 9; fi\nexec {program} "$@"\n')
+    wrapper.chmod(0o755)
+    redis_port, port, other_port = free_ports(3)
+    redis = start_redis(room, redis_port)
+    other, other_path = start_replica(room, town, "east", redis_port, other_port)
+    with pytest.MonkeyPatch.context() as changed:
+        changed.setenv("CATCHUP", str(wrapper))
+        running, path = start_replica(room, town, "west", redis_port, port)
+    try:
+        with client_of(port) as client:
+            assert wait_for(lambda: edit(port, 700), bool)
+            never = Jobs(path).add("never")
+            short.touch()
+            reply = client.post("/edits", content="s,0,0,travel,701")
+            assert reply.status_code == 503 and reply.json()["error"].endswith("can't be made here yet: no memory")
+            assert client.get("/health").json()["late"] == "no memory"
+            assert wait_for(lambda: digest_of(other_path) != digest_of(path), bool)
+            job = client.get("/edits").json()["jobs"][0]
+            assert job["state"] == "working", job
+            short.unlink()
+            assert wait_for(lambda: client.get(f"/edits/{job['job']}").json()["state"], lambda state: state == "done")
+            assert wait_for(lambda: client.get("/health").json()["log"], lambda said: said == "ok") == "ok"
+            assert wait_for(lambda: client.get(f"/edits/{never.id}").json()["state"], lambda state: state == "ended")
+            assert digest_of(other_path) == digest_of(path)
+    finally:
+        for each in (running, other, redis):
+            each.kill()
 
 
 def test_a_stream_that_is_none(town: Path) -> None:

@@ -111,9 +111,10 @@ class Replies:
 class Editor:
     """Makes the edits of one served file that come to this worker, one after the other."""
 
-    def __init__(self, network: Network, program: str) -> None:
+    def __init__(self, network: Network, program: str, *, is_of_stream: bool = False) -> None:
         self.network = network
         self.program = program
+        self.is_of_stream = is_of_stream
         self.jobs = Jobs(network.path)
         self.turn = asyncio.Lock()
         self.works: dict[str, Work] = {}
@@ -127,11 +128,15 @@ class Editor:
         try:
             if try_lock(folder):
                 await asyncio.to_thread(mend, self.jobs)
-                await asyncio.to_thread(recover, self.network.path, self.jobs)
+                await self.recover()
         except Exception as problem:
             tell(f"{self.network.path.parent} can't be looked through: {problem or traced(problem)}")
         finally:
             os.close(folder)
+
+    async def recover(self) -> None:
+        """Takes away what killed services left. The folder is locked."""
+        await asyncio.to_thread(recover, self.network.path, self.jobs, is_of_stream=self.is_of_stream)
 
     def cancel_all(self, why: Refusal) -> None:
         """Ends all that is in work here."""
@@ -230,7 +235,7 @@ class Editor:
         if self.network.refused is not None:
             raise Refusal(503, f"the file that was put in place isn't served: {self.network.refused}",
                           hint="put a file of this network in its place")
-        await asyncio.to_thread(recover, path, self.jobs)
+        await self.recover()
         await self.begin(work)
         source = os.open(path, os.O_RDONLY | os.O_CLOEXEC)
         following = next_of(path, work.spool.name)

@@ -4,7 +4,6 @@ from __future__ import annotations
 
 import asyncio
 import contextlib
-import os
 import sqlite3
 from collections.abc import Iterator
 from pathlib import Path
@@ -21,7 +20,7 @@ from catchup.service.errors import Refusal, told_briefly
 from catchup.service.jobs import ENDED, Job, is_damaged, new_name
 from catchup.service.limits import CANCEL_SECONDS, LARGE_BODY, LONGEST_JSON, LONGEST_LINES, MOST_WAITING
 from catchup.service.roadedits import Edit, edits_of
-from catchup.service.spool import EDITS, Spool
+from catchup.service.spool import Spool, is_left, left_of
 from catchup.service.streets import Streets
 from catchup.service.words import take
 from catchup.service.worker import Worker, worker_of
@@ -160,15 +159,10 @@ async def list_edits(request: Request) -> Response:
     network = worker.network(asked.get("profile"))
     editor = worker.editors[network]
     with read_jobs():
-        if any(is_left(editor, job) for job in await asyncio.to_thread(editor.jobs.active)):
+        if await asyncio.to_thread(left_of, editor.network.path, editor.jobs):
             await editor.start()
         jobs = await asyncio.to_thread(editor.jobs.told)
     return answer({}, network.current.name, raw=("jobs", jobs))
-
-
-def is_left(editor: Editor, job: Job) -> bool:
-    """Whether nobody works at a job any more that isn't over: what became of it can be told."""
-    return not job.is_over and not os.path.exists(editor.network.path.with_name(EDITS + job.id))
 
 
 async def find_job(worker: Worker, name: str) -> tuple[Editor, Job]:
@@ -177,7 +171,8 @@ async def find_job(worker: Worker, name: str) -> tuple[Editor, Job]:
         job = await asyncio.to_thread(editor.jobs.find, name)
         if job is None:
             continue
-        if is_left(editor, job):
+        if is_left(editor.network.path, job):
+            # What became of it can be told.
             await editor.start()
             job = await asyncio.to_thread(editor.jobs.find, name) or job
         return editor, job

@@ -18,7 +18,7 @@ from typing import Any, Final
 from redis.asyncio import Redis
 from redis.exceptions import RedisError
 
-from catchup.errors import Failure
+from catchup.errors import Failure, is_short
 from catchup.service import journal, packed
 from catchup.service.editor import Editor, Made, Refused, Work
 from catchup.service.errors import Refusal
@@ -26,13 +26,15 @@ from catchup.service.jobs import ENDED, REFUSED, WAITING, Job, new_name
 from catchup.service.limits import LOG_SECONDS, LONGEST_LINES
 from catchup.service.process import try_lock
 from catchup.service.roadedits import edits_of_entry, entry_of
-from catchup.service.spool import Spool
-from catchup.service.telling import tell
+from catchup.service.spool import Spool, left_of, settle
+from catchup.service.telling import tell, traced
 from catchup.service.versions import Network
 
 ADDRESS: Final = re.compile(r"(rediss?://[^/]+/[0-9]+)/([A-Za-z0-9_.:-]{1,200})")
+FORESEEN: Final = RedisError, OSError, sqlite3.Error, Refusal, packed.NotPacked
 FIRST: Final = "0"                      # stands for the entry before the first
-AGAIN_SECONDS: Final = 0.5              # until another try where something failed
+AGAIN_SECONDS: Final = 0.5              # until another try where something failed, and twice as long each time,
+LONGEST_SECONDS: Final = 8.0            # up to so long
 BLOCK_MILLISECONDS: Final = 1_000       # for which an entry is waited for at once
 LOOK_SECONDS: Final = 0.03              # between two looks whether an entry is made
 SOCKET_SECONDS: Final = 4.0
@@ -69,7 +71,9 @@ class Log:
         # What all workers know: who takes the entries, what is wrong with the file, and that the server is off.
         room = folder or network.path.parent
         self.leader, self.trouble, self.off = room / "leader", room / "diverged", room / "unreached"
+        self.late = room / "late"       # and why an entry can't be made here yet
         self.said = ""                  # what was told last
+        self.pause = AGAIN_SECONDS
         self.position = FIRST           # the last entry that the file has
         self.digest = ""                # the file's digest at that entry
 
@@ -79,21 +83,16 @@ class Log:
         """Refuses edits where they can't be made."""
         if network is not self.network:
             raise Refusal(400, "the stream is of the first file alone")
-        if (said := self.diverged()) is not None:
+        if (said := read_note(self.trouble)) is not None:
             raise Refusal(503, said)
-
-    def diverged(self) -> str | None:
-        """What is said where this replica's file isn't that of the others."""
-        try:
-            return self.trouble.read_text()
-        except OSError:
-            return None
 
     def health(self) -> dict[str, object]:
         """What /health says of the stream."""
-        said = self.diverged()
+        said, late = read_note(self.trouble), read_note(self.late)
         if said is not None:
             return {"status": "diverged", "error": said}
+        if late is not None:
+            return {"log": "late", "late": late}
         return {"log": "unreachable" if self.off.exists() else "ok"}
 
     def note_reached(self, is_reached: bool) -> None:
@@ -139,10 +138,10 @@ class Log:
                 break
             if work.cancelled.is_set():
                 raise Refusal(503, "the edit is in the stream, and is made once the service is there again")
-            if (said := self.diverged()) is not None:
+            if (said := read_note(self.trouble)) is not None:
                 raise Refusal(503, f"the edit is in the stream, and isn't made here: {said}")
-            if loop.time() > last and self.off.exists():
-                raise Refusal(503, "the edit is in the stream, and is made once that can be reached again")
+            if loop.time() > last:
+                self.check_late()
             await asyncio.sleep(LOOK_SECONDS)
         await self.network.load()
         told: dict[str, Any] = job.told
@@ -153,6 +152,14 @@ class Log:
         if job.state == ENDED:
             raise Refusal(503, str(told["error"]))
         return Made(told["before"], told["version"], told["lines"])
+
+    def check_late(self) -> None:
+        """Refuses to wait any longer for an entry that can't be made now."""
+        if self.off.exists():
+            raise Refusal(503, "the edit is in the stream, and is made once that can be reached again")
+        if (said := read_note(self.late)) is not None:
+            raise Refusal(503, f"the edit is in the stream, and can't be made here yet: {said}",
+                          hint="it is tried again and again: don't send it once more")
 
     # ---- for the one who makes entries ----
 
@@ -171,12 +178,17 @@ class Log:
         """Takes the next entries; where something fails, it is tried again."""
         try:
             await self.find_place()
+            left = await asyncio.to_thread(left_of, self.network.path, self.editor.jobs)
             entries = await self.redis.xread({self.name: self.position}, count=16, block=BLOCK_MILLISECONDS)
             self.note_reached(True)
             for entry, fields in (entries[0][1] if entries else []):
                 await self.make_entry(entry.decode(), fields)
+            if left and not entries:
+                # They never came into the stream.
+                await asyncio.to_thread(settle, self.network.path, self.editor.jobs, left, self.digest)
             self.trouble.unlink(missing_ok=True)
-            self.said = ""
+            self.late.unlink(missing_ok=True)
+            self.said, self.pause = "", AGAIN_SECONDS
         except Diverged as diverged:
             self.tell_once(f"this replica has diverged: {diverged}")
             with contextlib.suppress(OSError):
@@ -185,13 +197,20 @@ class Log:
             await asyncio.sleep(AGAIN_SECONDS)
         except TimeoutError:
             pass
-        except (RedisError, OSError, sqlite3.Error, Refusal, packed.NotPacked) as problem:
-            is_off = isinstance(problem, RedisError)
-            self.note_reached(not is_off)
-            said = "the stream can't be reached" if is_off else "an entry of the stream can't be made yet"
-            self.tell_once(f"{said}: {said_of(problem)}")
+        except RedisError as problem:
+            self.note_reached(False)
+            self.tell_once(f"the stream can't be reached: {said_of(problem)}")
             self.digest = ""
             await asyncio.sleep(AGAIN_SECONDS)
+        except Exception as problem:
+            self.note_reached(True)
+            said = "no memory" if is_short(problem) else said_of(problem)
+            with contextlib.suppress(OSError):
+                self.late.write_text(said)
+            self.tell_once(f"an entry of the stream can't be made yet: {said}")
+            self.digest = ""
+            await asyncio.sleep(self.pause)
+            self.pause = min(2 * self.pause, LONGEST_SECONDS)
 
     def tell_once(self, line: str) -> None:
         """Tells a line where it isn't the one that was told last: what fails is tried again and again."""
@@ -268,7 +287,17 @@ class Log:
             await self.redis.close()
 
 
+def read_note(path: Path) -> str | None:
+    """What the workers tell one another in a file; None where there is no such note."""
+    try:
+        return path.read_text() or "see what the service says on standard error"
+    except OSError:
+        return None
+
+
 def said_of(problem: BaseException) -> str:
-    """An error in one line."""
+    """An error in one line, one that nobody has foreseen with where it came from."""
+    if not isinstance(problem, FORESEEN):
+        return traced(problem)
     text = problem.error if isinstance(problem, Refusal) else str(problem)
     return " ".join(text.split())[:200] or type(problem).__name__

@@ -15,7 +15,7 @@ from typing import Final
 
 from catchup.service import journal, packed
 from catchup.service.errors import Refusal
-from catchup.service.jobs import DONE, ENDED, Jobs
+from catchup.service.jobs import DONE, ENDED, Job, Jobs
 from catchup.service.limits import LONGEST_LINE
 from catchup.service.process import try_lock
 
@@ -80,9 +80,9 @@ def next_of(path: Path, name: str) -> Path:
     return path.with_name(NEXT + name)
 
 
-def recover(path: Path, jobs: Jobs) -> None:
-    """Takes away what killed services left in a file's folder, and says what became of their jobs. For the holder of
-    the folder's lock alone."""
+def recover(path: Path, jobs: Jobs, *, is_of_stream: bool = False) -> None:
+    """Takes away what killed services left in a file's folder, and says what became of their jobs, but for those of a
+    stream, which may be made yet. For the holder of the folder's lock alone."""
     sweep(path)
     try:
         digest = packed.digest_of(str(path))
@@ -90,7 +90,8 @@ def recover(path: Path, jobs: Jobs) -> None:
         # Of a file that can't be served nobody knows which edits made it.
         return
     journal.drop_last_where_not(path, digest)
-    settle(path, jobs, digest)
+    if not is_of_stream:
+        settle(path, jobs, left_of(path, jobs), digest)
 
 
 def sweep(path: Path) -> None:
@@ -102,11 +103,19 @@ def sweep(path: Path) -> None:
             remove_unlocked(path.with_name(name))
 
 
-def settle(path: Path, jobs: Jobs, digest: str) -> None:
+def left_of(path: Path, jobs: Jobs) -> list[Job]:
+    """The jobs that aren't over, and at which nobody works any more."""
+    return [job for job in jobs.active() if is_left(path, job)]
+
+
+def is_left(path: Path, job: Job) -> bool:
+    """Whether nobody works at a job any more that isn't over."""
+    return not job.is_over and not path.with_name(EDITS + job.id).exists()
+
+
+def settle(path: Path, jobs: Jobs, left: list[Job], digest: str) -> None:
     """Says what became of jobs whose process is gone."""
-    for job in jobs.active():
-        if path.with_name(EDITS + job.id).exists():
-            continue
+    for job in left:
         made = job.after is not None and (job.after == digest or any(
             entry.after == job.after for entry in journal.entries(path)))
         if made and job.after is not None:

@@ -72,7 +72,9 @@ class Worker:
         self.unnamed = self.by_name.get(None)
         self.drawn = {network: shared.drawn[network.path] for network in self.networks if network.path in shared.drawn}
         self.streets = {network: shared.streets.get(network.path, Streets()) for network in self.networks}
-        self.editors = {network: Editor(network, self.program) for network in self.networks}
+        self.editors = {
+            network: Editor(network, self.program, is_of_stream=options.log is not None and network is self.networks[0])
+            for network in self.networks}
         self.crowd = Crowd(shared.most, self.error, self.metrics.told, say if options.has_access_log else None)
         self.acceptors: list[Acceptor] = []
         self.tables = Tables()
