@@ -2,6 +2,7 @@
 
 from __future__ import annotations
 
+import gzip
 import re
 import socket
 import time
@@ -135,3 +136,13 @@ def test_a_body_of_many_pieces_is_taken_whole(service: Service) -> None:
     assert len(body) > 1 << 21
     told = service.client.post("/edits", content=body)
     assert (told.status_code, told.json()["count"]) == (400, 200_000)
+
+
+def test_a_packed_body_is_told_as_one(town: Path, tmp_path: Path) -> None:
+    path = tmp_path / "town.cu"
+    path.write_bytes(town.read_bytes())
+    with Service(path) as service:
+        for coding, body in (("gzip", gzip.compress(b"a,3,1")), ("Deflate", b"a,3,1"), ("identity, br", b"a,3,1")):
+            status, told = service.ask("/edits", "POST", body, content_encoding=coding)
+            assert (status, told["error"]) == (400, "a body is sent as it is, without Content-Encoding")
+        assert service.ask("/edits", "POST", b"a,3,1", content_encoding="Identity")[0] == 200

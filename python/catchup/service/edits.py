@@ -43,10 +43,17 @@ def is_json(request: Request) -> bool:
     return request.headers.get("content-type", "").partition(";")[0].strip().lower() == "application/json"
 
 
+def check_coding(request: Request) -> None:
+    """Refuses a body that is packed, whose lines would be told as wrong ones."""
+    if request.headers.get("content-encoding", "").strip().lower() not in ("", "identity"):
+        raise Refusal(400, "a body is sent as it is, without Content-Encoding")
+
+
 @router.post("/edits", **openapi.POST_EDITS)
 async def post_edits(request: Request) -> Response:
     """Makes a batch of edits: all of them, or none."""
     asked = take(request.scope["query_string"], {}, {"wait": wait_of})
+    check_coding(request)
     worker = worker_of(request)
     network = worker.network(asked.get("profile"))
     editor = worker.editors[network]
