@@ -515,6 +515,22 @@ def test_at_the_end_an_edit_that_is_not_ready_is_ended(file: Path, slow: Path) -
     assert file.read_bytes() == before and left_in(file.parent) == []
 
 
+def test_at_a_reload_nobody_is_told_that_the_service_ends(file: Path, slow: Path) -> None:
+    """An edit that isn't ready by then is ended as at the end, and the service stays well."""
+    with Service(file, workers=2, CATCHUP=str(slow)) as service, ThreadPoolExecutor(1) as pool:
+        waiting = pool.submit(Service.once, service, LINE)
+        assert wait_for(lambda: edits_in_work(service))
+        service.process.send_signal(signal.SIGHUP)
+        found = []
+        while not waiting.done():
+            with service.client_of() as client:
+                found.append(client.get("/health").status_code)
+        assert {*found} == {200}
+        status, told = waiting.result()
+        assert status == 503 and "the service is reloaded, and the edit wasn't ready" in told["error"]
+        assert wait_for(lambda: left_in(file.parent), lambda left: not left) == []
+
+
 # ---- the journal ----
 
 

@@ -50,6 +50,10 @@ class Asked:
         """The service ends."""
         self.cells[SLOTS] = 1
 
+    def is_over(self) -> bool:
+        """Whether the service ends, and not one worker alone."""
+        return bool(self.cells[SLOTS])
+
     def begin(self, slot: int) -> None:
         """Another worker has the slot."""
         self.cells[slot] = 0

@@ -138,7 +138,8 @@ class DrainingServer(Server):  # type: ignore[misc]
     async def shutdown(self, sockets: list[socket.socket] | None = None) -> None:
         """Takes no more connections, answers what is in work, and ends what isn't ready in time."""
         worker, began = self.worker, asyncio.get_running_loop().time()
-        worker.is_ending = worker.crowd.is_ending = True
+        # At a reload others serve on.
+        worker.is_ending, worker.crowd.is_ending = Setting.asked.is_over(), True
         if not HAS_GUNICORN:
             for listener in sockets or ():
                 let_nobody_connect(listener)
@@ -148,6 +149,7 @@ class DrainingServer(Server):  # type: ignore[misc]
         await self.wait(self.has_clients, began + GRACE_SECONDS)
         worker.crowd.end()
         await self.wait(self.is_busy, began + DRAIN_SECONDS)
+        worker.is_ending = Setting.asked.is_over()
         worker.end_edits()
         # Whoever still waits for a child learns that it gets no answer.
         worker.end_children()

@@ -81,7 +81,7 @@ class Worker:
         self.osrm = Osrm(self.placed, options.now, self.version)
         self.log: Log | None = None
         self.tasks: set[asyncio.Task[Any]] = set()
-        self.is_ending = False
+        self.is_ending = False          # with the whole service
 
     async def start(self) -> None:
         """Opens the files, waiting for one that can be served, and begins to look at them."""
@@ -112,9 +112,10 @@ class Worker:
             not child.gone.is_set() for version in versions for child in (version.quick, version.slow)))
 
     def end_edits(self) -> None:
-        """The service ends and can't wait longer for edits."""
+        """The service ends, or this worker alone, and can't wait longer for edits."""
+        why = "the service ends" if self.is_ending else "the service is reloaded"
         for editor in self.editors.values():
-            editor.cancel_all(Refusal(503, "the service ends, and the edit wasn't ready: nothing has changed"))
+            editor.cancel_all(Refusal(503, f"{why}, and the edit wasn't ready: nothing has changed"))
 
     async def end(self) -> None:
         """Ends all that it has begun."""
