@@ -15,7 +15,7 @@ import stat
 import subprocess
 import sys
 import threading
-from collections.abc import Callable, Iterator
+from collections.abc import Callable, Iterator, Sequence
 from pathlib import Path
 from types import SimpleNamespace
 from typing import Any
@@ -49,22 +49,13 @@ exec {program} "$@"
 """
 
 
-@pytest.fixture(scope="module")
-def grid(program: Path, tmp_path_factory: pytest.TempPathFactory) -> Path:
-    """A packed file of 1,600 junctions. Tests don't write it."""
-    folder = tmp_path_factory.mktemp("grid")
-    names = [folder / name for name in ("nodes.csv", "roads.csv", "profiles.csv")]
-    assert run_program(["make", "5", "40", "40", *names]).status == 0
-    return build(folder, folder / "grid.cu")
-
-
 @pytest.fixture
-def file(grid: Path, tmp_path: Path) -> Path:
-    """The same of a test's own, in a folder with nothing else."""
+def file(town: Path, tmp_path: Path) -> Path:
+    """A packed file of a test's own, in a folder with nothing else."""
     folder = tmp_path / "served"
     folder.mkdir()
-    path = folder / "grid.cu"
-    path.write_bytes(grid.read_bytes())
+    path = folder / "town.cu"
+    path.write_bytes(town.read_bytes())
     return path
 
 
@@ -122,7 +113,7 @@ def try_edit(service: Service, body: str, kind: str, before: str) -> int:
     return reply.status_code
 
 
-def check_shortage(path: Path, kind: int, rooms: list[int], size: Callable[[int], int]) -> None:
+def check_shortage(path: Path, kind: int, rooms: Sequence[int], size: Callable[[int], int]) -> None:
     """Has edits come to a worker that gets no more than so much, from nothing to plenty."""
     found = []
     with Service(path) as service:
@@ -160,7 +151,11 @@ def wrapped(program: Path, folder: Path, first: str) -> Path:
     return path
 
 
-def test_catchup_edit_without_memory_is_told(file: Path, program: Path, tmp_path: Path) -> None:
+def test_catchup_edit_without_memory_is_told(program: Path, tmp_path: Path) -> None:
+    names = [tmp_path / name for name in ("nodes.csv", "roads.csv", "profiles.csv")]
+    assert run_program(["make", "5", "40", "40", *names]).status == 0
+    (tmp_path / "served").mkdir()
+    file = build(tmp_path, tmp_path / "served" / "grid.cu")
     before = file.read_bytes()
     with Service(file, CATCHUP=str(wrapped(program, tmp_path, "ulimit -v 12000"))) as service:
         for body, kind in ((LINES, "text/plain"), (NAMED, JSON)):
