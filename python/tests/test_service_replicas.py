@@ -236,8 +236,8 @@ def edited(town: Path, folder: Path) -> bytes:
 
 
 def test_an_entry_that_cannot_be_made_yet_keeps_nobody_waiting(room: Path, town: Path, program: Path) -> None:
-    """Here `catchup edit` ends as where it finds no memory, for a while, on one of two replicas. Whoever asks learns it, the job isn't
-    over, and it is made as soon as that can be; one that never came into the stream is ended."""
+    """Here `catchup edit` ends as where it finds no memory, for a while, on one of two replicas. Whoever asks learns it,
+    the job isn't over, and it is made as soon as that can be; one that never came into the stream is ended."""
     short, wrapper = room / "short", room / "wrapper"
     wrapper.write_text(f'#!/bin/sh\nif [ "$1" = edit ] && [ -e {short} ]; then exit 9; fi\nexec {program} "$@"\n')
     wrapper.chmod(0o755)
