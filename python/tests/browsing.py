@@ -9,6 +9,8 @@ from pathlib import Path
 from typing import Any
 
 import pytest
+from commands import call
+from conftest import EXAMPLES
 from serving import SECONDS, Service, wait_for
 
 LAPTOP = 1280, 800
@@ -49,6 +51,13 @@ def start_chromium(room: Path, *words: str) -> Any:
             driver.set_page_load_timeout(SECONDS)
             driver.set_script_timeout(SECONDS)
             return driver
+
+
+def import_village(folder: Path) -> Path:
+    """Imports the village's map into a folder, with rush hours and profiles to spare, and builds it."""
+    ran = call("catchup-import", "osm", EXAMPLES / "village" / "village.osm", folder, "--build", "--rush", "--spare", "8")
+    assert ran.status == 0, ran
+    return folder
 
 
 class Browser:
@@ -112,6 +121,35 @@ class Browser:
         x, y = self.run(SPOT, lon, lat)
         self.mouse("mousePressed", x, y, button="left", clickCount=1)
         self.mouse("mouseReleased", x, y, button="left", clickCount=1)
+
+    def press(self, *keys: str, shift: bool = False) -> None:
+        """Presses keys, one behind another, in whatever has the focus."""
+        from selenium.webdriver.common.action_chains import ActionChains
+        from selenium.webdriver.common.keys import Keys
+
+        steps = ActionChains(self.driver, duration=0)
+        if shift:
+            steps.key_down(Keys.SHIFT)
+        for key in keys:
+            steps.send_keys(key)
+        if shift:
+            steps.key_up(Keys.SHIFT)
+        steps.perform()
+
+    def tab_to(self, wanted: str, *, back: bool = False) -> None:
+        """Goes on by the key of tabulation until an element has the focus that some selector of CSS names."""
+        from selenium.webdriver.common.keys import Keys
+
+        for _ in range(80):
+            self.press(Keys.TAB, shift=back)
+            if self.run("return document.activeElement.matches(arguments[0])", wanted):
+                return
+        raise AssertionError(f"no tabulation leads to {wanted}")
+
+    def focused(self) -> str:
+        """What has the focus: its id, else what it says or is called."""
+        return str(self.run("const found = document.activeElement;"
+                            "return found.id || found.getAttribute('aria-label') || found.innerText || found.tagName"))
 
     def drag(self, start: tuple[int, int], end: tuple[int, int]) -> None:
         """Drags from one pixel to another."""

@@ -6,6 +6,7 @@ import { Day } from "./day.js";
 import { Dock } from "./dock.js";
 import { at } from "./dom.js";
 import { Follower } from "./follow.js";
+import { Middle } from "./middle.js";
 import { onTheme, slow } from "./palette.js";
 import { Places } from "./places.js";
 import { Reach } from "./reach.js";
@@ -35,7 +36,9 @@ export class Page {
     this.reach = new Reach(this.chart, (bands, styles) => this.paint(bands, styles));
     this.places = new Places(this.chart, notice);
     const click = this.chart.onClick;
-    this.chart.onClick = (spot, event) => (state.mode === "traffic" ? this.traffic.click(spot) : click(spot, event));
+    this.chart.onClick = (spot, event) => (
+      state.mode === "traffic" ? this.traffic.click(spot, event) : click(spot, event));
+    this.middle = new Middle(this.chart);
     this.chart.onPoint = (street, spot) => this.point(street, spot);
     this.follower = new Follower(version => this.changed(version));
     // What was chosen while the service was gone has no answer yet.

@@ -56,6 +56,12 @@ export class Chart {
     attribution.addAttribution('<a href="https://leafletjs.com">Leaflet</a>');
     attribution.addTo(this.map);
     if (!setting.map.is_plane) L.control.scale({ position: "bottomleft", imperial: false }).addTo(this.map);
+    // Leaflet's buttons are links, which the space bar doesn't press.
+    this.map.getContainer().addEventListener("keydown", event => {
+      if (event.key !== " " || !event.target.matches("a[role=button]")) return;
+      event.preventDefault();
+      event.target.click();
+    });
   }
 
   // Shows the whole network, or some bounds; until somebody moves the map, it shows them whatever its size becomes.

@@ -8,6 +8,10 @@ import { ask, newest } from "./service.js";
 import { change, isWhole, onChange, state } from "./state.js";
 
 const MARGIN = { left: 76, right: 16, top: 10, bottom: 30 };
+// Seconds by which keys change the departure.
+const STEPS = {
+  ArrowLeft: -300, ArrowDown: -300, ArrowRight: 300, ArrowUp: 300, PageUp: 3600, PageDown: -3600,
+};
 const FONT = "12px system-ui, 'DejaVu Sans', sans-serif";
 
 export class Day {
@@ -72,7 +76,19 @@ export class Day {
     const first = times.slice(0, 4).join(", ") + (times.length > 4 ? " …" : "");
     const others = times.length ? ` Another route takes over at ${first}.` : "";
     at("day-said").textContent = both + others;
-    this.canvas.setAttribute("aria-label", `Travel time by departure. ${both}${others}`);
+    this.canvas.setAttribute("aria-label", `Departure, by travel time. ${both}${others}`);
+  }
+
+  // What the curve says as a slider: a departure, and how long the drive takes then.
+  tellValue() {
+    const second = this.second();
+    this.canvas.setAttribute("aria-valuenow", String(second));
+    this.canvas.setAttribute("aria-valuetext", `${minute(second)}, ${span(this.curve.travels[second])}`);
+  }
+
+  // The second of the day at which one departs.
+  second() {
+    return Math.min(Math.max(Math.round(this.depart ?? state.time), 0), DAY - 1);
   }
 
   // ---- drawing ----
@@ -91,6 +107,7 @@ export class Day {
     const view = { pen, right, bottom, width: box.width, x };
     this.drawAxis(view);
     if (!this.curve) return;
+    this.tellValue();
     this.scale(view);
     this.drawRush(view);
     this.drawTimes(view);
@@ -183,7 +200,7 @@ export class Day {
 
   drawMark({ pen, x, y, bottom, right }) {
     if (this.depart === null) return;
-    const second = Math.min(Math.max(Math.round(this.depart), 0), DAY - 1), at = x(second);
+    const second = this.second(), at = x(second);
     const travel = this.curve.travels[second];
     pen.strokeStyle = pen.fillStyle = colours().mark;
     pen.beginPath();
@@ -218,10 +235,10 @@ export class Day {
     });
     this.canvas.addEventListener("pointermove", event => { if (event.buttons) pick(event); });
     this.canvas.addEventListener("keydown", event => {
-      const step = { ArrowLeft: -300, ArrowRight: 300, PageUp: 3600, PageDown: -3600 }[event.key];
-      if (!step) return;
+      const step = STEPS[event.key], end = { Home: 0, End: DAY - 60 }[event.key];
+      if (!step && end === undefined) return;
       event.preventDefault();
-      change({ by: "depart", time: (Math.round((this.depart ?? state.time) / 60) * 60 + step + DAY) % DAY });
+      change({ by: "depart", time: end ?? (Math.round(this.second() / 60) * 60 + step + DAY) % DAY });
     });
   }
 }

@@ -25,6 +25,9 @@ export function legend(element, rows) {
     className: kind ?? "", style: kind ? { borderTopColor: colour } : { background: colour } }), text)));
 }
 
+// Whether a button was pressed by a key: a click that no mouse has counted.
+export const isByKeys = click => click.detail === 0;
+
 // What is wrong, with what to do.
 export function wrong(problem) {
   const hint = problem.hint ? make("small", {}, problem.hint) : null;

@@ -17,6 +17,11 @@ function listen() {
     change({ mode });
     at(`tab-${mode}`).focus();
   };
+  // The page's address keeps what is shown, so it can't name a part of the page.
+  document.querySelector(".skip").onclick = event => {
+    event.preventDefault();
+    at("panel").focus();
+  };
   at("theme").onclick = toggleTheme;
   at("profile").onchange = event => change({ profile: event.target.value });
 }

@@ -1,23 +1,15 @@
-// The places of a route: fields in the panel, and markers on the map that can be dragged.
+// The places of a route: fields in the panel, and pins on the map.
 
-import { at, fill, make } from "./dom.js";
+import { at, fill, isByKeys, make } from "./dom.js";
 import { Finder } from "./finder.js";
+import { openMenu } from "./menu.js";
+import { kindOf, letterOf, Pins } from "./pins.js";
 import { ask, newest, Problem } from "./service.js";
+import { speak } from "./speak.js";
 import { change, onChange, state } from "./state.js";
-import { latLng, worldOf } from "./world.js";
+import { worldOf } from "./world.js";
 
-const { L } = window;
-
-function kindOf(index, places) {
-  return index === 0 ? "first" : index === places.length - 1 ? "last" : "via";
-}
-
-function letterOf(index, places) {
-  return index === 0 ? "A" : index === places.length - 1 ? "B" : String(index);
-}
-
-const SAID = { first: "From: street or number", last: "To", via: "Stop" };
-const TITLES = { first: "Where the route begins", last: "Where the route ends", via: "A stop on the way" };
+const SAID = { first: "From: street or number", last: "To" };
 
 // What a field shows of a place.
 export function nameOf(place) {
@@ -30,19 +22,32 @@ export function set(index, place) {
   change({ places });
 }
 
+// A place as it is told: From, To, Stop 1.
+function roleOf(index, places) {
+  const kind = kindOf(index, places);
+  return kind === "first" ? "From" : kind === "last" ? "To" : `Stop ${index}`;
+}
+
 export class Places {
   constructor(chart, notice) {
     this.chart = chart;
     this.notice = notice;
-    this.markers = [];
+    this.pins = new Pins(chart, {
+      find: spot => this.find(spot),
+      onPlace: (index, place) => this.put(index, place),
+      onRemove: index => this.remove(index),
+    });
     this.fields = [];
+    this.asked = new Map();     // spots that were chosen, by index, whose places are on their way
     this.resolve = newest(() => this.resolveAll());
     chart.onClick = (place, event) => this.click(place, event);
-    at("add").onclick = () => change({ places: [...state.places.slice(0, -1), null, state.places.at(-1)] });
+    at("add").onclick = event => this.add(event);
     at("swap").onclick = () => change({ places: [...state.places].reverse() });
-    at("clear").onclick = () => change({ places: [null, null] });
+    at("clear").onclick = event => this.clear(event);
     onChange(names => {
       if (names.includes("places") || names.includes("mode")) this.show();
+      // What it offers is of a route.
+      if (names.includes("mode")) chart.map.closePopup();
       if (names.includes("places")) this.resolve();
     });
     this.show();
@@ -64,7 +69,19 @@ export class Places {
       letter.textContent = letterOf(index, state.places);
     });
     at("swap").disabled = at("clear").disabled = !state.places.some(Boolean);
-    this.showMarkers(state.mode === "traffic" ? [] : shown);
+    this.pins.show(state.mode === "traffic" ? [] : shown);
+  }
+
+  // Fields that come and go leave the focus to their neighbours, for whoever uses keys.
+  add(event) {
+    change({ places: [...state.places.slice(0, -1), null, state.places.at(-1)] });
+    if (isByKeys(event)) this.fields.at(-2).finder.input.focus();
+  }
+
+  clear(event) {
+    this.asked.clear();
+    change({ places: [null, null] });
+    if (isByKeys(event)) this.fields[0].finder.input.focus();
   }
 
   build(list, shown) {
@@ -75,78 +92,73 @@ export class Places {
   }
 
   field(index, kind) {
-    const finder = new Finder(SAID[kind], () => this.middle(), place => set(index, place));
+    const label = SAID[kind] ?? `Stop ${index}`;
+    const finder = new Finder(label, () => this.middle(), place => set(index, place));
     finder.onLeave = () => finder.set(nameOf(state.places[index]));
     const letter = make("span", { "aria-hidden": "true" });
     const title = kind === "via" ? "Take this stop out" : "Clear this place";
     const remove = make("button", { title, "aria-label": title }, "×");
-    remove.onclick = () => {
-      if (kind === "via") change({ places: state.places.filter((_, other) => other !== index) });
-      else set(index, null);
+    remove.onclick = event => {
+      this.remove(index);
+      if (isByKeys(event)) this.fields[index].finder.input.focus();
     };
     return { finder, letter, row: make("li", { className: "place" }, letter, finder.input, remove, finder.list) };
   }
 
-  showMarkers(places) {
-    const wanted = places.map(place => place && place.x !== null);
-    while (this.markers.length > places.length) this.markers.pop()?.remove();
-    places.forEach((place, index) => {
-      const kind = kindOf(index, state.places), letter = letterOf(index, state.places), key = kind + letter;
-      let marker = this.markers[index];
-      if (marker && (!wanted[index] || marker.key !== key)) {
-        marker.remove();
-        marker = this.markers[index] = undefined;
-      }
-      if (!wanted[index]) return;
-      const spot = latLng(place.x, place.y);
-      if (marker) marker.setLatLng(spot);
-      else this.markers[index] = this.marker(index, spot, kind, letter, key);
-    });
-  }
-
-  marker(index, spot, kind, letter, key) {
-    const icon = L.divIcon({ className: `pin ${kind}`, html: letter, iconSize: [26, 26] }), title = TITLES[kind];
-    const marker = L.marker(spot, { icon, draggable: true, title, alt: title, autoPan: true }).addTo(this.chart.map);
-    marker.key = key;
-    marker.on("dragend", () => {
-      this.droppedAt = performance.now();
-      this.take(index, marker.getLatLng());
-    });
-    return marker;
+  // Takes a stop out, or clears the start or the end.
+  remove(index) {
+    const role = roleOf(index, state.places);
+    this.asked.clear();
+    if (kindOf(index, state.places) === "via") change({ places: state.places.filter((_, other) => other !== index) });
+    else set(index, null);
+    speak(role.startsWith("Stop") ? `${role} is taken out.` : `${role}: nothing is chosen.`);
   }
 
   // The place of a click: the next that is missing, or the one that is chosen in a small list.
   click(spot, event) {
-    // A marker that was dropped beside the pointer makes a click of the map.
-    if (state.mode === "traffic" || performance.now() - (this.droppedAt ?? -Infinity) < 300) return;
+    // Of two clicks that zoom the second takes nothing.
+    if (state.mode === "traffic" || this.pins.isDropped() || event.originalEvent?.detail > 1) return;
     if (state.mode === "reach") { this.take(0, spot); return; }
-    const missing = state.places.indexOf(null);
+    const missing = state.places.findIndex((place, index) => place === null && !this.asked.has(index));
     if (missing >= 0 && event.type === "click") this.take(missing, spot);
-    else this.choose(spot);
+    else this.choose(spot, event.isByKeys);
   }
 
-  choose(spot) {
-    const popup = L.popup({ closeButton: true, minWidth: 150 }).setLatLng(spot);
-    const button = (text, call) => make("button", { onclick: () => { popup.remove(); call(); } }, text);
-    popup.setContent(make("div", { className: "buttons" },
-      button("From here", () => this.take(0, spot)),
-      button("Over here", () => {
+  choose(spot, isByKeys) {
+    openMenu(this.chart.map, spot, [
+      ["From here", () => this.take(0, spot)],
+      ["Over here", () => {
         change({ places: [...state.places.slice(0, -1), null, state.places.at(-1)] });
         this.take(state.places.length - 2, spot);
-      }),
-      button("To here", () => this.take(state.places.length - 1, spot))));
-    popup.openOn(this.chart.map);
+      }],
+      ["To here", () => this.take(state.places.length - 1, spot)],
+    ], isByKeys);
   }
 
-  // Takes a place of the map: where it meets a road, and what that is called.
   async take(index, spot) {
+    this.asked.set(index, spot);
+    const place = await this.find(spot);
+    // Another one was chosen meanwhile, or none.
+    if (this.asked.get(index) !== spot) return;
+    this.asked.delete(index);
+    this.put(index, place);
+  }
+
+  // The place at a spot of the map: where it meets a road, and what that is called; null where there is none.
+  async find(spot) {
     try {
       const { place: word, name, x, y } = await ask("/page/near", worldOf(spot));
-      set(index, { word, name, x, y });
+      return { word, name, x, y };
     } catch (problem) {
       this.notice.problem(problem);
-      this.show();
+      return null;
     }
+  }
+
+  put(index, place) {
+    if (!place) { this.show(); return; }
+    set(index, place);
+    speak(`${roleOf(index, state.places)}: ${nameOf(place)}.`);
   }
 
   // Looks up places that an address or a version before has named.

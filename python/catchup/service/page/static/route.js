@@ -15,6 +15,14 @@ export function routeWords() {
   return { from: words[0], to: words.at(-1), via: words.slice(1, -1).join(";"), [state.by]: clock(state.time) };
 }
 
+// What is to be chosen next.
+function toChoose() {
+  if (!state.places.some(Boolean)) return "Click on the map where the route begins, and then where it ends.";
+  const missing = state.places.indexOf(null);
+  if (missing === 0) return "Choose where the route begins.";
+  return missing < state.places.length - 1 ? `Choose stop ${missing}, or take it out.` : "Choose where the route ends.";
+}
+
 export class Route {
   constructor(chart, onFound) {
     this.chart = chart;
@@ -39,13 +47,15 @@ export class Route {
 
   async askOnce(words, isLast) {
     const slow = setTimeout(() => this.wait(), 400);
+    // Meanwhile a place may have been cleared, or something else is shown.
+    const isWanted = () => isLast() && this.key === JSON.stringify(words);
     try {
       const found = await ask("/page/route", words);
-      if (!isLast() || state.mode !== "route") return;
+      if (!isWanted()) return;
       this.take(found);
       this.show();
     } catch (problem) {
-      if (isLast() && problem.status) this.take(null, problem);
+      if (isWanted() && problem.status) this.take(null, problem);
     } finally {
       clearTimeout(slow);
       at("answer").removeAttribute("aria-busy");
@@ -54,6 +64,7 @@ export class Route {
 
   // What stands there is of what was asked before, or says what to choose.
   wait() {
+    if (!this.key) return;
     at("answer").setAttribute("aria-busy", "true");
     if (!this.found) fill(at("answer"), make("p", { className: "soft" }, "The route is being worked out …"));
   }
@@ -113,9 +124,7 @@ export class Route {
     at("downloads").hidden = at("slowness").hidden = !this.found;
     if (problem) return fill(at("answer"), wrong(problem));
     if (!found) {
-      const next = state.places.some(Boolean) ? "Choose where the route ends."
-        : "Click on the map where the route begins, and then where it ends.";
-      return fill(at("answer"), isWhole() ? null : make("p", { className: "soft" }, next));
+      return fill(at("answer"), isWhole() ? null : make("p", { className: "soft" }, toChoose()));
     }
     if (!this.found) return fill(at("answer"), wrong({ message: this.refusal(found.answer) }));
     this.tellFound(found);
@@ -135,12 +144,18 @@ export class Route {
       make("p", {}, `${clock(found.depart)} → ${clock(found.arrive)}, ${far}`),
       wait ? make("p", { className: "soft" }, `of which ${span(wait)} of waiting`) : null);
     this.tellDownloads();
-    const levels = new Set(found.legs.flatMap(leg => stretches(leg).map(part => part.level)));
-    at("slowness").hidden = levels.size < 2;
-    legend(at("slowness"), [...levels].sort().map(level => [along(level), level ? SLOW_WORDS[level] : "free flow"]));
+    this.tellSlowness(found);
     const rows = found.legs.map((leg, index) => [
       this.stop(found, index), ...streets(leg).map(street => this.row(leg, street))]);
     fill(at("streets"), rows.flat(), this.stop(found, found.legs.length));
+  }
+
+  tellSlowness(found) {
+    const levels = new Set(found.legs.flatMap(leg => stretches(leg).map(part => part.level)));
+    // Of those that share a colour the least slow one is told.
+    const words = new Map([...levels].sort().reverse().map(level => [along(level), SLOW_WORDS[level]]));
+    at("slowness").hidden = words.size < 2;
+    legend(at("slowness"), [...words].reverse());
   }
 
   tellDownloads() {
@@ -163,18 +178,13 @@ export class Route {
       ...street.waits.map(wait => make("span", { className: "wait" },
         `waits ${span(wait.until - wait.at)}, until ${clock(wait.until)}`)),
     ];
-    const row = make("li", { tabIndex: 0, title: "Show it on the map" }, told);
+    const row = make("button", { title: "Show it on the map" }, told);
     const spots = places(leg.line, street.from, street.to);
     const show = () => this.chart.map.fitBounds(L.latLngBounds(spots), { padding: [60, 60], maxZoom: 17 });
     row.onclick = show;
-    row.onkeydown = event => {
-      if (event.key !== "Enter" && event.key !== " ") return;
-      event.preventDefault();
-      show();
-    };
-    row.onmouseenter = () => this.highlight(spots);
-    row.onmouseleave = () => this.lit?.remove();
-    return row;
+    row.onmouseenter = row.onfocus = () => this.highlight(spots);
+    row.onmouseleave = row.onblur = () => this.lit?.remove();
+    return make("li", {}, row);
   }
 
   highlight(spots) {

@@ -42,6 +42,16 @@ class Tile {
     }
     return found;
   }
+
+  // Puts a street into `found` that is nearer to a point than the square of its `least`.
+  nearest(x, y, within, found) {
+    for (const i of this.inside(x - within, y - within, x + within, y + within)) {
+      for (let at = 2 * this.first[i]; at < 2 * this.first[i + 1] - 2; at += 2) {
+        const far = squareTo(x, y, this.places, at);
+        if (far < found.least) Object.assign(found, { least: far, street: this.street[i] });
+      }
+    }
+  }
 }
 
 export class Tiles {
@@ -86,18 +96,18 @@ export class Tiles {
     return Promise.all(asked);
   }
 
-  // The street next to a point of the world within some distance; -1 where there is none, or none is drawn yet.
+  // The street next to a point of the world within some distance, which may lie in another tile; -1 where there is none,
+  // or none is drawn yet.
   street(x, y, zoom, within) {
-    const level = this.level(zoom), shift = SIDE * 2 ** (ZOOM - level);
-    const { tile } = this.kept.get(`${level}/${Math.floor(x / shift)}/${Math.floor(y / shift)}`) ?? {};
-    let street = -1, least = within * within;
-    for (const i of tile?.inside(x - within, y - within, x + within, y + within) ?? []) {
-      for (let at = 2 * tile.first[i]; at < 2 * tile.first[i + 1] - 2; at += 2) {
-        const far = squareTo(x, y, tile.places, at);
-        if (far < least) { least = far; street = tile.street[i]; }
+    const level = this.level(zoom), shift = SIDE * 2 ** (ZOOM - level), found = { street: -1, least: within * within };
+    const [west, north, east, south] = [x - within, y - within, x + within, y + within]
+      .map(side => Math.floor(side / shift));
+    for (let column = west; column <= east; column++) {
+      for (let row = north; row <= south; row++) {
+        this.kept.get(`${level}/${column}/${row}`)?.tile?.nearest(x, y, within, found);
       }
     }
-    return street;
+    return found.street;
   }
 }
 

@@ -5,12 +5,15 @@ import { at, fill, legend, make, wrong } from "./dom.js";
 import { changed, takes } from "./hours.js";
 import { colours, slow, SLOW_WORDS } from "./palette.js";
 import { ask, edit } from "./service.js";
+import { speak } from "./speak.js";
 import { onChange, state } from "./state.js";
 import { places } from "./world.js";
 
 const { L } = window;
 const WINDS = ["north", "north-east", "east", "south-east", "south", "south-west", "west", "north-west"];
 const TOKEN = "catchup-token";
+const CLICKED = 14;             // pixels from a click within which a road is chosen
+const NO_ROAD = "Move one there by the arrow keys, or zoom in.";
 
 // Where a line leads, as a wind.
 function windOf(line) {
@@ -22,8 +25,19 @@ function field(name, id, checked = false, label = null) {
   return make("input", { type: "radio", name, id, checked, "aria-label": label });
 }
 
+// What a street is called, or the number of its first road. Streets of a map have a class.
+export function streetName(street) {
+  return street.name || `${street.class ? "Unnamed road" : "Road"} ${street.ways[0].roads[0]}`;
+}
+
 function good(text) {
-  return make("p", { className: "good-box", role: "status" }, text);
+  return make("p", { className: "good-box" }, text);
+}
+
+function hint() {
+  const byKeys = make("span", { className: "by-keys" },
+    " By the keyboard: move it into the middle of the map and press Enter there.");
+  return make("p", { className: "soft" }, "Click on a road to close it or to slow it down.", byKeys);
 }
 
 function choice(...inside) {
@@ -48,8 +62,12 @@ export class Traffic {
     this.needsToken = setting.token;
     this.made = [];
     this.street = null;
+    this.round = 0;             // of choosing a road: of several the last one counts
     this.tellDelays();
-    onChange(names => { if (names.includes("mode") || names.includes("profile")) this.choose(null); });
+    onChange(names => {
+      if (names.includes("mode") || names.includes("profile")) this.choose(null);
+      if (names.includes("time")) this.tellWays();
+    });
     this.choose(null);
     this.showMade();
   }
@@ -59,32 +77,47 @@ export class Traffic {
     legend(at("delays"), [...rows, [colours().shut, "closed", "dashed"]]);
   }
 
-  async click(spot) {
-    const street = this.chart.streetAt(spot, 14);
-    if (street < 0) { this.choose(null); return; }
-    try {
-      this.choose(await ask("/page/street", { street }));
-    } catch (problem) {
-      if (problem.status) fill(at("road"), wrong(problem));
+  // Whoever chose a road by keys goes on in its form.
+  async click(spot, { isByKeys = false, pixels = CLICKED } = {}) {
+    const street = this.chart.streetAt(spot, pixels), round = ++this.round;
+    if (street < 0) {
+      this.choose(null);
+      if (isByKeys) fill(at("road"), wrong({ message: "There is no road in the middle of the map.", hint: NO_ROAD }));
+      return;
     }
+    let found = null, said = null;
+    try {
+      found = await ask("/page/street", { street });
+    } catch (problem) {
+      if (problem.status) said = wrong(problem);
+    }
+    // Another one was chosen meanwhile.
+    if (round !== this.round) return;
+    this.choose(found);
+    if (said) fill(at("road"), said);
+    if (found && isByKeys) at("way-0").focus();
   }
 
   choose(street) {
     this.street = street;
     this.lit?.remove();
-    if (!street) {
-      fill(at("road"), make("p", { className: "soft" }, "Click on a road to close it or to slow it down."));
-      return;
-    }
+    if (!street) { this.leave(hint()); return; }
     const look = { color: colours().mark, weight: 8, opacity: 0.6, interactive: false };
     this.lit = L.polyline(places(street.line.flat()), look).addTo(this.chart.map);
     this.showForm();
   }
 
+  // Shows something in the place of the form. Where that had the focus the map gets it.
+  leave(...shown) {
+    const isLeft = at("road").contains(document.activeElement);
+    fill(at("road"), ...shown);
+    if (isLeft) this.chart.map.getContainer().focus({ preventScroll: true });
+  }
+
   // ---- the form ----
 
   showForm() {
-    const { street } = this, name = street.name || "Unnamed road";
+    const { street } = this, name = streetName(street);
     const far = street.metres ? distance(street.metres) : null;
     const more = [street.class?.replace(/_/g, " "), far].filter(Boolean).join(", ");
     const form = make("fieldset", {},
@@ -97,15 +130,34 @@ export class Traffic {
       make("div", { id: "told" }));
     fill(at("road"), form);
     form.addEventListener("input", () => this.nameButton());
+    form.addEventListener("keydown", event => this.key(event));
+  }
+
+  key(event) {
+    const isTyped = event.target.matches("input:not([type=checkbox], [type=radio])");
+    if (event.key === "Escape") this.choose(null);
+    else if (event.key === "Enter" && isTyped) this.apply();
+    else return;
+    event.preventDefault();
   }
 
   way(way, index) {
+    return choice(make("input", { type: "checkbox", id: `way-${index}`, checked: true }),
+      make("span", { id: `taken-${index}` }, this.said(way)));
+  }
+
+  // What a direction takes at the time of day that is shown.
+  said(way) {
     const wind = windOf(way.is_forward ? this.street.line : [...this.street.line].reverse());
     const taken = takes(way.pieces, state.time);
     const slower = taken > (way.free ?? taken) ? ` at ${minute(state.time)}, ${span(way.free)} when free` : "";
     const said = taken === null ? "closed" : span(taken) + slower;
-    return choice(make("input", { type: "checkbox", id: `way-${index}`, checked: true }),
-      `${way.is_forward || this.street.ways.length > 1 ? "to the" : "one way, to the"} ${wind}: ${said}`);
+    return `${this.street.ways.length > 1 ? "to the" : "one way, to the"} ${wind}: ${said}`;
+  }
+
+  // The same at another time, or of another version; what was chosen stays.
+  tellWays() {
+    this.street?.ways.forEach((way, index) => { at(`taken-${index}`).textContent = this.said(way); });
   }
 
   actions() {
@@ -167,20 +219,26 @@ export class Traffic {
       fill(at("told"), wrong(problem));
       return;
     }
-    const name = this.street.name || `Road ${this.street.ways[0].roads[0]}`;
+    const name = streetName(this.street);
     const version = await this.send(wanted.edits, at("told"), at("apply"));
     if (!version) return;
     this.made.unshift({ name, said: wanted.said, before: wanted.before, version });
-    this.choose(null);
-    fill(at("road"), good(`${name}: ${wanted.said}. Confirmed as version ${version}.`),
-      make("p", { className: "soft" }, "Click on a road to close it or to slow it down."));
+    this.confirm(`${name}: ${wanted.said}. Confirmed as version ${version}.`);
     this.showMade();
+  }
+
+  confirm(text) {
+    this.choose(null);
+    fill(at("road"), good(text), hint());
+    speak(text);
   }
 
   // The version that has some edits; null where they are refused, which is told.
   async send(edits, place, button) {
+    const isFocused = document.activeElement === button;
     button.disabled = true;
-    fill(place, make("p", { className: "soft", role: "status" }, "The edit is being made …"));
+    fill(place, make("p", { className: "soft" }, "The edit is being made …"));
+    speak("The edit is being made …");
     try {
       const { version } = await edit(edits, this.needsToken ? sessionStorage.getItem(TOKEN) : null);
       return version;
@@ -189,6 +247,8 @@ export class Traffic {
       return null;
     } finally {
       button.disabled = false;
+      // One that is disabled loses the focus.
+      if (isFocused && document.activeElement === document.body) button.focus({ preventScroll: true });
     }
   }
 
@@ -216,16 +276,20 @@ export class Traffic {
     const version = await this.send(await restored(each.before), told, button);
     if (!version) return;
     this.made = this.made.filter(other => other !== each);
-    this.choose(null);
-    fill(at("road"), good(`${each.name} is as it was. Confirmed as version ${version}.`));
+    this.confirm(`${each.name} is as it was. Confirmed as version ${version}.`);
     this.showMade();
+    // The button is gone that was pressed.
+    (at("edits").querySelector("button") ?? this.chart.map.getContainer()).focus({ preventScroll: true });
   }
 
   // The state of the chosen street under another version.
   async refresh() {
     if (this.street && state.mode === "traffic") {
       const found = await ask("/page/street", { street: this.street.street }).catch(() => null);
-      if (found && this.street?.street === found.street) this.street = found;
+      if (found && this.street?.street === found.street) {
+        this.street = found;
+        this.tellWays();
+      }
     }
   }
 }
