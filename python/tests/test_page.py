@@ -13,14 +13,12 @@ from pathlib import Path
 from typing import Any, ClassVar
 
 import pytest
-from browsing import LAPTOP, PHONE, SPOT, Browser
-from commands import call
+from browsing import LAPTOP, PHONE, SPOT, Browser, import_village
 from conftest import EXAMPLES, build
 from serving import Service, ask_program, free_ports, wait_for
 
 from catchup.service.page.sheet import degrees_of
 
-VILLAGE = EXAMPLES / "village" / "village.osm"
 pytestmark = [pytest.mark.first, pytest.mark.xdist_group("page")]
 
 
@@ -35,10 +33,7 @@ def browser(request: pytest.FixtureRequest, tmp_path_factory: pytest.TempPathFac
 @pytest.fixture(scope="module")
 def folder(program: Path, tmp_path_factory: pytest.TempPathFactory) -> Path:
     """The folder of the village's map."""
-    found = tmp_path_factory.mktemp("village") / "map"
-    ran = call("catchup-import", "osm", VILLAGE, found, "--build", "--rush", "--spare", "8")
-    assert ran.status == 0, ran
-    return found
+    return import_village(tmp_path_factory.mktemp("village") / "map")
 
 
 @pytest.fixture(scope="module")
@@ -476,6 +471,125 @@ def test_whatever_has_the_focus_shows_it(browser: Browser, village: Service) -> 
         seen.append(name)
     for wanted in ("map", "Where the route begins", "Closer", "time", "day", "slider", "tab-route", "add", "gpx"):
         assert wanted in seen
+
+
+def test_the_form_of_a_road_tells_the_time_that_is_shown(browser: Browser, village: Service) -> None:
+    """And what others have edited since it was opened. What somebody chose in it stays."""
+    lane = village.get("/page/search?q=M%C3%BChleweg")["places"][0]
+    browser.open(village, "#mode=traffic&depart=12:00")
+    browser.click_map(*(float(word) for word in lane["place"].split(",")))
+    free = browser.wait_text("road", "Mühleweg")
+    browser.click("slow")
+    street = browser.run("return catchup.traffic.street")
+    before = [each for way in street["ways"] for each in way["before"]]
+    slow = [{"from": 0, "kind": "travel", "value": 60}, {"from": 28_800, "kind": "travel", "value": 999},
+            {"from": 36_000, "kind": "until", "value": 36_999}, {"from": 36_939, "kind": "travel", "value": 60}]
+    for pieces in (slow, None):
+        edits = [{"road": each["road"], "pieces": pieces or each["pieces"]} for each in before]
+        body = json.dumps({"edits": edits}).encode()
+        assert village.ask("/edits", "POST", body, Content_Type="application/json")[0] == 200
+        if pieces:
+            browser.wait_text("road", ": 1 min")
+            browser.set_value("slider", 9 * 3600, "input")
+            browser.wait_text("road", "16 min 39 s at 09:00, 1 min when free")
+            assert browser.run("return document.getElementById('slow').checked")
+            browser.set_value("slider", 12 * 3600, "input")
+    assert browser.wait("return document.getElementById('road').innerText", lambda text: text == free) == free
+    is_sound(browser)
+
+
+def test_a_street_of_one_way_is_called_so(browser: Browser, village: Service) -> None:
+    lane = village.get("/page/search?q=Kirchgasse")["places"][0]
+    browser.open(village, "#mode=traffic&depart=12:00")
+    assert "30 % slower" in browser.text("delays")
+    browser.click_map(*(float(word) for word in lane["place"].split(",")))
+    browser.wait_text("road", "one way, to the")
+
+
+def test_the_next_click_chooses_the_next_place(browser: Browser, village: Service) -> None:
+    """Also where the first isn't answered yet. Two clicks that zoom choose one."""
+    west, south, east, north = corners(village)
+    middle = (south + north) / 2
+    browser.open(village, "#depart=08:00")
+    browser.command("Network.enable")
+    slow = {"offline": False, "downloadThroughput": -1, "uploadThroughput": -1}
+    browser.command("Network.emulateNetworkConditions", latency=800, **slow)
+    try:
+        browser.click_map(west + 0.05 * (east - west), middle)
+        browser.click_map(east - 0.05 * (east - west), middle)
+        found = browser.wait("const { places } = catchup.state;"
+                             "return places.every(each => each?.x) && places.map(each => each.word)")
+    finally:
+        browser.command("Network.emulateNetworkConditions", latency=0, **slow)
+        browser.command("Network.disable")
+    assert float(found[0].partition(",")[0]) < float(found[1].partition(",")[0])
+    browser.open(village, "#depart=08:00")
+    x, y = browser.run(SPOT, (west + east) / 2, middle)
+    for count in (1, 2):
+        for kind in ("mousePressed", "mouseReleased"):
+            browser.mouse(kind, x, y, button="left", clickCount=count)
+    browser.wait("return catchup.state.places[0]?.x")
+    browser.wait_text("answer", "Choose where the route ends")
+    assert browser.run("return catchup.state.places[1]") is None
+    is_sound(browser)
+
+
+@pytest.mark.parametrize(("address", "name"), [("#from=0&to=9&depart=08:00", "answer"),
+                                               ("#mode=reach&from=0&depart=08:00", "reach-said")])
+def test_an_answer_that_comes_late_is_dropped(browser: Browser, village: Service, address: str, name: str) -> None:
+    """Where the place is cleared meanwhile."""
+    browser.open(village)
+    browser.command("Network.enable")
+    slow = {"offline": False, "downloadThroughput": -1, "uploadThroughput": -1}
+    browser.command("Network.emulateNetworkConditions", latency=1000, **slow)
+    try:
+        browser.run("window.asked = 0; const { fetch } = window; window.fetch = (...words) => {"
+                    "if (/page.(route|reach)[?]/.test(words[0])) window.asked++; return fetch(...words).finally("
+                    "() => { if (/page.(route|reach)[?]/.test(words[0])) setTimeout(() => { window.asked--; }, 300); }); }")
+        browser.run("location.hash = arguments[0]", address)
+        browser.wait("return window.asked > 0")
+        browser.run("document.querySelector('.place button').click()")
+        browser.wait("return window.asked === 0")
+        assert re.search("Choose where|Click on the map", browser.text(name))
+    finally:
+        browser.command("Network.emulateNetworkConditions", latency=0, **slow)
+        browser.command("Network.disable")
+
+
+def test_the_menu_of_a_place_goes_with_the_route(browser: Browser, village: Service) -> None:
+    west, south, east, north = corners(village)
+    browser.open(village, "#from=0&to=9&depart=08:00", LAPTOP)
+    browser.wait_text("answer", "→")
+    browser.click_map((west + east) / 2, (south + north) / 2)
+    browser.wait("return document.querySelector('[role=menu]') !== null")
+    browser.click("tab-traffic")
+    browser.wait("return document.querySelector('[role=menu]') === null")
+
+
+def test_a_finger_leaves_nothing_on_the_map(browser: Browser, village: Service) -> None:
+    lane = village.get("/page/search?q=Gartenweg")["places"][0]
+    browser.open(village, "#mode=traffic&depart=08:00", PHONE)
+    x, y = browser.run(SPOT, *degrees_of(lane["x"], lane["y"]))
+    browser.touch("touchStart", (x, y))
+    browser.touch("touchEnd")
+    browser.wait_text("road", "Gartenweg")
+    # A name is told 90 milliseconds behind a mouse.
+    time.sleep(0.5)
+    assert browser.run("return document.getElementById('hover').hidden")
+    assert browser.run("return getComputedStyle(document.getElementById('map')).outlineStyle") == "none"
+    # What gets the focus comes out from under the map.
+    browser.run("window.scrollTo(0, 9999); document.getElementById('tab-traffic').focus()")
+    assert browser.wait("const [map, tab] = ['map', 'tab-traffic'].map(id => document.getElementById(id)"
+                        ".getBoundingClientRect()); return tab.top >= map.bottom")
+    is_sound(browser)
+
+
+def test_a_place_that_is_missing_is_named(browser: Browser, village: Service) -> None:
+    for address, said in (("to=9", "Choose where the route begins."), ("from=0", "Choose where the route ends.")):
+        browser.open(village, f"#{address}&depart=08:00")
+        browser.wait_text("answer", said)
+    browser.run("catchup.change({ places: [catchup.state.places[0], null, catchup.state.places[0]] })")
+    browser.wait_text("answer", "Choose stop 1, or take it out.")
 
 
 def test_the_service_is_gone_and_comes_back(browser: Browser, folder: Path, tmp_path: Path) -> None:

@@ -96,7 +96,10 @@ export class Chart {
     this.map.getContainer().addEventListener("wheel", () => { this.fitted = null; }, { passive: true });
     this.map.on("zoomstart", () => { if (!this.isFitting) this.fitted = null; });
     this.map.on("click contextmenu", event => this.onClick?.(event.latlng, event));
-    const pointed = event => this.point(event.latlng, event.containerPoint);
+    // A finger points at nothing: browsers tell a mouse in its place, which would stay there.
+    const pointed = event => { if (!this.isTouched) this.point(event.latlng, event.containerPoint); };
+    const look = ({ pointerType }) => { this.isTouched = pointerType === "touch"; };
+    for (const kind of ["pointerdown", "pointermove"]) this.map.getContainer().addEventListener(kind, look, true);
     this.map.on("mousemove", pointed).on("mouseout dragstart", () => this.point(null));
     onTheme(() => this.roads.restyle());
     // What didn't come while the service was gone.

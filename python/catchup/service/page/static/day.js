@@ -73,7 +73,7 @@ export class Day {
       ? `Shortest ${span(travels[least])} at ${minute(least)}, longest ${span(travels[most])} at ${minute(most)}.`
       : `The drive takes ${span(travels[least])} all day.`;
     const times = [...new Set(changes.map(minute))];
-    const first = times.slice(0, 4).join(", ") + (times.length > 4 ? " …" : "");
+    const first = times.slice(0, 4).join(", ") + (times.length > 4 ? " and later" : "");
     const others = times.length ? ` Another route takes over at ${first}.` : "";
     at("day-said").textContent = both + others;
     this.canvas.setAttribute("aria-label", `Departure, by travel time. ${both}${others}`);

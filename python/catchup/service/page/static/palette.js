@@ -8,7 +8,7 @@ const BANDS = {
   light: ["#f6d02f", "#9ccb3b", "#3fae74", "#22898c", "#33638d", "#50327c"],
   dark: ["#f6d02f", "#9ccb3b", "#3fae74", "#22a0a6", "#4a8ad0", "#9a78e0"],
 };
-export const SLOW_WORDS = ["free", "10 % slower", "30 %", "60 %", "twice", "3 times and more"];
+export const SLOW_WORDS = ["free", "10 % slower", "30 % slower", "60 % slower", "twice as long", "3 times and more"];
 
 const THEMES = {
   light: {

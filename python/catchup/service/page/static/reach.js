@@ -13,6 +13,11 @@ const UNREACHED = 255;
 const CHOICES = [5, 10, 15, 30, 45, 60, 90, 120, 180];
 const PAUSE = 250;              // milliseconds that the slider rests before the ground is drawn
 
+// An answer may come when something else is shown, or the start is cleared.
+function isWanted() {
+  return state.mode === "reach" && state.places[0];
+}
+
 export class Reach {
   constructor(chart, paint) {
     this.chart = chart;
@@ -69,14 +74,14 @@ export class Reach {
   async askOnce(words, isLast) {
     try {
       const { data } = await bytes("/page/reach", words);
-      if (!isLast() || state.mode !== "reach") return;
+      if (!isLast() || !isWanted()) return;
       this.bands = data.map(band => (band === UNREACHED ? COUNT : band));
       this.show();
       const count = data.reduce((sum, band) => sum + (band !== UNREACHED), 0);
       const part = `${percent(count, data.length)} of the streets`;
       fill(at("reach-said"), `Who leaves at ${clock(state.time)} reaches ${part} within ${span(state.within)}.`);
     } catch (problem) {
-      if (isLast() && problem.status) fill(at("reach-said"), wrong(problem));
+      if (isLast() && isWanted() && problem.status) fill(at("reach-said"), wrong(problem));
     }
   }
 
@@ -89,7 +94,7 @@ export class Reach {
     if (this.chart.found.is_plane) return;
     try {
       const { bands } = await ask("/page/ground", words);
-      if (!isLast() || state.mode !== "reach") return;
+      if (!isLast() || !isWanted()) return;
       this.layer.clearLayers();
       bands.forEach(({ polygons }, index) => this.drawBand(polygons, bandColours(COUNT)[COUNT - 1 - index]));
     } catch (problem) {
