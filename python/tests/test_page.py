@@ -584,6 +584,25 @@ def test_a_finger_leaves_nothing_on_the_map(browser: Browser, village: Service) 
     is_sound(browser)
 
 
+def test_a_time_that_is_none_is_told(browser: Browser, village: Service) -> None:
+    browser.open(village, "#depart=08:00")
+    browser.set_value("time", "25:00")
+    browser.wait_text("time-wrong", "write it as 08:30")
+    assert browser.run("return catchup.state.time") == 8 * 3600 and not browser.is_wider()
+    browser.set_value("time", "9")
+    browser.wait("return catchup.state.time === 9 * 3600")
+    assert browser.text("time-wrong") == ""
+
+
+def test_a_name_under_the_mouse_goes_when_the_map_moves(browser: Browser, village: Service) -> None:
+    lane = village.get("/page/search?q=Gartenweg")["places"][0]
+    browser.open(village, "#depart=08:00", LAPTOP)
+    browser.mouse("mouseMoved", *browser.run(SPOT, *degrees_of(lane["x"], lane["y"])))
+    browser.wait_text("hover", "Gartenweg")
+    browser.run("catchup.chart.map.panBy([200, 100], { animate: false })")
+    assert browser.run("return document.getElementById('hover').hidden")
+
+
 def test_a_place_that_is_missing_is_named(browser: Browser, village: Service) -> None:
     for address, said in (("to=9", "Choose where the route begins."), ("from=0", "Choose where the route ends.")):
         browser.open(village, f"#{address}&depart=08:00")

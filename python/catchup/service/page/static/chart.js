@@ -100,7 +100,7 @@ export class Chart {
     const pointed = event => { if (!this.isTouched) this.point(event.latlng, event.containerPoint); };
     const look = ({ pointerType }) => { this.isTouched = pointerType === "touch"; };
     for (const kind of ["pointerdown", "pointermove"]) this.map.getContainer().addEventListener(kind, look, true);
-    this.map.on("mousemove", pointed).on("mouseout dragstart", () => this.point(null));
+    this.map.on("mousemove", pointed).on("mouseout movestart zoomstart", () => this.point(null));
     onTheme(() => this.roads.restyle());
     // What didn't come while the service was gone.
     onReachable(isThere => { if (isThere) this.roads.redraw(); });

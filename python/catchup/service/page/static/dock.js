@@ -25,8 +25,13 @@ export class Dock {
 
   typed() {
     const second = readTime(at("time").value);
-    at("time").setAttribute("aria-invalid", String(second === null));
+    this.mark(second === null);
     if (second !== null) change({ time: second });
+  }
+
+  mark(isWrong) {
+    at("time").setAttribute("aria-invalid", String(isWrong));
+    at("time-wrong").textContent = isWrong ? "There is no such time: write it as 08:30." : "";
   }
 
   show() {
@@ -36,7 +41,7 @@ export class Dock {
     at("by").value = state.by;
     if (document.activeElement !== at("time") || readTime(at("time").value) !== null) {
       at("time").value = clock(state.time);
-      at("time").setAttribute("aria-invalid", "false");
+      this.mark(false);
     }
     at("slider").value = state.time;
     at("slider").setAttribute("aria-valuetext", minute(state.time));

@@ -96,10 +96,11 @@ export class Tiles {
     return Promise.all(asked);
   }
 
-  // The street next to a point of the world within some distance, which may lie in another tile; -1 where there is none,
-  // or none is drawn yet.
+  // The street next to a point of the world within some distance, which may lie in another tile than the point does; -1
+  // where there is none, or none is drawn yet.
   street(x, y, zoom, within) {
-    const level = this.level(zoom), shift = SIDE * 2 ** (ZOOM - level), found = { street: -1, least: within * within };
+    const level = this.level(zoom), shift = SIDE * 2 ** (ZOOM - level);
+    const found = { street: -1, least: within * within };
     const [west, north, east, south] = [x - within, y - within, x + within, y + within]
       .map(side => Math.floor(side / shift));
     for (let column = west; column <= east; column++) {
