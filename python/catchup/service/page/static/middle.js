@@ -103,8 +103,7 @@ export class Middle {
   }
 
   async tell() {
-    const street = this.chart.streetAt(this.chart.map.getCenter(), NEAR), zoomed = this.zoomed();
-    const round = ++this.round;
+    const street = this.chart.streetAt(this.chart.map.getCenter(), NEAR), round = ++this.round;
     const found = street < 0 ? null : await ask("/page/street", { street }).catch(() => null);
     // The map has gone on, or the keys are elsewhere.
     if (!this.isShown || round !== this.round) return;
@@ -116,7 +115,7 @@ export class Middle {
       this.lit = L.polyline(places(found.line.flat()), look).addTo(this.chart.map);
     }
     // A map that is moved by something else, as to show a route, says nothing: that would go before what was done.
-    if (this.isAsked) speak(zoomed + name);
+    if (this.isAsked) speak(this.zoomed() + name);
     this.isAsked = false;
   }
 

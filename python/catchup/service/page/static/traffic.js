@@ -164,7 +164,8 @@ export class Traffic {
     return [
       choice(field("what", "close", true), "Close it"),
       choice(field("what", "slow"), "Slow it: ", make("input", {
-        type: "number", id: "factor", min: "1", max: "50", step: "0.5", value: "3", "aria-label": "times as long",
+        type: "number", id: "factor", min: "1", max: "50", step: "0.5", value: "3",
+        "aria-label": "How many times as long",
       }), " times as long"),
     ];
   }
@@ -175,7 +176,8 @@ export class Traffic {
     return [
       choice(field("when", "all-day", true), "All day"),
       make("div", { className: "choice" }, field("when", "some-hours", false, "Some hours"),
-        "From ", time("since", hour * 3600, "From"), " to ", time("until", (hour + 2) % 24 * 3600, "To")),
+        "From ", time("since", hour * 3600, "From what time"),
+        " to ", time("until", (hour + 2) % 24 * 3600, "Until what time")),
     ];
   }
 
