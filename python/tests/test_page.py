@@ -478,7 +478,8 @@ def test_the_form_of_a_road_tells_the_time_that_is_shown(browser: Browser, villa
     lane = village.get("/page/search?q=M%C3%BChleweg")["places"][0]
     browser.open(village, "#mode=traffic&depart=12:00")
     browser.click_map(*(float(word) for word in lane["place"].split(",")))
-    free = browser.wait_text("road", "Mühleweg")
+    browser.wait_text("road", "Mühleweg")
+    free = browser.text("taken-0")
     browser.click("slow")
     street = browser.run("return catchup.traffic.street")
     before = [each for way in street["ways"] for each in way["before"]]
@@ -494,7 +495,7 @@ def test_the_form_of_a_road_tells_the_time_that_is_shown(browser: Browser, villa
             browser.wait_text("road", "16 min 39 s at 09:00, 1 min when free")
             assert browser.run("return document.getElementById('slow').checked")
             browser.set_value("slider", 12 * 3600, "input")
-    assert browser.wait("return document.getElementById('road').innerText", lambda text: text == free) == free
+    browser.wait_text("taken-0", free)
     is_sound(browser)
 
 
