@@ -461,6 +461,7 @@ def test_whatever_has_the_focus_shows_it(browser: Browser, village: Service) -> 
 
     browser.open(village, "#from=0&to=9&depart=08:00", LAPTOP)
     browser.wait_text("answer", "→")
+    browser.wait("return document.querySelectorAll('.pin').length === 2")
     seen = []
     for _ in range(60):
         ActionChains(browser.driver).send_keys(Keys.TAB).perform()

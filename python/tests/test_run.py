@@ -37,8 +37,8 @@ def command(how):
     if how == "module": import no_such.thing
     if how == "own module": import catchup.no_such
     if how == "own name": from catchup.clock import no_such
-    if how == "library":
-        try: raise ImportError("lib.so:\\nfailed to map segment", name="their.part")
+    if how == "their part":
+        try: raise ImportError("lib.so:\\nwrong ELF class", name="their.part")
         except ImportError: raise ImportError("They say\\nmuch")
     if how == "thread": raise RuntimeError("can't start new thread")
     if how == "pipe":
@@ -78,7 +78,7 @@ ENDS = [
         1,
         "try-it: the Python module no_such isn't installed: 'apt-get install python3-no-such' does it on Debian and Ubuntu\n",
     ),
-    (["library"], 1, "try-it: the Python module their can't be loaded: lib.so: failed to map segment\n"),
+    (["their part"], 1, "try-it: the Python module their can't be loaded: lib.so: wrong ELF class\n"),
     (["thread"], 1, "try-it: no thread can be started: free some memory, or allow more processes (ulimit -u)\n"),
     (["number"], 5, ""),
     (["print"], 0, ""),

@@ -360,5 +360,6 @@ def test_edits_that_name_roads_need_no_numpy(file: Path) -> None:
     script = ("import os, sys; sys.modules['numpy'] = None; from catchup.service.roadedits import Profiles, edits_of, lines_of;"
               "edits = edits_of(sys.argv[2].encode(), lambda text: []);"
               "print(*lines_of(edits, Profiles(os.open(sys.argv[1], os.O_RDONLY)))[0])")
-    done = subprocess.run([sys.executable, "-c", script, file, NAMED], capture_output=True, text=True, check=False)
+    done = subprocess.run([sys.executable, "-c", script, file, NAMED], capture_output=True, text=True, check=False,
+                          env={**os.environ, "PYTHONPATH": str(Path(__file__).resolve().parent.parent)})
     assert (done.stdout, done.stderr) == ("a,5,2\n", "")
