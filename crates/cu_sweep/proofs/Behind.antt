@@ -10,7 +10,7 @@ use Rattle.cu_sweep.proofs.UpRows.{member_before, member_last}
 pub reverse_first : (x : ℕ) (xs : List ℕ) → reverse (x ∷ xs) ≡ reverse xs ++ (x ∷ [])
 reverse_first x xs = reverse-append (x ∷ []) xs
 
-drop_at : (xs : List ℕ) (k : ℕ) → k < length xs → drop k xs ≡ get_or xs k 0 ∷ drop (suc k) xs
+pub drop_at : (xs : List ℕ) (k : ℕ) → k < length xs → drop k xs ≡ get_or xs k 0 ∷ drop (suc k) xs
 drop_at [] k lt = absurd (omega (arith, lt))
 drop_at (x ∷ xs) zero lt = refl
 drop_at (x ∷ xs) (suc k) lt = drop_at xs k (omega (arith, lt))

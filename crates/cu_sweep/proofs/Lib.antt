@@ -7,6 +7,7 @@ pub mod Holding
 pub mod UpRows
 pub mod LabelLaws
 pub mod DownRows
+pub mod PassedOver
 pub mod Passes
 pub mod Behind
 pub mod Held

@@ -1,11 +1,15 @@
 -- What is ahead of each place, and what is found in time.
 use Rattle.std.proofs.Common.{◌≡◌, ◌≤◌, ◌<◌, ◌+◌, ◌-◌, ◌∙◌, ℕ, true, false, List, Option, Some, None, refl, sym, ap, subst, arith, length, ltb}
-use Rattle.std.specs.Prelude.{IfSome}
+use Rattle.std.specs.Prelude.{All, IfSome}
 use Rattle.std.specs.List.{Contains}
+use Rattle.std.proofs.lemmas.Bool.{le-leb, leb-true}
 use Rattle.std.proofs.lemmas.Option.{none-some, same_Some}
+use Rattle.cu_chordal.proofs.Members.{all_from_members}
 use Rattle.cu_elimtree.specs.SweepArcs.{ancestors_in}
 use Rattle.cu_interval.specs.declared.relaxing.Call.{Call}
+use Rattle.cu_interval.specs.declared.ways.Dir.TheVariants.{Up}
 use Rattle.cu_interval.specs.Hierarchies.{HierarchyValue, IsHierarchy, graph_of}
+use Rattle.cu_interval.specs.LeastBounds.{least_bound}
 use Rattle.cu_interval.proofs.EndsLaws.{ends_range}
 use Rattle.cu_short.specs.Shortness.{NeverLong}
 use Rattle.cu_sweep.specs.declared.finding.Found.TheVariants.{Arrive}
@@ -15,7 +19,7 @@ use Rattle.cu_sweep.specs.Places.{AreKept, second_at}
 use Rattle.cu_sweep.specs.Sweeps.{found, found_by, second_of, sweep_calls}
 use Rattle.cu_sweep.specs.Swept.{IsClosed, IsReachedAs, LabelsValue, desk_of}
 use Rattle.cu_sweep.specs.Outlooks.{IsAhead, ahead_at}
-use Rattle.cu_sweep.specs.Steps.Ahead.{ahead_of, is_in_time}
+use Rattle.cu_sweep.specs.Steps.Ahead.{FallsOff, LeadsUp, ahead_of, is_in_time}
 use Rattle.cu_sweep.specs.Steps.Made.{Led, down_made}
 use Rattle.cu_sweep.proofs.Answering.{none_long}
 use Rattle.cu_sweep.proofs.GoalLaws.{IsPlaced, goal_reached}
@@ -92,3 +96,24 @@ module _ (h : HierarchyValue) (f : IsHierarchy h) (short : NeverLong h) (q : Led
       let (l, whole, made, same) = in_time in
       let (calls, arriving) = reached.calls kept l made in
       (l, whole, calls, arriving, unturned)
+
+-- a call in time is in time where it is made sooner
+pub in_time_falls : (up down : List ℕ) (by : ℕ) → FallsOff (is_in_time up down by)
+in_time_falls up down by place s t less may =
+    let le : t + ahead_of up down place ≤ by = leb-true (t + ahead_of up down place) by may in
+    le-leb (s + ahead_of up down place) by (omega (arith, less, le))
+
+-- a rank that a call in time leads up from is reached in time
+pub in_time_leads : (h : HierarchyValue) → IsHierarchy h → (from to by : ℕ) (up down : List ℕ) → length up ≡ h.network.nodes → IsAhead h from to up down
+    → All (LeadsUp h (is_in_time up down by)) (ancestors_in (graph_of h) from)
+in_time_leads h f from to by up down long ahead =
+    all_from_members (LeadsUp h (is_in_time up down by)) (ancestors_in (graph_of h) from)
+    (λ x c y edge s e may.
+    let range = ends_range h f edge (record { low = x; high = y }) (edge_numbered h x y edge e) in
+    let lt = range.0 in
+    let high = range.1 in
+    let a = ahead_up up down x (omega (arith, lt, high, long)) in
+    let b = ahead_up up down y (omega (arith, high, long)) in
+    let le = ahead.climb x y edge c e in
+    let soon : (s + least_bound h edge Up) + ahead_of up down y ≤ by = leb-true ((s + least_bound h edge Up) + ahead_of up down y) by may in
+    le-leb (s + ahead_of up down x) by (omega (arith, a, b, le, soon)))

@@ -11,6 +11,7 @@ ghost use Rattle.cu_sweep.specs.Places.{AreKept, KeepsLinks, second_at};
 ghost use Rattle.cu_sweep.specs.Sweeps.{up_calls};
 ghost use Rattle.cu_sweep.specs.Swept.{IsBegun, IsSweptDown, IsSweptUp, Makes, Sweep, begun_second, path_calls};
 ghost use Rattle.cu_sweep.specs.ToAll.{AreReached, AreTimesWhereBuilt, reach_calls};
+ghost use Rattle.cu_sweep.specs.Steps.Ahead.{FallsOff, LeadsUp};
 ghost use Rattle.cu_sweep.specs.Steps.Made.{IsMadeDown, IsMadeUp, Led, down_calls_of, sweep_of, up_calls_of};
 ghost use Rattle.cu_sweep.specs.Steps.Ready.{IsReadyBy};
 
@@ -211,6 +212,7 @@ impl<K: Linking> Labels<K> {
         requires tree { tree.now ≡ parents_in graph.now }
         requires graph { IsHierarchyOf graph.now (R.hierarchy relaxer.old) }
         requires known { L.knows limits.now (R.hierarchy relaxer.old) }
+        requires leads { All (LeadsUp (R.hierarchy relaxer.old) (L.allows limits.now)) (ancestors_in graph.now from) }
         requires nodes { self.old.nodes ≡ graph.now.ranks }
         requires unturned { self.old.turned ≡ false }
         ensures nodes { self.new.nodes ≡ self.old.nodes }
@@ -250,6 +252,7 @@ impl<K: Linking> Labels<K> {
             → HasEdge graph.now.edges low high → Contains path.now high }
         requires graph { IsHierarchyOf graph.now (R.hierarchy relaxer.old) }
         requires known { L.knows limits.now (R.hierarchy relaxer.old) }
+        requires falls { FallsOff (L.allows limits.now) }
         requires nodes { self.old.nodes ≡ graph.now.ranks }
         requires unturned { self.old.turned ≡ false }
         ensures nodes { self.new.nodes ≡ self.old.nodes }

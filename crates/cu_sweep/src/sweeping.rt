@@ -1,6 +1,6 @@
 //! The sweeps over the ancestors of a query's start and end, in places for labels and links.
 
-ghost use Rattle.std.specs.Prelude.{◌≡◌, ◌≤◌, ◌<◌, ◌+◌, ◌*◌, ◌^◌, ◌++◌, ◌∷◌, [], ℕ, List, Some, None, All, false, length, slice_index_or, slice_set};
+ghost use Rattle.std.specs.Prelude.{◌≡◌, ◌≢◌, ◌≤◌, ◌<◌, ◌+◌, ◌*◌, ◌^◌, ◌++◌, ◌∷◌, [], ℕ, List, Some, None, All, false, length, slice_index_or, slice_set};
 ghost use Rattle.cu_links.specs.Chains.{IsOnChainTo};
 ghost use Rattle.std.specs.List.{Contains};
 ghost use Rattle.cu_chordal.specs.Graphs.{HasEdge};
@@ -9,6 +9,7 @@ ghost use Rattle.cu_interval.specs.Hierarchies.{IsHierarchy, IsHierarchyOf};
 ghost use Rattle.cu_sweep.specs.Sweeps.{AddsAll, first_long, is_by, until_long};
 ghost use Rattle.cu_sweep.specs.Places.{KeepsLinks, calls_of_some, second_at};
 ghost use Rattle.cu_sweep.specs.Swept.{IsPassed};
+ghost use Rattle.cu_sweep.specs.Steps.Ahead.{FallsOff, LeadsUp};
 ghost use Rattle.cu_sweep.specs.Steps.Made.{Led, made_up_after, rows_up, sweep_of, up_made};
 ghost use Rattle.cu_sweep.specs.Steps.Ready.{IsReadyBy};
 ghost use Rattle.cu_sweep.specs.Steps.Sweeping.{IfSecond, IsDownSwept, IsRankDown, IsUpSwept, answer_in, begun_links, call_into, is_earlier, links_after, long_by, seconds_after};
@@ -27,9 +28,108 @@ struct Leg {
     into: u32,
 }
 
+/// A rank that is swept down to. No higher neighbour of it is reached sooner than the second.
+#[derive(Clone, Copy)]
+pub(crate) struct Below {
+    pub rank: u32,
+    pub soonest: u64,
+}
+
+/// Relaxes the edges from a rank to its higher neighbours, by rising rank, but for those that may not be made or can't make a label
+/// earlier: none is looked at where the rank is reached too late for any. Answers the first call whose walk is too long, with which it
+/// ends.
+pub(crate) fn lead_from<R: Relaxer, L: Limits, K: Linking>(
+    graph: &Chordal,
+    labels: &mut [Option<u64>],
+    chain: &mut K,
+    relaxer: &mut R,
+    limits: &L,
+    rank: u32,
+) -> Option<Call>
+    requires rank { rank < graph.now.ranks }
+    requires graph { IsHierarchyOf graph.now (R.hierarchy relaxer.old) }
+    requires known { L.knows limits.now (R.hierarchy relaxer.old) }
+    requires ready { IsReadyBy K.links K.turned graph.now.ranks labels.old chain.old }
+    requires unturned { K.turned chain.old ≡ false }
+    requires leads { LeadsUp (R.hierarchy relaxer.old) (L.allows limits.now) rank }
+    ensures ready { IsReadyBy K.links K.turned graph.now.ranks labels.new chain.new }
+    ensures unturned { K.turned chain.new ≡ false }
+    ensures stays { R.hierarchy relaxer.new ≡ R.hierarchy relaxer.old }
+    ensures long { result ≡ first_long (R.hierarchy relaxer.old)
+        (rows_up (R.hierarchy relaxer.old) (L.allows limits.now) rank (second_at labels.old rank)
+        (second_at labels.old)) }
+    ensures told { AddsAll (R.calls relaxer.old) (R.calls relaxer.new)
+        (until_long (R.hierarchy relaxer.old)
+        (rows_up (R.hierarchy relaxer.old) (L.allows limits.now) rank (second_at labels.old rank)
+        (second_at labels.old))) }
+    ensures swept { (q : Led) (done : List ℕ)
+        → IsUpSwept (R.hierarchy relaxer.old) q done labels.old (K.links chain.old)
+        → IsPassed (R.hierarchy relaxer.old) (sweep_of q) rank
+        → made_up_after (R.hierarchy relaxer.old) q done rank
+        ≡ up_made (R.hierarchy relaxer.old) q rank
+        → q.allows ≡ L.allows limits.now
+        → result ≡ None
+        → IsUpSwept (R.hierarchy relaxer.old) q (done ++ (rank ∷ [])) labels.new (K.links chain.new) }
+{
+    if !leads_on(limits, rank, labels[rank as usize]) {
+        return None;
+    }
+    relax_up(graph, labels, chain, relaxer, limits, rank)
+}
+
+// May a call be made from a rank that is reached at this second, as far as the rank tells?
+fn leads_on<L: Limits>(limits: &L, rank: u32, second: Option<u64>) -> bool
+    ensures { result ≡ false → IfSecond second (λ at. L.allows limits.now rank at ≡ false) }
+{
+    match second {
+        None => false,
+        Some(second) => limits.allow(rank, second),
+    }
+}
+
+/// Relaxes the edges to a rank from its higher neighbours, by rising rank, but for those that may not be made or can't make its label
+/// earlier, after its downward label has begun as the upward one: none is looked at where the neighbours are reached too late for any.
+/// Answers the first call whose walk is too long, with which it ends.
+pub(crate) fn lead_to<R: Relaxer, L: Limits, K: Linking>(
+    graph: &Chordal,
+    labels: &mut [Option<u64>],
+    chain: &mut K,
+    relaxer: &mut R,
+    limits: &L,
+    below: Below,
+) -> Option<Call>
+    requires rank { below.rank < graph.now.ranks }
+    requires graph { IsHierarchyOf graph.now (R.hierarchy relaxer.old) }
+    requires known { L.knows limits.now (R.hierarchy relaxer.old) }
+    requires ready { IsReadyBy K.links K.turned graph.now.ranks labels.old chain.old }
+    requires unturned { K.turned chain.old ≡ false }
+    requires falls { FallsOff (L.allows limits.now) }
+    requires soonest { (y : ℕ) → HasEdge graph.now.edges below.rank y
+        → IfSecond (second_at labels.old (graph.now.ranks + y)) (λ at. below.soonest ≤ at) }
+    ensures ready { IsReadyBy K.links K.turned graph.now.ranks labels.new chain.new }
+    ensures unturned { K.turned chain.new ≡ false }
+    ensures stays { R.hierarchy relaxer.new ≡ R.hierarchy relaxer.old }
+    ensures others { (y : ℕ) → y ≢ below.rank → second_at labels.new (graph.now.ranks + y)
+        ≡ second_at labels.old (graph.now.ranks + y) }
+    ensures over { (q : Led) (done : List ℕ)
+        → IsDownSwept (R.hierarchy relaxer.old) q done labels.old (K.links chain.old)
+        → IsPassed (R.hierarchy relaxer.old) (sweep_of q) below.rank
+        → ((y : ℕ) → HasEdge graph.now.edges below.rank y → Contains done y)
+        → q.allows ≡ L.allows limits.now
+        → IsRankDown (R.hierarchy relaxer.old) q below.rank done
+        (R.calls relaxer.old) (R.calls relaxer.new) labels.new (K.links chain.new) result }
+{
+    let nodes = graph.ranks();
+    if !limits.allow(nodes + below.rank, below.soonest) {
+        begin_down(labels, chain, nodes, below.rank);
+        return None;
+    }
+    relax_down(graph, labels, chain, relaxer, limits, below.rank)
+}
+
 // Relaxes the edges from a rank to its higher neighbours, by rising rank, but for those that may not be made or can't
 // make a label earlier. Answers the first call whose walk is too long, with which it ends.
-pub(crate) fn relax_up<R: Relaxer, L: Limits, K: Linking>(
+fn relax_up<R: Relaxer, L: Limits, K: Linking>(
     graph: &Chordal,
     labels: &mut [Option<u64>],
     chain: &mut K,
@@ -82,7 +182,7 @@ pub(crate) fn relax_up<R: Relaxer, L: Limits, K: Linking>(
 // Relaxes the edges to a rank from its higher neighbours, by rising rank, but for those that may not be made or can't make its
 // label earlier, after its downward label has begun as the upward one. Answers the first call whose walk is too long, with
 // which it ends.
-pub(crate) fn relax_down<R: Relaxer, L: Limits, K: Linking>(
+fn relax_down<R: Relaxer, L: Limits, K: Linking>(
     graph: &Chordal,
     labels: &mut [Option<u64>],
     chain: &mut K,
@@ -98,6 +198,8 @@ pub(crate) fn relax_down<R: Relaxer, L: Limits, K: Linking>(
     ensures ready { IsReadyBy K.links K.turned graph.now.ranks labels.new chain.new }
     ensures unturned { K.turned chain.new ≡ false }
     ensures stays { R.hierarchy relaxer.new ≡ R.hierarchy relaxer.old }
+    ensures others { (y : ℕ) → y ≢ rank → second_at labels.new (graph.now.ranks + y)
+        ≡ second_at labels.old (graph.now.ranks + y) }
     ensures over { (q : Led) (done : List ℕ)
         → IsDownSwept (R.hierarchy relaxer.old) q done labels.old (K.links chain.old)
         → IsPassed (R.hierarchy relaxer.old) (sweep_of q) rank

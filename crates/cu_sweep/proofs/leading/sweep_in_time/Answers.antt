@@ -9,13 +9,13 @@ use Rattle.cu_sweep.specs.declared.finding.Found.TheVariants.{Arrive}
 use Rattle.cu_sweep.specs.Desks.{HoldsFound}
 use Rattle.cu_sweep.specs.Sweeps.{found}
 use Rattle.cu_sweep.specs.Swept.{IsClosed, Makes, desk_of}
-use Rattle.cu_sweep.specs.Steps.Ahead.{ahead_of, is_in_time}
+use Rattle.cu_sweep.specs.Steps.Ahead.{LeadsUp, ahead_of, is_in_time}
 use Rattle.cu_sweep.specs.Steps.Made.{IsMadeDown, IsMadeUp, Led, down_calls_of}
 use Rattle.cu_sweep.proofs.Ancestry.{ancestors_ranks, ancestors_rising, ancestors_upwards, own_ancestor}
 use Rattle.cu_sweep.proofs.Driven.{fallen_some, risen_some}
 use Rattle.cu_sweep.proofs.GoalLaws.{IsPlaced}
 use Rattle.cu_sweep.proofs.Passing.{tree_long}
-use Rattle.cu_sweep.proofs.Placed.{found_in_time, holds_in_time, if_some_then, placed}
+use Rattle.cu_sweep.proofs.Placed.{found_in_time, holds_in_time, if_some_then, in_time_falls, in_time_leads, placed}
 use Rattle.cu_sweep.proofs.Readying.{chain_keeps}
 use Rattle.cu_sweep.proofs.Rows.{no_call}
 use Rattle.cu_sweep.proofs.leading.sweep_in_time.Goals as goal
@@ -36,6 +36,18 @@ begin-requires-clause-path g c =
 
 pub begin-requires-clause-nodes : goal.begin-requires-clause-nodes
 begin-requires-clause-nodes g c = c.requires.labels ∙ sym (tree_long c.args.graph.now c.args.tree.now c.requires.tree)
+
+pub rise-requires-clause-leads : goal.rise-requires-clause-leads
+rise-requires-clause-leads g c =
+    let h = g.R.Relaxer.hierarchy c.args.relaxer.now in
+    let p = c.args.goal.question in
+    let limits = c.args.goal.limits in
+    let ranks : c.args.graph.now.ranks ≡ h.network.nodes = ap (λ (v : ChordalValue). v.ranks) c.requires.graph.0 in
+    subst (λ (v : ChordalValue). All (LeadsUp h (is_in_time limits.up.now limits.down.now limits.by)) (ancestors_in v p.from)) (sym c.requires.graph.0)
+    (in_time_leads h c.requires.graph.1 p.from p.to limits.by limits.up.now limits.down.now (c.requires.places ∙ ranks) c.requires.ahead)
+
+pub fall-requires-clause-falls : goal.fall-requires-clause-falls
+fall-requires-clause-falls g c = in_time_falls c.args.goal.limits.up.now c.args.goal.limits.down.now c.args.goal.limits.by
 
 pub fall-requires-clause-path : goal.fall-requires-clause-path
 fall-requires-clause-path g c =

@@ -1,4 +1,4 @@
-use Rattle.std.proofs.Common.{◌≡◌, ◌<◌, ◌-◌, ◌∙◌, ◌++◌, ◌∷◌, [], ℕ, suc, List, None, refl, sym, ap, subst, arith, rules, inr, length, get_or, drop, reverse}
+use Rattle.std.proofs.Common.{◌≡◌, ◌≤◌, ◌<◌, ◌+◌, ◌-◌, ◌∙◌, ◌++◌, ◌∷◌, [], ℕ, suc, List, None, refl, sym, ap, subst, arith, rules, inr, length, get_or, drop, reverse}
 use Rattle.std.specs.List.{Contains}
 use Rattle.cu_chordal.specs.declared.graph.Ends.{Ends}
 use Rattle.cu_chordal.specs.Graphs.{ChordalValue, HasEdge}
@@ -7,9 +7,12 @@ use Rattle.cu_unpack.proofs.Edges.{edge_range}
 use Rattle.cu_sweep.specs.Sweeps.{AddsAll, first_long}
 use Rattle.cu_sweep.specs.Swept.{IsPassed}
 use Rattle.cu_sweep.specs.Steps.Made.{Led, down_calls_of, down_made_to, sweep_of}
-use Rattle.cu_sweep.specs.Steps.Sweeping.{IsDownOver, IsDownSwept, IsRankDown}
-use Rattle.cu_sweep.proofs.Behind.{drop_all, member_behind, member_here, turned_at, turned_cut, turned_member}
+use Rattle.cu_sweep.specs.Steps.Sweeping.{IfSecond, IsDownOver, IsDownSwept, IsRankDown}
+use Rattle.cu_chordal.proofs.Members.{none_in_nil}
+use Rattle.cu_sweep.specs.Places.{second_at}
+use Rattle.cu_sweep.proofs.Behind.{drop_all, drop_at, member_behind, member_here, turned_at, turned_cut, turned_member}
 use Rattle.cu_sweep.proofs.Passes.{sweep_ends, sweep_more}
+use Rattle.cu_sweep.proofs.PassedOver.{NoneSooner, none_sooner_more}
 use Rattle.cu_sweep.proofs.Rows.{no_call, some_call}
 use Rattle.cu_sweep.proofs.Telling.{adds_none, until_none}
 use Rattle.cu_sweep.proofs.over_ranks.pass_down.Goals as goal
@@ -25,10 +28,27 @@ ranks-init g c =
       ready = c.requires.ready;
       unturned = c.requires.unturned;
       stays = refl;
+      soonest = λ y member. absurd (none_in_nil y (subst (λ (xs : List ℕ). Contains xs y) (drop_all path) member));
       swept = λ q same al sw.
           subst (λ (xs : List ℕ). IsDownSwept h q xs c.args.labels.now (g.K.Linking.links c.args.chain.now) × (first_long h (down_calls_of h q xs) ≡ None) × AddsAll a a (down_calls_of h q xs)) none
           (sw, refl, adds_none a);
     }
+
+pub lead_to-long-requires-clause-soonest : goal.lead_to-long-requires-clause-soonest
+lead_to-long-requires-clause-soonest g c =
+    let h = g.R.Relaxer.hierarchy c.args.relaxer.now in
+    let i = c.ranks.invariant in
+    let path = c.args.path.now in
+    let k = c.ranks.left - 1 in
+    let next : c.ranks.left ≡ suc k = omega (arith, c.ranks-test.true) in
+    let lt : k < length path = omega (arith, i.within, next) in
+    let x = get_or path k 0 in
+    let n = c.args.graph.now.ranks in
+    let edges : c.args.graph.now.edges ≡ h.edges = ap (λ (v : ChordalValue). v.edges) c.requires.graph.0 in
+    λ y e.
+    let less = (edge_range h c.requires.graph.1 x y (subst (λ (es : List Ends). HasEdge es x y) edges e)).0 in
+    let behind : Contains (drop (suc k) path) y = member_behind path k y c.requires.rising lt (c.requires.upwards x y (member_here path k lt) e) less in
+    i.soonest y (subst (λ (left : ℕ). Contains (drop left path) y) (sym next) behind)
 
 pub ranks-preserved : goal.ranks-preserved
 ranks-preserved g c =
@@ -45,7 +65,7 @@ ranks-preserved g c =
     let edges : c.args.graph.now.edges ≡ h.edges = ap (λ (v : ChordalValue). v.edges) c.requires.graph.0 in
     let within : x < m = subst (λ (n : ℕ). x < n) ranks (c.requires.path k 0 lt) in
     let done = reverse (drop (suc k) path) in
-    let row = c.relax_down-long in
+    let row = c.lead_to-long in
     let a = g.R.Relaxer.calls c.args.relaxer.now in
     let b = g.R.Relaxer.calls c.ranks.relaxer in
     let d = g.R.Relaxer.calls row.new.relaxer in
@@ -60,6 +80,12 @@ ranks-preserved g c =
       ready = row.ensures.ready;
       unturned = row.ensures.unturned;
       stays = row.ensures.stays ∙ i.stays;
+      soonest =
+          let n = c.args.graph.now.ranks in
+          let soonest_before : NoneSooner n c.ranks.soonest labels (drop (suc k) path) = subst (λ (left : ℕ). NoneSooner n c.ranks.soonest labels (drop left path)) next i.soonest in
+          let at : IfSecond (second_at row.new.labels (n + x)) (λ at. c.sooner_of-soonest.result ≤ at) = search rules in
+          subst (λ (xs : List ℕ). NoneSooner n c.sooner_of-soonest.result row.new.labels xs) (sym (drop_at path k lt))
+          (none_sooner_more n c.ranks.soonest c.sooner_of-soonest.result x labels row.new.labels (drop (suc k) path) soonest_before c.sooner_of-soonest.ensures.first at row.ensures.others);
       swept = λ q same al sw.
           let (swept0, quiet0, told0) = i.swept q same al sw in
           let swept : IsDownSwept h q done labels (g.K.Linking.links c.ranks.chain) = subst (λ (n : ℕ). IsDownSwept h q (reverse (drop n path)) labels (g.K.Linking.links c.ranks.chain)) next swept0 in
@@ -92,7 +118,7 @@ returns-then-is_some-clause-over g c =
     let edges : c.args.graph.now.edges ≡ h.edges = ap (λ (v : ChordalValue). v.edges) c.requires.graph.0 in
     let within : x < m = subst (λ (n : ℕ). x < n) ranks (c.requires.path k 0 lt) in
     let done = reverse (drop (suc k) path) in
-    let row = c.relax_down-long in
+    let row = c.lead_to-long in
     let a = g.R.Relaxer.calls c.args.relaxer.now in
     let b = g.R.Relaxer.calls c.ranks.relaxer in
     let d = g.R.Relaxer.calls row.new.relaxer in

@@ -4,6 +4,7 @@ use Rattle.cu_sweep.specs.Sweeps.{AddsAll, first_long}
 use Rattle.cu_sweep.specs.Steps.Made.{Led, down_calls_of}
 use Rattle.cu_sweep.specs.Steps.Ready.{IsReadyBy}
 use Rattle.cu_sweep.specs.Steps.Sweeping.{IsDownSwept}
+use Rattle.cu_sweep.proofs.PassedOver.{NoneSooner}
 use Rattle.cu_sweep.proofs.over_ranks.pass_down.Given as goal
 
 abbrev pub invariant-ranks : goal.invariant-ranks
@@ -15,6 +16,7 @@ invariant-ranks g l =
       ready : IsReadyBy g.K.Linking.links g.K.Linking.turned l.fn.graph.ranks l.labels l.chain;
       unturned : g.K.Linking.turned l.chain ≡ false;
       stays : g.R.Relaxer.hierarchy l.relaxer ≡ h;
+      soonest : NoneSooner l.fn.graph.ranks l.soonest l.labels (drop l.left l.path);
       swept : (q : Led) → l.path ≡ q.path → q.allows ≡ g.L.Limits.allows l.fn.limits → IsDownSwept h q [] l.fn.labels (g.K.Linking.links l.fn.chain)
           → IsDownSwept h q done l.labels (g.K.Linking.links l.chain) × (first_long h (down_calls_of h q done) ≡ None)
           × AddsAll (g.R.Relaxer.calls l.fn.relaxer) (g.R.Relaxer.calls l.relaxer) (down_calls_of h q done);

@@ -12,6 +12,7 @@ use Rattle.cu_interval.specs.Hierarchies.{HierarchyValue, IsHierarchyOf, graph_o
 use Rattle.cu_sweep.specs.Sweeps.{AddsAll, first_long, second_of, until_long}
 use Rattle.cu_sweep.specs.Places.{second_at}
 use Rattle.cu_sweep.specs.Swept.{IsPassed}
+use Rattle.cu_sweep.specs.Steps.Ahead.{LeadsUp}
 use Rattle.cu_sweep.specs.Steps.Made.{Led, made_up_after, rows_up, sweep_of, up_calls_of, up_made, up_made_from}
 use Rattle.cu_sweep.specs.Steps.Sweeping.{IsUpOver, IsUpSwept}
 use Rattle.cu_sweep.proofs.Rows.{no_call, some_call}
@@ -27,8 +28,8 @@ ranks-init g c = record {
   swept = λ q same al sw. (sw, refl, adds_none (g.R.Relaxer.calls c.args.relaxer.now));
 }
 
-pub relax_up-long-requires-clause-rank : goal.relax_up-long-requires-clause-rank
-relax_up-long-requires-clause-rank g c =
+pub lead_from-long-requires-clause-rank : goal.lead_from-long-requires-clause-rank
+lead_from-long-requires-clause-rank g c =
     let h = g.R.Relaxer.hierarchy c.args.relaxer.now in
     let i = c.ranks.invariant in
     let x = c.in-Some.rank in
@@ -42,8 +43,24 @@ relax_up-long-requires-clause-rank g c =
     let rank : x < c.args.graph.now.ranks = all_parts (λ a. a < c.args.graph.now.ranks) before x behind (subst (All (λ a. a < c.args.graph.now.ranks)) all c.requires.ancestors) in
     rank
 
-pub relax_up-long-requires-clause-graph : goal.relax_up-long-requires-clause-graph
-relax_up-long-requires-clause-graph g c = subst (IsHierarchyOf c.args.graph.now) (sym c.ranks.invariant.stays) c.requires.graph
+pub lead_from-long-requires-clause-leads : goal.lead_from-long-requires-clause-leads
+lead_from-long-requires-clause-leads g c =
+    let allows = g.L.Limits.allows c.args.limits.now in
+    let i = c.ranks.invariant in
+    let x = c.in-Some.rank in
+    let before = c.ranks.yielded in
+    let behind = c.next.new.self in
+    let left : c.ranks.rank-iterator ≡ x ∷ behind = c.in-Some.ensures.steps in
+    let whole : c.args.ancestors ≡ before ++ c.ranks.rank-iterator =
+    yielded_first (λ (left : List ℕ). left) c.args.ancestors before c.ranks.rank-iterator
+    (subst (λ s. Yields (YieldsFirst (λ (left : List ℕ). left)) s before c.ranks.rank-iterator) c.into_iter-rank-iterator.ensures.into_iter_gives c.ranks.yielded_by) in
+    let all : c.args.ancestors ≡ before ++ (x ∷ behind) = whole ∙ ap (λ (xs : List ℕ). before ++ xs) left in
+    let leads = LeadsUp (g.R.Relaxer.hierarchy c.args.relaxer.now) allows in
+    let at : LeadsUp (g.R.Relaxer.hierarchy c.args.relaxer.now) allows x = all_parts leads before x behind (subst (All leads) all c.requires.leads) in
+    subst (λ (v : HierarchyValue). LeadsUp v allows x) (sym i.stays) at
+
+pub lead_from-long-requires-clause-graph : goal.lead_from-long-requires-clause-graph
+lead_from-long-requires-clause-graph g c = subst (IsHierarchyOf c.args.graph.now) (sym c.ranks.invariant.stays) c.requires.graph
 
 pub ranks-preserved : goal.ranks-preserved
 ranks-preserved g c =
@@ -59,7 +76,7 @@ ranks-preserved g c =
     (subst (λ s. Yields (YieldsFirst (λ (left : List ℕ). left)) s before c.ranks.rank-iterator) c.into_iter-rank-iterator.ensures.into_iter_gives c.ranks.yielded_by) in
     let all : c.args.ancestors ≡ before ++ (x ∷ behind) = whole ∙ ap (λ (xs : List ℕ). before ++ xs) left in
     let rank : x < c.args.graph.now.ranks = all_parts (λ a. a < c.args.graph.now.ranks) before x behind (subst (All (λ a. a < c.args.graph.now.ranks)) all c.requires.ancestors) in
-    let row = c.relax_up-long in
+    let row = c.lead_from-long in
     let within : x < h.network.nodes = subst (λ (v : ChordalValue). x < v.ranks) c.requires.graph.0 rank in
     let rising : AllPairs (λ a b. a < b) (before ++ (x ∷ behind)) =
     subst (AllPairs (λ a b. a < b)) all (AllPairs-from_increasing c.args.ancestors c.requires.rising) in
@@ -106,7 +123,7 @@ returns-then-is_some-clause-over g c =
     (subst (λ s. Yields (YieldsFirst (λ (left : List ℕ). left)) s before c.ranks.rank-iterator) c.into_iter-rank-iterator.ensures.into_iter_gives c.ranks.yielded_by) in
     let all : c.args.ancestors ≡ before ++ (x ∷ behind) = whole ∙ ap (λ (xs : List ℕ). before ++ xs) left in
     let rank : x < c.args.graph.now.ranks = all_parts (λ a. a < c.args.graph.now.ranks) before x behind (subst (All (λ a. a < c.args.graph.now.ranks)) all c.requires.ancestors) in
-    let row = c.relax_up-long in
+    let row = c.lead_from-long in
     let within : x < h.network.nodes = subst (λ (v : ChordalValue). x < v.ranks) c.requires.graph.0 rank in
     let rising : AllPairs (λ a b. a < b) (before ++ (x ∷ behind)) =
     subst (AllPairs (λ a b. a < b)) all (AllPairs-from_increasing c.args.ancestors c.requires.rising) in

@@ -13,3 +13,6 @@ pub returns-clause-swept : goal.returns-clause-swept
 returns-clause-swept g c q same up none =
     let h = g.R.Relaxer.hierarchy c.args.relaxer.now in
     down_open_swept h q c.fall.new.self (c.fall.ensures.swept (open_to q) same refl (up_swept_open h q c.args.self.now up) none)
+
+pub fall-requires-clause-falls : goal.fall-requires-clause-falls
+fall-requires-clause-falls g c = λ place s t less may. refl

@@ -13,3 +13,6 @@ pub returns-clause-swept : goal.returns-clause-swept
 returns-clause-swept g c q same begun none =
     let h = g.R.Relaxer.hierarchy c.args.relaxer.now in
     up_open_swept h q c.rise.new.self (c.rise.ensures.swept (open_to q) same refl (open_begun h q c.args.self.now begun) none)
+
+pub rise-requires-clause-leads : goal.rise-requires-clause-leads
+rise-requires-clause-leads g c = λ k x lt y edge s number may. refl
