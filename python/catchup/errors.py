@@ -3,12 +3,16 @@
 from __future__ import annotations
 
 import errno
+import shlex
+import sys
 from os import PathLike, fspath
 from typing import Final
 
 # What the system's loader says of a library that finds no memory, Python of a thread, and of a call that lost its error.
 _SHORT: Final = ("failed to map", "cannot allocate memory", "can't start new thread", "without exception set",
                  "without setting an exception")
+# Debian's packages of Python modules are named after them, but for these.
+_PACKAGES: Final = {"osmium": "python3-pyosmium"}
 
 
 class CatchupError(Exception):
@@ -94,3 +98,12 @@ def is_short(problem: BaseException) -> bool:
         return problem.errno == errno.ENOMEM
     return isinstance(problem, MemoryError) or isinstance(problem, (ImportError, RuntimeError, SystemError)) and any(
         said in str(problem).lower() for said in _SHORT)
+
+
+def how_to_get(module: str) -> str:
+    """What installs a Python module of others, for the Python that runs: apt-get where that one has Debian's modules, and
+    pip where it hasn't, as in an environment made by pipx."""
+    name = module.replace("_", "-")
+    if any(folder.endswith("/dist-packages") for folder in sys.path):
+        return f"'apt-get install {_PACKAGES.get(module, f'python3-{name}')}' does it on Debian and Ubuntu"
+    return f"'{shlex.join([sys.executable, '-m', 'pip', 'install', name])}' does it"

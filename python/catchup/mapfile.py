@@ -33,6 +33,8 @@ _VERSION = 10300
 _CHUNK = 16384
 _NEAR = 0.02
 """Metres that are within the rounding of what the file tells."""
+_ODD = (geometry.NotGeometry, TypeError, ValueError, OverflowError, IndexError)
+"""What comes of values that an import doesn't write, as where somebody has edited them."""
 _WGS84 = ('GEOGCS["WGS 84",DATUM["WGS_1984",SPHEROID["WGS 84",6378137,298.257223563,AUTHORITY["EPSG","7030"]],'
           'AUTHORITY["EPSG","6326"]],PRIMEM["Greenwich",0],UNIT["degree",0.0174532925199433],AUTHORITY["EPSG","4326"]]')
 
@@ -106,8 +108,8 @@ class MapFile:
                 return _read(base, path)
         except sqlite3.Error as fault:
             raise Failure(f"{path}: this isn't a map.gpkg that catchup-import made: {fault}") from fault
-        except (geometry.NotGeometry, TypeError, ValueError, OverflowError) as fault:
-            raise Failure(f"{path}: this map is damaged: {fault}; make it again by catchup-import") from fault
+        except _ODD as fault:
+            raise _damaged(path, fault) from fault
 
     def __len__(self) -> int:
         """How many roads there are."""
@@ -132,6 +134,8 @@ class MapFile:
                 return RoadNames.read(base, len(self))
         except sqlite3.Error as fault:
             raise Failure(f"{self.path}: its names can't be read: {fault}") from fault
+        except _ODD as fault:
+            raise _damaged(self.path, fault) from fault
 
     @cached_property
     def point_osm(self) -> Ints:
@@ -141,9 +145,11 @@ class MapFile:
         try:
             with closing(_connect(self.path)) as base:
                 rows = base.execute("SELECT osm_nodes FROM road_nodes ORDER BY road").fetchall()
+            found = np.frombuffer(b"".join(row[0] for row in rows), dtype="<i8").astype(np.int64)
         except sqlite3.Error as fault:
             raise Failure(f"{self.path}: its nodes can't be read: {fault}") from fault
-        found = np.frombuffer(b"".join(row[0] for row in rows), dtype="<i8").astype(np.int64)
+        except _ODD as fault:
+            raise _damaged(self.path, fault) from fault
         if len(found) != len(self.point_lon):
             raise Failure(f"{self.path}: this map is damaged: {len(found)} nodes of {len(self.point_lon)} points")
         return found
@@ -211,6 +217,10 @@ class RoadNames:
         found = np.full(len(self.first) - 1, -1, dtype=np.int64)
         found[road[order]] = self.text[order]
         return found
+
+
+def _damaged(path: Path, fault: Exception) -> Failure:
+    return Failure(f"{path}: this map is damaged: {fault}; make it again by catchup-import")
 
 
 def _connect(path: Path) -> sqlite3.Connection:

@@ -225,7 +225,9 @@ def _ndmetis(nodes: int, edges: Ints, tuned: bool) -> Ints:
         if run.returncode:
             raise Failure(f"ndmetis failed: {last}")
         try:
-            ranks = np.loadtxt(graph.with_name("graph.iperm"), dtype=np.int64, ndmin=1)
+            # Of a file by its name numpy asks in which folder one is, and that may be gone.
+            with graph.with_name("graph.iperm").open() as written:
+                ranks = np.loadtxt(written, dtype=np.int64, ndmin=1)
         except (OSError, ValueError):
             raise Failure(f"ndmetis wrote no ranks: {last}") from None
     return np.asarray(ranks, np.int64)

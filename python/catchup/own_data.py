@@ -156,9 +156,20 @@ def _read_sheet(path: Path, forms: Sequence[Sequence[str]], more: Sequence[str] 
         names = list(forms[0])
     for line, fields in rows:
         if len(fields) != len(names):
-            raise TableError(path, line, None, f"{len(fields)} fields", f"{len(names)}: {','.join(_short(names))}")
+            raise _miscounted(path, line, fields, names, [] if forms[0][0] in first else forms[1:])
     columns = list(zip(*(fields for _, fields in rows))) or [() for _ in names]
     return Sheet(path, [line for line, _ in rows], {name: list(column) for name, column in zip(names, columns)})
+
+
+def _miscounted(
+    path: Path, line: int, fields: Sequence[str], names: Sequence[str], others: Sequence[Sequence[str]]
+) -> TableError:
+    """That a row has more or fewer fields than these names; `others` are the forms of another count that a header may say."""
+    if len(fields) == 1:
+        return TableError(path, line, None, "no commas", f"fields with commas between: {','.join(_short(names))}")
+    allowed = f"{len(names)}: {','.join(_short(names))}"
+    headers = [f", or a header {','.join(_short(form))} above them" for form in others if len(form) == len(fields)]
+    return TableError(path, line, None, f"{len(fields)} fields", "".join([allowed, *headers]))
 
 
 def _header(

@@ -22,7 +22,7 @@ from concurrent.futures import ThreadPoolExecutor
 from dataclasses import dataclass
 from operator import index
 from pathlib import Path
-from typing import Generic, TypeAlias, TypeVar
+from typing import Generic, NoReturn, TypeAlias, TypeVar
 
 from catchup import clock, replies
 from catchup.errors import CatchupError, Damaged, Ended, Failure
@@ -95,7 +95,16 @@ class Question(Generic[Value]):
         return self.read(replies.value(replies.parse(reply)))
 
 
-class Planner:
+class _Unsent:
+    """What holds processes of the program: no other process can use them."""
+
+    def __reduce__(self) -> NoReturn:
+        name = type(self).__name__
+        what = f"an {name}" if name[0] in "AEIOU" else f"a {name}"
+        raise TypeError(f"{what} can't be pickled or copied: start one in each process")
+
+
+class Planner(_Unsent):
     """Answers over a packed file, or over tables, by one process of the program or by several.
 
     Threads may share it: as many are answered at once as there are processes, and who waits is answered in the order in
@@ -261,7 +270,7 @@ class Planner:
         return Ended(self._ended.status, self._ended.said) if self._ended else Ended(None, "no process is left")
 
 
-class AsyncPlanner:
+class AsyncPlanner(_Unsent):
     """As Planner, for asyncio: `async with await AsyncPlanner.start("town.cu", processes=4) as planner`.
 
     Any number of calls may be in work; each goes to the process with the fewest.

@@ -317,9 +317,11 @@ class _Table:
             return words.index(field)
         if not (field.isascii() and field.isdigit()):
             raise TableError(self._path, line, name, _shown(field), "a number of digits alone")
-        if len(field.lstrip("0")) > 18:
+        # Python takes no number of thousands of digits, be they zeros.
+        digits = field.lstrip("0") or "0"
+        if len(digits) > 18:
             raise TableError(self._path, line, name, _shown(field), "a number of at most 18 digits")
-        return int(field)
+        return int(digits)
 
 
 def _read_fast(body: str, names: Sequence[str], words: Sequence[str]) -> list[Ints] | None:

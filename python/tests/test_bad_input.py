@@ -134,3 +134,23 @@ def test_closed_input(room: Path, words: str) -> None:
 def test_a_folder_as_input(room: Path, words: str) -> None:
     ran = run(["sh", "-c", f"exec {TOP}/bin/{words} < bad/folder"], folder=room)
     assert ran == (1, "", f"{words.split()[0]}: standard input can't be read: Is a directory\n")
+
+
+OWN_DATA = TOP / "examples/own_data"
+IN_ONES_FOLDER = [("catchup-tables", OWN_DATA / "places.csv", OWN_DATA / "streets.csv"), ("catchup-import", "osm", "map.osm", "town")]
+
+
+@pytest.mark.parametrize(("name", "words"), [(name, words) for name, *words in IN_ONES_FOLDER])
+def test_a_folder_that_is_gone(room: Path, name: str, words: list[str | Path]) -> None:
+    (room / "gone").mkdir()
+    ran = run(["sh", "-c", 'rmdir ../gone; exec "$@"', "sh", TOP / "bin" / name, *words], folder=room / "gone")
+    said = f"{name}: the folder that it was called in is no longer there: go to another one\n"
+    assert ran == (1, "", said)
+
+
+@pytest.mark.parametrize("name", ["catchup-order", "order-by-metis"])
+def test_an_order_is_made_in_a_folder_that_is_gone(room: Path, name: str) -> None:
+    (room / "gone").mkdir()
+    words = [TOP / "bin" / name, room / "nodes", room / "roads"]
+    ran = run(["sh", "-c", 'rmdir ../gone; exec "$@"', "sh", *words], folder=room / "gone")
+    assert ran == run(words) and ran.status == 0 and len(ran.out.split()) == 5

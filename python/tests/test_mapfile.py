@@ -88,6 +88,7 @@ def test_a_folder_and_a_file_that_cannot_be_looked_for(tmp_path: Path) -> None:
     ("UPDATE roads SET head = 3 WHERE road = 0", "nodes that aren't there"), ("UPDATE roads SET tail = -1 WHERE road = 0", "nodes that aren't there"),
     ("UPDATE roads SET geom = x'00'", "isn't a GeoPackage's geometry"), ("UPDATE roads SET geom = NULL", "make it again"),
     ("UPDATE roads SET geom = (SELECT geom FROM nodes)", "no line"), ("UPDATE nodes SET geom = (SELECT geom FROM roads)", "no point"),
+    ("UPDATE roads SET tail = 0.5 WHERE road = 0", "make it again"),
     ("UPDATE roads SET seconds = NULL", "make it again"), ("UPDATE roads SET metres = 'far'", "make it again"),
     ("DROP TABLE roads", "isn't a map.gpkg"), ("ALTER TABLE roads DROP COLUMN profile", "isn't a map.gpkg")])
 def test_maps_that_are_damaged(tmp_path: Path, change: str, says: str) -> None:
@@ -108,6 +109,28 @@ def test_numbers_of_nodes_that_are_damaged(tmp_path: Path) -> None:
     base.close()
     with pytest.raises(Failure, match="3 nodes of 5 points"):
         MapFile.open(path).point_osm
+
+
+@pytest.mark.parametrize("value", ["NULL", "'x'", "5", "x'00'"])
+def test_what_somebody_wrote_for_numbers_of_nodes(tmp_path: Path, value: str) -> None:
+    path = tmp_path / "map.gpkg"
+    write_map(path, *small_map())
+    with sqlite3.connect(path) as base:
+        base.execute(f"UPDATE road_nodes SET osm_nodes = {value} WHERE road = 1")
+    base.close()
+    with pytest.raises(Failure, match="this map is damaged: .*; make it again by catchup-import"):
+        MapFile.open(path).point_osm
+
+
+@pytest.mark.parametrize("change", ["road = 'x'", '"from" = \'x\'', '"to" = x\'00\'', "road = 1e30"])
+def test_what_somebody_wrote_for_names(tmp_path: Path, change: str) -> None:
+    path = tmp_path / "map.gpkg"
+    write_map(path, *small_map())
+    with sqlite3.connect(path) as base:
+        base.execute(f"UPDATE names SET {change}")
+    base.close()
+    with pytest.raises(Failure, match="this map is damaged: .*; make it again by catchup-import"):
+        MapFile.open(path).names
 
 
 def test_it_is_only_read(tmp_path: Path) -> None:

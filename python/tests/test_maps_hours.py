@@ -49,6 +49,7 @@ def test_open(text: str, day: int, spans: tuple[tuple[int, int], ...]) -> None:
 
 
 @pytest.mark.parametrize("text", ["", "sunrise-sunset", "Mar-Oct 08:00-18:00", "08:00+", "weekdays", "Mo-Fr 8-18", "25:00-26:00",
+                                  "08:60-10:00", "08:00-09:99",
                                   "Mo-Xx 08:00-10:00", "08:00-60:00", "Mo-Fr 08:00-18:00 if wet", "week 10-20", "open"[:0] + ";", "Mo[1] 08:00-10:00"])
 def test_not_understood(text: str) -> None:
     assert open_spans(text, MO) is None

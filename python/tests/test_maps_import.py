@@ -281,8 +281,17 @@ def test_folders_that_cant_be_made(small: Path, tmp_path: Path) -> None:
     (["out", "--signals", "NaN"], "nan isn't a number of seconds"), (["out", "--left", "1.5"], "is not a valid integer"),
     (["out", "--right"], "requires an argument")])
 def test_wrong_words(small: Path, tmp_path: Path, words: list[str], says: str) -> None:
-    check_refused(imported(small, *words, cwd=tmp_path), 2, says)
+    ran = imported(small, *words, cwd=tmp_path)
+    check_refused(ran, 2, says)
+    # The help of the command that has these options.
+    assert ran.error.endswith(". See: catchup-import osm --help\n")
     assert left(tmp_path) == ["small.osm"]
+
+
+@pytest.mark.parametrize("words, says", [
+    ([], "Missing command"), (["tram"], "No such command 'tram'"), (["--force"], "No such option: --force")])
+def test_no_command(words: list[str], says: str) -> None:
+    check_refused(run("catchup-import", *words), 2, f"catchup-import: {says}. See: catchup-import --help")
 
 
 @pytest.mark.parametrize("words, said", [

@@ -554,6 +554,15 @@ def test_no_roads(town: OsmMap, tmp_path: Path, tags: dict[str, str], says: str)
         town.network(tmp_path)
 
 
+@pytest.mark.parametrize("islands", [False, True])
+def test_no_roads_on_that_day(town: OsmMap, tmp_path: Path, islands: bool) -> None:
+    """All there is is a ferry of Saturdays."""
+    town.way([1, 2], route="ferry", duration="10", opening_hours="Sa 08:00-10:00")
+    assert town.network(tmp_path, weekday="sa", islands=islands).takes(1, 2) == 8 * H + 600
+    with pytest.raises(Failure, match="none of its roads can be entered at any hour of that day: name another by --weekday"):
+        town.network(tmp_path, islands=islands)
+
+
 def test_no_nodes(town: OsmMap, tmp_path: Path) -> None:
     street(town, [11, 12])
     with pytest.raises(Failure, match="none of the nodes of its roads is in the file"):

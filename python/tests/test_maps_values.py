@@ -22,6 +22,7 @@ def test_a_limit(text: str, speed: float | None) -> None:
 @pytest.mark.parametrize("text, seconds", [
     ("40", 2400), ("00:40", 2400), ("1:10", 4200), ("01:10:05", 4205), ("PT1H10M", 4200), ("PT40M", 2400), ("PT90S", 90),
     ("P1DT2H", 93600), ("P2D", 172800), (" 25 ", 1500), ("0", None), ("00:00", None), ("", None), ("soon", None), ("PT", None), ("P", None),
-    ("1:2", None), ("-5", None), ("40 min", None)])
+    ("1:2", None), ("-5", None), ("40 min", None), ("PT1.5H", 5400), ("PT0,5H", 1800), ("PT1H7.5M", 4050), ("P0.5D", 43200),
+    ("PT2.5S", 3), ("PT0.4S", None), ("PT.5H", None), ("PT1.H", None), ("P1W", None)])
 def test_a_duration(text: str, seconds: int | None) -> None:
     assert duration(text) == seconds

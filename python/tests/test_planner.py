@@ -3,9 +3,11 @@
 from __future__ import annotations
 
 import asyncio
+import copy
 import gc
 import inspect
 import os
+import pickle
 import random
 import signal
 import subprocess
@@ -413,6 +415,20 @@ def test_a_forked_process_leaves_a_planner_alone(town: Path) -> None:
     of_another = "the program has ended: this process was forked from the one that started it: start one in each process"
     assert (done.returncode, done.stderr) == (0, "")
     assert sorted(done.stdout.splitlines()) == ["True", *[of_another] * 8]
+
+
+@pytest.mark.parametrize("send", [pickle.dumps, copy.copy, copy.deepcopy])
+def test_a_planner_is_not_sent_to_other_processes(town: Path, send: Callable[[object], object]) -> None:
+    async def ask() -> None:
+        async with await AsyncPlanner.start(town) as planner:
+            with pytest.raises(TypeError, match="an AsyncPlanner can't be pickled or copied: start one in each process"):
+                send(planner)
+
+    asyncio.run(ask())
+    with Planner(town) as planner:
+        with pytest.raises(TypeError, match="a Planner can't be pickled or copied: start one in each process"):
+            send(planner)
+        assert planner.route(5, 151, "08:00")
 
 
 POOL = """

@@ -82,6 +82,7 @@ OTHER_SPELLINGS: list[Callable[[str], str]] = [
     lambda text: "\ufeff" + text,
     lambda text: "\n".join(",".join(f'"{field}"' for field in line.split(",")) for line in text.splitlines()),
     lambda text: text.replace("\n0,", "\n000,"),
+    lambda text: text.replace("\n0,", "\n" + "0" * 5000 + ","),
 ]
 
 

@@ -12,7 +12,7 @@ from typing import NoReturn
 import click
 
 from catchup import __version__
-from catchup.errors import CatchupError, Failure, is_short
+from catchup.errors import CatchupError, Failure, how_to_get, is_short
 
 WRONG_WORDS = 2
 INTERRUPTED = 130
@@ -23,8 +23,6 @@ _SIGNALLED = 128
 _AGAIN = 0.05
 # What a write fails with, which names no file.
 _UNWRITTEN = (errno.ENOSPC, errno.EDQUOT, errno.EFBIG, errno.EIO)
-# Debian's packages of Python modules are named after them, but for these.
-_PACKAGES = {"osmium": "python3-pyosmium"}
 
 
 def run(command: click.Command, name: str, *, serves: bool = False) -> NoReturn:
@@ -57,6 +55,7 @@ def with_version(command: click.Command, name: str) -> click.Command:
 
 
 def _status_of(command: click.Command, name: str) -> int:
+    context: click.Context | None = None
     try:
         # Up to here bin/ has an interrupt end the process at once: while modules load Python would print a traceback.
         if signal.getsignal(signal.SIGINT) is signal.SIG_DFL:
@@ -68,7 +67,8 @@ def _status_of(command: click.Command, name: str) -> int:
     except click.exceptions.Exit as end:
         return end.exit_code
     except click.UsageError as error:
-        return _said(name, f"{_one_line(error.format_message()).rstrip('.')}. See: {name} --help", WRONG_WORDS)
+        told = _one_line(error.format_message()).rstrip(".")
+        return _said(name, f"{told}. See: {_asked(name, context, error)} --help", WRONG_WORDS)
     except click.ClickException as error:
         return _said(name, _one_line(error.format_message()), error.exit_code)
     except Failure as error:
@@ -86,6 +86,14 @@ def _status_of(command: click.Command, name: str) -> int:
     except (MemoryError, ImportError, RuntimeError, SystemError) as error:
         return _said(name, _one_line(_unmade(error)), 1)
     return result if isinstance(result, int) else 0
+
+
+def _asked(name: str, context: click.Context | None, error: click.UsageError) -> str:
+    """The command whose help has what is wrong: one of another's commands, as `catchup-import osm`, has a help of its own."""
+    if error.ctx:
+        return error.ctx.command_path
+    # Of an option without its value click tells no context.
+    return f"{name} {context.invoked_subcommand}" if context and context.invoked_subcommand else name
 
 
 class _Terminated(SystemExit):
@@ -137,15 +145,24 @@ def _unloaded(error: ImportError) -> str:
         raise error
     if not isinstance(error, ModuleNotFoundError):
         return f"the Python module {module} can't be loaded: {error}"
-    package = _PACKAGES.get(module, f"python3-{module.replace('_', '-')}")
-    return f"the Python module {module} isn't installed: 'apt-get install {package}' does it on Debian and Ubuntu"
+    return f"the Python module {module} isn't installed: {how_to_get(module)}"
 
 
 def _told(error: OSError) -> str:
     """What failed, and why."""
     if error.filename is not None:
         return f"{os.fsdecode(error.filename)}: {error.strerror}"
+    if error.errno == errno.ENOENT and not _has_folder():
+        return "the folder that it was called in is no longer there: go to another one"
     return f"its output can't be written: {error.strerror}" if error.errno in _UNWRITTEN else str(error)
+
+
+def _has_folder() -> bool:
+    try:
+        os.getcwd()
+    except FileNotFoundError:
+        return False
+    return True
 
 
 def _said(name: str, text: str, status: int) -> int:

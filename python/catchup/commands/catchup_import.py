@@ -73,7 +73,7 @@ class Delay(click.FloatRange):
         return seconds
 
 
-@click.group(context_settings={"help_option_names": ["-h", "--help"]})
+@click.group(context_settings={"help_option_names": ["-h", "--help"]}, no_args_is_help=False)
 def command() -> None:
     """Makes networks of what others have.
 

@@ -17,7 +17,8 @@ WEEKDAYS = ("mo", "tu", "we", "th", "fr", "sa", "su")
 Spans = tuple[tuple[int, int], ...]
 """Parts of a day: from a second to before another, by rising second, 86,400 the latest."""
 
-_TIMES = re.compile(r"\d{1,2}:\d\d-\d{1,2}:\d\d(?:\s*,\s*\d{1,2}:\d\d-\d{1,2}:\d\d)*")
+_SPAN = r"\d{1,2}:[0-5]\d-\d{1,2}:[0-5]\d"
+_TIMES = re.compile(rf"{_SPAN}(?:\s*,\s*{_SPAN})*")
 _DAYS = re.compile(r"(?:mo|tu|we|th|fr|sa|su|ph|sh)(?:\s*[-,]\s*(?:mo|tu|we|th|fr|sa|su|ph|sh))*")
 _OFF = ("off", "closed")
 

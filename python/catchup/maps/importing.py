@@ -85,6 +85,8 @@ def import_osm(path: Path, options: Options, tell: Tell) -> Made:
     directed = _streets(path, raw, counts)
     tell("turns and roads for destinations alone")
     network, behind = _network(directed, options, counts)
+    if not len(network.street):
+        raise Failure(f"{path}: none of its roads can be entered at any hour of that day: name another by --weekday")
     labels = Labels(directed)
     kept = network.kept(largest(network, counts, options.islands))
     metres_behind = labels.metres[_used(directed, kept) & behind].sum()

@@ -1,6 +1,7 @@
 """Values of tags that are speeds and durations."""
 from __future__ import annotations
 
+import math
 import re
 from typing import Mapping
 
@@ -11,7 +12,8 @@ IMPLICIT = frozenset(("signals", "variable", "sign", "implicit"))
 _NUMBER = re.compile(r"(\d+(?:\.\d+)?)\s*(km/h|kmh|kph|mph|knots)?")
 _ZONE = re.compile(r"(?:[a-z]{2}:)?(?:zone:?)?(\d+)")
 _UNITS = {"mph": 1.609344, "knots": 1.852}
-_ISO = re.compile(r"P(?:(\d+)D)?(?:T(?:(\d+)H)?(?:(\d+)M)?(?:(\d+)S)?)?")
+_PART = r"(\d+(?:[.,]\d+)?)"
+_ISO = re.compile(f"P(?:{_PART}D)?(?:T(?:{_PART}H)?(?:{_PART}M)?(?:{_PART}S)?)?")
 
 
 def kmh(text: str, zones: Mapping[str, float]) -> float | None:
@@ -36,8 +38,10 @@ def duration(text: str) -> int | None:
     text = text.strip()
     iso = _ISO.fullmatch(text)
     if iso and any(iso.groups()):
-        days, hours, minutes, seconds = (int(part or 0) for part in iso.groups())
-        total = days * DAY + hours * 3600 + minutes * 60 + seconds
+        days, hours, minutes, seconds = (float((part or "0").replace(",", ".")) for part in iso.groups())
+        # Of a number of hundreds of digits there is no float that is one.
+        whole = days * DAY + hours * 3600 + minutes * 60 + seconds
+        total = int(whole + 0.5) if math.isfinite(whole) else 0
     elif re.fullmatch(r"\d+(:\d\d){0,2}", text):
         parts = [int(part) for part in text.split(":")]
         hours, minutes, seconds = (0, *parts, 0) if len(parts) == 1 else (*parts, 0)[:3]
