@@ -9,6 +9,7 @@ import itertools
 import json
 import os
 import signal
+import sqlite3
 import stat
 import subprocess
 import time
@@ -289,6 +290,10 @@ def test_roads_are_edited_by_their_numbers(rush: Path) -> None:
         other = [{"from": 0, "kind": "travel", "value": 9}]
         status, told = post_json(service, {"edits": [{"road": 2, "pieces": other}]})
         assert (status, told["lines"]) == (200, 1) and arrive() == 9
+        # Some editors and libraries write a byte-order mark before it.
+        marked = "\ufeff" + json.dumps({"edits": [{"road": 2, "pieces": pieces}]})
+        assert service.ask("/edits", "POST", marked.encode(), content_type="application/json")[0] == 200
+        assert arrive() == 7
         assert post_json(service, {"edits": [{"road": 2, "profile": 4}, {"profile": 4, "pieces": pieces}]})[0] == 200
         assert arrive() == 7
         status, told = post_json(service, {"edits": [{"road": "road:1", "closed": True}, {"road": 99, "pieces": pieces},
@@ -328,7 +333,8 @@ def test_json_that_is_no_edit(file: Path) -> None:
         for body in BAD_JSON:
             status, told = post_json(service, body)
             assert status == 400 and told["error"], body
-        for raw in (b"", b"{", b"\xff", b'{"edits": [], "edits": []}', b'{"edits": [NaN]}', b"[" * 60_000):
+        for raw in (b"", b"{", b"\xff", b'{"edits": [], "edits": []}', b'{"edits": [NaN]}', b"[" * 60_000,
+                    b"\xef\xbb\xbf" * 2 + b'{"edits": [{"road": 1, "closed": true}]}'):
             assert service.ask("/edits", "POST", raw, content_type="application/json")[0] == 400
         status, told = service.ask("/edits", "POST", b" " * 65_537, content_type="application/json")
         assert status == 413
@@ -513,6 +519,37 @@ def test_at_the_end_an_edit_that_is_not_ready_is_ended(file: Path, slow: Path) -
         assert status == 503 and "the service ends" in told["error"]
         assert not is_there(edit[0])
     assert file.read_bytes() == before and left_in(file.parent) == []
+
+
+def test_an_edit_that_is_made_is_told_at_the_end_though_it_is_not_served_yet(
+        file: Path, program: Path, tmp_path: Path) -> None:
+    """A busy machine may take long over the next file's processes."""
+    wanted, stub, made = edited(file, LINE), tmp_path / "late", tmp_path / "made"
+    stub.write_text(f'#!/bin/sh\nif [ "$1" = ask ] && [ -e "{made}" ]; then exec sleep 1000; fi\n'
+                    f'if [ "$1" = edit ]; then : >"{made}"; fi\nexec "{program}" "$@"\n')
+    stub.chmod(0o755)
+    with Service(file, CATCHUP=str(stub)) as service, ThreadPoolExecutor(1) as pool:
+        waiting = pool.submit(Service.once, service, LINE)
+        assert wait_for(lambda: file.read_bytes() == wanted)
+        assert service.end() == (0, "", "")
+        status, told = waiting.result()
+        assert (status, told["version"]) == (200, digest_of(file))
+    assert file.read_bytes() == wanted and left_in(file.parent) == []
+
+
+def test_an_edit_of_which_nothing_can_be_noted_is_told_at_the_end(file: Path, slow: Path) -> None:
+    """Whoever waits when the service can't wait any longer isn't cut off."""
+    with Service(file, CATCHUP=str(slow)) as service, ThreadPoolExecutor(1) as pool:
+        waiting = pool.submit(Service.once, service, LINE)
+        assert wait_for(lambda: edits_in_work(service))
+        with contextlib.closing(sqlite3.connect(f"{file}.jobs", isolation_level=None)) as kept:
+            kept.execute("BEGIN EXCLUSIVE")
+            assert service.end() == (0, "", "")
+        status, told = waiting.result()
+        assert status == 503 and told["error"] == "the service ends: GET /edits says whether the edit was made"
+    with Service(file) as service:
+        [job] = service.get("/edits")["jobs"]
+        assert job["state"] == "ended" and not file.with_name(file.name + ".journal").exists()
 
 
 def test_at_a_reload_nobody_is_told_that_the_service_ends(file: Path, slow: Path) -> None:

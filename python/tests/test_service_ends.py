@@ -3,6 +3,7 @@ to end, and when."""
 
 from __future__ import annotations
 
+import asyncio
 import os
 import re
 import signal
@@ -13,6 +14,7 @@ import time
 from collections.abc import Callable, Iterator
 from contextlib import contextmanager
 from pathlib import Path
+from types import SimpleNamespace
 
 import pytest
 from serving import HTTP, SECONDS, Service, Watch, is_there, read_all, wait_for
@@ -159,6 +161,78 @@ def test_who_comes_while_the_last_is_answered_is_refused_at_once(town: Path) -> 
         assert service.process.wait(SECONDS) == 0
 
 
+@pytest.mark.parametrize("number, why", [(signal.SIGTERM, "the service ends"), (signal.SIGHUP, "the service is reloaded")])
+def test_who_has_connected_and_not_asked_yet_is_told(town: Path, number: int, why: str) -> None:
+    """A busy machine may take long over a client's request, and some of it may be there."""
+    with Service(town) as service, service.connect() as silent, service.connect() as slow, service.connect() as idle:
+        idle.sendall(REQUEST)
+        assert idle.recv(65_536).startswith(b"HTTP/1.1 200")
+        slow.sendall(REQUEST[:9])
+        [before] = service.workers()
+        watch = Watch(service.process.pid)
+        service.process.send_signal(number)
+        # Between two requests nobody waits for an answer.
+        assert idle.recv(65_536) == b""
+        slow.sendall(REQUEST[9:])
+        silent.sendall(REQUEST)
+        for client in (silent, slow):
+            head, _, body = read_all(client).partition(b"\r\n\r\n")
+            assert head.startswith(b"HTTP/1.1 503 ") and b"\r\nretry-after: 1" in head
+            assert b"\r\nconnection: close" in head and f'"error":"{why}"'.encode() in body
+        # Nobody waits long for those who go on saying nothing.
+        assert wait_for(lambda: is_there(before), lambda there: not there) is False
+        assert watch.seconds() < END_SECONDS / 2
+
+
+@pytest.fixture
+def checker(program: Path, tmp_path: Path) -> Path:
+    """A program which, as long as a file `what` stands beside it, does that in the place of its work."""
+    path = tmp_path / "checker"
+    path.write_text(f'#!/bin/sh\nif [ -e "$0.what" ]; then : >"$0.asked"; . "$0.what"; fi\nexec "{program}" "$@"\n')
+    path.chmod(0o755)
+    return path
+
+
+def begin_reload(service: Service, checker: Path, what: str) -> None:
+    """Asks for a reload whose look at the file does this, and waits until it has begun."""
+    checker.with_name("checker.what").write_text(what + "\n")
+    service.process.send_signal(signal.SIGHUP)
+    assert wait_for(checker.with_name("checker.asked").exists)
+
+
+@pytest.mark.parametrize("to_all", [False, True])
+def test_the_end_waits_for_no_look_at_a_file(town: Path, checker: Path, to_all: bool) -> None:
+    """However long a reload looks at the file, and whoever of all processes is ended first, nothing is said of it."""
+    with Service(town, workers=2, CATCHUP=str(checker)) as service:
+        begin_reload(service, checker, "exec sleep 1000")
+        watch = Watch(service.process.pid)
+        (os.killpg if to_all else os.kill)(service.process.pid, signal.SIGTERM)
+        assert service.process.wait(SECONDS) == 0
+        assert watch.seconds() < END_SECONDS
+        assert service.process.communicate() == ("", "")
+
+
+def test_the_end_may_come_to_the_look_at_a_file_first(town: Path, checker: Path) -> None:
+    with Service(town, workers=2, CATCHUP=str(checker)) as service:
+        begin_reload(service, checker, "kill -TERM $$")
+        assert service.end() == (0, "", "")
+
+
+def test_a_reload_whose_look_at_a_file_was_ended_says_so(town: Path, checker: Path) -> None:
+    """The program isn't taken for a worker, and its status is told."""
+    with Service(town, workers=2, CATCHUP=str(checker)) as service:
+        before = service.workers()
+        begin_reload(service, checker, "sleep 0.5; kill -KILL $$")
+        # A worker that ends meanwhile is started again as ever.
+        os.kill(before[0], signal.SIGTERM)
+        checker.with_name("checker.what").unlink()
+        assert wait_for(lambda: len(service.children()), lambda many: many == 4) == 4
+        assert wait_for(service.workers, lambda found: len(found) == 2 and before[0] not in found)[0] == before[1]
+        status, output, said = service.end()
+    assert (status, output) == (0, "")
+    assert said == f"catchup-http: nothing is reloaded: {town} can't be served: the program was ended by SIGKILL\n"
+
+
 def is_refused(port: int) -> bool:
     """Whether nobody may connect any more; somebody who may asks nothing."""
     try:
@@ -234,6 +308,24 @@ def test_whoever_is_left_is_answered_whatever_was_sent(listener: socket.socket) 
     for client in clients[:-1]:
         with client:
             assert client.recv(65_536) == answer
+
+
+def test_a_worker_gives_signs_while_it_opens_its_files() -> None:
+    """The main process ends one that gives none, however large its file is."""
+    supervisor = pytest.importorskip("catchup.service.supervisor")
+    signs: list[float] = []
+
+    async def notify() -> None:
+        signs.append(time.monotonic())
+
+    async def start() -> None:
+        server = supervisor.DrainingServer(supervisor.Config(None, callback_notify=notify))
+        server.worker = SimpleNamespace(start=lambda: asyncio.sleep(SECONDS))
+        asyncio.get_running_loop().call_later(5 * supervisor.START_PAUSE, server.handle_exit, signal.SIGTERM, None)
+        await server.startup()
+
+    asyncio.run(start())
+    assert len(signs) >= 2
 
 
 def test_workers_know_who_is_asked_to_end() -> None:

@@ -13,7 +13,7 @@ from pathlib import Path
 import pytest
 from commands import call, check_refused, run
 from conftest import EXAMPLES
-from serving import HTTP, SECONDS, Service, digest_of, read_all, wait_for
+from serving import HTTP, SECONDS, Service, client_of, digest_of, read_all, wait_for
 
 from catchup.service import probing
 from catchup.service.gates import Gates
@@ -158,6 +158,7 @@ WRONG = [
     ("", 2, "Missing argument"), ("{town} --port 65536", 2, "65535"), ("{town} --port 1_8_0", 2, "number"),
     ("{town} --port \u0661\u0662", 2, "number"), ("{town} --keep x", 2, "--keep"), ("{town} --workers 0", 2, "number"),
     ("none.cu", 1, "No such file"), (".", 1, "is no file"), ("{town} --host 0.0.0.0", 1, "--token"),
+    ("{town} --host [::1]", 1, "write it as ::1"),
     ("{town} --token none", 1, "can't be read"), ("{town} --token bad", 1, "holds no token"),
     ("{town} --origin x", 1, "is no origin"), ("{town} --name a,b", 1, "is no name"),
     ("car={town} car={town}", 1, "named twice"), (f"{{town}} --tables car={EXAMPLES}/town", 1, "names no served file")]
@@ -167,6 +168,13 @@ WRONG = [
 def test_words_that_start_nothing(town: Path, room: Path, words: str, status: int, said: str) -> None:
     """Words that are refused before anything is opened: in this process, since to start one takes the longest."""
     check_refused(call("catchup-http", *words.format(town=town).split(), cwd=room), status, said)
+
+
+def test_a_name_that_is_no_text(town: Path, tmp_path: Path) -> None:
+    """The program takes no such words."""
+    other = tmp_path / os.fsdecode(b"caf\xe9.cu")
+    other.write_bytes(town.read_bytes())
+    check_refused(call("catchup-http", other), 1, "caf\\udce9.cu' has a name that isn't UTF-8")
 
 
 # What is found out by the program, the tables and the system: by processes of their own.
@@ -187,7 +195,7 @@ def test_what_cannot_be_served(town: Path, room: Path, words: str, status: int, 
 def test_a_port_that_is_taken_and_no_program(town: Path, tmp_path: Path) -> None:
     with socket.create_server(("127.0.0.1", 0)) as other:
         ran = run("catchup-http", town, "--port", str(other.getsockname()[1]))
-    check_refused(ran, 1, "can't listen on 127.0.0.1 port")
+    check_refused(ran, 1, "Address already in use: end what listens there, or choose another --port")
     check_refused(call("catchup-http", town, env={"CATCHUP": str(tmp_path / "none")}), 1, "CATCHUP names")
 
 
@@ -227,6 +235,23 @@ def test_too_few_files_that_may_be_open_are_told_at_the_start(town: Path) -> Non
         needed = 48 + 16 * len(words)
         assert done.stderr == (f"catchup-http: only {many} files may be open here, and the service needs {needed}: "
                                "allow more (ulimit -n)\n")
+
+
+def test_shared_memory_that_cannot_be_written_is_done_without(town: Path) -> None:
+    """Workers give their signs there, where they can."""
+    apart = ["unshare", "--user", "--map-root-user", "--mount", "sh", "-c"]
+    closed = "mount -t tmpfs -o ro none /dev/shm && "
+    if subprocess.run([*apart, closed + "true"], capture_output=True, check=False).returncode:
+        pytest.skip("no folder can be mounted here")
+    process = subprocess.Popen([*apart, closed + 'exec "$0" "$@"', HTTP, "--port", "0", "--workers", "1", town],
+                               stdout=subprocess.PIPE, stderr=subprocess.PIPE, text=True, start_new_session=True)
+    try:
+        assert process.stdout is not None
+        with client_of(int(process.stdout.readline().rstrip("/\n").rpartition(":")[2])) as client:
+            assert wait_for(lambda: client.get("/health").status_code, lambda status: status == 200) == 200
+    finally:
+        os.killpg(process.pid, signal.SIGKILL)
+        process.communicate()
 
 
 def test_where_no_worker_can_begin_the_service_ends(town: Path) -> None:

@@ -109,6 +109,9 @@ def test_the_latest_departure_is_in_time_and_a_second_later_is_not(service: Serv
     assert at <= by < behind
     assert service.get(f"/route?from=0&to={NODES - 1}&arrive={by}") == told
     assert service.get(f"/latest?from=0&to={NODES - 1}&by=1")["answer"] == "too late"
+    # It counts from the midnight before leaving: whoever may be there the next day leaves before midnight all the same.
+    told = service.get(f"/route?from=0&to={NODES - 1}&arrive={DAY + 3600}")
+    assert told["depart"] == DAY - 1 and told["arrive"] < DAY + 3600
 
 
 def test_the_latest_departure_over_places(service: Service, town: Path) -> None:

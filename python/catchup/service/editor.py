@@ -118,6 +118,7 @@ class Editor:
         self.jobs = Jobs(network.path)
         self.turn = asyncio.Lock()
         self.works: dict[str, Work] = {}
+        self.ending = asyncio.Event()                   # the worker ends, and can't wait longer
         self.late: set[asyncio.Task[None]] = set()      # notes of what became of jobs that are still to be written
         # For the replies of `catchup edit`, which may come for long.
         self.reader = ThreadPoolExecutor(1, "replies")
@@ -139,7 +140,8 @@ class Editor:
         await asyncio.to_thread(recover, self.network.path, self.jobs, is_of_stream=self.is_of_stream)
 
     def cancel_all(self, why: Refusal) -> None:
-        """Ends all that is in work here."""
+        """Ends all that is in work here: the worker ends."""
+        self.ending.set()
         for work in list(self.works.values()):
             work.cancel(why)
 
@@ -151,7 +153,7 @@ class Editor:
         try:
             async with self.in_turn(work), self.locked(work) as folder:
                 made = await self.make(work, folder)
-            await self.network.load()
+            await self.serve()
             return made
         except Refused as refused:
             await self.note(work.job, REFUSED, refused.told)
@@ -164,6 +166,17 @@ class Editor:
             watcher.cancel()
             del self.works[work.job.id]
             await asyncio.to_thread(work.spool.close)
+
+    async def serve(self) -> None:
+        """Waits until this worker serves what was made. Where it ends others do, and whoever waits is told at once."""
+        loading, ending = asyncio.create_task(self.network.load()), asyncio.create_task(self.ending.wait())
+        try:
+            either: list[asyncio.Task[Any]] = [loading, ending]
+            await asyncio.wait(either, return_when=asyncio.FIRST_COMPLETED)
+            if loading.done():
+                loading.result()
+        finally:
+            ending.cancel()
 
     async def note(self, job: Job, state: str, told: dict[str, object]) -> None:
         """Notes what became of a job; where that can't be written, the edit is what it is all the same, and it is noted

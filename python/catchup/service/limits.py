@@ -28,6 +28,7 @@ BODY_SECONDS: Final = 30.0              # for a body, and besides as long as its
 BODY_RATE: Final = 262_144              # bytes a second
 TAKE_SECONDS: Final = 60.0              # in which a client that takes a reply must take some of it
 LINGER_SECONDS: Final = 5.0             # for what a client goes on sending behind a refusal, and besides as BODY_RATE
+LAST_LINGER_SECONDS: Final = 1.0        # the same, where the service ends before it has asked
 
 QUICK_SECONDS: Final = 5.0              # for a child's next reply to a route
 SLOW_SECONDS: Final = 30.0              # and to any other line

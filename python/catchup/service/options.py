@@ -125,13 +125,26 @@ def resolved(path: Path) -> Path:
     except (OSError, RuntimeError) as problem:
         said = problem.strerror if isinstance(problem, OSError) else "its links lead in a circle"
         raise Failure(f"{path} can't be read: {said}") from None
+    if not is_text(found):
+        raise Failure(f"{ascii(str(found))} has a name that isn't UTF-8, which the program doesn't take: rename it")
     if not found.is_file():
         raise Failure(f"{path} is no file: the packed file that `catchup build` makes is needed")
     return found
 
 
+def is_text(path: Path) -> bool:
+    """Whether a path is UTF-8."""
+    try:
+        str(path).encode()
+    except UnicodeEncodeError:
+        return False
+    return True
+
+
 def check(options: Options) -> None:
     """Refuses options that don't go together."""
+    if options.host.startswith("["):
+        raise Failure(f"--host {options.host} is an address in brackets: write it as {options.host.strip('[]')}")
     if not is_loopback(options.host) and options.token is None:
         raise Failure(f"on {options.host} others could edit the network: --token FILE is needed")
     for name in options.names:

@@ -23,9 +23,10 @@ from uvicorn.protocols.http.flow_control import HIGH_WATER_LIMIT, FlowControl
 from uvicorn.protocols.http.httptools_impl import STATUS_LINE, HttpToolsProtocol, RequestResponseCycle
 
 from catchup.service.bodies import BadBody, Body, Chunked, Sized
+from catchup.service.gates import READS
 from catchup.service.limits import (
-    BODY_RATE, BODY_SECONDS, HEAD_SECONDS, IDLE_SECONDS, LARGE, LARGE_BODY, LINGER_SECONDS, LONGEST_HEAD, LONGEST_LINES,
-    LONGEST_TARGET, MOST_BLANK, MOST_DROPPED, MOST_HELD, TAKE_SECONDS)
+    BODY_RATE, BODY_SECONDS, HEAD_SECONDS, IDLE_SECONDS, LARGE, LARGE_BODY, LAST_LINGER_SECONDS, LINGER_SECONDS,
+    LONGEST_HEAD, LONGEST_LINES, LONGEST_TARGET, MOST_BLANK, MOST_DROPPED, MOST_HELD, TAKE_SECONDS)
 from catchup.service.turns import Turns
 from catchup.service.words import PLAIN_ROUTE
 
@@ -128,16 +129,16 @@ class Crowd:
         self.holders.pop(connection, None)
         self.turns.forget(connection)
 
-    def end(self) -> None:
-        """Closes idle connections, and others once they are answered."""
+    def end(self, why: str) -> None:
+        """Closes idle connections, and others once they are answered; who hasn't asked yet is told why."""
         self.is_ending = True
         for each in list(self.everyone):
-            each.shutdown()
+            each.end(why)
 
-    def abort(self) -> None:
-        """Lets all connections go."""
+    def give_up(self, why: str) -> None:
+        """Lets all connections go; who still waits for an answer is told why."""
         for each in list(self.everyone):
-            each.abort()
+            each.give_up(why)
 
 
 class Cycle(RequestResponseCycle):  # type: ignore[misc]
@@ -700,15 +701,29 @@ class Connection(HttpToolsProtocol):  # type: ignore[misc]
         self.is_closing = True
         self.transport.abort()
 
-    def shutdown(self) -> None:
-        """The service ends: closes where no request is in work."""
+    def end(self, why: str) -> None:
+        """The service ends: closes where no request is in work. One that is only begun, or the first one, may be on its
+        way: its client is told."""
         if self.is_closing:
             return
-        if not self.is_busy or self.cycle is None or self.cycle.response_complete:
+        if self.has_begun or self.cycle is None:
+            self.refuse(503, why, b"retry-after: 1\r\n")
+            self.deadline = self.loop.time() + LAST_LINGER_SECONDS
+        elif not self.is_busy or self.cycle.response_complete:
             self.is_closing = True
             self.transport.close()
         else:
             self.cycle.keep_alive = False
+
+    def give_up(self, why: str) -> None:
+        """The service can't wait longer."""
+        if not self.is_busy or self.is_closing or self.cycle.response_started:
+            self.abort()
+            return
+        if self.scope["method"] not in READS:
+            why += ": GET /edits says whether the edit was made"
+        self.cycle.disconnected = True
+        self.refuse(503, why, b"retry-after: 1\r\n")
 
     def timeout_keep_alive_handler(self) -> None:
         """Deadlines are looked at for all connections together."""

@@ -58,7 +58,8 @@ def edits_of_entry(entry: bytes) -> list[Edit]:
 def edits_of(body: bytes, roads: Roads) -> list[Edit]:
     """The edits of a body; a Refusal says what isn't as it must be."""
     try:
-        found = json.loads(body.decode("utf-8"), parse_constant=not_json, object_pairs_hook=once)
+        # A byte-order mark before it is let go, as most readers of JSON do.
+        found = json.loads(body.decode("utf-8-sig"), parse_constant=not_json, object_pairs_hook=once)
     except (ValueError, RecursionError):
         raise Refusal(400, "the body is no JSON", hint=FORM) from None
     if not isinstance(found, dict) or set(found) != {"edits"} or not isinstance(found["edits"], list):

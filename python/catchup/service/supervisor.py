@@ -4,6 +4,7 @@ from __future__ import annotations
 
 import asyncio
 import contextlib
+import errno
 import gc
 import logging
 import os
@@ -32,7 +33,7 @@ from catchup.service.metrics import Figures, Metrics
 from catchup.service.notes import first_to_tell, make_folder
 from catchup.service.options import Options
 from catchup.service.probing import check_program
-from catchup.service.process import end_with, give_way
+from catchup.service.process import end_with, give_way, said_of
 from catchup.service.protocol import Connection
 from catchup.service.streets import streets_of
 from catchup.service.tables import MAP, draw_networks, open_places
@@ -54,7 +55,7 @@ SWITCH_SECONDS: Final = 0.001           # after which a thread that works lets t
 DRAIN_PAUSE: Final = 0.02
 GRACE_SECONDS: Final = 0.5              # for requests that are on their way as the service ends
 START_PAUSE: Final = 0.1
-END_SECONDS: Final = 0.3                # for a worker to go away behind its last second
+END_SECONDS: Final = 0.3                # for a worker to go away behind its last second, and for a request to end to come
 THE_END: Final = (signal.SIGTERM, signal.SIGINT, signal.SIGQUIT)
 LEFT_TO_THE_ARBITER: Final = (
     signal.SIGINT, signal.SIGHUP, signal.SIGQUIT, signal.SIGUSR1, signal.SIGUSR2, signal.SIGWINCH)
@@ -87,6 +88,11 @@ class Setting:
     failed = 0                          # workers that ended by themselves before any had begun
 
 
+class BrokenOff(KeyboardInterrupt):
+    """The service ends while a reload looks at the files. Of an interrupt itself Python would leave the program that
+    looks at one to itself."""
+
+
 class DrainingServer(Server):  # type: ignore[misc]
     """uvicorn's server, which lets what is in work come to its end, and no longer than it may."""
 
@@ -114,6 +120,9 @@ class DrainingServer(Server):  # type: ignore[misc]
         starting = asyncio.create_task(self.worker.start())
         while not starting.done() and not self.should_exit:
             await asyncio.wait({starting}, timeout=START_PAUSE)
+            if self.config.callback_notify is not None:
+                # Else the main process would end it over a file that takes long to open, again and again.
+                await self.config.callback_notify()
         if self.should_exit:
             starting.cancel()
             return
@@ -147,14 +156,14 @@ class DrainingServer(Server):  # type: ignore[misc]
             each.close()
         # A request that is on its way is answered too, and told that the connection ends.
         await self.wait(self.has_clients, began + GRACE_SECONDS)
-        worker.crowd.end()
+        worker.crowd.end(worker.why())
         await self.wait(self.is_busy, began + DRAIN_SECONDS)
         worker.is_ending = Setting.asked.is_over()
         worker.end_edits()
         # Whoever still waits for a child learns that it gets no answer.
         worker.end_children()
         await self.wait(self.is_busy, began + LAST_SECONDS)
-        worker.crowd.abort()
+        worker.crowd.give_up(worker.why())
         await worker.end()
 
     async def wait(self, is_so: Callable[[], bool], last: float) -> None:
@@ -202,6 +211,11 @@ if HAS_GUNICORN:
             if Setting.counts.has_begun() or first_to_tell(Setting.folder, line):
                 tell(line)
 
+        def info(self, msg: str, *args: Any, **kwargs: Any) -> None:
+            """What gunicorn says of itself, of which only an error that ends the main process matters."""
+            if kwargs.get("exc_info") and (problem := sys.exc_info()[1]) is not None:
+                tell(f"{msg}: {traced(problem)}")
+
         def warning(self, msg: str, *args: Any, **kwargs: Any) -> None:
             """What an operator should know, in a line as all others are; a trace would stand behind its first one."""
             tell((msg % args if args else msg).partition("\n")[0])
@@ -239,19 +253,40 @@ if HAS_GUNICORN:
         files."""
 
         began: float | None = None      # when the end began
+        is_looking = False              # a reload looks at the files
 
         def signal(self, sig: int, frame: Any) -> None:
             """Takes note of a signal. That of the end goes before all others, and is for the workers too, whatever is
-            in work here."""
+            in work here; nobody waits for what a reload looks at then."""
             # A worker begins with the arbiter's ways.
             if os.getpid() != self.pid:
                 return
             if sig not in THE_END:
                 super().signal(sig, frame)
                 return
+            is_first = self.began is None
             self.ask_all()
             self.SIG_QUEUE.insert(0, sig)
             self.wakeup()
+            if is_first and self.is_looking:
+                raise BrokenOff
+
+        def reap_workers(self) -> None:
+            """Takes note of the workers that have ended, and of no other process: whoever has started one waits for it.
+            One that can't begin is started again as any other, whereas gunicorn would end the service."""
+            for pid in list(self.WORKERS):
+                with contextlib.suppress(ChildProcessError):
+                    ended, status = os.waitpid(pid, os.WNOHANG)
+                    # A request to end may have come between, and found that there is no such process.
+                    if ended and (worker := self.WORKERS.pop(pid, None)) is not None:
+                        self.let_go(worker, status)
+
+        def let_go(self, worker: Any, status: int) -> None:
+            """A worker has ended."""
+            if os.WIFSIGNALED(status):
+                self.log.warning("Worker with pid %s was terminated due to signal %s", worker.pid, os.WTERMSIG(status))
+            worker.tmp.close()
+            self.cfg.child_exit(self, worker)
 
         def spawn_worker(self) -> None:
             """Starts a worker. It has to take a request to end as soon as it can, so that waits until then."""
@@ -275,6 +310,7 @@ if HAS_GUNICORN:
 
         def stop(self, graceful: bool = True) -> None:
             """Asks the workers to end, and ends those that don't in time."""
+            self.is_looking = False
             self.ask_all()
             assert self.began is not None
             while self.WORKERS and time.monotonic() < self.began + LAST_SECONDS + END_SECONDS:
@@ -297,6 +333,8 @@ if HAS_GUNICORN:
             """Starts workers where there are too few, over the files that the others serve."""
             for kept in Setting.shared.kept.values():
                 kept.follow()
+            # One that has ended before it was known by its number.
+            self.reap_workers()
             if Setting.failed >= MOST_FAILED and not Setting.counts.has_begun():
                 raise HaltServer(
                     f"{Setting.failed} workers failed before any could serve, so the service ends: allow it more memory "
@@ -340,12 +378,17 @@ if HAS_GUNICORN:
 
         def handle_hup(self) -> None:
             """Starts workers anew, where they could serve."""
+            self.is_looking = True
             try:
                 check_files(Setting.options)
                 Setting.shared = share_anew(Setting.options, Setting.shared)
             except (Failure, OSError, MemoryError) as problem:
+                # Of a request to end to all processes this one may be the last to hear.
+                time.sleep(END_SECONDS)
                 tell(f"nothing is reloaded: {problem or 'out of memory'}")
                 return
+            finally:
+                self.is_looking = False
             if self.began is None:
                 super().handle_hup()
 
@@ -364,7 +407,7 @@ if HAS_GUNICORN:
                 "worker_class": f"{__name__}.ServiceWorker", "logger_class": OneLine, "timeout": STUCK_SECONDS,
                 "backlog": BACKLOG, "loglevel": "warning", "proc_name": "catchup-http", "pre_fork": take_slot,
                 "child_exit": let_go, "when_ready": lambda _: tell_ready(self.address),
-                "worker_tmp_dir": SHARED_MEMORY if os.path.isdir(SHARED_MEMORY) else None}
+                "worker_tmp_dir": SHARED_MEMORY if os.access(SHARED_MEMORY, os.W_OK | os.X_OK) else None}
             for name, value in settings.items():
                 self.cfg.set(name, value)
 
@@ -422,7 +465,10 @@ def listen(options: Options) -> socket.socket:
         family = socket.getaddrinfo(options.host, options.port, type=socket.SOCK_STREAM)[0][0]
         listener = socket.create_server((options.host, options.port), family=family, backlog=BACKLOG)
     except OSError as problem:
-        raise Failure(f"can't listen on {options.host} port {options.port}: {problem.strerror}") from None
+        # Python puts the address behind the reason.
+        said = (problem.strerror or str(problem)).partition(" (")[0]
+        more = ": end what listens there, or choose another --port" if problem.errno == errno.EADDRINUSE else ""
+        raise Failure(f"can't listen on {options.host} port {options.port}: {said}{more}") from None
     listener.set_inheritable(False)
     return listener
 
@@ -441,7 +487,7 @@ def check_files(options: Options) -> None:
         found = run_program(["ask", file.path], input="-\n")
         if found.output != "refused: line\n":
             said = found.output.strip() or found.error.strip()
-            raise Unserved(f"{file.path} can't be served: the program ended with status {found.status}: {said}",
+            raise Unserved(f"{file.path} can't be served: the program {said_of(found.status)}{f': {said}' if said else ''}",
                            found.status if 0 < found.status < 126 else 1)
 
 

@@ -113,9 +113,12 @@ class Worker:
 
     def end_edits(self) -> None:
         """The service ends, or this worker alone, and can't wait longer for edits."""
-        why = "the service ends" if self.is_ending else "the service is reloaded"
         for editor in self.editors.values():
-            editor.cancel_all(Refusal(503, f"{why}, and the edit wasn't ready: nothing has changed"))
+            editor.cancel_all(Refusal(503, f"{self.why()}, and the edit wasn't ready: nothing has changed"))
+
+    def why(self) -> str:
+        """Why it ends, with the whole service or alone."""
+        return "the service ends" if self.is_ending else "the service is reloaded"
 
     async def end(self) -> None:
         """Ends all that it has begun."""
