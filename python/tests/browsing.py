@@ -146,6 +146,11 @@ class Browser:
                 return
         raise AssertionError(f"no tabulation leads to {wanted}")
 
+    def wait_focused(self, wanted: str) -> None:
+        """Waits until something has the focus, as `focused` calls it."""
+        found = wait_for(self.focused, lambda name: name == wanted)
+        assert found == wanted, (wanted, found, self.problems())
+
     def focused(self) -> str:
         """What has the focus: its id, else what it says or is called."""
         return str(self.run("const found = document.activeElement;"

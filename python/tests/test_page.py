@@ -632,6 +632,74 @@ def test_the_service_is_gone_and_comes_back(browser: Browser, folder: Path, tmp_
         browser.wait_text("answer", "09:00 →")
 
 
+def test_places_of_the_map_that_are_chosen_while_the_service_is_gone(browser: Browser, village: Service) -> None:
+    """They come once it is back, and a pin that was dragged twice is where it was left; one that is cleared stays away."""
+    west, south, east, north = corners(village)
+    middle = (south + north) / 2
+    browser.open(village, "#depart=08:00", LAPTOP)
+    browser.command("Network.enable")
+    speed = {"latency": 0, "downloadThroughput": -1, "uploadThroughput": -1}
+    try:
+        browser.command("Network.emulateNetworkConditions", offline=True, **speed)
+        browser.click_map(west + 0.05 * (east - west), middle)
+        browser.click_map(east - 0.05 * (east - west), middle)
+        browser.wait_text("notice", "can't be reached")
+        browser.command("Network.emulateNetworkConditions", offline=False, **speed)
+        words = browser.wait("const { places } = catchup.state;"
+                             "return places.every(each => each?.x) && places.map(each => each.word)")
+        assert float(words[0].partition(",")[0]) < float(words[1].partition(",")[0])
+        before = browser.wait_text("answer", "08:00 →")
+        browser.command("Network.emulateNetworkConditions", offline=True, **speed)
+        for kind, far in (("first", 60), ("first", 60), ("last", -60)):
+            x, y = browser.run("const box = document.querySelector(`.pin.${arguments[0]}`).getBoundingClientRect();"
+                               "return [Math.round(box.x + box.width / 2), Math.round(box.y + box.height / 2)]", kind)
+            browser.drag((x, y), (x + far, y))
+        browser.run("document.querySelectorAll('.place button')[1].click()")
+        browser.wait_text("notice", "can't be reached")
+        browser.command("Network.emulateNetworkConditions", offline=False, **speed)
+        browser.wait(f"return catchup.state.places[0].word !== {words[0]!r}")
+        browser.wait_text("notice", "is back")
+        assert browser.run("return catchup.state.places[1]") is None and before
+        assert float(browser.run("return catchup.state.places[0].word").partition(",")[0]) > float(words[0].partition(",")[0])
+    finally:
+        browser.command("Network.emulateNetworkConditions", offline=False, **speed)
+        browser.command("Network.disable")
+
+
+def test_whoever_looks_at_a_part_of_a_route_goes_on_doing_so(browser: Browser, village: Service) -> None:
+    """At another time, and by an address that has the view; other places are shown."""
+    view, are_known = "return catchup.chart.viewNow()", "return catchup.state.places.every(place => place.x !== null)"
+    browser.open(village, "#from=0&to=9&depart=08:00", LAPTOP)
+    browser.wait_text("answer", "08:00 →")
+    browser.wait(are_known)
+    browser.run("const { x, y } = catchup.state.places[0]; catchup.chart.map.setView("
+                "L.CRS.EPSG3857.pointToLatLng(L.point(x, y), 20), 18, { animate: false })")
+    before = browser.run(view)
+    browser.set_value("time", "09:00")
+    browser.wait_text("answer", "09:00 →")
+    assert browser.run(view) == before
+    address = browser.wait("return location.hash", lambda text: "09:00" in text and f"map={before}" in text)
+    browser.open(village, address, LAPTOP)
+    browser.wait_text("answer", "09:00 →")
+    browser.wait(are_known)
+    assert browser.run(view) == before
+    browser.run("catchup.change({ places: [...catchup.state.places].reverse() })")
+    browser.wait(view, lambda found: found != before)
+    is_sound(browser)
+
+
+def test_pins_that_lie_far_from_the_roads_are_shown(browser: Browser, village: Service) -> None:
+    west, south, east, north = corners(village)
+    browser.open(village, f"#from={west - 0.02:.5f},{south:.5f}&to={east + 0.02:.5f},{north + 0.01:.5f}&depart=08:00",
+                 LAPTOP)
+    browser.wait_text("answer", "08:00 →")
+    browser.wait("const box = document.getElementById('map').getBoundingClientRect();"
+                 "const pins = [...document.querySelectorAll('.pin')].map(pin => pin.getBoundingClientRect());"
+                 "return pins.length === 2 && pins.every(pin => pin.left >= box.left && pin.right <= box.right"
+                 " && pin.top >= box.top && pin.bottom <= box.bottom)")
+    is_sound(browser)
+
+
 def test_a_place_that_isnt_there(browser: Browser, village: Service) -> None:
     browser.open(village, "#from=0&to=999&depart=08:00")
     browser.wait_text("notice", "There is no place 999")

@@ -80,7 +80,7 @@ def test_a_route_is_chosen_by_keys(browser: Browser, village: Service) -> None:
     end = browser.wait("return catchup.state.places[1]?.name")
     assert end in spoken(browser, "To")
     browser.wait_text("answer", "07:40 →")
-    assert browser.focused() == "map"
+    browser.wait_focused("map")
     assert browser.problems() == []
 
 
@@ -93,9 +93,9 @@ def test_the_menu_is_led_through_by_keys(browser: Browser, village: Service) -> 
     for key, wanted in ((DOWN, "Over here"), (RIGHT, "To here"), (DOWN, "From here"), (UP, "To here"),
                         (HOME, "From here"), (END, "To here"), (LEFT, "Over here")):
         browser.press(key)
-        assert browser.focused() == wanted
+        browser.wait_focused(wanted)
     browser.press(TAB)
-    assert browser.focused() == "To here"
+    browser.wait_focused("To here")
     browser.press(ESCAPE)
     browser.wait("return document.activeElement.id === 'map' && !document.querySelector('[role=menu]')")
     middle = browser.run(CENTER)
@@ -110,7 +110,7 @@ def test_the_menu_is_led_through_by_keys(browser: Browser, village: Service) -> 
     # Its closing button has a name, and takes the space bar as buttons do.
     browser.press(ENTER)
     browser.tab_to(".leaflet-popup-close-button")
-    assert browser.focused() == "Close"
+    browser.wait_focused("Close")
     browser.press(SPACE)
     browser.wait("return document.activeElement.id === 'map'")
     assert browser.problems() == []
@@ -134,7 +134,7 @@ def test_a_road_is_closed_by_keys(browser: Browser, village: Service) -> None:
     said = browser.wait_text("road", "Confirmed as version")
     assert "closed all day" in said and village.get("/health")["version"] in said != before
     assert "Mühleweg: closed all day" in spoken(browser, "Confirmed")
-    assert browser.focused() == "map"
+    browser.wait_focused("map")
     browser.tab_to("#edits button")
     browser.press(ENTER)
     browser.wait_text("road", "is as it was")
@@ -165,7 +165,7 @@ def test_no_road_is_near(browser: Browser, village: Service) -> None:
     spoken(browser, "No road")
     browser.press(ENTER)
     browser.wait_text("road", "There is no road in the middle of the map")
-    assert browser.focused() == "map"
+    browser.wait_focused("map")
 
 
 # Of spots all over the map whether a street is near among all tiles, and whether the page finds one.
@@ -280,11 +280,11 @@ def test_stops_are_taken_away_by_keys(browser: Browser, village: Service) -> Non
     browser.press(DELETE)
     browser.wait("return catchup.state.places.length === 2")
     spoken(browser, "taken out")
-    assert browser.focused() == "map"
+    browser.wait_focused("map")
     browser.tab_to(".pin.first")
     browser.press(DELETE)
     browser.wait("return catchup.state.places[0] === null")
-    assert browser.focused() == "map"
+    browser.wait_focused("map")
     browser.wait_text("answer", "Choose where the route begins")
 
 
@@ -294,25 +294,27 @@ def test_the_focus_stays_where_fields_of_places_change(browser: Browser, village
     browser.tab_to("#add")
     browser.press(ENTER)
     browser.wait("return document.querySelectorAll('.place input').length === 3")
-    assert browser.focused() == "Stop 1"
+    browser.wait_focused("Stop 1")
     browser.press("berg")
     browser.wait("return document.querySelector('.found:not([hidden]) li')?.innerText.includes('Bergweg')")
     browser.press(ENTER)
     browser.wait("return catchup.state.places[1]?.name === 'Bergweg'")
     browser.press(TAB)
-    assert browser.focused() == "Take this stop out"
+    browser.wait_focused("Take this stop out")
     browser.press(ENTER)
     browser.wait("return catchup.state.places.length === 2")
-    assert browser.focused() == "To"
+    browser.wait_focused("To")
 
 
-def test_who_skips_the_map_loses_nothing(browser: Browser, village: Service) -> None:
+def test_who_skips_to_the_map_loses_nothing(browser: Browser, village: Service) -> None:
     browser.open(village, "#from=0&to=9&depart=08:00")
     browser.wait_text("answer", "08:00 →")
     browser.press(TAB)
-    assert browser.focused() == "Skip the map"
+    browser.wait_focused("Skip to the map")
     browser.press(ENTER)
-    assert browser.focused() == "panel"
+    browser.wait_focused("map")
+    browser.wait("return document.getElementById('spoken').innerText")
+    assert is_shown(browser, "cross")
     assert browser.run("return catchup.state.places.map(place => place?.word)") == ["0", "9"]
     assert browser.wait("return location.hash", lambda hash: "from=0" in hash)
 
@@ -331,18 +333,27 @@ def test_buttons_on_the_map_take_the_space_bar(browser: Browser, village: Servic
 
 def test_the_curve_is_a_slider(browser: Browser, village: Service) -> None:
     browser.open(village, "#from=0&to=9&depart=08:00")
-    browser.wait("return catchup.day.curve !== null")
+    browser.wait("return catchup.day.curve !== null && catchup.day.depart === 28800")
     browser.tab_to("#day")
     names = ("role", "aria-valuenow", "aria-valuetext")
     told = "return arguments[0].map(name => document.getElementById('day').getAttribute(name))"
     role, now, text = browser.run(told, names)
     assert (role, now) == ("slider", "28800") and text.startswith("08:00, ")
+    # Each key goes on from the one before, also while no route of that has come.
+    browser.run("window.plainFetch = window.fetch; const open = new Promise(resolve => { window.release = resolve; });"
+                "window.fetch = (...words) => open.then(() => window.plainFetch(...words))")
     browser.press(RIGHT)
     browser.wait("return document.getElementById('day').getAttribute('aria-valuetext').startsWith('08:05')")
-    browser.press(HOME)
-    browser.wait("return catchup.state.time === 0")
-    browser.press(UP)
-    browser.wait("return catchup.state.time === 300")
+    browser.press(HOME, UP, RIGHT)
+    browser.wait("return catchup.state.time === 600")
+    assert browser.run(told, names)[1] == "600" and browser.run("return catchup.route.found.depart") == 28_800
+    browser.run("window.release()")
+    browser.wait_text("answer", "00:10 →")
+    assert browser.run("return catchup.day.depart") == 600
+    # Of a time by which to arrive it is the departure of the answer.
+    browser.set_value("by", "arrive")
+    browser.wait("return catchup.day.depart < 600")
+    assert browser.run(told, names)[1] == str(browser.run("return catchup.day.depart"))
 
 
 def test_a_street_that_has_the_focus_is_shown_on_the_map(browser: Browser, village: Service) -> None:

@@ -12,7 +12,7 @@ import pytest
 from pages import Found, Step, run_steps, steps_of
 from scripts import TOP, git
 
-PAGES = ["README.md", "CONTRIBUTING.md", *sorted(f"docs/{page.name}" for page in (TOP / "docs").glob("*.md"))]
+PAGES = ["README.md", "CONTRIBUTING.md", "python/README.md", *sorted(f"docs/{page.name}" for page in (TOP / "docs").glob("*.md"))]
 STEPS = {page: steps for page in PAGES if (TOP / page).exists() and (steps := steps_of((TOP / page).read_text()))}
 # Its commands tell times, and take all processors for a minute: none of them is run.
 MEASURING = "docs/SPEED.md"

@@ -7,6 +7,7 @@ from typing import Any, Final
 from fastapi import APIRouter, Request
 from starlette.responses import Response
 
+from catchup.errors import how_to_get
 from catchup.service.answers import answer
 from catchup.service.errors import Refusal
 from catchup.service.page.events import Followers
@@ -57,8 +58,7 @@ async def setting(request: Request) -> Response:
             # Only what is drawn needs numpy.
             from catchup.service.page.answers import map_told
         except ModuleNotFoundError as problem:
-            hint = f"apt-get install python3-{problem.name}"
-            raise Refusal(404, f"the page needs {problem.name}", hint=hint) from None
+            raise Refusal(404, f"the page needs {problem.name}", hint=how_to_get(problem.name or "numpy")) from None
         told["map"] = await map_told(worker, network)
     return answer(told, network.current.name)
 

@@ -7,7 +7,7 @@ import { Dock } from "./dock.js";
 import { at } from "./dom.js";
 import { Follower } from "./follow.js";
 import { Middle } from "./middle.js";
-import { onTheme, slow } from "./palette.js";
+import { onTheme, slow, theme } from "./palette.js";
 import { Places } from "./places.js";
 import { Reach } from "./reach.js";
 import { BACKWARD, FORWARD, isDrawing, SHUT } from "./roads.js";
@@ -27,6 +27,7 @@ export class Page {
   constructor(setting, notice) {
     this.notice = notice;
     this.profile = state.profile;
+    this.theme = null;          // the one of the screen, while paper has another
     this.chart = new Chart(at("map"), setting);
     this.askRoads = newest((time, isLast) => this.askRoadsOnce(time, isLast));
     this.dock = new Dock();
@@ -58,6 +59,8 @@ export class Page {
       if (state.mode === "traffic") this.askRoads(state.time);
       this.traffic.tellDelays();
     });
+    window.addEventListener("beforeprint", () => this.print());
+    window.addEventListener("afterprint", () => this.printed());
     this.askRoads(state.time);
   }
 
@@ -97,6 +100,25 @@ export class Page {
     Object.assign(at("hover").style, { left: `${left}px`, top: `${top}px` });
     at("hover").textContent = name;
     at("hover").hidden = false;
+  }
+
+  // ---- paper ----
+
+  print() {
+    this.theme ??= theme();
+    this.chart.print();
+    this.paperTheme("light");
+  }
+
+  printed() {
+    if (this.theme) this.paperTheme(this.theme);
+    this.theme = null;
+  }
+
+  // Paper is light. The curve is drawn anew at once; roads keep their colours, which are seen on both grounds.
+  paperTheme(name) {
+    document.documentElement.dataset.theme = name;
+    this.day.draw();
   }
 
   // ---- what is shown ----

@@ -9,6 +9,17 @@ import { latLng, worldOf, ZOOM } from "./world.js";
 const { L } = window;
 const OSM = '&copy; <a href="https://www.openstreetmap.org/copyright">OpenStreetMap contributors</a>';
 const POINTED = 9;              // pixels within which a street is pointed at
+const PAPER = 660;              // pixels of CSS that have room beside one another on common paper
+
+// How the map moves: for whoever wants little motion it is at once where it is to be.
+function moving() {
+  if (!matchMedia("(prefers-reduced-motion: reduce)").matches) return {};
+  const panBy = L.Map.prototype.panBy;
+  L.Map.include({
+    panBy(offset, options) { return panBy.call(this, offset, { ...options, animate: false }); },
+  });
+  return { zoomAnimation: false, fadeAnimation: false, markerZoomAnimation: false, inertia: false };
+}
 
 export class Chart {
   constructor(element, setting) {
@@ -18,7 +29,7 @@ export class Chart {
     this.bounds = L.latLngBounds(latLng(west, south), latLng(east, north));
     this.map = L.map(element, {
       zoomControl: false, attributionControl: false, preferCanvas: true, renderer: L.canvas({ padding: 0.3 }),
-      zoomSnap: 0.5, wheelPxPerZoomLevel: 90, minZoom: 1, maxZoom: ZOOM, maxBoundsViscosity: 0.6,
+      zoomSnap: 0.5, wheelPxPerZoomLevel: 90, minZoom: 1, maxZoom: ZOOM, maxBoundsViscosity: 0.6, ...moving(),
     });
     this.addControls(setting);
     this.map.setMaxBounds(this.bounds.pad(1.5));
@@ -67,9 +78,15 @@ export class Chart {
   // Shows the whole network, or some bounds; until somebody moves the map, it shows them whatever its size becomes.
   fit(options = {}, bounds = this.bounds) {
     this.fitted = bounds;
+    if (this.map._animatingZoom) {
+      // Leaflet passes over what comes while it zooms.
+      this.map.once("zoomend", () => { if (this.fitted === bounds) this.fit(options, bounds); });
+      return;
+    }
     this.isFitting = true;
+    // One that zooms slowly begins that in a later frame.
+    this.map.once("moveend", () => { this.isFitting = false; });
     this.map.fitBounds(bounds, { padding: [22, 22], maxZoom: 17, ...options });
-    this.isFitting = false;
   }
 
   // The view of an address, as 12/47.1/9.5; the whole network where there is none.
@@ -78,6 +95,12 @@ export class Chart {
     const isView = view && [zoom, lat, lon].every(Number.isFinite) && this.bounds.pad(2).contains([lat, lon]);
     if (isView) this.map.setView([lat, lon], zoom, { animate: false });
     else this.fit({ animate: false });
+    this.keep();
+  }
+
+  // Notes what is shown, so that another size of the map shows it too.
+  keep() {
+    this.kept = { center: this.map.getCenter(), zoom: this.map.getZoom() };
   }
 
   viewNow() {
@@ -88,7 +111,7 @@ export class Chart {
   listen() {
     this.map.on("moveend", () => {
       if (this.isResizing) return;
-      this.kept = { center: this.map.getCenter(), zoom: this.map.getZoom() };
+      this.keep();
       setView(this.viewNow());
     });
     // Whoever moves the map keeps the view.
@@ -105,6 +128,14 @@ export class Chart {
     // What didn't come while the service was gone.
     onReachable(isThere => { if (isThere) this.roads.redraw(); });
     new ResizeObserver(() => this.resize()).observe(this.map.getContainer());
+  }
+
+  // On paper the map is as large as on the screen, so that it shows the same, and is drawn smaller by the style.
+  print() {
+    const { x, y } = this.map.getSize(), { style } = document.documentElement;
+    style.setProperty("--paper-wide", `${x}px`);
+    style.setProperty("--paper-high", `${y}px`);
+    style.setProperty("--paper-scale", Math.min(1, PAPER / x));
   }
 
   // Another size shows the same: what was fitted, or the same middle.

@@ -12,6 +12,7 @@ const MARGIN = { left: 76, right: 16, top: 10, bottom: 30 };
 const STEPS = {
   ArrowLeft: -300, ArrowDown: -300, ArrowRight: 300, ArrowUp: 300, PageUp: 3600, PageDown: -3600,
 };
+const LABEL = 18;               // pixels that the text of the mark is high
 const FONT = "12px system-ui, 'DejaVu Sans', sans-serif";
 
 export class Day {
@@ -22,6 +23,8 @@ export class Day {
     this.ask = newest((legs, isLast) => this.askOnce(legs, isLast));
     onChange(names => {
       if (["places", "mode", "profile"].some(name => names.includes(name))) this.refresh();
+      // The mark is where somebody has put it before the route has its answer.
+      else if (names.includes("time") || names.includes("by")) this.draw();
     });
     onTheme(() => this.draw());
     new ResizeObserver(() => this.draw()).observe(this.canvas);
@@ -86,9 +89,11 @@ export class Day {
     this.canvas.setAttribute("aria-valuetext", `${minute(second)}, ${span(this.curve.travels[second])}`);
   }
 
-  // The second of the day at which one departs.
+  // The second of the day at which one departs: the one that is chosen, so that each key goes on from the one before;
+  // of a time by which to arrive, that of the route's answer.
   second() {
-    return Math.min(Math.max(Math.round(this.depart ?? state.time), 0), DAY - 1);
+    const second = state.by === "depart" ? state.time : this.depart ?? state.time;
+    return Math.min(Math.max(Math.round(second), 0), DAY - 1);
   }
 
   // ---- drawing ----
@@ -198,8 +203,22 @@ export class Day {
     }
   }
 
-  drawMark({ pen, x, y, bottom, right }) {
+  // Where a text so wide beside a line hides the least of the curve, mostly nothing: at the top or the bottom, to the
+  // right or the left.
+  spotOf({ x, y, right, bottom }, at, wide) {
+    const { travels } = this.curve, lefts = [at + 8, at - 8 - wide];
+    const spots = [MARGIN.top - 4, bottom - LABEL - 2].flatMap(top => lefts.map(left => ({ left, top })))
+      .filter(({ left }) => left >= MARGIN.left && left + wide < right);
+    const second = pixel => Math.round((pixel - x(0)) / (x(DAY) - x(0)) * (DAY - 1));
+    const hidden = ({ left, top }) => travels.slice(second(left), second(left + wide) + 1)
+      .reduce((count, travel) => count + (y(travel) >= top && y(travel) <= top + LABEL), 0);
+    const [best] = spots.map(spot => [hidden(spot), spot]).sort(([one], [other]) => one - other);
+    return best?.[1] ?? { left: lefts[0], top: MARGIN.top - 4 };
+  }
+
+  drawMark(view) {
     if (this.depart === null) return;
+    const { pen, x, y, bottom } = view;
     const second = this.second(), at = x(second);
     const travel = this.curve.travels[second];
     pen.strokeStyle = pen.fillStyle = colours().mark;
@@ -211,14 +230,14 @@ export class Day {
     pen.arc(at, y(travel), 4.5, 0, 7);
     pen.fill();
     const text = `${clock(second)}, ${span(travel)}`, wide = pen.measureText(text).width + 10;
-    const left = at + 8 + wide < right ? at + 8 : at - 8 - wide;
+    const { left, top } = this.label = this.spotOf(view, at, wide);
     pen.fillStyle = colours().casing;
     pen.globalAlpha = 0.85;
-    pen.fillRect(left, MARGIN.top - 4, wide, 18);
+    pen.fillRect(left, top, wide, LABEL);
     pen.globalAlpha = 1;
     pen.fillStyle = colours().mark;
     pen.textAlign = "left";
-    pen.fillText(text, left + 5, MARGIN.top + 9);
+    pen.fillText(text, left + 5, top + 13);
   }
 
   // ---- what the user does ----

@@ -7,6 +7,7 @@ import { ask, setProfile } from "./service.js";
 import { begin, change, MODES, state } from "./state.js";
 
 const AGAIN = 2000;
+const IS_NARROW = matchMedia("(max-width: 719px)");
 
 function listen() {
   for (const mode of MODES) at(`tab-${mode}`).onclick = () => change({ mode });
@@ -20,10 +21,20 @@ function listen() {
   // The page's address keeps what is shown, so it can't name a part of the page.
   document.querySelector(".skip").onclick = event => {
     event.preventDefault();
-    at("panel").focus();
+    at(IS_NARROW.matches ? "panel" : "map").focus();
   };
+  IS_NARROW.onchange = order;
   at("theme").onclick = toggleTheme;
   at("profile").onchange = event => change({ profile: event.target.value });
+}
+
+// The key of tabulation goes as the screen does: the panel stands before the map, and below it where that is narrow.
+function order() {
+  const skip = document.querySelector(".skip"), panel = at("panel"), focused = document.activeElement;
+  if (IS_NARROW.matches) document.body.append(panel);
+  else skip.after(panel);
+  skip.textContent = IS_NARROW.matches ? "Skip the map" : "Skip to the map";
+  if (panel.contains(focused)) focused.focus({ preventScroll: true });
 }
 
 function empty(title, ...lines) {
@@ -71,4 +82,5 @@ async function start(notice) {
 begin(8 * 3600);
 setProfile(state.profile);
 listen();
+order();
 start(new Notice());

@@ -43,8 +43,8 @@ export class Middle {
   listen() {
     const { element, chart } = this;
     // Leaflet gives the map the focus when the mouse is pressed, which needs no cross-hair.
-    element.addEventListener("focus", () => {
-      this.isAsked = this.lastKey === "Tab";
+    element.addEventListener("focus", event => {
+      this.isAsked = this.lastKey === "Tab" || Boolean(event.relatedTarget?.matches(".skip"));
       this.show(this.lastKey !== null && element.matches(":focus-visible"));
     });
     element.addEventListener("blur", () => this.show(false));

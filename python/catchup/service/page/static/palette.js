@@ -21,10 +21,9 @@ const THEMES = {
   },
 };
 
-const watchers = new Set();
-
+// Calls back after each change of the theme, by the button or by the system.
 export function onTheme(call) {
-  watchers.add(call);
+  document.addEventListener("theme", call);
 }
 
 export function theme() {
@@ -43,7 +42,7 @@ export function toggleTheme() {
   } catch (problem) {
     // It holds until the page is closed.
   }
-  for (const call of watchers) call();
+  document.dispatchEvent(new Event("theme"));
 }
 
 // Of traffic: from free to slow.

@@ -74,7 +74,8 @@ export class Pins {
     marker.on("dragstart", () => this.forget(marker));
     marker.on("dragend", () => {
       this.droppedAt = performance.now();
-      this.take(marker, () => true);
+      const drag = marker.drag = {};
+      this.take(marker, () => marker.drag === drag);
     });
     const element = marker.getElement();
     element.setAttribute("role", "button");
@@ -127,7 +128,8 @@ export class Pins {
 
   async take(marker, isWanted) {
     const place = await this.find(marker.getLatLng());
-    if (!isWanted()) return;
+    // It may have been moved again meanwhile, or taken away with its place.
+    if (!isWanted() || this.markers[marker.index] !== marker) return;
     this.forget(marker);
     this.onPlace(marker.index, place);
   }

@@ -4,7 +4,7 @@ import { at, fill, isByKeys, make } from "./dom.js";
 import { Finder } from "./finder.js";
 import { openMenu } from "./menu.js";
 import { kindOf, letterOf, Pins } from "./pins.js";
-import { ask, newest, Problem } from "./service.js";
+import { ask, askUntil, newest, Problem } from "./service.js";
 import { speak } from "./speak.js";
 import { change, onChange, state } from "./state.js";
 import { worldOf } from "./world.js";
@@ -144,10 +144,11 @@ export class Places {
     this.put(index, place);
   }
 
-  // The place at a spot of the map: where it meets a road, and what that is called; null where there is none.
+  // The place at a spot of the map: where it meets a road, and what that is called; null where there is none. One that
+  // is chosen while the service is gone comes when it is back.
   async find(spot) {
     try {
-      const { place: word, name, x, y } = await ask("/page/near", worldOf(spot));
+      const { place: word, name, x, y } = await askUntil("/page/near", worldOf(spot));
       return { word, name, x, y };
     } catch (problem) {
       this.notice.problem(problem);

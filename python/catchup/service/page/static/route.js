@@ -15,6 +15,10 @@ export function routeWords() {
   return { from: words[0], to: words.at(-1), via: words.slice(1, -1).join(";"), [state.by]: clock(state.time) };
 }
 
+function placeWords() {
+  return state.places.map(place => place?.word).join(";");
+}
+
 // What is to be chosen next.
 function toChoose() {
   if (!state.places.some(Boolean)) return "Click on the map where the route begins, and then where it ends.";
@@ -28,19 +32,27 @@ export class Route {
     this.chart = chart;
     this.onFound = onFound;
     this.found = null;
+    this.keepView();
     this.layer = L.layerGroup().addTo(chart.map);
     this.ask = newest((words, isLast) => this.askOnce(words, isLast));
     onChange(names => {
-      if (["places", "time", "by", "mode", "profile"].some(name => names.includes(name))) this.refresh();
+      if (names.includes("view")) this.keepView();
+      if (["places", "time", "by", "mode", "profile"].some(name => names.includes(name))) {
+        this.refresh(false, names.includes("places"));
+      }
     });
     onTheme(() => { if (this.found) this.take(this.found); });
     this.refresh();
   }
 
-  // Asks anew; where the same was asked before, of the same version, only what is shown is shown anew.
-  refresh(isOther = false) {
+  // Asks anew; where the same was asked before, of the same version, only what is shown is shown anew. Of places that an
+  // address names it is known later where they are.
+  refresh(isOther = false, areKnown = false) {
     const words = state.mode === "route" && isWhole() ? routeWords() : null, key = words && JSON.stringify(words);
-    if (key && key === this.key && this.found && !isOther) return this.take(this.found);
+    if (key && key === this.key && this.found && !isOther) {
+      this.take(this.found);
+      return areKnown && this.chart.fitted ? this.show() : undefined;
+    }
     this.key = key;
     return words ? this.ask(words) : this.take(null);
   }
@@ -53,7 +65,7 @@ export class Route {
       const found = await ask("/page/route", words);
       if (!isWanted()) return;
       this.take(found);
-      this.show();
+      this.showOnce();
     } catch (problem) {
       if (isWanted() && problem.status) this.take(null, problem);
     } finally {
@@ -109,12 +121,26 @@ export class Route {
       .bindTooltip(`waits until ${clock(wait.until)}`).addTo(this.layer);
   }
 
-  // Shows all of a route that begins or ends outside of the view.
+  // The places whose route has been shown: those of an address with a view have that one.
+  keepView() {
+    this.shown = state.view ? placeWords() : null;
+  }
+
+  // Whoever looks at a part of the route goes on doing so at another time.
+  showOnce() {
+    const words = placeWords();
+    if (words !== this.shown) this.show();
+    this.shown = words;
+  }
+
+  // Shows all of a route with its pins, where one of these or where it meets a road is outside of the view.
   show() {
     if (!this.found) return;
-    const { map } = this.chart, ends = this.found.places.map(place => latLng(place.x, place.y));
-    if (ends.every(spot => map.getBounds().contains(spot))) return;
-    this.chart.fit({ padding: [40, 40] }, L.latLngBounds(this.found.legs.flatMap(leg => places(leg.line))));
+    const ends = [...this.found.places, ...state.places].filter(place => place && place.x !== null)
+      .map(place => latLng(place.x, place.y));
+    if (ends.every(spot => this.chart.map.getBounds().contains(spot))) return;
+    const line = this.found.legs.flatMap(leg => places(leg.line));
+    this.chart.fit({ padding: [40, 40] }, L.latLngBounds([...ends, ...line]));
   }
 
   // ---- in words ----

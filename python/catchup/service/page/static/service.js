@@ -28,6 +28,18 @@ export function isReachable() {
   return !isGone;
 }
 
+// Waits until a service that is gone is there again.
+function untilReachable() {
+  return new Promise(resolve => {
+    const look = isThere => {
+      if (!isThere) return;
+      watchers.delete(look);
+      resolve();
+    };
+    watchers.add(look);
+  });
+}
+
 let profile = null;
 
 export function setProfile(name) {
@@ -75,6 +87,18 @@ async function reply(path, words, options) {
 
 export async function ask(path, words, options) {
   return (await reply(path, words, options)).json();
+}
+
+// The same, once there is an answer: what is asked while the service is gone is asked again as soon as it is back.
+export async function askUntil(path, words) {
+  for (;;) {
+    try {
+      return await ask(path, words);
+    } catch (problem) {
+      if (problem.status !== 0) throw problem;
+      if (isGone) await untilReachable();
+    }
+  }
 }
 
 export async function bytes(path, words, options) {
