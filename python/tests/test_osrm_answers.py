@@ -126,6 +126,9 @@ def test_a_time_to_arrive(grid: Town) -> None:
     assert later["arrive"] > 32_400
     [next_day] = grid.get("route", [1, 45], arrive=str(86_400 + 60))["routes"]
     assert next_day["depart"] < 86_400 < next_day["arrive"]
+    # It counts from the midnight before leaving: whoever may be there the next day leaves before midnight all the same.
+    [later] = grid.get("route", [1, 45], arrive="90000")["routes"]
+    assert later["depart"] == 86_399 and later["arrive"] < 90_000
     status, told = grid.ask(f"/route/v1/car/{grid.place(1)};{grid.place(45)}?arrive=00:01")
     assert (status, told["code"]) == (400, "NoRoute") and "arrive=" in told["message"]
 

@@ -71,7 +71,8 @@ PLACED: Final = "the answer; over a map with `places`, and legs with `seconds`, 
 
 ROUTE: Final = path("The best drive", [
     *ENDS, VIA, word("depart", TIME + "; or `arrive`", "08:00", needed=False),
-    word("arrive", "by when to be there, in place of `depart`", "09:00", needed=False), *SHAPES],
+    word("arrive", "by when to be there, in place of `depart`; a second counts from the midnight before leaving",
+         "09:00", needed=False), *SHAPES],
     DRIVE, PLACED, more=UNREACHED)
 LATEST: Final = path(
     "The last departure in time",

@@ -61,7 +61,8 @@ SERVICES: Final[dict[str, dict[str, Any]]] = {
         word("overview", "simplified, full or false", "full", needed=False),
         word("continue_straight", "true, false or default; one may turn round at each place", "default", needed=False),
         word("waypoints", "numbers of the places that end a leg", "0;2", needed=False),
-        word("arrive", "in place of depart: when one has to be there", "09:00", needed=False)], ROUTE),
+        word("arrive", "in place of depart: when one has to be there, counted from the midnight before leaving", "09:00",
+             needed=False)], ROUTE),
     "table": described("OSRM's table: how long each drive between places takes", [
         word("annotations", "duration, distance or both with a comma between", "duration", needed=False),
         word("sources", "numbers of places, or all", "0;1", needed=False),
