@@ -4,6 +4,7 @@ from __future__ import annotations
 
 import ast
 import importlib.util
+import re
 import shutil
 import sys
 from collections.abc import Iterator
@@ -15,6 +16,11 @@ from scripts import TOP, run
 
 NEEDS = [line.split(None, 2) for line in (TOP / "packaging/needs.txt").read_text().splitlines() if not line.startswith("#")]
 KINDS = {"depends", "recommends", "suggests", "tests"}
+# What a service loads of the Python package, at once or for some answers.
+SERVED = ["service/**/*.py", "places/*.py", "geometry.py", "mapfile.py", "tables.py", "planner.py", "commands/_run.py",
+          "commands/catchup_http.py"]
+# What a service uses without an import.
+BESIDE = {"python3", "python3-uvloop", "gunicorn", "libjs-leaflet", "tzdata"}
 
 
 def imported(place: Path) -> Iterator[str]:
@@ -67,3 +73,24 @@ def test_what_is_imported_is_in_the_list(module: str, kinds: set[str]) -> None:
         pytest.skip(f"the module {module} isn't installed")
     owners = {package: kind for package, kind, _ in NEEDS if place in files_of(package)}
     assert len(owners) == 1 and kinds.issuperset(owners.values()), f"{module} is of {owners or 'no package of the list'}"
+
+
+def owner_of(module: str) -> str:
+    """The package of the list that supplies a module; nothing where none does."""
+    place = place_of(module)
+    return next((package for package, _, _ in NEEDS if place and place in files_of(package)), "")
+
+
+def test_the_container_has_all_that_a_service_uses_and_no_more() -> None:
+    if not shutil.which("dpkg-query"):
+        pytest.skip("dpkg-query isn't installed, which tells whose a module is")
+    package = TOP / "python/catchup"
+    names = {name for form in SERVED for place in package.glob(form) for name in imported(place)}
+    modules = sorted(names - {"catchup"} - sys.stdlib_module_names)
+    missing = [module for module in modules if not place_of(module)]
+    if missing:
+        pytest.skip(f"the module {missing[0]} isn't installed")
+    installed = re.search(r"--no-install-recommends (.*?)&&", (TOP / "packaging/service/Dockerfile").read_text(), re.DOTALL)
+    assert installed and set(installed[1].replace("\\", " ").split()) - {"/tmp/catchup.deb"} == {
+        *map(owner_of, modules), *BESIDE
+    }
