@@ -116,9 +116,7 @@ class Service:
     def raw(self, data: bytes, *, end: bool = True) -> tuple[str, Any]:
         """The status line and the JSON of what is answered to some bytes; behind them nothing more is sent."""
         with self.connect() as client:
-            client.sendall(data)
-            if end:
-                client.shutdown(socket.SHUT_WR)
+            send_all(client, data, end=end)
             found = read_all(client)
         head, _, body = found.partition(b"\r\n\r\n")
         status = head.split(b"\r\n")[0].decode("latin-1").removeprefix("HTTP/1.1 ")
@@ -140,15 +138,35 @@ class Service:
         return [child for worker in self.workers() for child in children_of(worker)]
 
 
+# What the system tells of a connection that the other side has closed: a reset where bytes crossed that.
+CLOSED = ConnectionResetError, BrokenPipeError
+
+
+def send_all(client: socket.socket, data: bytes, *, end: bool = False) -> None:
+    """Sends bytes, as far as the other side takes them, which may have answered and closed by then; behind an end
+    nothing more is sent."""
+    with contextlib.suppress(*CLOSED):
+        client.sendall(data)
+    if end:
+        # The system says that there is no connection where a reset has come.
+        with contextlib.suppress(OSError):
+            client.shutdown(socket.SHUT_WR)
+
+
 def read_all(client: socket.socket) -> bytes:
     """All that comes until the other side closes."""
     found = b""
-    try:
+    with contextlib.suppress(*CLOSED):
         while piece := client.recv(65_536):
             found += piece
-    except ConnectionResetError:
-        pass
     return found
+
+
+def read_some(client: socket.socket, size: int = 65_536) -> bytes:
+    """What comes next; nothing where the other side has closed."""
+    with contextlib.suppress(*CLOSED):
+        return client.recv(size)
+    return b""
 
 
 def children_of(pid: int) -> list[int]:

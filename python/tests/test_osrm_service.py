@@ -5,7 +5,6 @@ from __future__ import annotations
 import datetime
 import math
 import re
-import socket
 import zoneinfo
 from collections.abc import Callable, Iterator
 from pathlib import Path
@@ -14,7 +13,7 @@ from typing import Any
 import polyline
 import pytest
 from osrm_grid import grid_map, import_map, place_of
-from serving import Service
+from serving import Service, read_all, send_all
 
 ZONE = "Asia/Tokyo"
 ORIGIN = "https://maps.example.org"
@@ -246,9 +245,8 @@ def test_nearest_streets_are_asked_as_all_else_is(service: Service) -> None:
     said = "".join(f"GET {each} HTTP/1.1\r\nHost: localhost\r\n\r\n" for each in (
         path, f"/nearest/v1/car/{B}?number=0", "/health", path, f"/nearest/v1/car/{B}"))
     with service.connect() as client:
-        client.sendall(said.encode())
-        client.shutdown(socket.SHUT_WR)
-        answers = b"".join(iter(lambda: client.recv(65_536), b"")).decode()
+        send_all(client, said.encode(), end=True)
+        answers = read_all(client).decode()
     statuses = re.findall(r"HTTP/1.1 ([0-9]+)", answers)
     codes = re.findall(r'"(?:code|status)":"(\w+)"', answers)
     assert (statuses, codes) == (["200", "400", "200", "200", "200"], ["Ok", "InvalidOptions", "ok", "Ok", "Ok"])

@@ -9,55 +9,26 @@ import re
 import signal
 import socket
 import subprocess
-import threading
 import time
 from collections.abc import Callable, Iterator
-from contextlib import contextmanager
 from pathlib import Path
 from types import SimpleNamespace
 
 import pytest
-from serving import HTTP, SECONDS, Service, Watch, is_there, read_all, wait_for
+from clients import LATER, OK, REFUSED, clients_of, counted
+from conftest import TOP
+from serving import HTTP, SECONDS, Service, Watch, is_there, read_all, read_some, send_all, wait_for
+from waiting import hold_within
+
+from catchup.service.limits import DRAIN_SECONDS, GRACE_SECONDS
 
 ending = pytest.importorskip("catchup.service.ending")
+supervisor = pytest.importorskip("catchup.service.supervisor")
 
 REQUEST = b"GET /route?from=5&to=151&depart=28800 HTTP/1.1\r\nHost: localhost\r\n\r\n"
-ANSWERS = "HTTP/1.1 200", "HTTP/1.1 503"
 END_SECONDS = 10 + 5                    # and what a busy machine adds
 MANY = 24                               # clients at once
 APART = 0.3                             # seconds between the signals to some processes and to the others
-
-
-def ask_until_refused(port: int, found: list[str], is_over: threading.Event) -> None:
-    """Asks for routes, each on a connection of its own, until nobody may connect, and notes what comes of each."""
-    while not is_over.is_set():
-        try:
-            client = socket.create_connection(("127.0.0.1", port), timeout=SECONDS)
-        except ConnectionRefusedError:
-            found.append("refused")
-            return
-        with client:
-            try:
-                client.sendall(REQUEST)
-                found.append(client.recv(12).decode() or "closed")
-            except OSError as problem:
-                found.append(str(problem))
-
-
-@contextmanager
-def clients_of(port: int) -> Iterator[list[str]]:
-    """What comes of the requests of many clients. They go on until they are refused, or to the end."""
-    found: list[str] = []
-    is_over = threading.Event()
-    clients = [threading.Thread(target=ask_until_refused, args=(port, found, is_over)) for _ in range(MANY)]
-    for client in clients:
-        client.start()
-    try:
-        yield found
-    finally:
-        is_over.set()
-        for client in clients:
-            client.join()
 
 
 def end_all(service: Service) -> None:
@@ -99,14 +70,14 @@ WAYS = [end_all, interrupt_all, end_workers_first, end_main_first, end_beside_a_
 def check_end(file: Path, end: Callable[[Service], None]) -> None:
     """Ends a service under clients: each that connected was answered, and the service went in time."""
     with Service(file, workers=3) as service:
-        with clients_of(service.port) as found:
+        with clients_of(service.port, REQUEST, MANY) as found:
             assert wait_for(lambda: len(found) > 4 * MANY)
             watch = Watch(service.process.pid)
             end(service)
             assert service.process.wait(SECONDS) == 0
             took = watch.seconds()
             assert took < END_SECONDS, took
-        assert set(found) <= {*ANSWERS, "refused"}, {each: found.count(each) for each in set(found)}
+        assert set(counted(found)) <= {OK, LATER, REFUSED}, counted(found)
         assert service.process.communicate() == ("", "")
 
 
@@ -125,7 +96,7 @@ def test_whoever_has_connected_is_answered_at_many_ends(town: Path, end: Callabl
 
 def test_a_worker_that_is_ended_alone_cuts_off_nobody(town: Path) -> None:
     """Nor does it keep anybody from the others, or from the one that is started in its place."""
-    with Service(town, workers=2) as service, clients_of(service.port) as found:
+    with Service(town, workers=2) as service, clients_of(service.port, REQUEST, MANY) as found:
         for worker in service.workers():
             assert wait_for(lambda: len(found) > 2 * MANY)
             watch = Watch(worker)
@@ -133,31 +104,37 @@ def test_a_worker_that_is_ended_alone_cuts_off_nobody(town: Path) -> None:
             assert wait_for(lambda: is_there(worker), lambda there: not there) is False
             assert watch.seconds() < END_SECONDS
             assert wait_for(lambda: len(service.children()), lambda many: many == 4) == 4
-            found.clear()
-            assert wait_for(lambda: len(found) > 2 * MANY)
-            assert set(found) == {ANSWERS[0]}
+            many = len(found)
+            assert wait_for(lambda: len(found) > many + 2 * MANY)
+            assert set(counted(found)) == {OK}, counted(found)
         # From now on no worker is left that was there at first, and still everybody may connect.
         assert service.get("/health")["status"] == "ok"
         many = len(found)
-        assert wait_for(lambda: len(found) > many + 2 * MANY) and set(found) == {ANSWERS[0]}
+        assert wait_for(lambda: len(found) > many + 2 * MANY) and set(counted(found)) == {OK}, counted(found)
 
 
 def test_who_comes_while_the_last_is_answered_is_refused_at_once(town: Path) -> None:
     """Work that takes long keeps nobody waiting at the door."""
+    # What isn't ready by then is ended.
+    hold_within(DRAIN_SECONDS, lambda: end_beside_an_edit(town))
+
+
+def end_beside_an_edit(town: Path) -> None:
+    """Ends a service that waits for the rest of an edit, while others go on coming to it."""
     with Service(town, workers=2) as service, service.connect() as client:
         client.sendall(b"POST /edits HTTP/1.1\r\nHost: localhost\r\nContent-Length: 3\r\nExpect: 100-continue\r\n\r\n")
         assert client.recv(100) == b"HTTP/1.1 100 Continue\r\n\r\n"
         client.sendall(b"?,")
         service.process.send_signal(signal.SIGTERM)
         watch, last = Watch(service.process.pid), 0.0
-        while not is_refused(service.port):
-            last = watch.so_far()
+        while (found := knock(service.port)) != REFUSED:
+            last = watch.so_far() if found == "taken" else last
         assert last < 3 * APART
-        # One whose first packet was dropped tries again after a second.
+        # Whose first packet was dropped tries again after a second.
         assert watch.seconds() < 3 * APART + 5
         assert service.process.poll() is None
-        client.sendall(b"?")
-        assert client.recv(12) == b"HTTP/1.1 400"
+        send_all(client, b"?")
+        assert read_some(client, 12) == b"HTTP/1.1 400"
         assert service.process.wait(SECONDS) == 0
 
 
@@ -173,8 +150,9 @@ def test_who_has_connected_and_not_asked_yet_is_told(town: Path, number: int, wh
         service.process.send_signal(number)
         # Between two requests nobody waits for an answer.
         assert idle.recv(65_536) == b""
-        slow.sendall(REQUEST[9:])
-        silent.sendall(REQUEST)
+        # By now both have been told, and the service needn't wait for what they send.
+        send_all(slow, REQUEST[9:])
+        send_all(silent, REQUEST)
         for client in (silent, slow):
             head, _, body = read_all(client).partition(b"\r\n\r\n")
             assert head.startswith(b"HTTP/1.1 503 ") and b"\r\nretry-after: 1" in head
@@ -182,6 +160,54 @@ def test_who_has_connected_and_not_asked_yet_is_told(town: Path, number: int, wh
         # Nobody waits long for those who go on saying nothing.
         assert wait_for(lambda: is_there(before), lambda there: not there) is False
         assert watch.seconds() < END_SECONDS / 2
+
+
+# A worker that gets no processor from when it has taken its last clients until a file is there.
+STALLED = """
+import pathlib, sys, time
+
+sys.path.insert(0, {python!r})
+from catchup.service.accepting import Acceptor
+
+close = Acceptor.close
+
+
+def close_and_stall(acceptor):
+    close(acceptor)
+    pathlib.Path({begun!r}).touch()
+    while not pathlib.Path({over!r}).exists():
+        time.sleep(0.01)
+
+
+Acceptor.close = close_and_stall
+"""
+
+
+@pytest.mark.parametrize("number, why", [(signal.SIGTERM, "the service ends"), (signal.SIGHUP, "the service is reloaded")])
+def test_what_has_come_is_answered_though_no_processor_was_free(town: Path, tmp_path: Path, number: int, why: str) -> None:
+    """A worker may get none from before clients send until its time for them is over."""
+    begun, over = tmp_path / "begun", tmp_path / "over"
+    code = STALLED.format(python=str(TOP / "python"), begun=str(begun), over=str(over))
+    (tmp_path / "sitecustomize.py").write_text(code)
+    with Service(town, PYTHONPATH=str(tmp_path)) as service, service.connect() as new, service.connect() as half, \
+            service.connect() as silent, service.connect() as known, service.connect() as idle:
+        for client in (known, idle):
+            client.sendall(REQUEST)
+            assert client.recv(65_536).startswith(b"HTTP/1.1 200")
+        service.process.send_signal(number)
+        assert wait_for(begun.exists)
+        sent = time.monotonic()
+        for client, data in ((new, REQUEST), (half, REQUEST[:9]), (known, REQUEST)):
+            client.sendall(data)
+        assert wait_for(lambda: time.monotonic() > sent + GRACE_SECONDS)
+        over.touch()
+        for client in (new, known):
+            found = read_all(client)
+            assert found.startswith(b"HTTP/1.1 200 ") and b"\r\nconnection: close" in found
+        for client in (half, silent):
+            found = read_all(client)
+            assert found.startswith(b"HTTP/1.1 503 ") and b"\r\nretry-after: 1" in found and why.encode() in found
+        assert read_all(idle) == b""
 
 
 @pytest.fixture
@@ -233,13 +259,16 @@ def test_a_reload_whose_look_at_a_file_was_ended_says_so(town: Path, checker: Pa
     assert said == f"catchup-http: nothing is reloaded: {town} can't be served: the program was ended by SIGKILL\n"
 
 
-def is_refused(port: int) -> bool:
-    """Whether nobody may connect any more; somebody who may asks nothing."""
+def knock(port: int) -> str:
+    """What becomes of a client that comes now, and asks nothing. Dropped is one whose packet came to nobody: left to the
+    system it would try again after ever longer times."""
     try:
-        socket.create_connection(("127.0.0.1", port), timeout=SECONDS).close()
+        socket.create_connection(("127.0.0.1", port), timeout=APART).close()
     except ConnectionRefusedError:
-        return True
-    return False
+        return REFUSED
+    except TimeoutError:
+        return "dropped"
+    return "taken"
 
 
 @pytest.mark.parametrize("to_all", [False, True])
@@ -250,11 +279,11 @@ def test_whoever_comes_before_the_workers_is_answered(town: Path, to_all: bool) 
                                    stderr=subprocess.PIPE, start_new_session=True)
         assert process.stdout is not None
         port = int(re.findall(rb":(\d+)/", process.stdout.readline())[0])
-        with clients_of(port) as found:
+        with clients_of(port, REQUEST, MANY) as found:
             time.sleep(pause)
             (os.killpg if to_all else os.kill)(process.pid, signal.SIGTERM)
             assert process.wait(SECONDS) == 0
-        assert set(found) <= {*ANSWERS, "refused"}, {each: found.count(each) for each in set(found)}
+        assert set(counted(found)) <= {OK, LATER, REFUSED}, counted(found)
         assert process.communicate() == (b"", b"")
 
 
@@ -312,7 +341,6 @@ def test_whoever_is_left_is_answered_whatever_was_sent(listener: socket.socket) 
 
 def test_a_worker_gives_signs_while_it_opens_its_files() -> None:
     """The main process ends one that gives none, however large its file is."""
-    supervisor = pytest.importorskip("catchup.service.supervisor")
     signs: list[float] = []
 
     async def notify() -> None:

@@ -19,6 +19,7 @@ from pathlib import Path
 
 import httpx
 import pytest
+from clients import OK, REFUSED, clients_of, counted
 from conftest import TOP, build
 from scripts import run
 from serving import (
@@ -273,50 +274,30 @@ def test_a_hangup_starts_workers_anew(file: Path) -> None:
         assert service.end()[0] == 0
 
 
-def ask_on_new_connections(service: Service, found: list[str], is_over: threading.Event) -> None:
-    """Asks for tables, each on a connection of its own, and notes what comes of it."""
-    nodes = ",".join(map(str, range(60)))
-    request = f"GET /table?depart=0&from={nodes}&to={nodes} HTTP/1.1\r\nHost: localhost\r\n\r\n".encode()
-    while not is_over.is_set():
-        try:
-            with service.connect() as client:
-                client.sendall(request)
-                found.append(client.recv(12).decode())
-        except ConnectionRefusedError:
-            found.append("refused")
-            return
-        except OSError as problem:
-            found.append(str(problem))
-
-
 @pytest.mark.parametrize(("number", "to_all"), [
     (signal.SIGHUP, False), (signal.SIGHUP, True), (signal.SIGTERM, False), (signal.SIGTERM, True)])
 def test_requests_on_their_way_are_answered(file: Path, number: int, to_all: bool) -> None:
     """At a reload all are; at the end all are whose connection was taken. The same where all processes are asked."""
+    nodes = ",".join(map(str, range(60)))
+    table = f"GET /table?depart=0&from={nodes}&to={nodes} HTTP/1.1\r\nHost: localhost\r\n\r\n".encode()
     with Service(file, workers=2) as service:
-        found: list[str] = []
-        is_over = threading.Event()
-        clients = [threading.Thread(target=ask_on_new_connections, args=(service, found, is_over)) for _ in range(12)]
-        for client in clients:
-            client.start()
-        assert wait_for(lambda: len(found) > 20)
-        before = set(service.workers())
-        if to_all:
-            os.killpg(service.process.pid, number)
-        else:
-            service.process.send_signal(number)
-        if number == signal.SIGHUP:
-            assert wait_for(lambda: (len(service.workers()), set(service.workers()) & before),
-                            lambda now: now == (2, set()))
-            many = len(found)
-            assert wait_for(lambda: len(found) > many + 20)
-        else:
-            assert service.process.wait(SECONDS) == 0
-        is_over.set()
-        for client in clients:
-            client.join()
-        assert set(found) - {"refused"} == {"HTTP/1.1 200"}
-        assert number == signal.SIGTERM or "refused" not in found
+        with clients_of(service.port, table, 12) as found:
+            assert wait_for(lambda: len(found) > 20)
+            before = set(service.workers())
+            if to_all:
+                os.killpg(service.process.pid, number)
+            else:
+                service.process.send_signal(number)
+            if number == signal.SIGHUP:
+                assert wait_for(lambda: (len(service.workers()), set(service.workers()) & before),
+                                lambda now: now == (2, set()))
+                many = len(found)
+                assert wait_for(lambda: len(found) > many + 20)
+            else:
+                assert service.process.wait(SECONDS) == 0
+        told = counted(found)
+        assert set(told) - {REFUSED} == {OK}, told
+        assert number == signal.SIGTERM or REFUSED not in told
 
 
 def test_other_signals_end_nothing(file: Path) -> None:

@@ -15,7 +15,7 @@ import pytest
 from conftest import TOP
 from hypothesis import given, settings
 from hypothesis import strategies as st
-from serving import Service, ask_program, read_all, wait_for
+from serving import Service, ask_program, read_all, send_all, wait_for
 
 ROUTE = b"GET /route?from=5&to=151&depart=28800 HTTP/1.1\r\nHost: localhost\r\n\r\n"
 HEALTH = b"GET /health HTTP/1.1\r\nHost: localhost\r\n\r\n"
@@ -87,8 +87,7 @@ def test_bytes_that_are_no_request(service: Service, data: bytes, wanted: str) -
     max_size=12))
 def test_any_bytes_get_an_answer_or_a_close(service: Service, parts: list[bytes]) -> None:
     with service.connect() as client:
-        client.sendall(b"".join(parts))
-        client.shutdown(socket.SHUT_WR)
+        send_all(client, b"".join(parts), end=True)
         found = read_all(client)
     assert not found or re.match(rb"HTTP/1\.1 (2|4|5)\d\d ", found)
     assert b"Traceback" not in found
@@ -141,6 +140,14 @@ def test_old_clients_are_answered_and_closed(service: Service) -> None:
         client.sendall((b"GET /health HTTP/1.0\r\n" + H + b"Connection: keep-alive\r\n\r\n") * 2)
         client.shutdown(socket.SHUT_WR)
         assert read_all(client).count(b"200 OK") == 2
+
+
+def test_the_last_answer_of_a_connection_comes_whatever_stands_behind_its_request(service: Service) -> None:
+    """The system would tell of a reset, which may come before the answer, where that isn't read."""
+    with service.connect() as client:
+        client.sendall(b"GET /day?from=5&to=151 HTTP/1.1\r\n" + H + b"Connection: close\r\n\r\n" + ROUTE * 2_000)
+        found = b"".join(iter(lambda: client.recv(65_536), b""))
+    assert found.startswith(b"HTTP/1.1 200 OK") and found.count(b"HTTP/1.1 ") == 1
 
 
 def test_what_goes_on_for_ever_has_a_head_and_is_plain_for_old_clients(service: Service) -> None:

@@ -20,7 +20,22 @@ def wait_for(find: Callable[[], Found], wanted: Callable[[Found], bool] = bool, 
     return found
 
 
-def least_seconds(take: Callable[[], float], limit: float, tries: int = 4) -> float:
+def hold_within(seconds: float, attempt: Callable[[], None], tries: int = 5) -> None:
+    """Attempts what is to hold within some seconds, which are a limit of the service's own. Where an attempt fails and
+    has taken longer, the machine was too busy to tell, and another one is made."""
+    for left in range(tries - 1, -1, -1):
+        began = time.monotonic()
+        try:
+            attempt()
+        except AssertionError as problem:
+            if not left or time.monotonic() - began < seconds:
+                raise
+            print(f"attempted again, since {seconds} s went by: {problem}")
+        else:
+            return
+
+
+def least_seconds(take: Callable[[], float], limit: float, tries: int = 8) -> float:
     """The least that something takes of a processor, in seconds, of as many tries as it needs to be below a limit.
     Other work on the machine takes the processor's caches, and a host may have it for others meanwhile, which the
     system doesn't tell apart: that adds to some tries, and what is slow itself is so in each."""

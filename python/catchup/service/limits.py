@@ -28,7 +28,7 @@ BODY_SECONDS: Final = 30.0              # for a body, and besides as long as its
 BODY_RATE: Final = 262_144              # bytes a second
 TAKE_SECONDS: Final = 60.0              # in which a client that takes a reply must take some of it
 LINGER_SECONDS: Final = 5.0             # for what a client goes on sending behind a refusal, and besides as BODY_RATE
-LAST_LINGER_SECONDS: Final = 1.0        # the same, where the service ends before it has asked
+LAST_LINGER_SECONDS: Final = 1.0        # the same behind the last answer, and where the service ends before it has asked
 
 QUICK_SECONDS: Final = 5.0              # for a child's next reply to a route
 SLOW_SECONDS: Final = 30.0              # and to any other line
@@ -36,6 +36,7 @@ START_SECONDS: Final = 60.0             # for a child to open its file
 PROBE_SECONDS: Final = 4.0              # for a child to answer /health
 WATCH_SECONDS: Final = 0.2              # between two looks at a file's place
 CANCEL_SECONDS: Final = 10.0            # for which whoever ends a job waits; it is gone in less than one, mostly
+GRACE_SECONDS: Final = 0.5              # for requests that are on their way when the service ends
 DRAIN_SECONDS: Final = 8.0              # for an edit in work when the service ends
 LAST_SECONDS: Final = 8.7               # until a worker that ends is gone
 LOG_SECONDS: Final = 8.0                # for the stream's server to take an entry

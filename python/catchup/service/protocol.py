@@ -11,7 +11,9 @@ from __future__ import annotations
 
 import asyncio
 import contextlib
+import fcntl
 import re
+import termios
 import time
 import urllib.parse
 from collections.abc import Callable
@@ -608,6 +610,8 @@ class Connection(HttpToolsProtocol):  # type: ignore[misc]
             return
         if self.body is not None:
             self.linger()
+        elif not self.cycle.keep_alive and not self.flow.write_paused and self.has_unread():
+            self.linger(LAST_LINGER_SECONDS)
         elif not self.cycle.keep_alive:
             self.is_closing = True
             self.deadline = self.loop.time() + TAKE_SECONDS
@@ -644,7 +648,15 @@ class Connection(HttpToolsProtocol):  # type: ignore[misc]
         self.transport.write(STATUS_LINE[status] + self.crowd.date + lines + headers + size + body * (not self.is_head))
         self.linger()
 
-    def linger(self) -> None:
+    def has_unread(self) -> bool:
+        """Whether the system holds bytes of the client that aren't read yet: closed then, it would tell the client of a
+        reset in place of what it has been sent."""
+        held = bytearray(4)
+        with contextlib.suppress(OSError):
+            fcntl.ioctl(self.transport.get_extra_info("socket").fileno(), termios.FIONREAD, held)
+        return any(held)
+
+    def linger(self, seconds: float = LINGER_SECONDS) -> None:
         """Closes, but first lets go of what the client still sends, which would otherwise cost it the answer."""
         self.is_closing = True
         if self.has_ended:
@@ -654,7 +666,7 @@ class Connection(HttpToolsProtocol):  # type: ignore[misc]
         self.crowd.wait_for(self)
         self.held, self.at, self.body = b"", 0, None
         self.crowd.turns.forget(self)
-        self.deadline = self.loop.time() + LINGER_SECONDS
+        self.deadline = self.loop.time() + seconds
         with contextlib.suppress(OSError, RuntimeError, NotImplementedError):
             self.transport.write_eof()
         self.flow.resume_reading()
@@ -709,6 +721,9 @@ class Connection(HttpToolsProtocol):  # type: ignore[misc]
         if self.has_begun or self.cycle is None:
             self.refuse(503, why, b"retry-after: 1\r\n")
             self.deadline = self.loop.time() + LAST_LINGER_SECONDS
+        elif not self.is_busy and (self.at < len(self.held) or self.has_unread()):
+            # A request has come just now. It is begun in the next turn, and the last one here.
+            return
         elif not self.is_busy or self.cycle.response_complete:
             self.is_closing = True
             self.transport.close()

@@ -28,7 +28,7 @@ from catchup.service.accepting import UNUSED, Acceptor, Address, Counts
 from catchup.service.app import Front, make_app
 from catchup.service.ending import (
     LATE_SECONDS, UNASKED_SECONDS, Asked, answer_left, last_answer, let_nobody_connect)
-from catchup.service.limits import DRAIN_SECONDS, LAST_SECONDS, MOST_CONNECTIONS
+from catchup.service.limits import DRAIN_SECONDS, GRACE_SECONDS, LAST_SECONDS, MOST_CONNECTIONS
 from catchup.service.metrics import Figures, Metrics
 from catchup.service.notes import first_to_tell, make_folder
 from catchup.service.options import Options
@@ -53,9 +53,10 @@ STUCK_SECONDS: Final = 20               # after which a worker that gives no sig
 COLLECTED: Final = 20_000, 20, 100      # a request makes hundreds of things, few of which are in cycles
 SWITCH_SECONDS: Final = 0.001           # after which a thread that works lets the loop go on
 DRAIN_PAUSE: Final = 0.02
-GRACE_SECONDS: Final = 0.5              # for requests that are on their way as the service ends
+LAST_TURNS: Final = 8                   # of the loop, in which all is read that has come by then
 START_PAUSE: Final = 0.1
-END_SECONDS: Final = 0.3                # for a worker to go away behind its last second, and for a request to end to come
+END_SECONDS: Final = 0.3                # for a request to end to come
+LEAVE_SECONDS: Final = 0.6              # for a worker to tell its last clients and go away, behind its last second
 THE_END: Final = (signal.SIGTERM, signal.SIGINT, signal.SIGQUIT)
 LEFT_TO_THE_ARBITER: Final = (
     signal.SIGINT, signal.SIGHUP, signal.SIGQUIT, signal.SIGUSR1, signal.SIGUSR2, signal.SIGWINCH)
@@ -156,13 +157,17 @@ class DrainingServer(Server):  # type: ignore[misc]
             each.close()
         # A request that is on its way is answered too, and told that the connection ends.
         await self.wait(self.has_clients, began + GRACE_SECONDS)
-        worker.crowd.end(worker.why())
+        for _ in range(2):
+            # One that has sent something since is left at first, and told once that is read.
+            await self.read_what_came()
+            worker.crowd.end(worker.why())
         await self.wait(self.is_busy, began + DRAIN_SECONDS)
         worker.is_ending = Setting.asked.is_over()
         worker.end_edits()
         # Whoever still waits for a child learns that it gets no answer.
         worker.end_children()
         await self.wait(self.is_busy, began + LAST_SECONDS)
+        await self.read_what_came()
         worker.crowd.give_up(worker.why())
         await worker.end()
 
@@ -171,6 +176,12 @@ class DrainingServer(Server):  # type: ignore[misc]
         loop = asyncio.get_running_loop()
         while is_so() and loop.time() < last:
             await asyncio.sleep(DRAIN_PAUSE)
+
+    async def read_what_came(self) -> None:
+        """Gives the loop some turns, whatever the time is: it takes those that wait at the door, and reads what the
+        system holds of them. On a busy machine all that may have come since its last turn."""
+        for _ in range(LAST_TURNS):
+            await asyncio.sleep(0)
 
     def has_clients(self) -> bool:
         """Whether somebody is connected, or is about to be."""
@@ -313,7 +324,7 @@ if HAS_GUNICORN:
             self.is_looking = False
             self.ask_all()
             assert self.began is not None
-            while self.WORKERS and time.monotonic() < self.began + LAST_SECONDS + END_SECONDS:
+            while self.WORKERS and time.monotonic() < self.began + LAST_SECONDS + LEAVE_SECONDS:
                 time.sleep(DRAIN_PAUSE)
                 if time.monotonic() > self.began + LATE_SECONDS and Setting.counts.least() == UNUSED:
                     # None takes clients any more: whoever comes now needn't wait until their work is done.
