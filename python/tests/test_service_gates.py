@@ -38,7 +38,9 @@ HOSTS = [
     ("localhost", 200), ("LOCALHOST:8080", 200), ("127.0.0.1", 200), ("[::1]:99", 200), ("roads.example.org", 200),
     ("ROADS.example.org:443", 200), ("evil.example", 421), ("evil.example:8080", 421), ("localhost.evil.example", 421),
     ("localhost:x", 421), ("localhost@evil", 421), ("", 421), ("127.0.0.2", 421), ("[::1", 421),
-    ("localhost:80:80", 421)]
+    ("localhost:80:80", 421), ("Roads.Example.Org.:443", 200), ("localhost.", 200), ("localhost..", 421), (".", 421),
+    ("[::0:1]", 200), ("[0:0:0:0:0:0:0:1]:8080", 200), ("[0000::0001]:", 200), ("[::2]", 421), ("::1", 421),
+    ("[localhost]", 421), ("[::1]x", 421), ("[::1].", 421), ("roads.example.org:", 200), ("localhost:123456", 421)]
 
 
 @pytest.mark.parametrize(("host", "wanted"), HOSTS)
@@ -135,11 +137,36 @@ def test_an_own_page_may_write_without_a_token_on_this_machine(town: Path, tmp_p
     ("https://a.example", "a.example:443", False),
     ("https://a.example", "a.example", False), ("http://a.example:81", "a.example", True),
     ("http://[::1]:8080", "[::1]:8080", False),
+    ("http://[::1]:80", "[0::0:1]", False), ("http://[0:0::1]", "[::1]:80", False), ("http://A.Example.", "a.example", False),
+    ("https://a.example", "A.EXAMPLE.:443", False), ("https://a.example:443", "a.example", False),
+    ("https://a.example", "a.example:80", True), ("http://a.example", "a.example:443", True),
+    ("http://[::1]", "[::2]", True), ("http://[::1", "[::1]", True), ("http://me@a.example", "a.example", True),
+    ("http://a.example", "a.example:x", True), ("http://a.example?x", "a.example", True),
     ("http://b.example", "a.example", True), ("ftp://a.example", "a.example", True),
     ("http://a.example:x", "a.example", True),
     ("file://", "a.example", True), ("http://a.example/", "a.example", True)])
 def test_origins_of_elsewhere(origin: str, host: str, wanted: bool) -> None:
-    assert Gates(frozenset(), frozenset(), None).is_elsewhere(origin, host) is wanted
+    assert Gates.of((), (), None).is_elsewhere(origin, host) is wanted
+
+
+@pytest.mark.parametrize(("named", "origin", "wanted"), [
+    ("https://Maps.Example.org", "https://maps.example.org", True),
+    ("https://maps.example.org:443", "https://maps.example.org", True),
+    ("https://maps.example.org", "https://maps.example.org:443", True), ("http://[::0:1]:80", "http://[::1]", True),
+    ("https://maps.example.org", "http://maps.example.org", False),
+    ("https://maps.example.org:8443", "https://maps.example.org", False)])
+def test_a_named_origin_is_compared_as_it_is_meant(named: str, origin: str, wanted: bool) -> None:
+    """Whoever may read is told by the very text that its browser sent."""
+    gates = Gates.of((), (named,), None)
+    assert gates.is_elsewhere(origin, "elsewhere.example") is not wanted
+    assert gates.shared({b"origin": origin.encode()}).get("Access-Control-Allow-Origin") == (origin if wanted else None)
+
+
+@pytest.mark.parametrize(("name", "host"), [
+    ("Maps.Example.org.", "maps.example.org"), ("2001:DB8::0:1", "[2001:db8::1]"), ("[2001:db8:0::1]", "[2001:db8::1]:80"),
+    ("fe80::1%eth0", "[fe80::1]")])
+def test_a_served_name_is_compared_as_it_is_meant(name: str, host: str) -> None:
+    Gates.of((name,), (), None).check_host({b"host": host.encode()})
 
 
 # ---- starts and ends ----
@@ -161,6 +188,11 @@ WRONG = [
     ("{town} --host [::1]", 1, "write it as ::1"),
     ("{town} --token none", 1, "can't be read"), ("{town} --token bad", 1, "holds no token"),
     ("{town} --origin x", 1, "is no origin"), ("{town} --name a,b", 1, "is no name"),
+    ("{town} --origin https://a.example:x", 1, "is no origin"), ("{town} --origin https://[::1", 1, "is no origin"),
+    ("{town} --name maps.example.org:8080", 1, "has a port in it: write it as --name maps.example.org"),
+    ("{town} --name [::0:1]:8080", 1, "has a port in it: write it as --name [::1]"),
+    ("{town} --name https://maps.example.org", 1, "is no name of a machine: write it as maps.example.org"),
+    ("{town} --name a:b", 1, "is no name"), ("{town} --name [a]", 1, "is no name"), ("{town} --name .", 1, "is no name"),
     ("car={town} car={town}", 1, "named twice"), (f"{{town}} --tables car={EXAMPLES}/town", 1, "names no served file")]
 
 

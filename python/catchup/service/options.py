@@ -13,11 +13,9 @@ from typing import Final
 from zoneinfo import ZoneInfo, ZoneInfoNotFoundError
 
 from catchup.errors import Failure
-from catchup.service.gates import OWN_NAMES, Gates
+from catchup.service.gates import OWN_NAMES, Gates, as_compared, name_as_compared, origin_as_compared
 
 NAMED: Final = re.compile(r"([A-Za-z0-9_.-]{1,64})=(.+)", re.DOTALL)
-NAME: Final = re.compile(r"[A-Za-z0-9_.:\[\]-]{1,255}")
-ORIGIN: Final = re.compile(r"https?://[A-Za-z0-9_.\[\]:-]{1,255}")
 TILES: Final = re.compile(r"(?:https?://(?:\{s\}\.)?[A-Za-z0-9_.\[\]:-]{1,255})?/[A-Za-z0-9_.~%/{}@?=&+-]{1,1000}")
 TOKEN: Final = re.compile(rb"[!-~]{16,4096}")
 
@@ -57,9 +55,7 @@ class Options:
 
     def gates(self) -> Gates:
         """Who gets in. The token is read anew at each start of a worker, so a new one comes in by SIGHUP."""
-        bound = f"[{self.host}]" if ":" in self.host else self.host
-        names = frozenset(name.lower() for name in (*OWN_NAMES, bound, *self.names))
-        return Gates(names, frozenset(self.origins), read_token(self.token))
+        return Gates.of((*OWN_NAMES, self.host, *self.names), self.origins, read_token(self.token))
 
 
 @lru_cache
@@ -148,10 +144,9 @@ def check(options: Options) -> None:
     if not is_loopback(options.host) and options.token is None:
         raise Failure(f"on {options.host} others could edit the network: --token FILE is needed")
     for name in options.names:
-        if not NAME.fullmatch(name):
-            raise Failure(f"--name {name!r} is no name of a machine")
+        check_name(name)
     for origin in options.origins:
-        if not ORIGIN.fullmatch(origin):
+        if origin_as_compared(origin) is None:
             raise Failure(f"--origin {origin!r} is no origin: write it as https://maps.example.org")
     read_token(options.token)
     check_page(options)
@@ -162,6 +157,17 @@ def check(options: Options) -> None:
         from catchup.service.replicas import parted as parted_log
 
         parted_log(options.log)
+
+
+def check_name(name: str) -> None:
+    """Refuses a name that no Host could be compared with."""
+    if name_as_compared(name) is not None:
+        return
+    if (found := as_compared(name)) is not None:
+        raise Failure(f"--name {name} has a port in it: write it as --name {found[0]}, which serves it at each port")
+    found = as_compared(name.rpartition("://")[2].partition("/")[0])
+    more = f": write it as {found[0]}" if found is not None else ""
+    raise Failure(f"--name {name!r} is no name of a machine{more}")
 
 
 def check_page(options: Options) -> None:
