@@ -14,6 +14,7 @@ from conftest import EXAMPLES
 from serving import Service, ask_program
 
 from catchup.places.travel import Travel
+from catchup.service.page.files import leaflet_folder
 from catchup.service.page.levels import EMPTY, levels_of
 from catchup.service.page.search import plain
 from catchup.service.page.sheet import WORLD, ZOOM, Sheet, degrees_of, of_tables, world_of
@@ -48,6 +49,33 @@ def test_files_and_what_the_page_may_load(village: Service) -> None:
     for status, paths in ((404, NOWHERE), (400, BAD)):
         for path in paths:
             assert village.ask(f"/page/{path}")[0] == status, path
+
+
+def test_a_file_that_a_browser_has_is_not_sent_again(village: Service, town: Path) -> None:
+    leaflet = ["/page/leaflet/leaflet.js"] if leaflet_folder(None) is not None else []
+    for path in ("/", "/page/file/main.js", "/page/file/page.css", *leaflet):
+        whole = village.client.get(path)
+        tag = whole.headers["ETag"]
+        assert whole.status_code == 200 and whole.headers["Cache-Control"] == "no-cache"
+        for known in (tag, f"W/{tag}", f'"other", {tag}', f'{tag} ,"other"', "*"):
+            for method in ("GET", "HEAD"):
+                reply = village.client.request(method, path, headers={"If-None-Match": known})
+                assert (reply.status_code, reply.content) == (304, b""), known
+                assert reply.headers["ETag"] == tag and "content-type" not in reply.headers
+                assert reply.headers.get("Content-Security-Policy") == whole.headers.get("Content-Security-Policy")
+        for known in ("", '"other"', tag.strip('"'), tag[:-1], "W/"):
+            reply = village.client.get(path, headers={"If-None-Match": known})
+            assert (reply.status_code, reply.content) == (200, whole.content), known
+    # What it may load is another thing where there are other tiles.
+    with Service(town) as other:
+        assert other.client.get("/").headers["ETag"] != village.client.get("/").headers["ETag"]
+
+
+def test_answers_have_no_tags(village: Service) -> None:
+    """They are of a version, which a tag wouldn't tell."""
+    for path in ("/health", "/route?from=0&to=2&depart=0", "/page/setting", "/page/nothing"):
+        reply = village.client.get(path, headers={"If-None-Match": "*"})
+        assert "ETag" not in reply.headers and reply.status_code in (200, 404) and reply.content
 
 
 def test_options_that_lead_nowhere_are_refused(tmp_path: Path, town: Path) -> None:

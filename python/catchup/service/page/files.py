@@ -4,6 +4,7 @@ from __future__ import annotations
 
 import re
 from functools import lru_cache
+from hashlib import blake2b
 from pathlib import Path
 from typing import Final
 from urllib.parse import urlsplit
@@ -35,8 +36,10 @@ def origin_of(tiles: str | None) -> str:
     return f" {parts.scheme}://{parts.netloc.replace('{s}', '*')}"
 
 
-def file_of(folder: Path, name: str) -> Response:
-    """A file of a folder by its name; a Refusal where there is none."""
+def file_of(folder: Path, name: str, known: str | None, beside: str = "") -> Response:
+    """A file of a folder by its name; a Refusal where there is none. `known` is what a browser says that it has
+    (If-None-Match): of that file it is only told that it is still the same, and so is what stands `beside` it in
+    headers, which browsers may keep."""
     kind = KINDS.get(Path(name).suffix)
     if kind is None or not NAME.fullmatch(name):
         raise Refusal(404, "there is nothing of this path")
@@ -45,7 +48,23 @@ def file_of(folder: Path, name: str) -> Response:
     except OSError:
         raise Refusal(404, "there is nothing of this path") from None
     # Asked for anew each time, so that a page never has parts of two releases.
-    return Response(body, media_type=kind, headers={"Cache-Control": "no-cache", "X-Content-Type-Options": "nosniff"})
+    tag = tag_of(body + beside.encode())
+    headers = {"Cache-Control": "no-cache", "ETag": tag, "X-Content-Type-Options": "nosniff"}
+    if is_among(tag, known):
+        return Response(status_code=304, headers=headers)
+    return Response(body, media_type=kind, headers=headers)
+
+
+def tag_of(body: bytes) -> str:
+    """What tells a file's bytes from all others (ETag)."""
+    return f'"{blake2b(body, digest_size=12).hexdigest()}"'
+
+
+def is_among(tag: str, known: str | None) -> bool:
+    """Whether a tag is one of those that a browser has. A proxy that packs an answer calls its tag a weak one."""
+    if known is None:
+        return False
+    return known.strip() == "*" or tag in (each.strip().removeprefix("W/") for each in known.split(","))
 
 
 def leaflet_folder(said: Path | None) -> Path | None:

@@ -19,12 +19,19 @@ router = APIRouter(include_in_schema=False)
 PREFIX: Final = "/page/"
 
 
+def known_to(request: Request) -> str | None:
+    """The files that a browser says it has."""
+    found: str | None = request.headers.get("if-none-match")
+    return found
+
+
 @router.get("/")
 async def page(request: Request) -> Response:
     """The page."""
     take(request.scope["query_string"], {})
-    found = file_of(STATIC, "page.html")
-    found.headers["Content-Security-Policy"] = policy(worker_of(request).options.tiles)
+    allowed = policy(worker_of(request).options.tiles)
+    found = file_of(STATIC, "page.html", known_to(request), allowed)
+    found.headers["Content-Security-Policy"] = allowed
     found.headers["Referrer-Policy"] = "strict-origin-when-cross-origin"
     return found
 
@@ -35,13 +42,13 @@ async def leaflet(request: Request) -> Response:
     folder = leaflet_folder(worker_of(request).options.leaflet)
     if folder is None:
         raise Refusal(404, "Leaflet isn't installed", hint="apt-get install libjs-leaflet, or --leaflet DIR")
-    return file_of(folder, request.path_params["name"])
+    return file_of(folder, request.path_params["name"], known_to(request))
 
 
 @router.get(PREFIX + "file/{name}")
 async def file(request: Request) -> Response:
     """A file of the page's."""
-    return file_of(STATIC, request.path_params["name"])
+    return file_of(STATIC, request.path_params["name"], known_to(request))
 
 
 @router.get(PREFIX + "setting")
