@@ -6,12 +6,12 @@ import os
 import shutil
 from collections.abc import Callable
 from pathlib import Path
-from typing import Any
+from typing import Any, Protocol
 
 import pytest
 from commands import call
 from conftest import EXAMPLES
-from serving import SECONDS, Service, wait_for
+from serving import SECONDS, wait_for
 
 LAPTOP = 1280, 800
 PHONE = 390, 844
@@ -60,6 +60,12 @@ def import_village(folder: Path) -> Path:
     return folder
 
 
+class Listening(Protocol):
+    """What listens on a port of this machine."""
+
+    port: int
+
+
 class Browser:
     """A browser with one window, or more. Pictures go to the folder of CATCHUP_PICTURES where that is set."""
 
@@ -68,10 +74,10 @@ class Browser:
         self.driver = start_chromium(room, *WORDS)
         self.run: Callable[..., Any] = self.driver.execute_script
 
-    def open(self, service: Service, address: str = "", size: tuple[int, int] | None = None, *, dark: bool = False,
+    def open(self, service: Listening, address: str = "", size: tuple[int, int] | None = None, *, dark: bool = False,
              is_drawn: bool = True) -> None:
-        """Opens the page of a service, at some size, the browser's own where none is said; waits until its roads are
-        drawn."""
+        """Opens the page of a service, or of what stands before one, at some size, the browser's own where none is said;
+        waits until its roads are drawn."""
         self.resize(size or self.size)
         self.command("Emulation.setEmulatedMedia", features=[
             {"name": "prefers-color-scheme", "value": "dark" if dark else "light"}])

@@ -20,7 +20,7 @@ window.waiting = new Promise(resolve => { open = resolve; });
 window.release = () => open();
 const { fetch } = window;
 window.fetch = async (...words) => {
-  if (!words[0].startsWith("/page/search")) return fetch(...words);
+  if (!words[0].startsWith("page/search")) return fetch(...words);
   window.asked++;
   try {
     await window.waiting;
@@ -133,7 +133,7 @@ def test_a_name_that_nobody_typed_keeps_its_place(browser: Browser, village: Ser
     word = f"{lon + 2e-5:.6f},{lat + 2e-5:.6f}"
     field = open_field(browser, village, "From", f"#from={word}&to=9&depart=08:00")
     browser.run("window.asked = 0; const { fetch } = window; window.fetch = (...words) => {"
-                "if (words[0].startsWith('/page/search')) window.asked++; return fetch(...words); }")
+                "if (words[0].startsWith('page/search')) window.asked++; return fetch(...words); }")
     field.send_keys(ENTER, TAB)
     assert browser.run("return [catchup.state.places[0].word, window.asked]") == [word, 0]
 

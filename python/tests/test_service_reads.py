@@ -248,7 +248,7 @@ def test_what_a_service_says_of_itself(service: Service, town: Path) -> None:
     page = service.client.get("/")
     assert page.headers["content-type"] == "text/html; charset=utf-8"
     links = re.findall(r"(?:src|href)\s*=\s*\"([^\"]*)\"", page.text)
-    assert links and all(link.startswith(("/page/", "#", "data:")) for link in links)
+    assert links and all(link.startswith(("page/", "#", "data:")) for link in links)
     assert service.ask("/docs")[0] == 404
     described = service.get("/openapi.json")
     assert {"/route", "/day", "/best", "/reach", "/table", "/latest", "/network", "/edits", "/edits/{name}", "/health",

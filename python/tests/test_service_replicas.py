@@ -3,10 +3,7 @@ turn."""
 
 from __future__ import annotations
 
-import os
 import shutil
-import signal
-import socket
 import subprocess
 import threading
 import time
@@ -16,22 +13,12 @@ from pathlib import Path
 
 import httpx
 import pytest
+from fronts import Front, is_open, need_nginx, site_of_two
 from serving import HTTP, SECONDS, Watch, client_of, digest_of, free_ports, left_in, wait_for
 
 from catchup.service.jobs import Jobs
 
 pytest.importorskip("redis", reason="python3-redis isn't installed")
-
-SITE = """
-user root; pid {room}/nginx.pid; error_log {room}/nginx.log; daemon off; worker_processes 1;
-events {{ worker_connections 256; }}
-http {{
-  access_log off; client_body_temp_path {room}/body; proxy_temp_path {room}/proxy; fastcgi_temp_path {room}/f;
-  uwsgi_temp_path {room}/u; scgi_temp_path {room}/s;
-{upstream}
-{server}
-}}
-"""
 
 
 class Running:
@@ -45,31 +32,20 @@ class Running:
     def start(self) -> None:
         self.process = subprocess.Popen(self.words, stdout=subprocess.DEVNULL, stderr=subprocess.DEVNULL,
                                         start_new_session=True)
-        wait_for(self.is_open)
-
-    def is_open(self) -> bool:
-        try:
-            socket.create_connection(("127.0.0.1", self.port), timeout=1).close()
-        except OSError:
-            return False
-        return True
+        wait_for(lambda: is_open(self.port))
 
     def kill(self) -> None:
-        """Ends it by SIGKILL, and waits until nobody listens there. The workers of nginx don't end with it, those of
-        a service do."""
-        if self.words[0] == HTTP:
-            self.process.kill()
-        else:
-            os.killpg(self.process.pid, signal.SIGKILL)
+        """Ends it by SIGKILL, and waits until nobody listens there."""
+        self.process.kill()
         self.process.wait()
-        assert not wait_for(self.is_open, lambda found: not found)
+        assert not wait_for(lambda: is_open(self.port), lambda found: not found)
 
 
 @pytest.fixture(scope="module")
 def room(tmp_path_factory: pytest.TempPathFactory) -> Path:
-    for name in ("redis-server", "nginx"):
-        if shutil.which(name) is None and not Path(f"/usr/sbin/{name}").exists():
-            pytest.skip(f"{name} isn't installed")
+    need_nginx()
+    if shutil.which("redis-server") is None:
+        pytest.skip("redis-server isn't installed")
     return tmp_path_factory.mktemp("replicas")
 
 
@@ -89,18 +65,6 @@ def start_replica(room: Path, town: Path, name: str, redis: int, port: int) -> t
         path.write_bytes(town.read_bytes())
     return Running(HTTP, "--port", str(port), "--workers", "2", "--log", f"redis://127.0.0.1:{redis}/0/{room.name}",
                    path, port=port), path
-
-
-def start_nginx(room: Path, ports: list[int], port: int) -> Running:
-    """nginx with the example site, for two ports of this machine."""
-    text = (Path(__file__).resolve().parents[2] / "packaging" / "service" / "nginx.conf").read_text()
-    for at, own in enumerate(ports, 1):
-        text = text.replace(f"10.0.0.{at}:8080", f"127.0.0.1:{own}")
-    text = text.replace("listen 80;", f"listen 127.0.0.1:{port};").replace("proxy_set_header Host $host",
-                                                                           "proxy_set_header Host localhost")
-    config = room / "nginx.conf"
-    config.write_text(SITE.format(room=room, upstream=text, server=""))
-    return Running("/usr/sbin/nginx", "-c", config, "-p", room, port=port)
 
 
 class Reader(threading.Thread):
@@ -151,8 +115,8 @@ def test_replicas_have_the_same_bytes_whatever_is_killed(room: Path, town: Path)
     redis_port, front, *ports = free_ports(4)
     redis = start_redis(room, redis_port)
     replicas = [start_replica(room, town, name, redis_port, port) for name, port in zip(("north", "south"), ports)]
-    nginx = start_nginx(room, ports, front)
-    everything = [redis, nginx, *(running for running, _ in replicas)]
+    nginx = Front(room, site_of_two(ports, front), front)
+    everything: list[Running | Front] = [redis, nginx, *(running for running, _ in replicas)]
     paths = [path for _, path in replicas]
     confirmed = []
     try:

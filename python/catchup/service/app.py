@@ -41,7 +41,8 @@ OSRM_HEADER: Final = (b"content-type", KIND.encode())
 
 def make_app(worker: Worker) -> FastAPI:
     """The application over a worker."""
-    app = FastAPI(title="catchup", version=__version__, description=openapi.DESCRIPTION, openapi_url=None)
+    app = FastAPI(title="catchup", version=__version__, description=openapi.DESCRIPTION, openapi_url=None,
+                  servers=openapi.SERVERS)
     app.router.redirect_slashes = False
     app.state.worker = worker
     for router in (*ROUTERS, make_router(worker.osrm)):

@@ -9,6 +9,8 @@ from starlette.responses import PlainTextResponse
 DESCRIPTION: Final = (
     "The least arrivals on roads whose travel times change over the day. Each answer says which version of the network "
     "it is of, in `version` and in the header `Catchup-Version`. Errors have `error` and, where it helps, `hint`.")
+# The paths are below the folder of /openapi.json, which a proxy may have put below a path of its own.
+SERVERS: Final[list[dict[str, Any]]] = [{"url": "."}]
 
 VERSION: Final = "3f2a9c01b7de"
 DRIVE: Final[dict[str, Any]] = {

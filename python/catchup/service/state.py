@@ -89,4 +89,4 @@ async def docs(request: Request) -> Response:
     take(request.scope["query_string"], {})
     if not worker_of(request).options.has_docs:
         raise Refusal(404, "there is nothing of this path", hint="--docs shows it")
-    return get_swagger_ui_html(openapi_url="/openapi.json", title="catchup")
+    return get_swagger_ui_html(openapi_url="openapi.json", title="catchup")

@@ -72,7 +72,7 @@ export class Page {
 
   // In which directions roads may be driven at a time, and how slow they are.
   async askRoadsOnce(time, isLast) {
-    const { data } = await bytes("/page/traffic", { at: clock(time) });
+    const { data } = await bytes("page/traffic", { at: clock(time) });
     if (!isLast()) return;
     const ways = data.map(byte => byte & (FORWARD | BACKWARD | SHUT)), { roads } = this.chart;
     const isSame = roads.ways && ways.every((way, street) => way === roads.ways[street]);
@@ -93,7 +93,7 @@ export class Page {
     at("hover").hidden = true;
     this.pointed = street;
     if (street < 0) return;
-    const { name } = await ask("/page/street", { street }).catch(() => ({ name: "" }));
+    const { name } = await ask("page/street", { street }).catch(() => ({ name: "" }));
     if (!name || this.pointed !== street) return;
     const box = at("map").getBoundingClientRect();
     const left = Math.min(spot.x + 12, box.width - 170), top = Math.max(spot.y - 30, 4);
@@ -134,7 +134,7 @@ export class Page {
 
   // Another version is served: all is asked anew.
   async changed(version) {
-    const { map } = await ask("/page/setting").catch(() => ({ map: this.chart.found }));
+    const { map } = await ask("page/setting").catch(() => ({ map: this.chart.found }));
     // Other roads have other numbers.
     if (map?.name !== this.chart.found.name) { location.reload(); return; }
     this.notice.say("version", `The network has changed: version ${version}.`, "good");

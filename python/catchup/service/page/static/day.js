@@ -47,7 +47,7 @@ export class Day {
   async askOnce(legs, isLast) {
     this.isAsked = true;
     try {
-      const days = await Promise.all(legs.map(leg => ask("/day", leg)));
+      const days = await Promise.all(legs.map(leg => ask("day", leg)));
       if (!isLast()) return;
       this.curve = days.every(day => day.answer === "day") ? curveOf(days) : null;
     } catch (problem) {

@@ -14,7 +14,7 @@ export class Dock {
     at("time").onfocus = event => event.target.select();
     at("now").onclick = async () => {
       // The roads' own time: the service knows its zone.
-      const { now } = await ask("/page/setting").catch(() => ({ now: null }));
+      const { now } = await ask("page/setting").catch(() => ({ now: null }));
       if (now !== null) change({ time: Math.floor(now / 60) * 60 });
     };
     onChange(names => {

@@ -109,7 +109,7 @@ export class Finder {
 
   async find(text, call = ask) {
     if (!text.trim()) return [];
-    return (await call("/page/search", { q: text, ...this.middle() })).places;
+    return (await call("page/search", { q: text, ...this.middle() })).places;
   }
 
   async look({ text, round }) {

@@ -15,7 +15,7 @@ export class Follower {
 
   open() {
     this.source?.close();
-    this.source = new EventSource(address("/page/events"));
+    this.source = new EventSource(address("page/events"));
     this.source.addEventListener("version", event => {
       setReachable(true);
       this.hear(JSON.parse(event.data).version);
@@ -41,7 +41,7 @@ export class Follower {
 
   async check() {
     try {
-      this.hear((await ask("/page/setting")).version);
+      this.hear((await ask("page/setting")).version);
     } catch (problem) {
       // It is asked again.
     }

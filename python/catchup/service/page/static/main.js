@@ -53,7 +53,7 @@ async function start(notice) {
   empty("Loading …");
   let setting;
   try {
-    setting = await ask("/page/setting");
+    setting = await ask("page/setting");
   } catch (problem) {
     if (problem.status) empty("The service has no answer", `${problem.message} ${problem.hint}`);
     else empty("The service can't be reached", "Trying again …");

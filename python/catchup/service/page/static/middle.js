@@ -104,7 +104,7 @@ export class Middle {
 
   async tell() {
     const street = this.chart.streetAt(this.chart.map.getCenter(), NEAR), round = ++this.round;
-    const found = street < 0 ? null : await ask("/page/street", { street }).catch(() => null);
+    const found = street < 0 ? null : await ask("page/street", { street }).catch(() => null);
     // The map has gone on, or the keys are elsewhere.
     if (!this.isShown || round !== this.round) return;
     const name = found ? streetName(found) : "No road here";

@@ -148,7 +148,7 @@ export class Places {
   // is chosen while the service is gone comes when it is back.
   async find(spot) {
     try {
-      const { place: word, name, x, y } = await askUntil("/page/near", worldOf(spot));
+      const { place: word, name, x, y } = await askUntil("page/near", worldOf(spot));
       return { word, name, x, y };
     } catch (problem) {
       this.notice.problem(problem);
@@ -166,10 +166,10 @@ export class Places {
   async resolveAll() {
     for (const place of state.places.filter(each => each && each.x === null)) {
       try {
-        const { places: [found] } = await ask("/page/search", { q: place.word });
+        const { places: [found] } = await ask("page/search", { q: place.word });
         if (!found) throw new Problem(400, `There is no place ${place.word} on this network.`);
         const isNamed = !/^-?[0-9.]+,-?[0-9.]+$/.test(place.word);
-        const near = isNamed ? found : await ask("/page/near", { x: found.x, y: found.y });
+        const near = isNamed ? found : await ask("page/near", { x: found.x, y: found.y });
         const known = { ...place, name: near.name, x: found.x, y: found.y };
         change({ places: state.places.map(each => (each === place ? known : each)) });
       } catch (problem) {

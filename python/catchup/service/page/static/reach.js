@@ -73,7 +73,7 @@ export class Reach {
 
   async askOnce(words, isLast) {
     try {
-      const { data } = await bytes("/page/reach", words);
+      const { data } = await bytes("page/reach", words);
       if (!isLast() || !isWanted()) return;
       this.bands = data.map(band => (band === UNREACHED ? COUNT : band));
       this.show();
@@ -93,7 +93,7 @@ export class Reach {
   async askGroundOnce(words, isLast) {
     if (this.chart.found.is_plane) return;
     try {
-      const { bands } = await ask("/page/ground", words);
+      const { bands } = await ask("page/ground", words);
       if (!isLast() || !isWanted()) return;
       this.layer.clearLayers();
       bands.forEach(({ polygons }, index) => this.drawBand(polygons, bandColours(COUNT)[COUNT - 1 - index]));

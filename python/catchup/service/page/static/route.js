@@ -62,7 +62,7 @@ export class Route {
     // Meanwhile a place may have been cleared, or something else is shown.
     const isWanted = () => isLast() && this.key === JSON.stringify(words);
     try {
-      const found = await ask("/page/route", words);
+      const found = await ask("page/route", words);
       if (!isWanted()) return;
       this.take(found);
       this.showOnce();
@@ -186,7 +186,7 @@ export class Route {
 
   tellDownloads() {
     at("downloads").hidden = this.chart.found.is_plane;
-    for (const format of ["gpx", "geojson"]) at(format).href = address("/route", { ...routeWords(), format });
+    for (const format of ["gpx", "geojson"]) at(format).href = address("route", { ...routeWords(), format });
   }
 
   stop(found, index) {

@@ -46,6 +46,7 @@ export function setProfile(name) {
   profile = name;
 }
 
+// An address is of the page's own folder, since a proxy may have it below a path of its own.
 export function address(path, words = {}) {
   const all = Object.entries({ ...words, profile }).filter(([, value]) => (value ?? "") !== "");
   return path + (all.length ? "?" + new URLSearchParams(all) : "");
@@ -53,7 +54,7 @@ export function address(path, words = {}) {
 
 // The version that the service told last. Its workers follow one another within a second, so an answer may be of the
 // one before: it is asked for again.
-const OF_VERSION = /^\/(day|page\/(traffic|route|reach|ground|street|profile))$/;
+const OF_VERSION = /^(day|page\/(traffic|route|reach|ground|street|profile))$/;
 const TRIES = 8, PAUSE = 250;
 let version = null;
 
@@ -129,5 +130,5 @@ export function newest(call) {
 
 export async function edit(edits, token) {
   const headers = { "Content-Type": "application/json", ...(token ? { Authorization: `Bearer ${token}` } : {}) };
-  return ask("/edits", {}, { method: "POST", headers, body: JSON.stringify({ edits }) });
+  return ask("edits", {}, { method: "POST", headers, body: JSON.stringify({ edits }) });
 }

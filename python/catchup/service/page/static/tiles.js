@@ -77,7 +77,7 @@ export class Tiles {
     const key = `${level}/${column}/${row}`;
     if (!this.kept.has(key)) {
       if (this.kept.size >= MOST_KEPT) this.kept.delete(this.kept.keys().next().value);
-      const asked = bytes(`/page/roads/${key}`, { of: this.map.name }).then(({ data }) => {
+      const asked = bytes(`page/roads/${key}`, { of: this.map.name }).then(({ data }) => {
         const tile = new Tile(data.buffer);
         asked.tile = tile;
         return tile;

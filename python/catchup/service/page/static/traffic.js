@@ -49,7 +49,7 @@ function choice(...inside) {
 async function restored(before) {
   const numbers = [...new Set(before.map(each => each.profile))], days = new Map();
   await Promise.all(numbers.map(async number => {
-    const { pieces } = await ask("/page/profile", { number }).catch(() => ({ pieces: null }));
+    const { pieces } = await ask("page/profile", { number }).catch(() => ({ pieces: null }));
     days.set(number, JSON.stringify(pieces));
   }));
   return before.map(({ road, profile, pieces }) => (
@@ -87,7 +87,7 @@ export class Traffic {
     }
     let found = null, said = null;
     try {
-      found = await ask("/page/street", { street });
+      found = await ask("page/street", { street });
     } catch (problem) {
       if (problem.status) said = wrong(problem);
     }
@@ -287,7 +287,7 @@ export class Traffic {
   // The state of the chosen street under another version.
   async refresh() {
     if (this.street && state.mode === "traffic") {
-      const found = await ask("/page/street", { street: this.street.street }).catch(() => null);
+      const found = await ask("page/street", { street: this.street.street }).catch(() => null);
       if (found && this.street?.street === found.street) {
         this.street = found;
         this.tellWays();
