@@ -316,7 +316,7 @@ def test_who_has_begun_to_connect_comes_in_and_nobody_else(listener: socket.sock
 
 
 def test_whoever_is_left_is_answered_whatever_was_sent(listener: socket.socket) -> None:
-    answer = ending.last_answer("0123456789ab")
+    answer = ending.last_answer("0123456789ab", "the service ends")
     head, _, body = answer.partition(b"\r\n\r\n")
     assert head.startswith(b"HTTP/1.1 503 ") and b"\r\ncontent-length: %d" % len(body) in head
     assert body == b'{"error":"the service ends","version":"0123456789ab"}'
@@ -348,7 +348,7 @@ def test_a_worker_gives_signs_while_it_opens_its_files() -> None:
 
     async def start() -> None:
         server = supervisor.DrainingServer(supervisor.Config(None, callback_notify=notify))
-        server.worker = SimpleNamespace(start=lambda: asyncio.sleep(SECONDS))
+        server.worker = SimpleNamespace(start=lambda: asyncio.sleep(SECONDS), unserved=lambda: None)
         asyncio.get_running_loop().call_later(5 * supervisor.START_PAUSE, server.handle_exit, signal.SIGTERM, None)
         await server.startup()
 

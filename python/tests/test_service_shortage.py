@@ -47,6 +47,10 @@ LITTLE = """#!/bin/sh
 if [ "$1" = edit ]; then {first}; fi
 exec {program} "$@"
 """
+SHUT = """#!/bin/sh
+case "$1 $2" in "ask /dev/fd/"*) if [ -e {shut} ]; then exit 9; fi; esac
+exec {program} "$@"
+"""
 
 
 @pytest.fixture
@@ -165,6 +169,34 @@ def test_catchup_edit_without_memory_is_told(program: Path, tmp_path: Path) -> N
         assert service.get("/route?from=5&to=151&depart=0")["version"] == digest_of(file)
     assert file.read_bytes() == before and entries_of(file) == []
     check_kept(file)
+
+
+def ask_anew(service: Service, path: str) -> httpx.Response:
+    """An answer on a connection of its own."""
+    with service.client_of() as client:
+        return client.get(path)
+
+
+def test_who_comes_while_no_worker_can_open_the_file_is_told_why(file: Path, program: Path, tmp_path: Path) -> None:
+    """Nobody waits for memory without an end, and all are served once it is there."""
+    shut, path = tmp_path / "shut", tmp_path / "wrapped"
+    path.write_text(SHUT.format(program=program, shut=shut))
+    path.chmod(path.stat().st_mode | stat.S_IXUSR)
+    version = digest_of(file)
+    with Service(file, workers=2, CATCHUP=str(path)) as service:
+        for _ in range(2):
+            shut.touch()
+            for worker in service.workers():
+                os.kill(worker, signal.SIGKILL)
+            for asked in ("/health", "/route?from=5&to=151&depart=0", "/"):
+                reply = ask_anew(service, asked)
+                assert reply.status_code == 503 and reply.headers["Retry-After"] == "1", reply.text
+                assert reply.json() == {
+                    "error": f"{file.name} isn't served: the program ended with status 9", "version": version}
+            shut.unlink()
+            assert wait_for(lambda: ask_anew(service, "/health").status_code, lambda status: status == 200) == 200
+            assert wait_for(lambda: len(service.children()), lambda many: many == 4) == 4
+            assert ask_anew(service, "/route?from=5&to=151&depart=0").json()["version"] == version
 
 
 def test_a_start_without_memory_is_told_in_one_line(file: Path) -> None:

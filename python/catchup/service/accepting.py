@@ -50,14 +50,24 @@ class Counts:
         for slot in range(SLOTS):
             self.cells[slot] = UNUSED
         self.begun = mmap.mmap(-1, 1)
+        self.taking = mmap.mmap(-1, SLOTS)
 
-    def begin(self) -> None:
+    def begin(self, slot: int) -> None:
         """A worker has opened its files, and takes clients."""
-        self.begun[0] = 1
+        self.begun[0] = self.taking[slot] = 1
+
+    def end(self, slot: int) -> None:
+        """A worker takes no more clients, or is gone."""
+        self.taking[slot] = 0
+        self.cells[slot] = UNUSED
 
     def has_begun(self) -> bool:
         """Whether any worker has ever taken clients."""
         return bool(self.begun[0])
+
+    def is_any_taking(self) -> bool:
+        """Whether any worker takes clients."""
+        return self.taking.find(b"\1", 0) >= 0
 
     def take_slot(self) -> int:
         """A slot for another worker. It counts from the first client on that the worker waits for."""
@@ -221,7 +231,7 @@ class Acceptor:
         with contextlib.suppress(OSError):
             self.take_all()
         self.listener.close()
-        self.counts.cells[self.slot] = UNUSED
+        self.counts.end(self.slot)
         # None may be taken again by a turn that was asked for before: two connections over one file end the worker.
         for line in self.aside.values():
             while line:

@@ -73,9 +73,9 @@ def let_nobody_connect(listener: Any) -> None:
                             struct.pack("@HP", len(NO_BEGINNING) // 8, ctypes.addressof(program)))
 
 
-def last_answer(version: str) -> bytes:
+def last_answer(version: str, why: str) -> bytes:
     """What a client gets that no worker has taken."""
-    told = refusal_answer(Refusal(503, "the service ends"), version)
+    told = refusal_answer(Refusal(503, why), version)
     lines = b"".join(name + b": " + value + b"\r\n" for name, value in told.raw_headers)
     date = formatdate(time.time(), usegmt=True).encode()
     head: bytes = STATUS_LINE[told.status_code]

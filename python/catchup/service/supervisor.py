@@ -121,6 +121,7 @@ class DrainingServer(Server):  # type: ignore[misc]
         starting = asyncio.create_task(self.worker.start())
         while not starting.done() and not self.should_exit:
             await asyncio.wait({starting}, timeout=START_PAUSE)
+            self.answer_unserved(sockets or [])
             if self.config.callback_notify is not None:
                 # Else the main process would end it over a file that takes long to open, again and again.
                 await self.config.callback_notify()
@@ -138,8 +139,18 @@ class DrainingServer(Server):  # type: ignore[misc]
             Acceptor(each, self.connection, Setting.counts, self.slot, crowd.everyone.__len__, crowd.most // ASIDE)
             for each in sockets or []]
         self.worker.acceptors = self.acceptors
-        Setting.counts.begin()
+        Setting.counts.begin(self.slot)
         self.started = True
+
+    def answer_unserved(self, listeners: list[socket.socket]) -> None:
+        """Tells those that wait why, where a file can't be opened and no worker takes clients."""
+        why = self.worker.unserved()
+        if why is None or Setting.counts.is_any_taking():
+            return
+        for listener in listeners:
+            with contextlib.suppress(OSError, MemoryError):
+                listener.setblocking(False)
+                answer_left(listener, last_answer(last_version(), why))
 
     def connection(self, address: Address) -> Connection:
         """The connection of a client."""
@@ -336,7 +347,7 @@ if HAS_GUNICORN:
         def close_last(self) -> None:
             """Answers whoever has connected and was taken by no worker, and closes."""
             for listener in self.LISTENERS:
-                answer_left(listener, last_answer(last_version()))
+                answer_left(listener, last_answer(last_version(), "the service ends"))
             close_sockets(self.LISTENERS, False)
             self.LISTENERS: list[Any] = []
 
@@ -445,7 +456,7 @@ def let_go(_: object, worker: Any) -> None:
     """A worker is gone."""
     if not Setting.asked.is_asked(worker.slot):
         Setting.failed += 1
-    Setting.counts.cells[worker.slot] = UNUSED
+    Setting.counts.end(worker.slot)
     Setting.figures.leave(worker.slot)
 
 

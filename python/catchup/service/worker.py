@@ -102,6 +102,13 @@ class Worker:
         await self.each_second()
         self.keep(watch(self.networks, WATCH_SECONDS, self.each_second))
 
+    def unserved(self) -> str | None:
+        """Why a file can't be served; None where all are, or nobody knows yet."""
+        for network in self.networks:
+            if network.refused is not None and not hasattr(network, "current"):
+                return f"{network.path.name} isn't served: {network.refused}"
+        return None
+
     async def each_second(self) -> None:
         """What is due each second."""
         self.crowd.tick(asyncio.get_running_loop().time())
