@@ -624,7 +624,7 @@ def test_want_of_memory(program: Path, folder: Path) -> None:
         resource.setrlimit(resource.RLIMIT_AS, (limit, limit))
 
     words = ("trial", "1", "512", "512", "1")
-    ended = subprocess.run([program, *words], cwd=folder, capture_output=True, timeout=120, preexec_fn=confine)
+    ended = subprocess.run([program, *words], cwd=folder, capture_output=True, timeout=600, preexec_fn=confine)
     assert (ended.returncode, ended.stdout) == (9, b"")
     said = ended.stderr.decode()
     assert said.startswith("catchup: out of memory in trial (limit 512 MiB, in use ") and said.count("\n") == 1
@@ -660,7 +660,7 @@ def test_a_store_fails_at_once_where_names_cannot_be_told(program: Path, folder:
         pytest.skip("strace isn't installed (strace)")
     traced = [strace, "-f", "-o", "/dev/null", "-e", f"inject=statx:error={error}:when={call}"]
     before = sorted(os.listdir(folder))
-    ended = subprocess.run([*traced, program, "order", *TABLES, "out"], cwd=folder, capture_output=True, timeout=20)
+    ended = subprocess.run([*traced, program, "order", *TABLES, "out"], cwd=folder, capture_output=True, timeout=600)
     if b"ptrace" in ended.stderr:
         pytest.skip("strace may not trace here")
     after = sorted(os.listdir(folder))

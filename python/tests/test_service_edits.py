@@ -448,7 +448,9 @@ def check_without_any_room(service: Service, room: Path) -> None:
         for path in ("/route?from=5&to=151&depart=0", "/edits", "/metrics", "/health", "/network", "/openapi.json"):
             assert client.get(path).status_code == (404 if path == "/network" else 200)
         [first, *_] = client.get("/edits").json()["jobs"]
-        assert client.get(f"/edits/{first['job']}").json()["state"] == "ended"
+        # Of one of which nothing can be noted it is told once its process is known to be gone.
+        told = wait_for(lambda: client.get(f"/edits/{first['job']}").json()["state"], lambda state: state == "ended")
+        assert told == "ended"
         assert client.post("/edits", content=LINE).status_code == 503
 
 
@@ -548,7 +550,8 @@ def test_an_edit_of_which_nothing_can_be_noted_is_told_at_the_end(file: Path, sl
         status, told = waiting.result()
         assert status == 503 and told["error"] == "the service ends: GET /edits says whether the edit was made"
     with Service(file) as service:
-        [job] = service.get("/edits")["jobs"]
+        # It is noted once the list can be written.
+        [job] = wait_for(lambda: service.get("/edits")["jobs"], lambda jobs: [job["state"] for job in jobs] == ["ended"])
         assert job["state"] == "ended" and not file.with_name(file.name + ".journal").exists()
 
 

@@ -242,7 +242,8 @@ OTHERS = [
 @pytest.mark.parametrize(("does", "said"), OTHERS)
 def test_a_program_that_is_no_catchup(town: Path, tmp_path: Path, monkeypatch: pytest.MonkeyPatch, does: str,
                                       said: str) -> None:
-    monkeypatch.setattr(probing, "PROBE_SECONDS", 1.0)
+    # On a busy machine it takes a while until one that ends has done so.
+    monkeypatch.setattr(probing, "PROBE_SECONDS", 1.0 if "no answer" in said else float(SECONDS))
     program = Path(does)
     if not program.is_absolute():
         program = tmp_path / "other"
@@ -251,7 +252,8 @@ def test_a_program_that_is_no_catchup(town: Path, tmp_path: Path, monkeypatch: p
     began = time.monotonic()
     ran = call("catchup-http", town, env={"CATCHUP": str(program)})
     check_refused(ran, 1, f"CATCHUP names {program}, and that isn't catchup: {said}; set it to")
-    assert len(ran.error) < 400 and time.monotonic() - began < 60
+    # Nobody waits for what it has started.
+    assert len(ran.error) < 400 and time.monotonic() - began < 300
 
 
 def run_within(limit: str, *words: str | Path) -> subprocess.CompletedProcess[str]:
