@@ -21,6 +21,15 @@ IS_DRAWN = """
 const page = window.catchup, tiles = page ? Object.values(page.chart.roads._tiles ?? {}) : [];
 return tiles.length > 0 && tiles.every(tile => tile.el.isDrawn) && !page.isDrawing() && page.chart.roads.ways !== null;
 """
+# Notes what the page says in passing: a line over the map goes after some seconds, and a slow test may look later.
+NOTE = """
+window.notices = [];
+new MutationObserver(changes => {
+  for (const { target, addedNodes } of changes) {
+    if (target.id === "notice") window.notices.push(...[...addedNodes].map(each => each.textContent));
+  }
+}).observe(document, { childList: true, subtree: true });
+"""
 SPOT = """
 const { map } = catchup.chart, box = map.getContainer().getBoundingClientRect();
 const spot = map.latLngToContainerPoint([arguments[1], arguments[0]]);
@@ -73,6 +82,7 @@ class Browser:
         self.size = size
         self.driver = start_chromium(room, *WORDS)
         self.run: Callable[..., Any] = self.driver.execute_script
+        self.noting: set[str] = set()   # windows whose pages note what they say
 
     def open(self, service: Listening, address: str = "", size: tuple[int, int] | None = None, *, dark: bool = False,
              is_drawn: bool = True) -> None:
@@ -81,6 +91,9 @@ class Browser:
         self.resize(size or self.size)
         self.command("Emulation.setEmulatedMedia", features=[
             {"name": "prefers-color-scheme", "value": "dark" if dark else "light"}])
+        if (window := self.driver.current_window_handle) not in self.noting:
+            self.command("Page.addScriptToEvaluateOnNewDocument", source=NOTE)
+            self.noting.add(window)
         self.driver.get("about:blank")
         self.driver.get_log("browser")
         self.driver.get(f"http://127.0.0.1:{service.port}/{address}")
@@ -114,6 +127,16 @@ class Browser:
         assert part in found, (name, found, self.problems())
         return found
 
+    def wait_notice(self, part: str) -> str:
+        """What the page has said over its map that has some part, once it has, since it was opened or that was
+        forgotten. It may be gone again by then."""
+        found: list[str] = self.wait("return window.notices", lambda lines: any(part in line for line in lines))
+        return next(line for line in found if part in line)
+
+    def forget_notices(self) -> None:
+        """Forgets what the page has said over its map."""
+        self.run("window.notices.length = 0")
+
     def click(self, name: str) -> None:
         """Clicks an element."""
         self.driver.find_element("id", name).click()
@@ -127,6 +150,17 @@ class Browser:
         x, y = self.run(SPOT, lon, lat)
         self.mouse("mousePressed", x, y, button="left", clickCount=1)
         self.mouse("mouseReleased", x, y, button="left", clickCount=1)
+
+    def hover(self, lon: float, lat: float, name: str) -> None:
+        """Has the mouse rest on a place until its name is told, which goes again where the map moves meanwhile."""
+        def look() -> str:
+            x, y = self.run(SPOT, lon, lat)
+            for beside in (1, 0):
+                self.mouse("mouseMoved", x + beside, y)
+            return wait_for(lambda: self.text("hover"), lambda text: name in text, 5)
+
+        found = wait_for(look, lambda text: name in text)
+        assert name in found, (name, found, self.problems())
 
     def press(self, *keys: str, shift: bool = False) -> None:
         """Presses keys, one behind another, in whatever has the focus."""
@@ -143,9 +177,12 @@ class Browser:
         steps.perform()
 
     def tab_to(self, wanted: str, *, back: bool = False) -> None:
-        """Goes on by the key of tabulation until an element has the focus that some selector of CSS names."""
+        """Goes on by the key of tabulation until an element has the focus that some selector of CSS names, once it is
+        there."""
         from selenium.webdriver.common.keys import Keys
 
+        assert wait_for(lambda: self.run("return document.querySelector(arguments[0])?.checkVisibility()", wanted)), (
+            f"there is no {wanted}", self.problems())
         for _ in range(80):
             self.press(Keys.TAB, shift=back)
             if self.run("return document.activeElement.matches(arguments[0])", wanted):
@@ -173,6 +210,11 @@ class Browser:
     def touch(self, kind: str, *points: tuple[float, float]) -> None:
         """Fingers on the screen."""
         self.command("Input.dispatchTouchEvent", type=kind, touchPoints=[{"x": x, "y": y} for x, y in points])
+
+    def tap(self, x: float, y: float) -> None:
+        """A finger that touches a pixel, and goes. On a busy machine the browser may take it for one that stays."""
+        self.touch("touchStart", (x, y))
+        self.touch("touchEnd")
 
     def set_value(self, name: str, value: object, event: str = "change") -> None:
         """Sets a field as if somebody had typed it."""

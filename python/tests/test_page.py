@@ -165,8 +165,7 @@ def test_places_are_found_by_names_and_numbers_and_dragged(browser: Browser, vil
 
     browser.open(village, "#depart=07:00")
     lane = village.get("/page/search?q=Gartenweg")["places"][0]
-    browser.mouse("mouseMoved", *browser.run(SPOT, *degrees_of(lane["x"], lane["y"])))
-    browser.wait_text("hover", "Gartenweg")
+    browser.hover(*degrees_of(lane["x"], lane["y"]), "Gartenweg")
     start, end = browser.driver.find_elements("css selector", ".place input")
     start.send_keys("berg")
     browser.wait("return document.querySelector('.found:not([hidden]) li')?.innerText.includes('Bergweg')")
@@ -251,7 +250,7 @@ def test_a_road_is_closed_by_clicks_and_others_follow(browser: Browser, village:
     browser.picture("closed")
     browser.driver.switch_to.window(other)
     browser.wait("return [...catchup.chart.roads.ways].some(way => way & 64)")
-    browser.wait_text("notice", now)
+    browser.wait_notice(now)
     browser.driver.close()
     browser.driver.switch_to.window(first)
     browser.run("document.querySelector('#edits button').click()")
@@ -373,7 +372,7 @@ def test_a_network_without_a_map(browser: Browser, plane: Service, town: Path) -
         assert browser.run("return catchup.day.curve.travels[arguments[0]]", int(second)) == travel
     browser.picture("plane")
     plane.edit("s,0,0,travel,600")
-    browser.wait_text("notice", "The network has changed")
+    browser.wait_notice("The network has changed")
     is_sound(browser)
 
 
@@ -438,20 +437,33 @@ def test_leaflet_is_missing(browser: Browser, village: Service) -> None:
         browser.command("Network.disable")
 
 
+# Holds back what is asked of routes and of what is reached until `release` is called; `asked` is how much of it has no
+# answer yet that the page has taken.
+HELD = """
+const { fetch } = window, open = new Promise(resolve => { window.release = resolve; });
+window.asked = 0;
+window.fetch = async (address, ...more) => {
+  if (!/^page[/](route|reach)[?]/.test(address)) return fetch(address, ...more);
+  window.asked++;
+  try {
+    await open;
+    return await fetch(address, ...more);
+  } finally {
+    setTimeout(() => { window.asked--; }, 300);
+  }
+};
+"""
+
+
 def test_a_route_that_takes_long_is_told(browser: Browser, village: Service) -> None:
     """In the place of what is to be chosen."""
     browser.open(village)
     browser.wait_text("answer", "Click on the map")
-    browser.command("Network.enable")
-    slow = {"offline": False, "downloadThroughput": -1, "uploadThroughput": -1}
-    browser.command("Network.emulateNetworkConditions", latency=2000, **slow)
-    try:
-        browser.run("location.hash = '#from=0&to=9&depart=08:00'")
-        browser.wait_text("answer", "The route is being worked out")
-        browser.wait_text("answer", "08:00 →")
-    finally:
-        browser.command("Network.emulateNetworkConditions", latency=0, **slow)
-        browser.command("Network.disable")
+    browser.run(HELD)
+    browser.run("location.hash = '#from=0&to=9&depart=08:00'")
+    browser.wait_text("answer", "The route is being worked out")
+    browser.run("window.release()")
+    browser.wait_text("answer", "08:00 →")
 
 
 def test_whatever_has_the_focus_shows_it(browser: Browser, village: Service) -> None:
@@ -461,7 +473,7 @@ def test_whatever_has_the_focus_shows_it(browser: Browser, village: Service) -> 
 
     browser.open(village, "#from=0&to=9&depart=08:00", LAPTOP)
     browser.wait_text("answer", "→")
-    browser.wait("return document.querySelectorAll('.pin').length === 2")
+    browser.wait("return document.querySelectorAll('.pin').length === 2 && catchup.day.curve !== null")
     seen = []
     for _ in range(60):
         ActionChains(browser.driver).send_keys(Keys.TAB).perform()
@@ -541,21 +553,12 @@ def test_the_next_click_chooses_the_next_place(browser: Browser, village: Servic
 def test_an_answer_that_comes_late_is_dropped(browser: Browser, village: Service, address: str, name: str) -> None:
     """Where the place is cleared meanwhile."""
     browser.open(village)
-    browser.command("Network.enable")
-    slow = {"offline": False, "downloadThroughput": -1, "uploadThroughput": -1}
-    browser.command("Network.emulateNetworkConditions", latency=1000, **slow)
-    try:
-        browser.run("window.asked = 0; const { fetch } = window; window.fetch = (...words) => {"
-                    "if (/page.(route|reach)[?]/.test(words[0])) window.asked++; return fetch(...words).finally("
-                    "() => { if (/page.(route|reach)[?]/.test(words[0])) setTimeout(() => { window.asked--; }, 300); }); }")
-        browser.run("location.hash = arguments[0]", address)
-        browser.wait("return window.asked > 0")
-        browser.run("document.querySelector('.place button').click()")
-        browser.wait("return window.asked === 0")
-        assert re.search("Choose where|Click on the map", browser.text(name))
-    finally:
-        browser.command("Network.emulateNetworkConditions", latency=0, **slow)
-        browser.command("Network.disable")
+    browser.run(HELD)
+    browser.run("location.hash = arguments[0]", address)
+    browser.wait("return window.asked > 0")
+    browser.run("document.querySelector('.place button').click(); window.release()")
+    browser.wait("return window.asked === 0")
+    assert re.search("Choose where|Click on the map", browser.text(name))
 
 
 def test_the_menu_of_a_place_goes_with_the_route(browser: Browser, village: Service) -> None:
@@ -572,9 +575,12 @@ def test_a_finger_leaves_nothing_on_the_map(browser: Browser, village: Service) 
     lane = village.get("/page/search?q=Gartenweg")["places"][0]
     browser.open(village, "#mode=traffic&depart=08:00", PHONE)
     x, y = browser.run(SPOT, *degrees_of(lane["x"], lane["y"]))
-    browser.touch("touchStart", (x, y))
-    browser.touch("touchEnd")
-    browser.wait_text("road", "Gartenweg")
+
+    def tapped() -> str:
+        browser.tap(x, y)
+        return wait_for(lambda: browser.text("road"), lambda text: "Gartenweg" in text, 5)
+
+    assert "Gartenweg" in wait_for(tapped, lambda text: "Gartenweg" in text)
     # A name is told 90 milliseconds behind a mouse.
     time.sleep(0.5)
     assert browser.run("return document.getElementById('hover').hidden")
@@ -599,8 +605,7 @@ def test_a_time_that_is_none_is_told(browser: Browser, village: Service) -> None
 def test_a_name_under_the_mouse_goes_when_the_map_moves(browser: Browser, village: Service) -> None:
     lane = village.get("/page/search?q=Gartenweg")["places"][0]
     browser.open(village, "#depart=08:00", LAPTOP)
-    browser.mouse("mouseMoved", *browser.run(SPOT, *degrees_of(lane["x"], lane["y"])))
-    browser.wait_text("hover", "Gartenweg")
+    browser.hover(*degrees_of(lane["x"], lane["y"]), "Gartenweg")
     browser.run("catchup.chart.map.panBy([200, 100], { animate: false })")
     assert browser.run("return document.getElementById('hover').hidden")
 
@@ -626,7 +631,7 @@ def test_the_service_is_gone_and_comes_back(browser: Browser, folder: Path, tmp_
     # What is chosen meanwhile is answered as soon as it can be.
     browser.set_value("time", "10:00")
     with Service(path, "--tables", folder, "--port", str(port)):
-        browser.wait_text("notice", "is back")
+        browser.wait_notice("is back")
         browser.wait_text("answer", "10:00 →")
         browser.set_value("time", "9:00")
         browser.wait_text("answer", "09:00 →")
@@ -656,9 +661,10 @@ def test_places_of_the_map_that_are_chosen_while_the_service_is_gone(browser: Br
             browser.drag((x, y), (x + far, y))
         browser.run("document.querySelectorAll('.place button')[1].click()")
         browser.wait_text("notice", "can't be reached")
+        browser.forget_notices()
         browser.command("Network.emulateNetworkConditions", offline=False, **speed)
         browser.wait(f"return catchup.state.places[0].word !== {words[0]!r}")
-        browser.wait_text("notice", "is back")
+        browser.wait_notice("is back")
         assert browser.run("return catchup.state.places[1]") is None and before
         assert float(browser.run("return catchup.state.places[0].word").partition(",")[0]) > float(words[0].partition(",")[0])
     finally:
@@ -702,8 +708,8 @@ def test_pins_that_lie_far_from_the_roads_are_shown(browser: Browser, village: S
 
 def test_a_place_that_isnt_there(browser: Browser, village: Service) -> None:
     browser.open(village, "#from=0&to=999&depart=08:00")
-    browser.wait_text("notice", "There is no place 999")
-    assert places_of(browser)[1] == ""
+    browser.wait_notice("There is no place 999")
+    assert wait_for(lambda: places_of(browser), lambda found: found[1] == "")[1] == ""
 
 
 def test_a_place_that_no_way_leads_to(browser: Browser, rush_hour: Path, tmp_path: Path) -> None:
@@ -711,7 +717,10 @@ def test_a_place_that_no_way_leads_to(browser: Browser, rush_hour: Path, tmp_pat
     with Service(build(rush_hour, tmp_path / "map.cu"), "--tables", rush_hour) as service:
         browser.open(service, "#from=2&to=0&depart=08:00")
         assert browser.wait_text("answer", "No way leads there.") == "No way leads there."
-        assert browser.text("streets") == "" and places_of(browser) == ["Node 2", "Node 0"]
+        assert browser.text("streets") == ""
+        # What places are called comes by itself.
+        named = ["Node 2", "Node 0"]
+        assert wait_for(lambda: places_of(browser), lambda found: found == named) == named
         browser.open(service, "#from=0&to=2&arrive=00:01")
         browser.wait_text("answer", "Even who leaves at midnight isn't there by 00:01.")
         is_sound(browser)

@@ -360,10 +360,10 @@ def test_a_street_that_has_the_focus_is_shown_on_the_map(browser: Browser, villa
     browser.open(village, "#from=0&to=9&depart=08:00")
     browser.wait_text("answer", "08:00 →")
     browser.tab_to("#streets button")
-    assert browser.run("return catchup.route.lit !== undefined && catchup.chart.map.hasLayer(catchup.route.lit)")
+    browser.wait("return catchup.route.lit !== undefined && catchup.chart.map.hasLayer(catchup.route.lit)")
     browser.press(SPACE)
     browser.tab_to("#gpx")
-    assert not browser.run("return catchup.chart.map.hasLayer(catchup.route.lit)")
+    browser.wait("return !catchup.chart.map.hasLayer(catchup.route.lit)")
 
 
 def test_everything_that_takes_the_focus_has_a_role_and_a_name(browser: Browser, village: Service) -> None:
