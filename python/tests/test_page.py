@@ -376,6 +376,32 @@ def test_a_network_without_a_map(browser: Browser, plane: Service, town: Path) -
     is_sound(browser)
 
 
+# Events that come when `tellVersion` is called, and no sooner.
+LATE_EVENTS = """
+window.EventSource = class {
+  readyState = 1;
+  addEventListener(name, call) { window.tellVersion = version => call({ data: JSON.stringify({ version }) }); }
+  close() {}
+};
+"""
+
+
+def test_an_edit_before_the_first_event_is_followed(browser: Browser, plane: Service) -> None:
+    """What the page has asked by then is of the version before."""
+    script = browser.command("Page.addScriptToEvaluateOnNewDocument", source=LATE_EVENTS)["identifier"]
+    try:
+        browser.open(plane, "#from=5&to=151&depart=08:00")
+    finally:
+        browser.command("Page.removeScriptToEvaluateOnNewDocument", identifier=script)
+    before = browser.wait_text("answer", "08:00 →")
+    roads = plane.get("/route?from=5&to=151&depart=08:00")["roads"]
+    version = plane.edit(*(f"a,{road},0" for road in roads), "s,0,0,travel,5000")["version"]
+    browser.run("window.tellVersion(arguments[0])", version)
+    assert version in browser.wait_notice("The network has changed")
+    assert wait_for(lambda: browser.text("answer"), lambda now: now != before and "→" in now) != before
+    is_sound(browser)
+
+
 class Tiles(http.server.BaseHTTPRequestHandler):
     """Grey tiles of a base map."""
 

@@ -41,7 +41,7 @@ export class Page {
       state.mode === "traffic" ? this.traffic.click(spot, event) : click(spot, event));
     this.middle = new Middle(this.chart);
     this.chart.onPoint = (street, spot) => this.point(street, spot);
-    this.follower = new Follower(version => this.changed(version));
+    this.follower = new Follower(setting.version, version => this.changed(version));
     // What was chosen while the service was gone has no answer yet.
     onReachable(isThere => { if (isThere) this.askAnew(); });
     this.showMode();

@@ -4,11 +4,12 @@ import { address, ask, isReachable, setReachable, setVersion } from "./service.j
 
 const PAUSE = 2000;
 
-// Calls back with each version but the first.
+// Calls back with each version but the one of which the page began: another may come before the first event does.
 export class Follower {
-  constructor(onVersion) {
-    this.version = null;
+  constructor(version, onVersion) {
+    this.version = version;
     this.onVersion = onVersion;
+    setVersion(version);
     this.open();
     setInterval(() => this.look(), PAUSE);
   }
@@ -26,10 +27,9 @@ export class Follower {
 
   hear(version) {
     if (version === this.version) return;
-    const isFirst = this.version === null;
     this.version = version;
     setVersion(version);
-    if (!isFirst) this.onVersion(version);
+    this.onVersion(version);
   }
 
   // Where events don't come, or the service was gone.
