@@ -3,13 +3,17 @@ turn."""
 
 from __future__ import annotations
 
+import fcntl
+import os
 import shutil
 import subprocess
 import threading
 import time
 from collections.abc import Iterator
+from concurrent.futures import Future, ThreadPoolExecutor
 from contextlib import contextmanager
 from pathlib import Path
+from typing import Any
 
 import httpx
 import pytest
@@ -230,6 +234,208 @@ def test_an_entry_that_cannot_be_made_yet_keeps_nobody_waiting(room: Path, town:
     finally:
         for each in (running, other, redis):
             each.kill()
+
+
+# ---- a server that has lost its data ----
+
+
+class Pair:
+    """A server of a stream, and replicas of it."""
+
+    def __init__(self, room: Path, town: Path, many: int = 2) -> None:
+        self.room = room
+        redis_port, *self.ports = free_ports(1 + many)
+        self.redis = start_redis(room, redis_port)
+        self.replicas = [start_replica(room, town, f"host{port}", redis_port, port) for port in self.ports]
+        self.server = connect_redis(redis_port)
+        self.stream = room.name
+
+    def __enter__(self) -> Pair:
+        return self
+
+    def __exit__(self, *_: object) -> None:
+        for each in (*(running for running, _ in self.replicas), self.redis):
+            each.kill()
+
+    def edit(self, number: int, at: int = 0) -> None:
+        """Makes an edit by one of them, and waits until all have it."""
+        assert wait_for(lambda: edit(self.ports[at], number), bool)
+        self.wait_alike(number)
+
+    def wait_alike(self, number: int) -> None:
+        """Waits until all have made an edit, and have the same bytes."""
+        assert wait_for(lambda: all(f'"s,0,0,travel,{number}"' in lines(path) for _, path in self.replicas))
+        assert wait_for(lambda: len({digest_of(path) for _, path in self.replicas}) == 1)
+
+    def wait_health(self, *wanted: str) -> list[str]:
+        """Waits until each says that it is so, and what is wrong with each."""
+        def told() -> list[dict[str, str]]:
+            found = []
+            for port in self.ports:
+                with client_of(port) as client:
+                    found.append(client.get("/health").json())
+            return found
+
+        found = wait_for(told, lambda found: [each["status"] for each in found] == [*wanted])
+        assert [each["status"] for each in found] == [*wanted], found
+        return [each.get("error", "") for each in found]
+
+    def restart_redis(self, data: Path | None) -> None:
+        """Starts the server again, over a copy of its data or none."""
+        self.redis.kill()
+        shutil.rmtree(self.room / "redis")
+        if data is not None:
+            shutil.copytree(data, self.room / "redis")
+        else:
+            (self.room / "redis").mkdir()
+        self.redis.start()
+        # It listens before it has read its data.
+        assert wait_for(self.has_read)
+
+    def has_read(self) -> bool:
+        """Whether the server has read its data, and answers."""
+        from redis import RedisError
+
+        try:
+            return bool(self.server.ping())
+        except RedisError:
+            return False
+
+
+def connect_redis(port: int) -> Any:
+    """A client of the server itself."""
+    from redis import Redis
+
+    return Redis(port=port, socket_timeout=SECONDS)
+
+
+@pytest.fixture
+def pair(room: Path, town: Path, tmp_path: Path) -> Iterator[Pair]:
+    with Pair(tmp_path, town) as found:
+        yield found
+
+
+@pytest.mark.parametrize("is_started_again", [False, True], ids=["flushed", "started again"])
+def test_a_stream_that_is_lost_begins_anew(pair: Pair, is_started_again: bool) -> None:
+    """Where all replicas have the same file nothing is lost. Entries may have lower numbers then than those before, as
+    where the server's clock is another one."""
+    pair.edit(100)
+    if is_started_again:
+        pair.restart_redis(None)
+    else:
+        pair.server.flushall()
+    pair.server.xadd(pair.stream, {"job": "lower", "type": "lines", "edits": "s,0,0,travel,101\n"}, id="5-0")
+    pair.wait_alike(101)
+    pair.edit(102, at=1)
+    pair.wait_health("ok", "ok")
+    for port in pair.ports:
+        running, _ = pair.replicas[pair.ports.index(port)]
+        running.kill()
+        running.start()
+    pair.edit(103)
+    pair.wait_health("ok", "ok")
+
+
+def test_a_server_that_went_back_has_nothing_made_of_older_entries(pair: Pair) -> None:
+    pair.edit(100)
+    pair.redis.kill()
+    older = pair.room / "older"
+    shutil.copytree(pair.room / "redis", older)
+    pair.redis.start()
+    pair.edit(101)
+    pair.edit(102, at=1)
+    before = digest_of(pair.replicas[0][1])
+    pair.restart_redis(older)
+    pair.server.xadd(pair.stream, {"job": "later", "type": "lines", "edits": "s,0,0,travel,103\n"})
+    for said in pair.wait_health("diverged", "diverged"):
+        assert "has lost edits that are in this file" in said and f"DEL {pair.stream} {pair.stream}:digests" in said
+    assert not edit(pair.ports[0], 104)
+    assert {digest_of(path) for _, path in pair.replicas} == {before}
+    # A start changes nothing of that.
+    pair.replicas[0][0].kill()
+    pair.replicas[0][0].start()
+    pair.wait_health("diverged", "diverged")
+    pair.server.delete(pair.stream, f"{pair.stream}:digests")
+    pair.wait_health("ok", "ok")
+    pair.edit(105)
+    pair.edit(106, at=1)
+
+
+def test_the_newest_file_is_kept_where_a_stream_begins_anew_over_an_older_one(pair: Pair) -> None:
+    pair.edit(100)
+    (newer, path), (older, behind) = pair.replicas
+    older.kill()
+    assert wait_for(lambda: edit(pair.ports[0], 101), bool)
+    newer.kill()
+    pair.server.flushall()
+    older.start()
+    assert wait_for(lambda: pair.server.exists(f"{pair.stream}:digests"))
+    newer.start()
+    said, _ = pair.wait_health("diverged", "ok")
+    assert "has lost edits that are in this file: copy the newest file" in said
+    assert '"s,0,0,travel,101"' in lines(path) and digest_of(path) != digest_of(behind)
+    beside = behind.with_name("beside")
+    beside.write_bytes(path.read_bytes())
+    beside.rename(behind)
+    pair.server.delete(pair.stream, f"{pair.stream}:digests")
+    pair.wait_health("ok", "ok")
+    assert digest_of(path) == digest_of(behind)
+    pair.edit(102, at=1)
+
+
+def test_entries_of_another_stream_are_not_made(pair: Pair) -> None:
+    """Here the stream is gone, but not what stands beside it: its new entry has a lower number."""
+    pair.edit(100)
+    pair.server.delete(pair.stream)
+    pair.server.xadd(pair.stream, {"job": "lower", "type": "lines", "edits": "s,0,0,travel,101\n"}, id="5-0")
+    assert all("has lost" in said for said in pair.wait_health("diverged", "diverged"))
+
+
+def test_an_edit_that_the_stream_has_lost_is_waited_for_by_nobody(room: Path, town: Path, tmp_path: Path) -> None:
+    """The first edit waits for its turn among other programs; behind it comes another one, which is lost."""
+    with Pair(tmp_path, town, 1) as single:
+        single.edit(100)
+        [port], [(_, path)] = single.ports, single.replicas
+        before = single.server.xlen(single.stream)
+        with flocked(path.parent):
+            first = in_background(port, 101)
+            # What it asks for is in a file, and so is what was taken of the stream.
+            assert wait_for(lambda: len(list(path.parent.glob(".catchup-edits-*"))) == 2)
+            second = in_background(port, 102)
+            assert wait_for(lambda: single.server.xlen(single.stream) == before + 2)
+            single.server.flushall()
+        assert first.result(SECONDS)[0] == 200
+        assert second.result(SECONDS) == (503, "the stream has lost the edit, and it isn't made")
+        assert states(port)[:2] == ["ended", "done"]
+        single.edit(103)
+        single.wait_health("ok")
+
+
+def in_background(port: int, number: int) -> Future[tuple[int, str]]:
+    """Makes an edit meanwhile: its status, and what is said to be wrong."""
+    def make() -> tuple[int, str]:
+        with client_of(port) as client:
+            reply = client.post("/edits", content=f"s,0,0,travel,{number}")
+            return reply.status_code, reply.json().get("error", "")
+
+    return ThreadPoolExecutor(1).submit(make)
+
+
+def states(port: int) -> list[str]:
+    """How the jobs of a replica are, the newest first."""
+    with client_of(port) as client:
+        return [job["state"] for job in client.get("/edits").json()["jobs"]]
+
+
+@contextmanager
+def flocked(folder: Path) -> Iterator[None]:
+    """Holds the lock of a folder, as another program does that edits there."""
+    lock = os.open(folder, os.O_RDONLY)
+    try:
+        fcntl.flock(lock, fcntl.LOCK_EX)
+        yield
+    finally:
+        os.close(lock)
 
 
 def test_a_stream_that_is_none(town: Path) -> None:

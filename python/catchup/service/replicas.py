@@ -12,6 +12,7 @@ import contextlib
 import os
 import re
 import sqlite3
+from collections.abc import Iterator
 from pathlib import Path
 from typing import Any, Final
 
@@ -72,6 +73,7 @@ class Log:
         room = folder or network.path.parent
         self.leader, self.trouble, self.off = room / "leader", room / "diverged", room / "unreached"
         self.late = room / "late"       # and why an entry can't be made here yet
+        self.taken = room / "taken"     # and that entries are being made
         self.said = ""                  # what was told last
         self.pause = AGAIN_SECONDS
         self.position = FIRST           # the last entry that the file has
@@ -108,19 +110,20 @@ class Log:
         """Puts an edit into the stream, and waits until this replica has made it."""
         editor.works[work.job.id] = work
         try:
-            await self.add(work)
-            return await self.outcome(work)
+            return await self.outcome(work, await self.add(work))
         finally:
             del editor.works[work.job.id]
             await asyncio.to_thread(work.spool.close)
 
-    async def add(self, work: Work) -> None:
+    async def add(self, work: Work) -> bytes:
+        """Puts an edit into the stream, as which entry it answers."""
         # Roads go by their numbers: another machine may know other names.
         fields = {"job": work.job.id, "type": "lines" if work.edits is None else "roads",
                   "edits": await asyncio.to_thread(work.spool.read) if work.edits is None else entry_of(work.edits)}
         try:
             async with asyncio.timeout(LOG_SECONDS):
-                await self.redis.xadd(self.name, fields)
+                entry: bytes = await self.redis.xadd(self.name, fields)
+                return entry
         except (RedisError, OSError, TimeoutError) as problem:
             self.note_reached(False)
             refusal = Refusal(503, f"the stream can't be reached: {said_of(problem)}",
@@ -128,7 +131,7 @@ class Log:
             await self.editor.note(work.job, ENDED, {"error": refusal.error})
             raise refusal from None
 
-    async def outcome(self, work: Work) -> Made:
+    async def outcome(self, work: Work, entry: bytes) -> Made:
         """What became of an entry here. Where it can't be made now, nobody is kept waiting for it."""
         loop = asyncio.get_running_loop()
         last = loop.time() + LOG_SECONDS
@@ -141,7 +144,11 @@ class Log:
             if (said := read_note(self.trouble)) is not None:
                 raise Refusal(503, f"the edit is in the stream, and isn't made here: {said}")
             if loop.time() > last:
+                last += AGAIN_SECONDS
                 self.check_late()
+                # Of a server that is off nothing is known.
+                with contextlib.suppress(RedisError, OSError):
+                    await self.check_kept(work, entry)
             await asyncio.sleep(LOOK_SECONDS)
         await self.network.load()
         told: dict[str, Any] = job.told
@@ -161,6 +168,38 @@ class Log:
             raise Refusal(503, f"the edit is in the stream, and can't be made here yet: {said}",
                           hint="it is tried again and again: don't send it once more")
 
+    async def check_kept(self, work: Work, entry: bytes) -> None:
+        """Refuses to wait for an entry that the server has lost before it was taken here."""
+        if await self.is_kept(entry):
+            return
+        # Whoever has just taken it says so by then.
+        await asyncio.sleep(AGAIN_SECONDS)
+        if self.taken.exists() or await self.is_kept(entry):
+            return
+        job = await asyncio.to_thread(self.editor.jobs.find, work.job.id)
+        if job is None or not job.is_over:
+            refusal = Refusal(503, "the stream has lost the edit, and it isn't made", hint="send it again")
+            await self.editor.note(work.job, ENDED, {"error": refusal.error})
+            raise refusal
+
+    async def is_kept(self, entry: bytes | str) -> bool:
+        """Whether an entry is in the stream."""
+        return bool(await self.redis.xrange(self.name, entry, entry, count=1))
+
+    @contextlib.contextmanager
+    def taking(self) -> Iterator[None]:
+        """Tells the other workers that entries are made, which may have gone from the stream meanwhile."""
+        with contextlib.suppress(OSError):
+            self.taken.touch()
+        try:
+            yield
+        finally:
+            self.let_taken_go()
+
+    def let_taken_go(self) -> None:
+        with contextlib.suppress(OSError):
+            self.taken.unlink(missing_ok=True)
+
     # ---- for the one who makes entries ----
 
     async def run(self) -> None:
@@ -169,6 +208,8 @@ class Log:
         try:
             while not try_lock(lock):
                 await asyncio.sleep(AGAIN_SECONDS)
+            # Of one who was killed.
+            self.let_taken_go()
             while True:
                 await self.take()
         finally:
@@ -179,10 +220,11 @@ class Log:
         try:
             await self.find_place()
             left = await asyncio.to_thread(left_of, self.network.path, self.editor.jobs)
-            entries = await self.redis.xread({self.name: self.position}, count=16, block=BLOCK_MILLISECONDS)
+            entries = await self.take_next()
             self.note_reached(True)
-            for entry, fields in (entries[0][1] if entries else []):
-                await self.make_entry(entry.decode(), fields)
+            with self.taking():
+                for entry, fields in entries:
+                    await self.make_entry(entry.decode(), fields)
             if left and not entries:
                 # They never came into the stream.
                 await asyncio.to_thread(settle, self.network.path, self.editor.jobs, left, self.digest)
@@ -223,16 +265,60 @@ class Log:
         digest = await asyncio.to_thread(packed.digest_of, str(self.network.path))
         if digest == self.digest:
             return
-        await self.redis.hsetnx(self.digests, FIRST, digest)
+        is_new = await self.redis.hsetnx(self.digests, FIRST, digest)
         known = {entry.decode(): found.decode() for entry, found in (await self.redis.hgetall(self.digests)).items()}
+        made = await asyncio.to_thread(lambda: [
+            line for line in journal.entries(self.network.path) if line.entry is not None])
+        last = made[-1].entry if made and made[-1].after == digest else None
         places = [entry for entry, found in known.items() if found == digest]
-        places += await asyncio.to_thread(lambda: [
-            line.entry for line in journal.entries(self.network.path)
-            if line.entry is not None and line.after == digest])
-        if not places:
-            raise Diverged(f"the file's version {digest[:12]} isn't one of the stream {self.name}: copy the file of "
-                           f"another replica into its place, or start a new stream")
-        self.position, self.digest = max(places, key=order_of), digest
+        # Beside the last entry that was made its digest may be missing.
+        if last is not None and await self.is_kept(last):
+            places.append(last)
+        for place in sorted(places, key=order_of, reverse=True):
+            if await self.is_in_stream(place):
+                self.position, self.digest = place, digest
+                if is_new and made and place == FIRST:
+                    tell(f"the server of the stream {self.name} has none of it: it begins anew with version {digest[:12]}")
+                return
+        raise Diverged(self.what_is_lost() if places or last is not None and any(
+            line.before in known.values() for line in made) else
+            f"the file's version {digest[:12]} isn't one of the stream {self.name}: copy the file of another replica into "
+            f"its place, or start a new stream")
+
+    def what_is_lost(self) -> str:
+        """What to do where the server has lost entries by which this file was made, so that other replicas can't make
+        the file any more."""
+        return (f"the stream {self.name} has lost edits that are in this file: copy the newest file into each replica's "
+                f"place, and then begin the stream anew (redis-cli DEL {self.name} {self.digests})")
+
+    async def take_next(self) -> list[tuple[bytes, dict[bytes, bytes]]]:
+        """The entries behind the last one that the file has, once there are some, or none after a second.
+
+        Where the server has lost its data or went back to an older state, other entries are in its stream: they may be
+        numbered before that one, and be waited for without end, or behind it, and be made over what they don't follow.
+        """
+        if not await self.is_at_place():
+            self.digest = ""
+            await self.find_place()
+            if not await self.is_at_place():
+                raise Diverged(self.what_is_lost())
+        found = await self.redis.xread({self.name: self.position}, count=16, block=BLOCK_MILLISECONDS)
+        entries: list[tuple[bytes, dict[bytes, bytes]]] = found[0][1] if found else []
+        # Meanwhile they may be those of another stream.
+        return entries if entries and await self.is_at_place() else []
+
+    async def is_at_place(self) -> bool:
+        """Whether the stream is one that somebody has begun, and has the last entry that the file has."""
+        return await self.is_in_stream(self.position) and await self.redis.hexists(self.digests, FIRST)
+
+    async def is_in_stream(self, entry: str) -> bool:
+        """Whether the stream has an entry, or none before it, as where those were trimmed."""
+        return await self.last_entry(entry) in (None, entry)
+
+    async def last_entry(self, entry: str) -> str | None:
+        """The last entry in the stream that isn't behind some entry."""
+        found = await self.redis.xrevrange(self.name, max=entry, count=1)
+        return found[0][0].decode() if found else None
 
     async def check_digest(self, entry: str, digest: str) -> None:
         """Writes the file's digest beside the last entry, and compares where another has."""
