@@ -1,4 +1,4 @@
-"""The fields for places on the service's page, over a network that takes its time."""
+"""The fields for places on the service's page, and its tiles, over a network that takes its time."""
 
 from __future__ import annotations
 
@@ -7,7 +7,7 @@ from pathlib import Path
 from typing import Any
 
 import pytest
-from browsing import Browser, import_village
+from browsing import IS_DRAWN, Browser, import_village
 from serving import Service
 
 pytestmark = [pytest.mark.first, pytest.mark.xdist_group("page fields")]
@@ -29,6 +29,18 @@ window.fetch = async (...words) => {
     setTimeout(() => { window.asked--; }, 0);
   }
 };
+"""
+# Has the first tiles be asked of another map, as of a worker that has it still, and asks for all tiles again.
+OTHER_MAP = """
+const { fetch } = window, { roads } = catchup.chart;
+window.wrong = 0;
+window.fetch = (...words) => {
+  if (!words[0].startsWith("page/roads/") || window.wrong > 2) return fetch(...words);
+  window.wrong++;
+  return fetch(words[0].replace(/of=[0-9a-f]+/, "of=0123456789ab"));
+};
+roads.data.kept.clear();
+roads.redraw();
 """
 
 
@@ -143,3 +155,14 @@ def test_a_field_that_is_emptied_has_no_place(browser: Browser, village: Service
     field.send_keys("\b", ENTER)
     browser.wait("return catchup.state.places[0] === null")
     browser.wait_text("answer", "Choose where the route begins")
+
+
+def test_tiles_of_another_map_are_asked_for_again(browser: Browser, village: Service) -> None:
+    browser.open(village, "#depart=08:00")
+    browser.run(OTHER_MAP)
+    browser.wait("return window.wrong > 2")
+    browser.wait(IS_DRAWN)
+    # What answers for good is another map: the page is loaded again, with its roads.
+    browser.run("window.isOld = true; catchup.chart.found.name = 'another'; catchup.chart.roads.data.onOther()")
+    browser.wait("return !window.isOld")
+    browser.wait(IS_DRAWN)

@@ -24,7 +24,7 @@ from catchup.tables import CLOSED, TRAVEL, UNTIL, Profiles
 DAY = 86_400
 TILES = "https://{s}.tiles.example.org/{z}/{x}/{y}.png"
 NOWHERE = ("file/..%2Fpaths.py", "file/nothing.js", "file/paths.py", "leaflet/..%2F..%2Fx.js", "nothing",
-           "roads/99/0/0", "roads/x/0/0", "street?street=999", "profile?number=9999")
+           "roads/99/0/0?of={map}", "roads/x/0/0?of={map}", "street?street=999", "profile?number=9999")
 BAD = ("traffic", "traffic?at=x", "traffic?at=0&more=1", "street?street=x", "near?x=1", f"near?x={WORLD}&y=0", "search",
        "route?from=0&to=1", "reach?from=0&depart=0&within=0&bands=6")
 
@@ -46,9 +46,10 @@ def test_files_and_what_the_page_may_load(village: Service) -> None:
     for path, kind in (("file/main.js", "text/javascript"), ("file/page.css", "text/css")):
         reply = village.client.get(f"/page/{path}")
         assert (reply.status_code, reply.headers["content-type"].partition(";")[0]) == (200, kind)
+    name = village.get("/page/setting")["map"]["name"]
     for status, paths in ((404, NOWHERE), (400, BAD)):
         for path in paths:
-            assert village.ask(f"/page/{path}")[0] == status, path
+            assert village.ask(f"/page/{path.format(map=name)}")[0] == status, path
 
 
 def test_a_file_that_a_browser_has_is_not_sent_again(village: Service, town: Path) -> None:
@@ -69,6 +70,18 @@ def test_a_file_that_a_browser_has_is_not_sent_again(village: Service, town: Pat
     # What it may load is another thing where there are other tiles.
     with Service(town) as other:
         assert other.client.get("/").headers["ETag"] != village.client.get("/").headers["ETag"]
+
+
+def test_a_tile_is_of_the_map_that_it_is_asked_of(village: Service) -> None:
+    """Browsers keep it under that name for a day, so that of another map would be drawn among its roads."""
+    told = village.get("/page/setting")["map"]
+    place = f"/page/roads/{told['levels'][0]}/0/0"
+    kept = village.client.get(f"{place}?of={told['name']}")
+    assert kept.status_code == 200 and "immutable" in kept.headers["Cache-Control"]
+    other = village.client.get(f"{place}?of=0123456789ab")
+    assert other.status_code == 409 and other.json()["error"] == "the map is another one now"
+    assert "Cache-Control" not in other.headers
+    assert village.ask(place)[0] == 400
 
 
 def test_answers_have_no_tags(village: Service) -> None:

@@ -68,8 +68,10 @@ async def map_told(worker: Worker, network: Network) -> dict[str, Any]:
 
 
 async def roads(request: Request) -> Response:
-    """The roads of a tile."""
-    _, _, network, drawn = await asked_of(request, {}, {"of": text_of})
+    """The roads of a tile. Browsers keep it under the name of the map that it is asked of, so it is of that or none."""
+    asked, _, network, drawn = await asked_of(request, {"of": text_of})
+    if asked["of"] != drawn.name:
+        raise Refusal(409, "the map is another one now", hint="load the page again")
     try:
         zoom, column, row = (number_of(request.path_params[name]) for name in ("zoom", "column", "row"))
     except ValueError:

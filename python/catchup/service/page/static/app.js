@@ -41,6 +41,7 @@ export class Page {
       state.mode === "traffic" ? this.traffic.click(spot, event) : click(spot, event));
     this.middle = new Middle(this.chart);
     this.chart.onPoint = (street, spot) => this.point(street, spot);
+    this.chart.roads.on("other", () => this.leaveOther());
     this.follower = new Follower(setting.version, version => this.changed(version));
     // What was chosen while the service was gone has no answer yet.
     onReachable(isThere => { if (isThere) this.askAnew(); });
@@ -134,11 +135,17 @@ export class Page {
 
   // Another version is served: all is asked anew.
   async changed(version) {
-    const { map } = await ask("page/setting").catch(() => ({ map: this.chart.found }));
-    // Other roads have other numbers.
-    if (map?.name !== this.chart.found.name) { location.reload(); return; }
+    if (await this.leaveOther()) return;
     this.notice.say("version", `The network has changed: version ${version}.`, "good");
     this.askAnew();
+  }
+
+  // Loads the page again where the service has another map: other roads have other numbers.
+  async leaveOther() {
+    const { map } = await ask("page/setting").catch(() => ({ map: this.chart.found }));
+    const isOther = map?.name !== this.chart.found.name;
+    if (isOther) location.reload();
+    return isOther;
   }
 
   askAnew() {

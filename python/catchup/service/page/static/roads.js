@@ -49,7 +49,7 @@ export const Roads = L.GridLayer.extend({
 
   initialize(map, options) {
     L.setOptions(this, options);
-    this.data = new Tiles(map);
+    this.data = new Tiles(map, () => this.fire("other"));
     this.mean = map.mean;
     this.ways = null;       // of each street in which directions it may be driven, FORWARD, BACKWARD and SHUT
     this.classes = null;    // of each street a number into `styles`; null draws all alike

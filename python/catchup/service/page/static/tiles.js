@@ -5,6 +5,8 @@ import { ZOOM } from "./world.js";
 
 export const SIDE = 512;
 const MOST_KEPT = 400;
+const OTHER = 409;          // the status where the service has another map
+const TRIES = 8, PAUSE = 250;
 
 // A tile's pieces of streets: piece i has the places first[i] to first[i + 1] of `places`, x and y by turns, and a box.
 class Tile {
@@ -55,9 +57,11 @@ class Tile {
 }
 
 export class Tiles {
-  // `map` is what the service says of the network: its name, and the zooms of its levels.
-  constructor(map) {
+  // `map` is what the service says of the network: its name, and the zooms of its levels. Calls back where the service
+  // has another map.
+  constructor(map, onOther) {
     this.map = map;
+    this.onOther = onOther;
     this.kept = new Map();
   }
 
@@ -77,7 +81,7 @@ export class Tiles {
     const key = `${level}/${column}/${row}`;
     if (!this.kept.has(key)) {
       if (this.kept.size >= MOST_KEPT) this.kept.delete(this.kept.keys().next().value);
-      const asked = bytes(`page/roads/${key}`, { of: this.map.name }).then(({ data }) => {
+      const asked = this.ask(key).then(({ data }) => {
         const tile = new Tile(data.buffer);
         asked.tile = tile;
         return tile;
@@ -87,6 +91,19 @@ export class Tiles {
       this.kept.set(key, asked);
     }
     return this.kept.get(key);
+  }
+
+  // The bytes of a tile. The service's workers follow one another within a second, so one may still have the map before.
+  async ask(key) {
+    for (let left = TRIES; ; left--) {
+      try {
+        return await bytes(`page/roads/${key}`, { of: this.map.name });
+      } catch (problem) {
+        if (problem.status === OTHER && !left) this.onOther();
+        if (problem.status !== OTHER || !left) throw problem;
+      }
+      await new Promise(resolve => { setTimeout(resolve, PAUSE); });
+    }
   }
 
   // All that a tile of Leaflet's shows: mostly one, and where a level is of a greater zoom than the map some.
