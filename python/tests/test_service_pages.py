@@ -12,7 +12,7 @@ from pathlib import Path
 
 import pytest
 from conftest import TOP
-from serving import SECONDS, free_ports
+from serving import SECONDS, client_of, free_ports, wait_for
 
 PAGE = TOP / "docs" / "SERVICE.md"
 UNIT = TOP / "packaging" / "service" / "catchup-http.service"
@@ -105,3 +105,19 @@ def test_the_unit_is_one_that_systemd_takes(tmp_path: Path) -> None:
     text = UNIT.read_text()
     for wanted in ("DynamicUser=yes", "ProtectSystem=strict", "NoNewPrivileges=yes", "KillMode=mixed"):
         assert f"\n{wanted}\n" in text
+
+
+def test_a_log_that_is_cut_is_written_on_at_its_new_end(town: Path, tmp_path: Path) -> None:
+    """As logrotate does by `copytruncate`, of a file that lines are appended to."""
+    log, [port] = tmp_path / "catchup.log", free_ports(1)
+    with open(log, "ab") as lines, subprocess.Popen(
+            [TOP / "bin" / "catchup-http", "--port", str(port), "--workers", "2", "--access-log", town], stderr=lines,
+            stdout=subprocess.PIPE, start_new_session=True) as service, client_of(port) as client:
+        try:
+            assert service.stdout is not None and service.stdout.readline()
+            for _ in range(2):
+                assert client.get("/nothing").status_code == 404
+                assert wait_for(lambda: log.read_bytes().startswith(b"127.0.0.1 GET /nothing 404 "))
+                os.truncate(log, 0)
+        finally:
+            os.killpg(service.pid, signal.SIGKILL)
