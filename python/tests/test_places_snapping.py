@@ -5,6 +5,7 @@ from __future__ import annotations
 
 import math
 import random
+import re
 from collections.abc import Iterator
 from pathlib import Path
 
@@ -109,7 +110,17 @@ def test_only_within_a_radius(village: Places) -> None:
     assert [snap.name for snap in village.nearest(at(250, 100), 9, radius=110)] == ["High Street"]
     with pytest.raises(NoSegment) as found:
         village.nearest(at(250, 100), radius=90)
-    assert found.value.index == 0
+    assert found.value.index == 0 and found.value.place == at(250, 100)
+
+
+def test_which_of_several_places_is_far_from_any_road(village: Places) -> None:
+    near, far = at(250, 10), (20.5, 47.1)
+    assert village.nearest_each(iter([near, near])) == [village.nearest(near)[0]] * 2 and village.nearest_each([]) == []
+    with pytest.raises(NoSegment, match=re.escape("no road is near enough to place 1 (20.5,47.1)")) as found:
+        village.nearest_each([near, far, far])
+    assert (found.value.index, found.value.place) == (1, far)
+    with pytest.raises(ValueError, match="^place 2: 181.0,0.0 is no place"):
+        village.nearest_each([near, near, (181.0, 0.0)])
 
 
 @pytest.mark.parametrize(("bearing", "ways"), [((90, 30), {"east"}), ((270, 10), {"west"}),

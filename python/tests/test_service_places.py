@@ -227,6 +227,23 @@ def test_what_is_refused(service: Service, address: str, hint: str | None) -> No
     assert hint is None or hint in told["hint"]
 
 
+WHICH = [
+    (f"/table?from={A};{B};{SEA}&to={A}&depart=0", f"place 2 of from is far from any road: {SEA}", "from", 2),
+    (f"/table?from={A}&to={A};{SEA};{SEA}&depart=0", f"place 1 of to is far from any road: {SEA}", "to", 1),
+    (f"/table?from={A}&to={SEA}&depart=0", f"to is far from any road: {SEA}", "to", 0),
+    (f"/table?from={A};181,0&to={A}&depart=0", "place 1 of from is no place on the earth: 181,0", "from", 1),
+    (f"/table?from={A};osm:999&to={A}&depart=0", "place 1 of from: osm:999 is no node of the network", "from", 1),
+    (f"/table?from=0,999999&to={A}&depart=0", "refused: node", "from", 1),
+    (f"/route?from={A}&via={B};{SEA}&to={B}&depart=0", f"place 1 of via is far from any road: {SEA}", "via", 1),
+]
+
+
+@pytest.mark.parametrize(("address", "error", "name", "index"), WHICH)
+def test_which_of_several_places_is_wrong(service: Service, address: str, error: str, name: str, index: int) -> None:
+    status, told = service.ask(address)
+    assert (status, told["error"], told["name"], told["index"]) == (400, error, name, index)
+
+
 def test_without_a_map(town: Path) -> None:
     with Service(town) as plain:
         for address in (f"/route?from={A}&to=5&depart=0", "/route?from=osm:5&to=5&depart=0",

@@ -2,7 +2,7 @@
 
 from __future__ import annotations
 
-from collections.abc import Sequence
+from collections.abc import Iterable, Sequence
 from dataclasses import dataclass
 from functools import cached_property, lru_cache
 from pathlib import Path
@@ -19,7 +19,7 @@ from catchup.places.matrix import table
 from catchup.places.snapping import Snapper
 from catchup.places.streets import Streets
 from catchup.places.travel import Floats, Shorts, Travel
-from catchup.places.values import Ask, Leg, Place, Snap
+from catchup.places.values import Ask, Leg, NoSegment, Place, Snap
 
 MAP_FILE = "map.gpkg"
 _SNAPS_KEPT = 4_096
@@ -99,12 +99,25 @@ class Places:
         radius: metres within which they are; where none is said any distance will do in the map's box, and OUTSIDE
         metres out of it. bearing: a direction in degrees clockwise from north and by how much another may differ from
         it: only roads that are driven so count. curb: only the roads on whose side (the right one) the place lies, on
-        streets that are driven both ways. Raises NoSegment(0) where there is none, ValueError where this is no place on
+        streets that are driven both ways. Raises NoSegment where there is none, ValueError where this is no place on
         earth.
         """
         if number == 1 and radius is None and bearing is None and not curb:
             return [self.nearest_one(place)]
         return self.ground.snapper.nearest(place, number, radius, bearing, curb)
+
+    def nearest_each(self, places: Iterable[Place]) -> list[Snap]:
+        """The nearest point of each of some places, as the stops of a round. Raises NoSegment, and ValueError where one is
+        no place on earth: both say which one it is, counted from 0."""
+        found: list[Snap] = []
+        for index, place in enumerate(places):
+            try:
+                found.append(self.nearest_one(place))
+            except NoSegment:
+                raise NoSegment(index, place) from None
+            except ValueError as problem:
+                raise ValueError(f"place {index}: {problem}") from None
+        return found
 
     def hinted(self, place: Place, street: int, share: float) -> Snap | None:
         """The point that a hint names, as a Snap of `place`; None where there is no such street or share."""

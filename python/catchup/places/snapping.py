@@ -67,7 +67,7 @@ class Snapper:
                 break
             wanted *= 4
         if not snaps:
-            raise NoSegment(0)
+            raise NoSegment(0, place)
         return snaps
 
     def nearest_one(self, place: Place) -> Snap:
@@ -75,7 +75,7 @@ class Snapper:
         check_place(place)
         found = self._index.nearest_one(place, self._limit(place))
         if not found:
-            raise NoSegment(0)
+            raise NoSegment(0, place)
         snap, *others = [self._snap(place, *each, None) for each in found]
         # Streets may be drawn over one another.
         roads = {pair for other in others if _is_near(other.point, snap.point) for pair in other.roads}

@@ -23,14 +23,21 @@ ends."""
 
 
 class NoSegment(CatchupError):
-    """No road is near enough to a place; `index` says to which of those that were asked for, 0 for a single one."""
+    """No road is near enough to a place; `index` says to which of those that were asked for, from 0 on and 0 for a single
+    one, and `place` where that is."""
 
-    def __init__(self, index: int) -> None:
-        super().__init__(index)
+    def __init__(self, index: int, place: Place) -> None:
+        super().__init__(index, place)
         self.index = index
+        self.place = place
 
     def __str__(self) -> str:
-        return f"no road is near enough to place {self.index}"
+        return f"no road is near enough to place {self.index} ({told(self.place)})"
+
+
+def told(place: Place) -> str:
+    """A place in a message, as `9.52,47.14`."""
+    return ",".join(f"{degrees:.10g}" for degrees in place)
 
 
 class NoRoute(CatchupError):

@@ -7,6 +7,7 @@ from typing import TYPE_CHECKING, Any, Final
 
 from catchup.beside import beside
 from catchup.places.values import NoSegment, Place, Snap
+from catchup.places.values import told as words_of
 from catchup.service.errors import Refusal
 from catchup.service.words import FORMS, Kind, Stop
 
@@ -55,9 +56,17 @@ def snap_of(places: Places, stop: Stop, name: str) -> Snap:
 
 
 async def snaps_of(places: Places, stops: Sequence[Stop], name: str) -> list[Snap]:
-    """The same of some places, which are looked for beside the loop where they are many."""
+    """The same of some places, which are looked for beside the loop where they are many. A Refusal says which one it is,
+    counted from 0: in words and by `name` and `index`."""
+    def one(index: int) -> Snap:
+        try:
+            return snap_of(places, stops[index], name if len(stops) == 1 else f"place {index} of {name}")
+        except Refusal as problem:
+            problem.more.update(name=name, index=index)
+            raise
+
     def every() -> list[Snap]:
-        return [snap_of(places, stop, name) for stop in stops]
+        return [one(index) for index in range(len(stops))]
 
     return await beside(STEPS * len(stops), every)
 
@@ -65,13 +74,14 @@ async def snaps_of(places: Places, stops: Sequence[Stop], name: str) -> list[Sna
 def nearest(places: Places, place: Place, name: str) -> Snap:
     """The nearest road of a longitude and a latitude."""
     lon, lat = place
+    said = words_of(place)
     swapped = f"lon and lat may be swapped: {lat:g},{lon:g} is on the map" if places.is_on_map((lat, lon)) else None
     try:
         return places.nearest(place)[0]
     except ValueError:
         hint = swapped or "lon is -180 to 180, lat -90 to 90"
-        raise Refusal(400, f"{name} is no place on the earth", hint=hint) from None
+        raise Refusal(400, f"{name} is no place on the earth: {said}", hint=hint) from None
     except NoSegment:
         west, south, east, north = places.box
-        raise Refusal(400, f"{name} is far from any road", hint=swapped or (
+        raise Refusal(400, f"{name} is far from any road: {said}", hint=swapped or (
             f"the map is {west:g},{south:g} to {east:g},{north:g}, as lon,lat")) from None

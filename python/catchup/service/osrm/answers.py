@@ -17,6 +17,7 @@ from catchup.places import NoRoute, NoSegment, Place, Snap, TooLate
 from catchup.places.drives import Drive, roads_of
 from catchup.places.latest import latest_over
 from catchup.places.matrix import ENTRIES
+from catchup.places.values import told as place_told
 from catchup.service.osrm.address import Asked, AskedNearest, AskedRoute, AskedTable
 from catchup.service.osrm.annotations import nodes_beside
 from catchup.service.osrm.faults import Fault
@@ -71,8 +72,10 @@ def near(asked: Asked, at: int, placed: Placed, number: int = 1) -> list[Snap]:
     try:
         return placed.places.nearest(asked.places[at], number, radius=radius, bearing=bearing, curb=is_curb)
     except NoSegment:
+        place = asked.places[at]
         far = f" within {radius:.10g} m" if radius is not None else " near enough"
-        raise Fault("NoSegment", f"there is no road{far} for place {at}{advice(asked.places[at], placed)}") from None
+        said = f"there is no road{far} for place {at} ({place_told(place)}){advice(place, placed)}"
+        raise Fault("NoSegment", said) from None
 
 
 def advice(place: Place, placed: Placed) -> str:
