@@ -17,7 +17,7 @@ from catchup.places.lines import DECIMALS, Floats, Lines
 from catchup.places.values import Snap
 from catchup.service.answers import as_json, timed
 
-NO_XML: Final = re.compile("[^\t\n\r -\ud7ff\ue000-\ufffd\U00010000-\U0010ffff]")
+NO_TEXT: Final = re.compile("[^\t\n\r -~\xa0-\ud7ff\ue000-\ufffd\U00010000-\U0010ffff]")
 FORMATS: Final = {"geojson": "application/geo+json", "gpx": "application/gpx+xml"}
 
 
@@ -45,23 +45,30 @@ def geojson(lines: Lines, snaps: Sequence[Snap], drives: Sequence[Drive], versio
 
 
 def gpx(lines: Lines, snaps: Sequence[Snap], drives: Sequence[Drive]) -> bytes:
-    """A track with a segment for each leg, and a waypoint for each place. There is no date, so points have no times."""
+    """A track with a segment for each leg, and a waypoint for each place: GPX 1.1. There is no date, so points have no
+    times."""
     said = f"{clock(drives[0].depart)} to {clock(drives[-1].arrive)}, {duration(drives[-1].arrive - drives[0].depart)}"
     text = ['<?xml version="1.0" encoding="UTF-8"?>',
             '<gpx version="1.1" creator="catchup" xmlns="http://www.topografix.com/GPX/1/1">']
     for snap in snaps:
-        lon, lat = snap.point
-        text.append(f'<wpt lat="{lat:.6f}" lon="{lon:.6f}"><name>{text_of(snap.name or snap.ref)}</name></wpt>')
+        name = text_of(snap.name) or text_of(snap.ref)
+        text.append(f"<wpt {at(*snap.point)}><name>{name}</name></wpt>" if name else f"<wpt {at(*snap.point)}/>")
     text.append(f"<trk><name>{said}</name>")
     for drive in drives:
         points = line_of(lines, drive).tolist()
-        text += ["<trkseg>", *(f'<trkpt lat="{lat:.6f}" lon="{lon:.6f}"/>' for lon, lat in points), "</trkseg>"]
+        text += ["<trkseg>", *(f"<trkpt {at(lon, lat)}/>" for lon, lat in points), "</trkseg>"]
     return "\n".join([*text, "</trk>", "</gpx>", ""]).encode()
 
 
+def at(lon: float, lat: float) -> str:
+    """A point's attributes. GPX has no longitude 180: it is -180."""
+    east = f"{lon:.6f}"
+    return f'lat="{lat:.6f}" lon="{"-180.000000" if east == "180.000000" else east}"'
+
+
 def text_of(name: str) -> str:
-    """A name as XML, without characters that XML can't have."""
-    return escape(NO_XML.sub("", name))
+    """A name as XML on one line, without characters that XML can't have or that are no text; empty where nothing is left."""
+    return escape(" ".join(NO_TEXT.sub("", name).split()))
 
 
 def line_of(lines: Lines, drive: Drive) -> Floats:
