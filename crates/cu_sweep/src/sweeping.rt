@@ -74,7 +74,22 @@ pub(crate) fn lead_from<R: Relaxer, L: Limits, K: Linking>(
     if !leads_on(limits, rank, labels[rank as usize]) {
         return None;
     }
-    relax_up(graph, labels, chain, relaxer, limits, rank)
+    let mut edge = graph.first_edge(rank);
+    let highers = graph.up(rank);
+    'edges: for higher in highers {
+        let leg = Leg {
+            edge,
+            dir: Dir::Up,
+            from: rank,
+            into: *higher,
+        };
+        let long = relax_into(labels, chain, relaxer, limits, leg);
+        if long.is_some() {
+            return long;
+        }
+        edge += 1;
+    }
+    None
 }
 
 // May a call be made from a rank that is reached at this second, as far as the rank tells?
@@ -120,104 +135,18 @@ pub(crate) fn lead_to<R: Relaxer, L: Limits, K: Linking>(
         (R.calls relaxer.old) (R.calls relaxer.new) labels.new (K.links chain.new) result }
 {
     let nodes = graph.ranks();
+    begin_down(labels, chain, nodes, below.rank);
     if !limits.allow(nodes + below.rank, below.soonest) {
-        begin_down(labels, chain, nodes, below.rank);
         return None;
     }
-    relax_down(graph, labels, chain, relaxer, limits, below.rank)
-}
-
-// Relaxes the edges from a rank to its higher neighbours, by rising rank, but for those that may not be made or can't
-// make a label earlier. Answers the first call whose walk is too long, with which it ends.
-fn relax_up<R: Relaxer, L: Limits, K: Linking>(
-    graph: &Chordal,
-    labels: &mut [Option<u64>],
-    chain: &mut K,
-    relaxer: &mut R,
-    limits: &L,
-    rank: u32,
-) -> Option<Call>
-    requires rank { rank < graph.now.ranks }
-    requires graph { IsHierarchyOf graph.now (R.hierarchy relaxer.old) }
-    requires known { L.knows limits.now (R.hierarchy relaxer.old) }
-    requires ready { IsReadyBy K.links K.turned graph.now.ranks labels.old chain.old }
-    requires unturned { K.turned chain.old ≡ false }
-    ensures ready { IsReadyBy K.links K.turned graph.now.ranks labels.new chain.new }
-    ensures unturned { K.turned chain.new ≡ false }
-    ensures stays { R.hierarchy relaxer.new ≡ R.hierarchy relaxer.old }
-    ensures long { result ≡ first_long (R.hierarchy relaxer.old)
-        (rows_up (R.hierarchy relaxer.old) (L.allows limits.now) rank (second_at labels.old rank)
-        (second_at labels.old)) }
-    ensures told { AddsAll (R.calls relaxer.old) (R.calls relaxer.new)
-        (until_long (R.hierarchy relaxer.old)
-        (rows_up (R.hierarchy relaxer.old) (L.allows limits.now) rank (second_at labels.old rank)
-        (second_at labels.old))) }
-    ensures swept { (q : Led) (done : List ℕ)
-        → IsUpSwept (R.hierarchy relaxer.old) q done labels.old (K.links chain.old)
-        → IsPassed (R.hierarchy relaxer.old) (sweep_of q) rank
-        → made_up_after (R.hierarchy relaxer.old) q done rank
-        ≡ up_made (R.hierarchy relaxer.old) q rank
-        → q.allows ≡ L.allows limits.now
-        → result ≡ None
-        → IsUpSwept (R.hierarchy relaxer.old) q (done ++ (rank ∷ [])) labels.new (K.links chain.new) }
-{
-    let mut edge = graph.first_edge(rank);
-    let highers = graph.up(rank);
-    'edges: for higher in highers {
-        let leg = Leg {
-            edge,
-            dir: Dir::Up,
-            from: rank,
-            into: *higher,
-        };
-        let long = relax_into(labels, chain, relaxer, limits, leg);
-        if long.is_some() {
-            return long;
-        }
-        edge += 1;
-    }
-    None
-}
-
-// Relaxes the edges to a rank from its higher neighbours, by rising rank, but for those that may not be made or can't make its
-// label earlier, after its downward label has begun as the upward one. Answers the first call whose walk is too long, with
-// which it ends.
-fn relax_down<R: Relaxer, L: Limits, K: Linking>(
-    graph: &Chordal,
-    labels: &mut [Option<u64>],
-    chain: &mut K,
-    relaxer: &mut R,
-    limits: &L,
-    rank: u32,
-) -> Option<Call>
-    requires rank { rank < graph.now.ranks }
-    requires graph { IsHierarchyOf graph.now (R.hierarchy relaxer.old) }
-    requires known { L.knows limits.now (R.hierarchy relaxer.old) }
-    requires ready { IsReadyBy K.links K.turned graph.now.ranks labels.old chain.old }
-    requires unturned { K.turned chain.old ≡ false }
-    ensures ready { IsReadyBy K.links K.turned graph.now.ranks labels.new chain.new }
-    ensures unturned { K.turned chain.new ≡ false }
-    ensures stays { R.hierarchy relaxer.new ≡ R.hierarchy relaxer.old }
-    ensures others { (y : ℕ) → y ≢ rank → second_at labels.new (graph.now.ranks + y)
-        ≡ second_at labels.old (graph.now.ranks + y) }
-    ensures over { (q : Led) (done : List ℕ)
-        → IsDownSwept (R.hierarchy relaxer.old) q done labels.old (K.links chain.old)
-        → IsPassed (R.hierarchy relaxer.old) (sweep_of q) rank
-        → ((y : ℕ) → HasEdge graph.now.edges rank y → Contains done y)
-        → q.allows ≡ L.allows limits.now
-        → IsRankDown (R.hierarchy relaxer.old) q rank done
-        (R.calls relaxer.old) (R.calls relaxer.new) labels.new (K.links chain.new) result }
-{
-    let nodes = graph.ranks();
-    begin_down(labels, chain, nodes, rank);
-    let mut edge = graph.first_edge(rank);
-    let highers = graph.up(rank);
+    let mut edge = graph.first_edge(below.rank);
+    let highers = graph.up(below.rank);
     'edges: for higher in highers {
         let leg = Leg {
             edge,
             dir: Dir::Down,
             from: nodes + *higher,
-            into: nodes + rank,
+            into: nodes + below.rank,
         };
         let long = relax_into(labels, chain, relaxer, limits, leg);
         if long.is_some() {

@@ -11,7 +11,7 @@ use Rattle.cu_sweep.specs.Steps.Ready.{IsReadyBy}
 use Rattle.cu_sweep.specs.Steps.Sweeping.{IsUpSwept, call_into}
 use Rattle.cu_sweep.proofs.UpRows.{IsUpPart}
 use Rattle.cu_sweep.proofs.Rows.{IsRow}
-use Rattle.cu_sweep.proofs.sweeping.relax_up.Given as goal
+use Rattle.cu_sweep.proofs.sweeping.lead_from.Given as goal
 
 abbrev pub invariant-edges : goal.invariant-edges
 invariant-edges g l =
