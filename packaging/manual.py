@@ -104,7 +104,7 @@ def page(name: str, version: str, date: str) -> Iterator[str]:
         yield ".SH EXAMPLES"
         yield from paragraphs(command.epilog.removeprefix("Example: "))
     yield '.SH "EXIT STATUS"'
-    yield "0 where all is done, 2 where the arguments are wrong, 1 at any other failure, with one line that says what to do."
+    yield "0 where all is done, 2 where a word is wrong, 1 at any other failure, with one line that says what to do."
     yield SEE_ALSO
 
 

@@ -9,6 +9,12 @@ fail() {
   exit 1
 }
 
+# Ends where the words are wrong, with what to write.
+refuse() {
+  printf '%s: %s\n' "$self" "$*" >&2
+  exit 2
+}
+
 # Makes `room`, a folder for temporary files, which goes when the script ends, however it ends.
 make_room() {
   room="$(mktemp -d 2>/dev/null)" || fail "no temporary folder can be made"

@@ -11,6 +11,12 @@ fail() {
   exit 1
 }
 
+# Ends where the words are wrong, with what to write.
+refuse() {
+  printf '%s: %s\n' "$self" "$*" >&2
+  exit 2
+}
+
 # The lines of crates.txt that the program stands on: its own crate's and, one by one, those of the crates below.
 closure() {
   local - line name at below order=() wanted=(catchup)

@@ -25,6 +25,12 @@ class Failure(CatchupError):
     status: int = 1
 
 
+class WrongWords(Failure):
+    """A command was called with words that are wrong whatever the files hold: its text says what to write."""
+
+    status = 2
+
+
 class Refused(CatchupError):
     """The program refused a line; `word` is the check that failed, as `node` or `fifo 28799`."""
 

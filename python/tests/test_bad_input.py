@@ -104,11 +104,25 @@ def test_arguments(room: Path, command: str, words: list[str]) -> None:
     "words",
     [
         "package", "package a b", "release --none", "release a b", "check-release a b", "check --none", "check --long --none",
-        "count-definitions --none", "count-definitions a:b:c", "count-definitions cu_cli.specs.Runs:None",
+        "count-definitions --none", "count-definitions a:b:c", "count-definitions cu_cli.specs.Runs:None", "package --none",
+        "check-release --none",
     ],
 )  # fmt: skip
 def test_arguments_of_our_own(room: Path, words: str) -> None:
-    try_badly(room, words.split())
+    try_badly(room, words.split(), statuses=(2,))
+
+
+EMPTY = [
+    ["draw-route", "", "roads"], ["draw-route", "nodes", "roads", ""], ["draw-route", "--script", "", "nodes", "roads"],
+    ["draw-reach", "nodes", ""], ["table-csv", ""], ["draw-day", "", "0", "3"], ["order-by-metis", "nodes", ""],
+    ["catchup-order", "", "roads"], ["catchup-tables", "nodes", "roads", "--out", ""], ["catchup-import", "osm", "map.osm", ""],
+    ["catchup-bench", "--keep", ""], ["catchup-http", ""], ["catchup-http", "map.cu", "--token", ""], ["package", ""],
+]  # fmt: skip
+
+
+@pytest.mark.parametrize("words", EMPTY, ids=" ".join)
+def test_an_empty_word_is_no_path(room: Path, words: list[str]) -> None:
+    try_badly(room, words, statuses=(2,), here=words[0] != "package")
 
 
 @pytest.mark.parametrize("command", FOR_ALL + OWN)
@@ -133,7 +147,16 @@ def test_closed_input(room: Path, words: str) -> None:
 @pytest.mark.parametrize("words", READERS)
 def test_a_folder_as_input(room: Path, words: str) -> None:
     ran = run(["sh", "-c", f"exec {TOP}/bin/{words} < bad/folder"], folder=room)
-    assert ran == (1, "", f"{words.split()[0]}: standard input can't be read: Is a directory\n")
+    what = "replies" if words.startswith("draw-route") else "reply"
+    assert ran == (1, "", f"{words.split()[0]}: the {what} can't be read: standard input is closed, or a folder\n")
+
+
+@pytest.mark.parametrize("words", READERS)
+def test_wrong_words_and_help_whatever_the_input_is(room: Path, words: str) -> None:
+    name = words.split()[0]
+    for word, status in (("--none", 2), ("--help", 0)):
+        ran = run(["sh", "-c", f"exec {TOP}/bin/{name} {word} < bad/folder"], folder=room)
+        assert ran.status == status and ("--none" in ran.err or ran.out.startswith(f"Usage: {name} "))
 
 
 OWN_DATA = TOP / "examples/own_data"

@@ -194,15 +194,16 @@ def test_modules_are_found(unpacked: Path, monkeypatch: pytest.MonkeyPatch) -> N
 
 
 @pytest.mark.parametrize(
-    ("words", "said"),
+    ("words", "status", "said"),
     [
-        ([], "usage: package DIR"),
-        (["a", "b"], "usage: package DIR"),
-        (["/none/such"], "/none/such is no folder that can be written"),
+        ([], 2, "usage: package DIR"),
+        (["a", "b"], 2, "usage: package DIR"),
+        (["--none"], 2, "usage: package DIR"),
+        (["/none/such"], 1, "/none/such is no folder that can be written"),
     ],
 )
-def test_bad_words(clone: Path, words: list[str], said: str) -> None:
-    assert run([clone / "bin/package", *words]) == (1, "", f"package: {said}\n")
+def test_bad_words(clone: Path, words: list[str], status: int, said: str) -> None:
+    assert run([clone / "bin/package", *words]) == (status, "", f"package: {said}\n")
 
 
 def test_no_folder_for_temporary_files(clone: Path, tmp_path: Path) -> None:

@@ -196,7 +196,7 @@ def test_words_keep_off_the_axis_and_within_the_picture() -> None:
 
 BAD_ANSWERS = [
     ("unreachable", "no way leads from node 0 to node 3"),
-    ("refused: node", "the program answers: refused: node"),
+    ("refused: node", "FROM and TO must be nodes of this network, and 0 or 3 is none"),
     ("no memory", "the program answers: no memory"),
     ("damaged 5 up 0", "the program answers: damaged 5 up 0"),
     ("arrive=5 arcs=", "the program answers: arrive=5 arcs="),
@@ -308,8 +308,8 @@ WORDS = [
     (["a town.cu", "0", "3x"], "FROM and TO must be node numbers"),
     (["a town.cu", "", "3"], "FROM and TO must be node numbers"),
     (["a town.cu", "0", "-3"], "-3"),
-    (["--every", "0", "a town.cu", "0", "3"], "1<=x<=3600"),
-    (["--every", "3601", "a town.cu", "0", "3"], "1<=x<=3600"),
+    (["--every", "0", "a town.cu", "0", "3"], "write a whole number from 1 to 3600, and not '0'"),
+    (["--every", "3601", "a town.cu", "0", "3"], "from 1 to 3600"),
     (["--every", "1x", "a town.cu", "0", "3"], "'1x'"),
     (["--every", "", "a town.cu", "0", "3"], "''"),
     (["--every"], "--every"),
@@ -382,4 +382,4 @@ def test_files_that_are_none(program: Path, tmp_path: Path) -> None:
     check_refused(run("draw-day", tmp_path / "missing.cu", "0", "3"), 1, "the program has ended with status 3: shelf: fault hierarchy")
     tables = [EXAMPLES / "town" / name for name in ("nodes.csv", "roads.csv", "profiles.csv")]
     check_refused(run("draw-day", tables[0], tables[0], tables[2], "identity", "0", "3"), 1, "status 4: network: roads header")
-    check_refused(run("draw-day", *tables, "identity", "0", "159"), 1, "the program answers: refused: node")
+    check_refused(run("draw-day", *tables, "identity", "0", "159"), 2, "FROM and TO must be nodes of this network, and 0 or 159 is none")

@@ -275,23 +275,26 @@ def test_folders_that_cant_be_made(small: Path, tmp_path: Path) -> None:
     ([], "Missing argument 'DIR'"), (["out", "more"], "unexpected extra argument"),
     (["out", "--quickly"], "No such option"),
     (["out", "--vehicle", "tram"], "'tram' is not one of"), (["out", "--weekday", "monday"], "is not one of"),
-    (["out", "--bbox", "1,2,3"], "isn't four numbers"), (["out", "--bbox", "9,47,8,48"], "west before east"),
-    (["out", "--spare", "-1"], "not in the range"), (["out", "--signals", "-1"], "not in the range"),
-    (["out", "--crossings", "long"], "is not a valid float"), (["out", "--crossings", "nan"], "nan isn't a number of seconds"),
-    (["out", "--signals", "NaN"], "nan isn't a number of seconds"), (["out", "--left", "1.5"], "is not a valid integer"),
+    (["out", "--bbox", "1,2,3"], "write four numbers WEST,SOUTH,EAST,NORTH, as 9.4,47,9.7,47.3, and not '1,2,3'"), (["out", "--bbox", "9,47,8,48"], "west before east"),
+    (["out", "--spare", "-1"], "write a whole number from 0 to 100000, and not '-1'"),
+    (["out", "--signals", "-1"], "write seconds from 0 to 600, as 4.5, and not '-1'"),
+    (["out", "--without", "nope"], "nope is no class of roads"),
+    (["out", "--crossings", "long"], "write seconds from 0 to 600"), (["out", "--crossings", "nan"], "write seconds from 0 to 600"),
+    (["out", "--signals", "NaN"], "write seconds from 0 to 600"), (["out", "--left", "1.5"], "write a whole number from 0 to 600"),
     (["out", "--right"], "requires an argument")])
 def test_wrong_words(small: Path, tmp_path: Path, words: list[str], says: str) -> None:
     ran = imported(small, *words, cwd=tmp_path)
     check_refused(ran, 2, says)
-    # The help of the command that has these options.
-    assert ran.error.endswith(". See: catchup-import osm --help\n")
+    # The help of the command that has these options; what is no class of roads is told with all that are.
+    assert ran.error.endswith(". See: catchup-import osm --help\n") or "--without" in words
     assert left(tmp_path) == ["small.osm"]
 
 
 @pytest.mark.parametrize("words, says", [
-    ([], "Missing command"), (["tram"], "No such command 'tram'"), (["--force"], "No such option: --force")])
+    ([], "Missing command. Write: catchup-import osm .."), (["tram"], "No such command 'tram'. Write: catchup-import osm .."),
+    (["--force"], "No such option: --force.")])
 def test_no_command(words: list[str], says: str) -> None:
-    check_refused(run("catchup-import", *words), 2, f"catchup-import: {says}. See: catchup-import --help")
+    check_refused(run("catchup-import", *words), 2, f"catchup-import: {says} See: catchup-import --help")
 
 
 @pytest.mark.parametrize("words, said", [

@@ -22,8 +22,8 @@ sys.path.insert(0, os.path.join(os.path.dirname(os.path.realpath(__file__)), "..
 # How it begins; and how one does that reads standard input.
 BY_PYTHON = "#!/usr/bin/python3\n"
 BY_THE_SHELL = '''#!/bin/sh
-""":" # Python can't start where its standard input is a folder.
-[ ! -d /dev/stdin ] || { echo "${0##*/}: standard input can't be read: Is a directory" >&2; exit 1; }
+""":" # Python can't start where its standard input is a folder: it is closed then.
+[ ! -d /dev/stdin ] || exec <&-
 exec /usr/bin/python3 "$0" "$@"
 """
 '''

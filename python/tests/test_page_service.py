@@ -92,11 +92,12 @@ def test_answers_have_no_tags(village: Service) -> None:
 
 
 def test_options_that_lead_nowhere_are_refused(tmp_path: Path, town: Path) -> None:
-    for words, said in ((("--tiles", "https://tiles.example.org/"), "no address of tiles"),
-                        (("--tiles", "https://x.org/{z}/{x}/{y}.png; script-src *"), "no address of tiles"),
-                        (("--leaflet", str(tmp_path)), "has no leaflet.js")):
+    for words, status, said in (
+            (("--tiles", "https://tiles.example.org/"), 2, "no address of tiles"),
+            (("--tiles", "https://x.org/{z}/{x}/{y}.png; script-src *"), 2, "no address of tiles"),
+            (("--leaflet", str(tmp_path)), 1, "has no leaflet.js")):
         ran = call("catchup-http", *words, town)
-        assert ran.status == 1 and said in ran.error and ran.error.count("\n") == 1, ran
+        assert ran.status == status and said in ran.error and ran.error.count("\n") == 1, ran
 
 
 def test_traffic_and_streets_of_a_served_map(village: Service) -> None:

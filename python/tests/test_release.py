@@ -81,10 +81,11 @@ def test_sources_that_cannot_be_read(released: Checkout, script: str) -> None:
         (["release", "--none"], "release [--sources]"),
         (["release", "a", "b"], "release [--sources]"),
         (["check-release", "a", "b"], "check-release [SOURCES]"),
+        (["check-release", "--none"], "check-release [SOURCES]"),
     ],
 )
 def test_bad_words(checkout: Checkout, words: list[str], usage: str) -> None:
-    assert checkout.call(*words) == (1, "", f"{words[0]}: usage: {usage}\n")
+    assert checkout.call(*words) == (2, "", f"{words[0]}: usage: {usage}\n")
 
 
 @pytest.mark.parametrize("script", ["release", "check-release"])

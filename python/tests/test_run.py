@@ -82,8 +82,8 @@ ENDS = [
     (["thread"], 1, "try-it: no thread can be started: free some memory, or allow more processes (ulimit -u)\n"),
     (["number"], 5, ""),
     (["print"], 0, ""),
-    ([], 2, "try-it: Missing argument 'HOW'. See: try-it --help\n"),
-    (["print", "more"], 2, "try-it: Got unexpected extra argument (more). See: try-it --help\n"),
+    ([], 2, "try-it: Missing argument 'HOW'. Write: try-it [OPTIONS] HOW. See: try-it --help\n"),
+    (["print", "more"], 2, "try-it: Got unexpected extra argument (more). Write: try-it [OPTIONS] HOW. See: try-it --help\n"),
     (["--none"], 2, "try-it: No such option: --none. See: try-it --help\n"),
 ]
 

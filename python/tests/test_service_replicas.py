@@ -442,4 +442,4 @@ def test_a_stream_that_is_none(town: Path) -> None:
     for address in ("redis://", "http://x/0/y", "redis://127.0.0.1:1", "redis://127.0.0.1:1/0/"):
         found = subprocess.run([HTTP, town, "--log", address], capture_output=True, text=True, timeout=SECONDS,
                                check=False)
-        assert found.returncode == 1 and "redis://HOST:PORT/0/NAME" in found.stderr and found.stderr.count("\n") == 1
+        assert found.returncode == 2 and "redis://HOST:PORT/0/NAME" in found.stderr and found.stderr.count("\n") == 1

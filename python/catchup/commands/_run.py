@@ -12,9 +12,8 @@ from typing import NoReturn
 import click
 
 from catchup import __version__
-from catchup.errors import CatchupError, Failure, how_to_get, is_short
+from catchup.errors import CatchupError, Failure, WrongWords, how_to_get, is_short
 
-WRONG_WORDS = 2
 INTERRUPTED = 130
 CLOSED_PIPE = 141
 # By a signal: 128 and its number.
@@ -68,7 +67,7 @@ def _status_of(command: click.Command, name: str) -> int:
         return end.exit_code
     except click.UsageError as error:
         told = _one_line(error.format_message()).rstrip(".")
-        return _said(name, f"{told}. See: {_asked(name, context, error)} --help", WRONG_WORDS)
+        return _said(name, f"{told}.{_wanted(error)} See: {_asked(name, context, error)} --help", WrongWords.status)
     except click.ClickException as error:
         return _said(name, _one_line(error.format_message()), error.exit_code)
     except Failure as error:
@@ -94,6 +93,17 @@ def _asked(name: str, context: click.Context | None, error: click.UsageError) ->
         return error.ctx.command_path
     # Of an option without its value click tells no context.
     return f"{name} {context.invoked_subcommand}" if context and context.invoked_subcommand else name
+
+
+def _wanted(error: click.UsageError) -> str:
+    """What to write where an argument is missing, or there is one too many."""
+    one_is_wrong = isinstance(error, (click.NoSuchOption, click.BadOptionUsage, click.BadParameter))
+    if error.ctx is None or one_is_wrong and not isinstance(error, click.MissingParameter):
+        return ""
+    command = error.ctx.command
+    if isinstance(command, click.MultiCommand):
+        return f" Write: {error.ctx.command_path} {'|'.join(command.list_commands(error.ctx))} .."
+    return f" Write: {_one_line(error.ctx.get_usage()).partition(': ')[2]}."
 
 
 class _Terminated(SystemExit):

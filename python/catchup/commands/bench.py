@@ -10,6 +10,7 @@ from typing import TYPE_CHECKING, NoReturn
 import click
 
 from catchup.commands._run import run
+from catchup.commands._words import FileWord, Number
 from catchup.errors import Failure
 
 if TYPE_CHECKING:
@@ -44,9 +45,9 @@ def _make_folder(folder: Path) -> Path:
 
 @click.command(epilog="Example: catchup-bench --sizes 5000,20000,73000,240000")
 @click.option("--sizes", callback=_sizes, default="5000,20000", show_default=True, help="About how many nodes, as 5000,20000.")
-@click.option("--queries", type=click.IntRange(100), default=8000, show_default=True, help="Random queries of each network.")
-@click.option("--seed", type=click.IntRange(0), default=1, show_default=True, help="Another seed makes other networks.")
-@click.option("--keep", type=click.Path(readable=False, path_type=Path), help="A folder that keeps the tables and packed files.")
+@click.option("--queries", type=Number(100), default=8000, show_default=True, help="Random queries of each network.")
+@click.option("--seed", type=Number(0), default=1, show_default=True, help="Another seed makes other networks.")
+@click.option("--keep", type=FileWord(), help="A folder that keeps the tables and packed files.")
 def command(sizes: list[int], queries: int, seed: int, keep: Path | None) -> None:
     """Makes networks that look like roads, with rush hours, and measures the program on them.
 

@@ -3,12 +3,14 @@
 from __future__ import annotations
 
 import os
+from dataclasses import replace
 from pathlib import Path
 from typing import NoReturn
 
 import click
 
 from catchup.commands._run import run
+from catchup.commands._words import FileWord, Number
 
 NAME = "catchup-http"
 
@@ -18,36 +20,21 @@ def processors() -> int:
     return len(os.sched_getaffinity(0))
 
 
-class Digits(click.ParamType):
-    """A number of ASCII digits within bounds."""
-
-    name = "number"
-
-    def __init__(self, least: int, most: int) -> None:
-        self.least, self.most = least, most
-
-    def convert(self, value: object, param: click.Parameter | None, ctx: click.Context | None) -> int:
-        text = str(value)
-        if not (text.isascii() and text.isdigit() and len(text) < 10 and self.least <= int(text) <= self.most):
-            self.fail(f"{text!r} isn't a number from {self.least} to {self.most}", param, ctx)
-        return int(text)
-
-
 @click.command(name=NAME, epilog="Example: catchup-http --tables town town/map.cu\n\ndocs/SERVICE.md tells how to run, watch, update and scale a service; docs/FORMATS.md its answers.")
 @click.argument("files", metavar="[NAME=]FILE...", nargs=-1, required=True)
-@click.option("--port", type=Digits(0, 65_535), default="8080", show_default=True, help="The port; 0 takes a free one.")
+@click.option("--port", type=Number(0, 65_535), default="8080", show_default=True, help="The port; 0 takes a free one.")
 @click.option("--host", default="127.0.0.1", show_default=True, metavar="ADDRESS", help="Where to listen: this machine alone.")
-@click.option("--workers", type=Digits(1, 256), default=None, help="Worker processes; one a processor where none is said.")
+@click.option("--workers", type=Number(1, 256), default=None, help="Worker processes; one a processor where none is said.")
 @click.option("--tables", multiple=True, metavar="[NAME=]DIR",
               help="A folder with the file's tables, for the page; with its map.gpkg places may be coordinates.")
 @click.option("--name", "names", multiple=True, metavar="NAME", help="A name under which it is reached; may be said again.")
 @click.option("--origin", "origins", multiple=True, metavar="ORIGIN", help="Another page's origin that may read and write.")
-@click.option("--token", type=click.Path(path_type=Path), metavar="FILE", help="A file with the token that writes need.")
+@click.option("--token", type=FileWord(), metavar="FILE", help="A file with the token that writes need.")
 @click.option("--zone", metavar="ZONE", help="The time zone of the roads, as Europe/Zurich; this machine's by default.")
 @click.option("--tiles", metavar="URL",
               help="A base map for the page, as https://tiles.example.org/{z}/{x}/{y}.png; none by default.")
 @click.option("--attribution", metavar="TEXT", help="Whose base map that is; OpenStreetMap's where nothing is said.")
-@click.option("--leaflet", type=click.Path(path_type=Path), metavar="DIR",
+@click.option("--leaflet", type=FileWord(), metavar="DIR",
               help="A folder with Leaflet, where the system has none.")
 @click.option("--log", metavar="redis://HOST:PORT/0/NAME", help="A stream between replicas.")
 @click.option("--access-log/--no-access-log", default=False, help="A line on standard error for each answer; none by default.")
@@ -61,10 +48,10 @@ def command(
     before it is confirmed. FILE is a packed file that `catchup build` made; with NAME=FILE several are served, each as
     a profile."""
     # What only a service needs is read only here: `--help` and wrong words need none of it.
-    from catchup.service.options import Options, check, served_of
+    from catchup.service.options import Options, check_files, check_words, served_of
 
     options = Options(
-        files=served_of(files, tables), host=str(words["host"]), port=int(str(words["port"])),
+        host=str(words["host"]), port=int(str(words["port"])),
         workers=int(str(words["workers"] or processors())), names=names, origins=origins,
         token=words["token"] if isinstance(words["token"], Path) else None,
         log=None if words["log"] is None else str(words["log"]),
@@ -74,7 +61,9 @@ def command(
         leaflet=words["leaflet"] if isinstance(words["leaflet"], Path) else None,
         has_access_log=bool(words["access_log"]),
         has_docs=bool(words["docs"]))
-    check(options)
+    check_words(options)
+    options = replace(options, files=served_of(files, tables))
+    check_files(options)
     from catchup.service.supervisor import start
 
     start(options)

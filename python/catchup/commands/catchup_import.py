@@ -15,6 +15,7 @@ from typing import Any, NoReturn
 import click
 
 from catchup.commands._run import run
+from catchup.commands._words import FileWord, Number
 
 VEHICLES = ("car", "truck", "bicycle", "foot")
 WEEKDAYS = ("mo", "tu", "we", "th", "fr", "sa", "su")
@@ -53,9 +54,10 @@ class Box(click.ParamType):
         try:
             west, south, east, north = (float(part) for part in str(value).split(","))
         except ValueError:
-            self.fail(f"{value!r} isn't four numbers WEST,SOUTH,EAST,NORTH", param, ctx)
+            self.fail(f"write four numbers WEST,SOUTH,EAST,NORTH, as 9.4,47,9.7,47.3, and not {value!r}", param, ctx)
         if not (-180 <= west < east <= 180 and -90 <= south < north <= 90):
-            self.fail(f"{value!r} isn't WEST,SOUTH,EAST,NORTH in degrees, west before east and south before north", param, ctx)
+            self.fail("write WEST,SOUTH,EAST,NORTH in degrees, west before east and south before north,"
+                      f" and not {value!r}", param, ctx)
         return west, south, east, north
 
 
@@ -66,10 +68,12 @@ class Delay(click.FloatRange):
         super().__init__(0, 600)
 
     def convert(self, value: Any, param: click.Parameter | None, ctx: click.Context | None) -> Any:
-        seconds = super().convert(value, param, ctx)
-        # Which is neither below the bounds nor above them.
-        if math.isnan(seconds):
-            self.fail(f"{seconds} isn't a number of seconds", param, ctx)
+        try:
+            seconds = float(value)
+        except ValueError:
+            seconds = math.nan
+        if not 0 <= seconds <= 600:
+            self.fail(f"write seconds from 0 to 600, as 4.5, and not {value!r}", param, ctx)
         return seconds
 
 
@@ -82,20 +86,20 @@ def command() -> None:
 
 
 @command.command("osm", short_help="Makes tables, order and map.gpkg of a map of OpenStreetMap.")
-@click.argument("map_file", metavar="MAP", type=click.Path(readable=False, path_type=Path))
-@click.argument("folder", metavar="DIR", type=click.Path(readable=False, path_type=Path))
+@click.argument("map_file", metavar="MAP", type=FileWord())
+@click.argument("folder", metavar="DIR", type=FileWord())
 @click.option("--build", is_flag=True, help="Make the packed file map.cu too.")
 @click.option("--vehicle", type=click.Choice(VEHICLES), default="car", show_default=True, help="Whose roads.")
 @click.option("--weekday", type=click.Choice(WEEKDAYS), default="mo", show_default=True, help="Whose hours.")
-@click.option("--speeds", metavar="FILE", type=click.Path(readable=False, path_type=Path), help="Speeds of one's own, as TOML.")
+@click.option("--speeds", metavar="FILE", type=FileWord(), help="Speeds of one's own, as TOML.")
 @click.option("--rush", is_flag=True, help="Slow roads down at rush hours, by figures that nobody measured.")
-@click.option("--spare", metavar="N", type=click.IntRange(0, 100_000), default=16, show_default=True,
+@click.option("--spare", metavar="N", type=Number(0, 100_000), default=16, show_default=True,
               help="Profiles of no road, to close or slow single roads by.")
 @click.option("--signals", metavar="S", type=Delay(), default=0.0, help="Seconds at each traffic signal.")
 @click.option("--crossings", metavar="S", type=Delay(), default=0.0,
               help="Seconds at each crossing without a signal, and at each level crossing.")
-@click.option("--left", metavar="S", type=click.IntRange(0, 600), default=0, help="Seconds for each turn to the left.")
-@click.option("--right", metavar="S", type=click.IntRange(0, 600), default=0, help="Seconds for each turn to the right.")
+@click.option("--left", metavar="S", type=Number(0, 600), default=0, help="Seconds for each turn to the left.")
+@click.option("--right", metavar="S", type=Number(0, 600), default=0, help="Seconds for each turn to the right.")
 @click.option("--without", metavar="CLASS,..", default="", help="Leave out these classes of roads, as service,track.")
 @click.option("--bbox", metavar="W,S,E,N", type=Box(), help="Take this part alone, in degrees.")
 @click.option("--no-private", is_flag=True, help="Bar private roads, and don't take them as roads for destinations.")
@@ -103,7 +107,7 @@ def command() -> None:
 @click.option("--turn-back", is_flag=True, help="Let drives turn round behind a turn that is forbidden.")
 @click.option("--islands", is_flag=True, help="Keep the parts that aren't joined with the largest.")
 @click.option("--force", is_flag=True, help="Replace what an import has made in DIR.")
-def osm(map_file: Path, folder: Path, build: bool, force: bool, without: str, no_private: bool, **words: Any) -> None:
+def osm(map_file: Path, folder: Path, build: bool, force: bool, **words: Any) -> None:
     """Makes tables, order and map.gpkg in DIR of a MAP of OpenStreetMap: .osm.pbf, .osm.bz2 or .osm."""
     from catchup.maps.importing import Options, import_osm
     from catchup.maps.writing import check_folder, making, write_all
@@ -112,8 +116,8 @@ def osm(map_file: Path, folder: Path, build: bool, force: bool, without: str, no
     check_folder(folder, force)
     if build:
         find_program()
-    classes = frozenset(word.strip() for word in without.split(",") if word.strip())
-    options = Options(without=classes, private=not no_private, **words)
+    classes = frozenset(word.strip() for word in words.pop("without").split(",") if word.strip())
+    options = Options(without=classes, private=not words.pop("no_private"), **words)
     with Steps().shown() as steps:
         made = import_osm(map_file, options, steps.say)
         with making(folder, force) as beside:

@@ -8,6 +8,7 @@ from typing import NoReturn
 import click
 
 from catchup.commands._run import run
+from catchup.commands._words import Number
 from catchup.draw.asking import ask_day, make_ready
 from catchup.draw.day import draw_day
 from catchup.draw.output import write_picture
@@ -17,7 +18,7 @@ _METAVAR = "(HIERARCHY | NODES ROADS PROFILES ORDER) FROM TO"
 
 
 @click.command(context_settings={"help_option_names": ["-h", "--help"]})
-@click.option("--every", metavar="SECONDS", type=click.IntRange(1, 3600), default=300, show_default=True, help="Asks for the route at each so many seconds, from 1 to 3600.")
+@click.option("--every", metavar="SECONDS", type=Number(1, 3600), default=300, show_default=True, help="Asks for the route at each so many seconds, from 1 to 3600.")
 @click.argument("words", nargs=-1, metavar=_METAVAR)
 def command(every: int, words: tuple[str, ...]) -> None:
     """Draws travel time over departure as SVG on standard output, exact at all 86400 seconds of the day.
@@ -37,7 +38,7 @@ def command(every: int, words: tuple[str, ...]) -> None:
     Example:
       draw-day town.cu 5 151 > day.svg
     """
-    if len(words) not in (3, 6):
+    if len(words) not in (3, 6) or "" in words[:-2]:
         raise click.UsageError(f"the words are {_METAVAR}.")
     if not all(re.fullmatch("[0-9]{1,18}", node, re.ASCII) for node in words[-2:]):
         raise click.UsageError("FROM and TO must be node numbers.")

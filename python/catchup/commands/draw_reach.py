@@ -8,18 +8,16 @@ from typing import NoReturn
 import click
 
 from catchup.commands._run import run
+from catchup.commands._words import FileWord
 from catchup.draw.output import read_input, write_picture
 from catchup.draw.reach import draw_reach
 from catchup.draw.replies import read_reach
 from catchup.draw.tables import read_nodes, read_roads
 
-# What can't be read is told by whoever reads it.
-_FILE = click.Path(readable=False, path_type=Path)
-
 
 @click.command(context_settings={"help_option_names": ["-h", "--help"]})
-@click.argument("nodes", type=_FILE)
-@click.argument("roads", type=_FILE)
+@click.argument("nodes", type=FileWord())
+@click.argument("roads", type=FileWord())
 def command(nodes: Path, roads: Path) -> None:
     """Draws a map that is coloured by how soon each node is reached, as SVG on standard output.
 

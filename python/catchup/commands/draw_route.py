@@ -8,20 +8,18 @@ from typing import NoReturn
 import click
 
 from catchup.commands._run import run
+from catchup.commands._words import FileWord
 from catchup.draw.output import read_input, read_lines, write_picture
 from catchup.draw.replies import read_answers
 from catchup.draw.route import draw_routes
 from catchup.draw.tables import read_nodes, read_profiles, read_roads
 
-# What can't be read is told by whoever reads it.
-_FILE = click.Path(readable=False, path_type=Path)
-
 
 @click.command(context_settings={"help_option_names": ["-h", "--help"]})
-@click.option("--script", metavar="SCRIPT", type=_FILE, help="The lines that were answered: departures stand beside the arrivals then.")
-@click.argument("nodes", type=_FILE)
-@click.argument("roads", type=_FILE)
-@click.argument("profiles", type=_FILE, required=False)
+@click.option("--script", metavar="SCRIPT", type=FileWord(), help="The lines that were answered: departures stand beside the arrivals then.")
+@click.argument("nodes", type=FileWord())
+@click.argument("roads", type=FileWord())
+@click.argument("profiles", type=FileWord(), required=False)
 def command(script: Path | None, nodes: Path, roads: Path, profiles: Path | None) -> None:
     """Draws the routes of replies on the roads around them, as SVG on standard output.
 

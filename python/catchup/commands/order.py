@@ -3,20 +3,22 @@
 from __future__ import annotations
 
 import sys
+from pathlib import Path
 from typing import NoReturn
 
 import click
 
 from catchup.commands._run import run
+from catchup.commands._words import FileWord
 
 
 @click.command(epilog="Example: catchup-order nodes.csv roads.csv > order.csv")
-@click.argument("nodes")
-@click.argument("roads")
-@click.argument("profiles", required=False)
+@click.argument("nodes", type=FileWord())
+@click.argument("roads", type=FileWord())
+@click.argument("profiles", type=FileWord(), required=False)
 @click.option("--plain", is_flag=True, help="Let ndmetis order all nodes, with none put first.")
 @click.option("--figures", "tell", is_flag=True, help="Tell on standard error what the order makes of the network.")
-def command(nodes: str, roads: str, profiles: str | None, plain: bool, tell: bool) -> None:
+def command(nodes: Path, roads: Path, profiles: Path | None, plain: bool, tell: bool) -> None:
     """Prints an order of the nodes for 'catchup build': one node a line, the lowest rank first.
 
     NODES and ROADS are the tables; with PROFILES the roads' profiles are checked too. Nodes of at most two neighbours go

@@ -3,17 +3,19 @@
 from __future__ import annotations
 
 import sys
+from pathlib import Path
 from typing import NoReturn
 
 import click
 
 from catchup.commands._run import run
+from catchup.commands._words import FileWord
 
 
 @click.command(epilog="Example: order-by-metis nodes.csv roads.csv > order.csv")
-@click.argument("nodes")
-@click.argument("roads")
-def command(nodes: str, roads: str) -> None:
+@click.argument("nodes", type=FileWord())
+@click.argument("roads", type=FileWord())
+def command(nodes: Path, roads: Path) -> None:
     """Prints an order of the nodes by ndmetis (Debian's package metis): one node a line, the lowest rank first.
 
     NODES and ROADS are the tables node,x,y and arc,tail,head,profile. Nodes without roads get the lowest ranks.

@@ -6,11 +6,14 @@ import re
 import sys
 from collections.abc import Iterator
 from dataclasses import dataclass
+from pathlib import Path
 from typing import NoReturn
 
 import click
 
 from catchup.commands._run import run
+from catchup.commands._words import FileWord
+from catchup.draw.output import NO_INPUT
 from catchup.errors import Failure
 
 # Numbers of more than 15 digits are no seconds.
@@ -29,8 +32,8 @@ class Question:
 
 @click.command(epilog="Example: table-csv line.txt < table.txt > table.csv")
 @click.option("--rows", is_flag=True, help="A row for each entry, below 'source,target,departure,arrival'.")
-@click.argument("line")
-def command(rows: bool, line: str) -> None:
+@click.argument("line", type=FileWord())
+def command(rows: bool, line: Path) -> None:
     """Makes a CSV of the program's reply to a t line, which comes on standard input.
 
     LINE is a file with one line t,SECOND,K,SOURCE,..,TARGET,.. of K sources, as the program was asked. The first row is
@@ -101,17 +104,16 @@ def _rows_of_entries(question: Question, arrivals: list[str]) -> Iterator[str]:
         yield f"{source},{target},{question.second},{'' if entry == '-' else entry}\n"
 
 
-def _file_line(path: str) -> str:
+def _file_line(path: Path) -> str:
     try:
-        with open(path, "rb") as file:
-            return _one_line(file.read(), path)
+        return _one_line(path.read_bytes(), str(path))
     except OSError as error:
         raise Failure(f"{path} can't be read: {error.strerror or error}") from None
 
 
 def _input_line() -> str:
     if sys.stdin is None:
-        raise Failure("the reply can't be read: standard input is closed")
+        raise Failure(f"the reply can't be read: {NO_INPUT}")
     try:
         return _one_line(sys.stdin.buffer.read(), "the reply")
     except OSError as error:

@@ -9,20 +9,19 @@ from typing import TYPE_CHECKING, NoReturn
 import click
 
 from catchup.commands._run import run
+from catchup.commands._words import FileWord
 
 if TYPE_CHECKING:
     from catchup.own_data import OwnNetwork
 
 # Up to so many nodes the order that needs no tool is good enough.
 SMALL = 5_000
-# What can't be read is told by whoever reads it.
-_PATH = click.Path(readable=False, path_type=Path)
 
 
 @click.command(epilog="Example: catchup-tables --share places.csv streets.csv")
-@click.argument("places", type=_PATH)
-@click.argument("streets", type=_PATH)
-@click.option("--out", type=_PATH, default=Path("."), help="The folder to write into; here by default.")
+@click.argument("places", type=FileWord())
+@click.argument("streets", type=FileWord())
+@click.option("--out", type=FileWord(), default=Path("."), help="The folder to write into; here by default.")
 @click.option("--share", is_flag=True, help="Streets that take the same share a profile: an edit changes them all.")
 @click.option("--degrees", is_flag=True, help="Shrink x by the latitude, so that drawings look as a map does.")
 def command(places: Path, streets: Path, out: Path, share: bool, degrees: bool) -> None:

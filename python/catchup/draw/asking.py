@@ -10,7 +10,7 @@ from dataclasses import dataclass
 from catchup import replies
 from catchup.clock import DAY
 from catchup.draw.replies import printable
-from catchup.errors import Failure
+from catchup.errors import Failure, WrongWords
 from catchup.program import find_program
 from catchup.replies import Day, Drive, Unreachable
 
@@ -33,10 +33,12 @@ def ask_day(ask: Callable[[Sequence[str]], list[str]], start: int, end: int, eve
     """Asks for the day by one line, and for routes at its corners and at each `every` seconds, and between two that differ
     until the second of the change is found.
 
-    Raises Failure where there is no way, or the program answers otherwise, or a route arrives at another second than the
+    Raises WrongWords where one of the nodes isn't there, and Failure where there is no way, or the program answers otherwise, or a route arrives at another second than the
     day says.
     """
     answer = ask([f"d,{start},{end}"])[0]
+    if answer == "refused: node":
+        raise WrongWords(f"FROM and TO must be nodes of this network, and {start} or {end} is none")
     day = _parsed(answer)
     if isinstance(day, Unreachable):
         raise Failure(f"no way leads from node {start} to node {end}")

@@ -7,6 +7,9 @@ from pathlib import Path
 
 from catchup.errors import Failure
 
+NO_INPUT = "standard input is closed, or a folder"
+"""What is wrong where Python has no standard input: bin/ closes one that is a folder, with which Python can't start."""
+
 
 def read_lines(path: Path) -> list[str]:
     """The lines of a file, without their line ends. Raises Failure where it can't be read."""
@@ -21,8 +24,7 @@ def read_input(what: str) -> list[str]:
     try:
         return _lines(sys.stdin.buffer.read())
     except AttributeError:
-        # Python has no standard input where it is closed.
-        raise Failure(f"{what} can't be read: standard input is closed") from None
+        raise Failure(f"{what} can't be read: {NO_INPUT}") from None
     except OSError as error:
         raise Failure(f"{what} can't be read: {error.strerror or error}") from None
 

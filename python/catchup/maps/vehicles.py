@@ -7,7 +7,7 @@ from importlib import resources
 from pathlib import Path
 from typing import Any, Literal, Mapping
 
-from catchup.errors import Failure
+from catchup.errors import Failure, WrongWords
 
 VEHICLES = ("car", "truck", "bicycle", "foot")
 
@@ -112,13 +112,13 @@ def read_speeds(vehicle: str, path: Path | None = None) -> Speeds:
 
 
 def check_classes(classes: frozenset[str], vehicle: Vehicle) -> None:
-    """Failure where one of these is no class of roads for anybody."""
+    """WrongWords where one of these is no class of roads for anybody."""
     known = {"ferry", *vehicle.speeds.classes, *vehicle.speeds.let_in}
     for words in _data("speeds.toml").values():
         known.update(words["classes"], words["let_in"])
     unknown = sorted(classes - known)
     if unknown:
-        raise Failure(f"--without: {', '.join(unknown)} is no class of roads; there are {', '.join(sorted(known))}")
+        raise WrongWords(f"--without: {', '.join(unknown)} is no class of roads; there are {', '.join(sorted(known))}")
 
 
 def read_vehicle(name: str, speeds: Path | None = None, private: bool = True) -> Vehicle:

@@ -12,7 +12,7 @@ from pathlib import Path
 from typing import Final
 from zoneinfo import ZoneInfo, ZoneInfoNotFoundError
 
-from catchup.errors import Failure
+from catchup.errors import Failure, WrongWords
 from catchup.service.gates import OWN_NAMES, Gates, as_compared, name_as_compared, origin_as_compared
 
 NAMED: Final = re.compile(r"([A-Za-z0-9_.-]{1,64})=(.+)", re.DOTALL)
@@ -33,7 +33,7 @@ class Served:
 class Options:
     """A service's options, each looked through."""
 
-    files: tuple[Served, ...]
+    files: tuple[Served, ...] = ()
     host: str = "127.0.0.1"
     port: int = 8080
     workers: int = 1
@@ -64,7 +64,7 @@ def zone_of(name: str) -> ZoneInfo:
     try:
         return ZoneInfo(name)
     except (ValueError, OSError, ZoneInfoNotFoundError):
-        raise Failure(f"--zone {name!r} is no time zone of this machine: write it as Europe/Zurich") from None
+        raise WrongWords(f"--zone {name!r} is no time zone of this machine: write it as Europe/Zurich") from None
 
 
 def is_loopback(host: str) -> bool:
@@ -94,22 +94,31 @@ def read_token(path: Path | None) -> bytes | None:
 def served_of(words: Sequence[str], tables: Sequence[str]) -> tuple[Served, ...]:
     """The files of `FILE` or `NAME=FILE`, with the folders of `DIR` or `NAME=DIR`: one without a name is of each file
     that has none of its own."""
+    paths = paths_of(words)
     folders = dict(parted(word) for word in tables)
     of_others = folders.pop(None, None)
-    found: dict[str | None, Served] = {}
-    for word in words:
-        name, path = parted(word)
-        if name in found:
-            raise Failure(f"{name or path} is named twice: give each file a name of its own, as car={path}")
-        found[name] = Served(name, resolved(path), folders.pop(name, of_others) if name is not None else of_others)
-    if of_others is not None and all(file.tables != of_others for file in found.values()):
+    tables_of = {name: folders.pop(name, of_others) if name is not None else of_others for name in paths}
+    if of_others is not None and of_others not in tables_of.values():
         folders[None] = of_others
     if folders:
-        raise Failure(f"--tables names no served file: {next(iter(folders.values()))}")
-    return tuple(found.values())
+        raise WrongWords(f"--tables names no served file: {next(iter(folders.values()))}")
+    return tuple(Served(name, resolved(path), tables_of[name]) for name, path in paths.items())
+
+
+def paths_of(words: Sequence[str]) -> dict[str | None, Path]:
+    """The files of `FILE` or `NAME=FILE`, by their names."""
+    paths: dict[str | None, Path] = {}
+    for word in words:
+        name, path = parted(word)
+        if name in paths:
+            raise WrongWords(f"{name or path} is named twice: give each file a name of its own, as car={path}")
+        paths[name] = path
+    return paths
 
 
 def parted(word: str) -> tuple[str | None, Path]:
+    if not word:
+        raise WrongWords("write FILE or NAME=FILE, and not an empty word")
     named = NAMED.fullmatch(word)
     return (named[1], Path(named[2])) if named else (None, Path(word))
 
@@ -137,19 +146,18 @@ def is_text(path: Path) -> bool:
     return True
 
 
-def check(options: Options) -> None:
-    """Refuses options that don't go together."""
-    if options.host.startswith("["):
-        raise Failure(f"--host {options.host} is an address in brackets: write it as {options.host.strip('[]')}")
-    if not is_loopback(options.host) and options.token is None:
-        raise Failure(f"on {options.host} others could edit the network: --token FILE is needed")
+def check_words(options: Options) -> None:
+    """Refuses options that are wrong, or don't go together, whatever the files hold."""
+    check_host(options)
     for name in options.names:
         check_name(name)
     for origin in options.origins:
         if origin_as_compared(origin) is None:
-            raise Failure(f"--origin {origin!r} is no origin: write it as https://maps.example.org")
-    read_token(options.token)
-    check_page(options)
+            raise WrongWords(f"--origin {origin!r} is no origin: write it as https://maps.example.org")
+    if options.tiles is not None and not (TILES.fullmatch(options.tiles) and all(
+            word in options.tiles for word in ("{z}", "{x}", "{y}"))):
+        raise WrongWords(f"--tiles {options.tiles!r} is no address of tiles: "
+                         "write it as https://tiles.example.org/{z}/{x}/{y}.png")
     if options.zone is not None:
         zone_of(options.zone)
     if options.log is not None:
@@ -164,17 +172,24 @@ def check_name(name: str) -> None:
     if name_as_compared(name) is not None:
         return
     if (found := as_compared(name)) is not None:
-        raise Failure(f"--name {name} has a port in it: write it as --name {found[0]}, which serves it at each port")
+        raise WrongWords(f"--name {name} has a port in it: write it as --name {found[0]}, which serves it at each port")
     found = as_compared(name.rpartition("://")[2].partition("/")[0])
-    more = f": write it as {found[0]}" if found is not None else ""
-    raise Failure(f"--name {name!r} is no name of a machine{more}")
+    meant = found[0] if found is not None else "maps.example.org"
+    raise WrongWords(f"--name {name!r} is no name of a machine: write it as {meant}")
 
 
-def check_page(options: Options) -> None:
-    """Refuses options of the page that lead nowhere."""
-    if options.tiles is not None and not (TILES.fullmatch(options.tiles) and all(
-            word in options.tiles for word in ("{z}", "{x}", "{y}"))):
-        raise Failure(f"--tiles {options.tiles!r} is no address of tiles: "
-                      "write it as https://tiles.example.org/{z}/{x}/{y}.png")
+def check_host(options: Options) -> None:
+    """Refuses an address that nobody can listen on, and one that is open to others without a token."""
+    if not options.host:
+        raise WrongWords("--host is empty: write an address, as 127.0.0.1")
+    if options.host.startswith("["):
+        raise WrongWords(f"--host {options.host} is an address in brackets: write it as {options.host.strip('[]')}")
+    if not is_loopback(options.host) and options.token is None:
+        raise WrongWords(f"on {options.host} others could edit the network: --token FILE is needed")
+
+
+def check_files(options: Options) -> None:
+    """Refuses files of options that can't be used."""
+    read_token(options.token)
     if options.leaflet is not None and not (options.leaflet / "leaflet.js").is_file():
         raise Failure(f"--leaflet {options.leaflet} has no leaflet.js")

@@ -19,7 +19,7 @@ from typing import Any, Final
 from redis.asyncio import Redis
 from redis.exceptions import RedisError
 
-from catchup.errors import Failure, is_short
+from catchup.errors import WrongWords, is_short
 from catchup.service import journal, packed
 from catchup.service.editor import Editor, Made, Refused, Work
 from catchup.service.errors import Refusal
@@ -45,7 +45,7 @@ def parted(address: str) -> tuple[str, str]:
     """The server and the stream of `redis://HOST:PORT/0/NAME`."""
     found = ADDRESS.fullmatch(address)
     if found is None:
-        raise Failure(f"--log {address} is no stream: write it as redis://HOST:PORT/0/NAME")
+        raise WrongWords(f"--log {address} is no stream: write it as redis://HOST:PORT/0/NAME")
     return found[1], found[2]
 
 
