@@ -290,6 +290,10 @@ def test_wrong_words(small: Path, tmp_path: Path, words: list[str], says: str) -
     assert left(tmp_path) == ["small.osm"]
 
 
+def test_wrong_words_are_told_before_a_folder_that_isnt_empty(small: Path, tmp_path: Path) -> None:
+    check_refused(imported(small, tmp_path, "--without", "nope"), 2, "nope is no class of roads")
+
+
 @pytest.mark.parametrize("words, says", [
     ([], "Missing command. Write: catchup-import osm .."), (["tram"], "No such command 'tram'. Write: catchup-import osm .."),
     (["--force"], "No such option: --force.")])
@@ -315,6 +319,8 @@ def test_what_is_asked(small: Path, tmp_path: Path, monkeypatch: pytest.MonkeyPa
         raise Failure("that is enough")
 
     monkeypatch.setattr(importing, "import_osm", stop)
+    # One of these names a file of speeds that isn't there.
+    monkeypatch.setattr(importing, "vehicle_of", lambda options: None)
     check_refused(imported(small, tmp_path / "out", *words), 1, "that is enough")
     assert asked == [Options(**said)] and left(tmp_path) == ["small.osm"]
 
@@ -393,7 +399,7 @@ def test_a_map_whose_name_is_no_text(small: Path, tmp_path: Path) -> None:
 
 def test_classes_that_there_are_none_of(small: Path, tmp_path: Path) -> None:
     ran = run("catchup-import", "osm", small, tmp_path / "out", "--without", "service,tracks,ferry")
-    check_refused(ran, 1, "--without: tracks is no class of roads; there are bridleway, ")
+    check_refused(ran, 2, "--without: tracks is no class of roads; there are bridleway, ")
     assert left(tmp_path) == ["small.osm"]
 
 

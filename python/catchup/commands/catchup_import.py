@@ -109,15 +109,17 @@ def command() -> None:
 @click.option("--force", is_flag=True, help="Replace what an import has made in DIR.")
 def osm(map_file: Path, folder: Path, build: bool, force: bool, **words: Any) -> None:
     """Makes tables, order and map.gpkg in DIR of a MAP of OpenStreetMap: .osm.pbf, .osm.bz2 or .osm."""
-    from catchup.maps.importing import Options, import_osm
+    from catchup.maps.importing import Options, import_osm, vehicle_of
     from catchup.maps.writing import check_folder, making, write_all
     from catchup.program import find_program
     begin = time.monotonic()
+    classes = frozenset(word.strip() for word in words.pop("without").split(",") if word.strip())
+    options = Options(without=classes, private=not words.pop("no_private"), **words)
+    # Wrong words are told before what is wrong with the folder.
+    vehicle_of(options)
     check_folder(folder, force)
     if build:
         find_program()
-    classes = frozenset(word.strip() for word in words.pop("without").split(",") if word.strip())
-    options = Options(without=classes, private=not words.pop("no_private"), **words)
     with Steps().shown() as steps:
         made = import_osm(map_file, options, steps.say)
         with making(folder, force) as beside:

@@ -27,7 +27,7 @@ from catchup.maps.sides import slow_turns
 from catchup.maps.states import Network, network_of
 from catchup.maps.streets import block, segments_of, streets_of
 from catchup.maps.turns import forbidden, kept_nodes
-from catchup.maps.vehicles import check_classes, read_rush, read_vehicle
+from catchup.maps.vehicles import Vehicle, check_classes, read_rush, read_vehicle
 
 Tell = Callable[[str], None]
 
@@ -69,10 +69,17 @@ class Made:
     counts: Counts = field(repr=False)
 
 
-def import_osm(path: Path, options: Options, tell: Tell) -> Made:
-    """Makes a network of a map; `tell` hears what is done next. Failure where it can't be made."""
+def vehicle_of(options: Options) -> Vehicle:
+    """The vehicle of the options. Failure where its speeds can't be read, WrongWords where a class to leave out isn't
+    known."""
     vehicle = read_vehicle(options.vehicle, options.speeds, options.private)
     check_classes(options.without, vehicle)
+    return vehicle
+
+
+def import_osm(path: Path, options: Options, tell: Tell) -> Made:
+    """Makes a network of a map; `tell` hears what is done next. Failure where it can't be made."""
+    vehicle = vehicle_of(options)
     wanted = Wanted(vehicle, WEEKDAYS.index(options.weekday), options.without, options.bbox, options.signals,
                     options.crossings)
     counts = Counts()
