@@ -226,14 +226,12 @@ class Planner(_Unsent):
                 raise self._gone()
             with ThreadPoolExecutor(len(children)) as threads:
                 said = list(threads.map(lambda child: self._edited(child, question.line), children))
-            made = [reply for reply in said if reply.startswith("done ")]
-            for child, reply in zip(children, said):
-                # Who had no memory for what others have made can't answer for this network any more.
-                if made and reply not in made:
-                    self._leave_out(child, Ended(None, f"an edit was answered: {reply or 'not at all'}"))
-            if not any(said):
+            reply, apart = _agreed(said)
+            for at in apart:
+                self._leave_out(children[at], _unedited(said[at]))
+            if not reply:
                 raise self._gone()
-            return question.value(made[0] if made else next(reply for reply in said if reply))
+            return question.value(reply)
 
     def _edited(self, child: Child, line: str) -> str:
         """The reply of one child; empty where it has ended."""
@@ -367,13 +365,12 @@ class AsyncPlanner(_Unsent):
                 raise self._gone()
             children = list(self._load)
             said = await asyncio.gather(*(self._edited(child, question.line) for child in children))
-            made = [reply for reply in said if reply.startswith("done ")]
-            for child, reply in zip(children, said):
-                if made and reply not in made:
-                    self._leave_out(child, Ended(None, f"an edit was answered: {reply or 'not at all'}"))
-            if not any(said):
+            reply, apart = _agreed(said)
+            for at in apart:
+                self._leave_out(children[at], _unedited(said[at]))
+            if not reply:
                 raise self._gone()
-            return question.value(made[0] if made else next(reply for reply in said if reply))
+            return question.value(reply)
 
     async def _edited(self, child: AsyncChild, line: str) -> str:
         try:
@@ -500,6 +497,21 @@ def _expected(answer: replies.Answer, kind: type[Kind]) -> Kind:
 
 
 # ---- processes ----
+
+
+def _agreed(said: Sequence[str]) -> tuple[str, list[int]]:
+    """What an edit comes to that each process has answered, an ended one by an empty text: the reply that counts, empty
+    where all have ended, and the places of those that go apart. Who had no memory for what others have made can't answer
+    for this network any more."""
+    made = [reply for reply in said if reply.startswith("done ")]
+    if not made:
+        return next(filter(None, said), ""), []
+    return made[0], [at for at, reply in enumerate(said) if reply not in made]
+
+
+def _unedited(reply: str) -> Ended:
+    """Why a process is left out that didn't make an edit which others have made."""
+    return Ended(None, f"an edit was answered: {reply or 'not at all'}")
 
 
 def _serve(folder: str | Path, order: Order) -> tuple[Words, tempfile.TemporaryDirectory[str] | None]:

@@ -2,7 +2,6 @@
 
 from __future__ import annotations
 
-import io
 import os
 import runpy
 import signal
@@ -99,6 +98,20 @@ def interrupt(process: subprocess.Popen[bytes], after: Path, seconds: float = 60
     os.killpg(process.pid, signal.SIGINT)
     _, error = process.communicate(timeout=seconds)
     return process.returncode, error
+
+
+def interrupt_at_a_pipe(name: str, folder: Path) -> None:
+    """Interrupts a command that reads nodes from a pipe and `roads` of a folder: it ends silently and leaves nothing."""
+    os.mkfifo(folder / "pipe")
+    before = sorted(folder.iterdir())
+    process = subprocess.Popen([BIN / name, "pipe", "roads"], cwd=folder, stdin=subprocess.DEVNULL, stdout=subprocess.PIPE,
+                               stderr=subprocess.PIPE, start_new_session=True)
+    with open(folder / "pipe", "w") as pipe:
+        pipe.write("node,x,y\n")
+        pipe.flush()
+        time.sleep(0.1)
+        assert interrupt(process, folder / "pipe") == (130, b"")
+    assert sorted(folder.iterdir()) == before
 
 
 def without_tools(folder: Path) -> dict[str, str]:

@@ -10,6 +10,7 @@ import tempfile
 import threading
 from collections.abc import Iterator
 from pathlib import Path
+from typing import TYPE_CHECKING
 
 # Hypothesis keeps tables of characters in a folder; it must not be one of the checkout.
 os.environ.setdefault("HYPOTHESIS_STORAGE_DIRECTORY", os.path.join(tempfile.gettempdir(), "catchup-hypothesis"))
@@ -26,6 +27,10 @@ from stub_checkout import Checkout  # noqa: E402
 
 from catchup.errors import CatchupError, Ended  # noqa: E402
 from catchup.program import Child, run_program  # noqa: E402
+
+if TYPE_CHECKING:
+    from browsing import Browser
+    from serving import Service
 
 TOP = Path(__file__).resolve().parents[2]
 EXAMPLES = TOP / "examples"
@@ -103,6 +108,54 @@ def town(program: Path, tmp_path_factory: pytest.TempPathFactory) -> Path:
 def rush_hour() -> Path:
     """The folder of the tables of examples/rush_hour: 3 nodes, 3 roads, 3 profiles. Tests don't write it."""
     return EXAMPLES / "rush_hour"
+
+
+@pytest.fixture
+def file(town: Path, tmp_path: Path) -> Path:
+    """A packed file of the town of a test's own, in a folder with nothing else."""
+    folder = tmp_path / "served"
+    folder.mkdir()
+    path = folder / "town.cu"
+    path.write_bytes(town.read_bytes())
+    return path
+
+
+@pytest.fixture(scope="module")
+def rush_file(program: Path, rush_hour: Path, tmp_path_factory: pytest.TempPathFactory) -> Path:
+    """Three roads with a profile each, profile 3 closed, and two spare ones."""
+    folder = tmp_path_factory.mktemp("rush")
+    for name in ("nodes.csv", "roads.csv"):
+        (folder / name).write_text((rush_hour / name).read_text())
+    more = "3,0,closed,0\n4,0,travel,1\n5,0,travel,1\n"
+    (folder / "profiles.csv").write_text((rush_hour / "profiles.csv").read_text() + more)
+    return build(folder, folder / "rush.cu", "identity")
+
+
+@pytest.fixture(scope="module")
+def browser(tmp_path_factory: pytest.TempPathFactory) -> Iterator[Browser]:
+    """A browser of a module's own, of a laptop's size."""
+    from browsing import Browser
+
+    found = Browser(tmp_path_factory.mktemp("browser"))
+    yield found
+    found.close()
+
+
+@pytest.fixture(scope="module")
+def village_map(program: Path, tmp_path_factory: pytest.TempPathFactory) -> Path:
+    """The folder of the village's map, with rush hours and profiles to spare. Tests don't write it."""
+    from browsing import import_village
+
+    return import_village(tmp_path_factory.mktemp("village") / "map")
+
+
+@pytest.fixture(scope="module")
+def village(village_map: Path) -> Iterator[Service]:
+    """A service over the village's map."""
+    from serving import Service
+
+    with Service(village_map / "map.cu", "--tables", village_map, "--zone", "Europe/Zurich") as service:
+        yield service
 
 
 @pytest.fixture(scope="session")

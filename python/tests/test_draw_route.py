@@ -2,15 +2,13 @@
 
 from __future__ import annotations
 
-import os
 import resource
 import shutil
 import subprocess
-import time
 from pathlib import Path
 
 import pytest
-from commands import BIN, call, check_refused, interrupt, run, run_into_closed_pipe
+from commands import BIN, call, check_refused, interrupt_at_a_pipe, run, run_into_closed_pipe
 from conftest import EXAMPLES
 from drawings import FIVE, PLACES, SVG, Drawn, draw, grid, small, steps, write_small, write_tables
 from waiting import least_seconds
@@ -318,15 +316,7 @@ def test_a_closed_pipe_is_no_fault(folder: Path) -> None:
 
 
 def test_an_interrupt_leaves_nothing(folder: Path) -> None:
-    os.mkfifo(folder / "pipe")
-    before = sorted(folder.iterdir())
-    process = subprocess.Popen([BIN / "draw-route", "pipe", "roads"], stdin=subprocess.DEVNULL, stdout=subprocess.PIPE, stderr=subprocess.PIPE, start_new_session=True)
-    with open(folder / "pipe", "w") as pipe:
-        pipe.write("node,x,y\n")
-        pipe.flush()
-        time.sleep(0.1)
-        assert interrupt(process, folder / "pipe") == (130, b"")
-    assert sorted(folder.iterdir()) == before
+    interrupt_at_a_pipe("draw-route", folder)
 
 
 def test_odd_names_and_a_folder_that_cannot_be_written(folder: Path) -> None:

@@ -8,7 +8,7 @@ from pathlib import Path
 
 import numpy as np
 import pytest
-from test_differential import DAY, Plain, array, draw_network, draw_profile, drive, write
+from test_differential import DAY, Plain, draw_network, draw_profile, drive, write
 from test_measured import Point, Profile, Seconds, raw_arrivals, table
 from test_versions import DIGEST, ORDER, as_first_version, sealed
 

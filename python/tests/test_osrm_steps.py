@@ -8,7 +8,7 @@ from typing import Any
 
 import pytest
 from osm_maps import OsmMap
-from osrm_town import Town, town
+from osrm_town import town
 
 pytestmark = pytest.mark.usefixtures("program")
 

@@ -18,7 +18,7 @@ from hypothesis import strategies as st
 from waiting import least_seconds
 
 from catchup.clock import DAY
-from catchup.own_data import Stretch, make_network, pieces_of
+from catchup.own_data import Stretch, pieces_of
 from catchup.program import run_program
 from catchup.replies import Piece
 from catchup.tables import read_network

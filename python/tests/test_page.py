@@ -13,7 +13,7 @@ from pathlib import Path
 from typing import Any, ClassVar
 
 import pytest
-from browsing import LAPTOP, PHONE, SPOT, Browser, import_village
+from browsing import LAPTOP, PHONE, SPOT, Browser
 from conftest import EXAMPLES, build
 from serving import Service, ask_program, free_ports, wait_for
 
@@ -28,18 +28,6 @@ def browser(request: pytest.FixtureRequest, tmp_path_factory: pytest.TempPathFac
     found = Browser(tmp_path_factory.mktemp("browser"), request.param)
     yield found
     found.close()
-
-
-@pytest.fixture(scope="module")
-def folder(program: Path, tmp_path_factory: pytest.TempPathFactory) -> Path:
-    """The folder of the village's map."""
-    return import_village(tmp_path_factory.mktemp("village") / "map")
-
-
-@pytest.fixture(scope="module")
-def village(folder: Path) -> Iterator[Service]:
-    with Service(folder / "map.cu", "--tables", folder, "--zone", "Europe/Zurich") as service:
-        yield service
 
 
 @pytest.fixture
@@ -259,11 +247,11 @@ def test_a_road_is_closed_by_clicks_and_others_follow(browser: Browser, village:
     is_sound(browser)
 
 
-def test_a_refused_edit_says_why(browser: Browser, folder: Path, tmp_path: Path) -> None:
+def test_a_refused_edit_says_why(browser: Browser, village_map: Path, tmp_path: Path) -> None:
     path, token = tmp_path / "map.cu", tmp_path / "token"
-    path.write_bytes((folder / "map.cu").read_bytes())
+    path.write_bytes((village_map / "map.cu").read_bytes())
     token.write_text("a-long-enough-token-of-tests\n")
-    with Service(path, "--tables", folder, "--token", token) as service:
+    with Service(path, "--tables", village_map, "--token", token) as service:
         lane = service.get("/page/search?q=Gartenweg")["places"][0]
         browser.open(service, "#mode=traffic&depart=12:00", PHONE)
         browser.click_map(*(float(word) for word in lane["place"].split(",")))
@@ -420,14 +408,14 @@ class Tiles(http.server.BaseHTTPRequestHandler):
 
 
 @pytest.mark.long
-def test_several_networks_over_a_base_map(browser: Browser, folder: Path, tmp_path: Path) -> None:
+def test_several_networks_over_a_base_map(browser: Browser, village_map: Path, tmp_path: Path) -> None:
     for name in ("car", "truck"):
-        (tmp_path / f"{name}.cu").write_bytes((folder / "map.cu").read_bytes())
+        (tmp_path / f"{name}.cu").write_bytes((village_map / "map.cu").read_bytes())
     tiles = http.server.ThreadingHTTPServer(("127.0.0.1", 0), Tiles)
     threading.Thread(target=tiles.serve_forever, daemon=True).start()
     address = f"http://127.0.0.1:{tiles.server_address[1]}"
     words = [f"{name}={tmp_path / name}.cu" for name in ("car", "truck")]
-    words += [word for name in ("car", "truck") for word in ("--tables", f"{name}={folder}")]
+    words += [word for name in ("car", "truck") for word in ("--tables", f"{name}={village_map}")]
     with Service(*words, "--tiles", address + "/{z}/{x}/{y}.png", "--attribution", "Grey tiles") as service:
         browser.open(service, "#from=0&to=9&depart=08:00")
         browser.wait_text("answer", "→")
@@ -644,19 +632,19 @@ def test_a_place_that_is_missing_is_named(browser: Browser, village: Service) ->
     browser.wait_text("answer", "Choose stop 1, or take it out.")
 
 
-def test_the_service_is_gone_and_comes_back(browser: Browser, folder: Path, tmp_path: Path) -> None:
+def test_the_service_is_gone_and_comes_back(browser: Browser, village_map: Path, tmp_path: Path) -> None:
     path = tmp_path / "map.cu"
-    path.write_bytes((folder / "map.cu").read_bytes())
+    path.write_bytes((village_map / "map.cu").read_bytes())
     # Nobody else takes it while no service is there.
     [port] = free_ports(1)
-    with Service(path, "--tables", folder, "--port", str(port)) as service:
+    with Service(path, "--tables", village_map, "--port", str(port)) as service:
         browser.open(service, "#from=0&to=9&depart=08:00", LAPTOP)
         browser.wait_text("answer", "→")
     browser.wait_text("notice", "can't be reached")
     browser.picture("gone")
     # What is chosen meanwhile is answered as soon as it can be.
     browser.set_value("time", "10:00")
-    with Service(path, "--tables", folder, "--port", str(port)):
+    with Service(path, "--tables", village_map, "--port", str(port)):
         browser.wait_notice("is back")
         browser.wait_text("answer", "10:00 →")
         browser.set_value("time", "9:00")

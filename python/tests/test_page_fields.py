@@ -2,12 +2,10 @@
 
 from __future__ import annotations
 
-from collections.abc import Iterator
-from pathlib import Path
 from typing import Any
 
 import pytest
-from browsing import IS_DRAWN, Browser, import_village
+from browsing import IS_DRAWN, Browser
 from serving import Service
 
 pytestmark = [pytest.mark.first, pytest.mark.xdist_group("page fields")]
@@ -42,20 +40,6 @@ window.fetch = (...words) => {
 roads.data.kept.clear();
 roads.redraw();
 """
-
-
-@pytest.fixture(scope="module")
-def browser(tmp_path_factory: pytest.TempPathFactory) -> Iterator[Browser]:
-    found = Browser(tmp_path_factory.mktemp("browser"))
-    yield found
-    found.close()
-
-
-@pytest.fixture(scope="module")
-def village(program: Path, tmp_path_factory: pytest.TempPathFactory) -> Iterator[Service]:
-    folder = import_village(tmp_path_factory.mktemp("village") / "map")
-    with Service(folder / "map.cu", "--tables", folder, "--zone", "Europe/Zurich") as service:
-        yield service
 
 
 def open_field(browser: Browser, village: Service, label: str, address: str = "#depart=08:00") -> Any:

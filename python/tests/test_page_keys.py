@@ -3,11 +3,9 @@
 from __future__ import annotations
 
 import re
-from collections.abc import Iterator
-from pathlib import Path
 
 import pytest
-from browsing import Browser, import_village
+from browsing import Browser
 from serving import Service, wait_for
 
 from catchup.service.page.sheet import degrees_of
@@ -27,20 +25,6 @@ PIN = """
 const box = document.querySelector(`.pin.${arguments[0]}`).getBoundingClientRect();
 return [Math.round(box.x + box.width / 2), Math.round(box.y + box.height / 2)];
 """
-
-
-@pytest.fixture(scope="module")
-def browser(tmp_path_factory: pytest.TempPathFactory) -> Iterator[Browser]:
-    found = Browser(tmp_path_factory.mktemp("browser"))
-    yield found
-    found.close()
-
-
-@pytest.fixture(scope="module")
-def village(program: Path, tmp_path_factory: pytest.TempPathFactory) -> Iterator[Service]:
-    folder = import_village(tmp_path_factory.mktemp("village") / "map")
-    with Service(folder / "map.cu", "--tables", folder, "--zone", "Europe/Zurich") as service:
-        yield service
 
 
 def open_at(browser: Browser, village: Service, street: str, address: str = "", zoom: int = 18) -> None:

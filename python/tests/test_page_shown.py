@@ -3,11 +3,9 @@
 from __future__ import annotations
 
 import re
-from collections.abc import Iterator
-from pathlib import Path
 
 import pytest
-from browsing import LAPTOP, PHONE, Browser, import_village
+from browsing import LAPTOP, PHONE, Browser
 from conftest import TOP
 from serving import Service
 
@@ -24,24 +22,6 @@ return [...document.querySelectorAll(arguments[0])].filter(each => each.checkVis
 THEME = "return document.documentElement.dataset.theme"
 # The part of the page that what has the focus is in.
 PART = "return document.activeElement.closest('#panel, #stage, #dock')?.id ?? null"
-
-
-@pytest.fixture(scope="module")
-def browser(tmp_path_factory: pytest.TempPathFactory) -> Iterator[Browser]:
-    found = Browser(tmp_path_factory.mktemp("browser"))
-    yield found
-    found.close()
-
-
-@pytest.fixture(scope="module")
-def folder(program: Path, tmp_path_factory: pytest.TempPathFactory) -> Path:
-    return import_village(tmp_path_factory.mktemp("village") / "map")
-
-
-@pytest.fixture(scope="module")
-def village(folder: Path) -> Iterator[Service]:
-    with Service(folder / "map.cu", "--tables", folder, "--zone", "Europe/Zurich") as service:
-        yield service
 
 
 def ask_media(browser: Browser, media: str = "", **features: str) -> None:

@@ -37,16 +37,6 @@ exec {program} "$@"
 
 
 @pytest.fixture
-def file(town: Path, tmp_path: Path) -> Path:
-    """A packed file of the town of a test's own, in a folder with nothing else."""
-    folder = tmp_path / "served"
-    folder.mkdir()
-    path = folder / "town.cu"
-    path.write_bytes(town.read_bytes())
-    return path
-
-
-@pytest.fixture
 def slow(program: Path, tmp_path: Path) -> Path:
     """The program, but that no edit comes to its end: it waits for what nobody writes."""
     path, never = tmp_path / "slow", tmp_path / "never"
@@ -394,16 +384,6 @@ def test_edits_of_roads_are_as_they_say(rush_file: Path, edits: list[tuple[int, 
         profile = has.get(road, road)
         if kind == "pieces":
             assert pieces[profile] == f"0,travel,{100 + value}"
-
-
-@pytest.fixture(scope="module")
-def rush_file(program: Path, rush_hour: Path, tmp_path_factory: pytest.TempPathFactory) -> Path:
-    folder = tmp_path_factory.mktemp("rush")
-    for name in ("nodes.csv", "roads.csv"):
-        (folder / name).write_text((rush_hour / name).read_text())
-    more = "3,0,closed,0\n4,0,travel,1\n5,0,travel,1\n"
-    (folder / "profiles.csv").write_text((rush_hour / "profiles.csv").read_text() + more)
-    return build(folder, folder / "rush.cu", "identity")
 
 
 # ---- what fails ----

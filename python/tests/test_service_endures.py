@@ -30,15 +30,6 @@ from catchup.program import run_program
 ROUTE = "/route?from=5&to=151&depart=28800"
 
 
-@pytest.fixture
-def file(town: Path, tmp_path: Path) -> Path:
-    folder = tmp_path / "served"
-    folder.mkdir()
-    path = folder / "town.cu"
-    path.write_bytes(town.read_bytes())
-    return path
-
-
 def version_of(service: Service) -> str:
     """The version that a worker answers of."""
     with client_of(service.port) as client:

@@ -53,16 +53,6 @@ exec {program} "$@"
 """
 
 
-@pytest.fixture
-def file(town: Path, tmp_path: Path) -> Path:
-    """A packed file of a test's own, in a folder with nothing else."""
-    folder = tmp_path / "served"
-    folder.mkdir()
-    path = folder / "town.cu"
-    path.write_bytes(town.read_bytes())
-    return path
-
-
 @contextlib.contextmanager
 def limited(pid: int, kind: int, most: int) -> Iterator[None]:
     """Limits what a process may have meanwhile."""

@@ -11,7 +11,7 @@ from pathlib import Path
 from typing import Any
 
 import pytest
-from conftest import TOP, build
+from conftest import TOP
 from hypothesis import given, settings
 from hypothesis import strategies as st
 from osm_maps import OsmMap
@@ -52,17 +52,6 @@ def test_any_text_names_roads_or_none(text: str) -> None:
 
 
 # ---- what becomes of several roads together ----
-
-
-@pytest.fixture(scope="module")
-def rush_file(program: Path, rush_hour: Path, tmp_path_factory: pytest.TempPathFactory) -> Path:
-    """Three roads with a profile each, profile 3 closed, and two spare ones."""
-    folder = tmp_path_factory.mktemp("rush")
-    for name in ("nodes.csv", "roads.csv"):
-        (folder / name).write_text((rush_hour / name).read_text())
-    more = "3,0,closed,0\n4,0,travel,1\n5,0,travel,1\n"
-    (folder / "profiles.csv").write_text((rush_hour / "profiles.csv").read_text() + more)
-    return build(folder, folder / "rush.cu", "identity")
 
 
 def profiles_of(path: Path) -> Profiles:

@@ -13,8 +13,8 @@ from dataclasses import replace
 from catchup.clock import DAY
 from catchup.errors import CatchupError
 from catchup.places.drives import Drive, Driver
-from catchup.places.ends import NO_ROAD, Source, Target
-from catchup.places.values import Ask, NoRoute, Snap, TooLate
+from catchup.places.ends import NO_ROAD, Source
+from catchup.places.values import Ask, Snap, TooLate
 
 MOST_DAYS_BACK = 8
 """No drive that anybody asks for takes so many days."""
